@@ -125,3 +125,16 @@ PoolsThenBuilds {B} pools builds_value old new shape bytes ty answer =
 -- this holds of any builders and any constant between which the constant was pooled
 abbrev pub AfterPooling : {B : Type 0} → (B → B → List ℕ → Result ℕ BuildError → Type 0) → (B → B → ℕ → Type 0) → Type 0
 AfterPooling {B} pools P = (old new : B) (bytes : List ℕ) (constant : ℕ) → pools old new bytes (Ok constant) → P old new constant
+
+-- The edges of a jump table are taken, and then the instruction that it serves is built, of its shape; or the edges aren't taken,
+-- with the error that is answered.
+abbrev pub TakesThenBuilds : {B : Type 0} → (B → B → ℕ → Result (List BlockCall) BuildError → Type 0)
+    → (B → B → InstructionData → «Type» → Result ℕ BuildError → Type 0)
+    → (old new : B) → (List BlockCall → InstructionData) → ℕ → «Type» → Result ℕ BuildError → Type 0
+TakesThenBuilds {B} takes builds old new shape table ty answer =
+    ((between : B) × (edges : List BlockCall) × takes old between table (Ok edges) × builds between new (shape edges) ty answer)
+    ⊎ ((error : BuildError) × takes old new table (Err error) × (answer ≡ Err error))
+
+-- this holds of any builders, table and edges between which the edges were taken
+abbrev pub AfterTaking : {B : Type 0} → (B → B → ℕ → Result (List BlockCall) BuildError → Type 0) → (B → B → ℕ → List BlockCall → Type 0) → Type 0
+AfterTaking {B} takes P = (old new : B) (table : ℕ) (edges : List BlockCall) → takes old new table (Ok edges) → P old new table edges

@@ -4,17 +4,19 @@ ghost use Rattle.clif_types.specs.Types.{bytes_of, is_int, is_type};
 ghost use Rattle.clif_instructions.specs.Instruction.{ASlot, AConstant, entries_of, operands, destinations};
 ghost use Rattle.clif_opcodes.specs.Kinds.{is_met};
 ghost use Rattle.clif_opcodes.specs.declared.kinds.Demand.{Demand};
-ghost use Rattle.clif_inst_builder.specs.Shapes.{AfterPooling, GivesPair, GivesValue, AfterValue, LikeIsValue, PoolsThenBuilds, binary, branch_table, brif_to, concat, cond_trap, convert, edge_to, int_compare, jump, load, multi_ary, split, stack, stack_store, store, ternary, trap, unary, unary_const, unary_ieee, unary_imm};
+ghost use Rattle.clif_inst_builder.specs.Shapes.{AfterPooling, GivesPair, GivesValue, AfterValue, LikeIsValue, PoolsThenBuilds, AfterTaking, TakesThenBuilds, binary, branch_table, brif_to, concat, cond_trap, convert, edge_to, int_compare, jump, load, multi_ary, split, stack, stack_store, store, ternary, trap, unary, unary_const, unary_ieee, unary_imm};
 
 use clif_instructions::block_call::{BlockArg, BlockCall};
 use clif_instructions::instructions::InstructionData;
+use clif_instructions::jump_table::JumpTableData;
 use clif_instructions::value_list::ValueList;
 use clif_opcodes::{
     BinaryOpcode, CondTrapOpcode, ConvertOpcode, FloatConstOpcode, PooledConstOpcode, StackOpcode,
     UnaryOpcode,
 };
 use clif_types::{
-    Block, BuildError, Constant, Inst, IntCC, MemFlagsData, StackSlot, TrapCode, Type, Value,
+    Block, BuildError, Constant, Inst, IntCC, JumpTable, MemFlagsData, StackSlot, TrapCode, Type,
+    Value,
 };
 use std::alloc::Global;
 
@@ -45,6 +47,12 @@ pub trait InstBuilderBase {
     // what `pool_constant` makes of the builder, by the bytes and its result
     ghost pools: { Self → Self → List ℕ → Result ℕ BuildError → Type 0 };
 
+    // there is a jump table of this number that serves no instruction so far, and its edges may be made
+    ghost has_jump_table: { Self → ℕ → Type 0 };
+
+    // what `take_jump_table` makes of the builder, by the table and its result
+    ghost takes: { Self → Self → ℕ → Result (List BlockCall) BuildError → Type 0 };
+
     // what `build` makes of the builder, by its result
     ghost builds: { Self → Self → InstructionData → «Type» → Result ℕ BuildError → Type 0 };
 
@@ -68,6 +76,11 @@ pub trait InstBuilderBase {
     /// The constant of these bytes, the lowest first. It is made if there is none: equal bytes are one constant.
     fn pool_constant(&mut self, bytes: &[u8]) -> Result<Constant, BuildError>
         ensures pooled { pools self.old self.new bytes.now result };
+
+    /// Takes the edges of a jump table for the instruction that it serves from now on.
+    fn take_jump_table(&mut self, table: JumpTable) -> Result<JumpTableData, BuildError>
+        requires serves { has_jump_table self.old table }
+        ensures taken { takes self.old self.new table result };
 
     /// Appends an instruction; `ctrl_type` is its controlling type.
     ///
@@ -131,6 +144,16 @@ pub trait InstBuilderBase {
         (λ old new constant. has_entry new (AConstant constant)) };
 
     ghost pooled_builds: { AfterPooling pools (λ old new constant. can_build old → can_build new) };
+
+    // after the edges of a table were taken they may be made, the values are there, and one can build as before
+    ghost taken_leads: { AfterTaking takes
+        (λ old new table edges. has_jump_table old table → All (can_lead new) edges) };
+
+    ghost taken_values: { AfterTaking takes
+        (λ old new table edges. (x : ℕ) → has_value old x → has_value new x) };
+
+    ghost taken_builds: { AfterTaking takes
+        (λ old new table edges. can_build old → can_build new) };
 
     ghost like_is_value: { LikeIsValue builds_like builds_value type_of };
 }
@@ -623,6 +646,25 @@ pub trait InstBuilder: InstBuilderBase {
             Ok(blocks) => self.build(InstructionData::Brif { arg: c, blocks }, Type::Invalid),
             Err(_) => Err(self.refuse()),
         }
+    }
+
+    /// `br_table x, default, [entries]`: goes along the entry of the table with the number `x`, and along the default where
+    /// there is none.
+    ///
+    /// The table served no instruction before, and serves this one from now on. No target of its edges is sealed. The
+    /// current block is filled afterwards.
+    final fn br_table(&mut self, x: Value, table: JumpTable) -> Result<Inst, BuildError>
+        requires current { Self.can_build self.old }
+        requires x_exists { Self.has_value self.old x }
+        requires serves { Self.has_jump_table self.old table }
+        ensures built { TakesThenBuilds Self.takes Self.builds self.old self.new (branch_table x)
+            table Type.Invalid result }
+    {
+        let table = self.take_jump_table(table)?;
+        self.build(
+            InstructionData::BranchTable { arg: x, table },
+            Type::Invalid,
+        )
     }
 
     /// `return x, ..`: ends the function with these values, which the signature gives the types of. The current

@@ -1,5 +1,5 @@
 //! The arguments of a run, as words.
-use crate::arithmetic::greatest;
+use clif_operations::arithmetic::greatest;
 use clif_types::{AbiParam, Type};
 use std::alloc::{AllocError, AllocFailed, Global};
 use std::fmt;

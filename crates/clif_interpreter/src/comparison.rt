@@ -1,10 +1,10 @@
 //! A script and the function that is built of it run side by side.
 use crate::error::RunError;
-use crate::memory::Memory;
 use crate::run::{End, Ending, World};
 use crate::{function, script};
 use clif_calls::Call;
 use clif_ir::Function;
+use clif_operations::Memory;
 use clif_types::{PointerWidth, Signature};
 use std::alloc::{AllocError, Global};
 

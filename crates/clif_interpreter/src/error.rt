@@ -1,7 +1,7 @@
 //! Why a run can't go on.
 use clif_calls::Name;
-use clif_opcodes::Opcode;
-use clif_types::{Inst, TrapCode, Type, Value};
+use clif_operations::Fault;
+use clif_types::{Inst, Value};
 use std::alloc::{AllocError, AllocFailed};
 use std::error::Error;
 use std::fmt;
@@ -34,12 +34,8 @@ impl fmt::Display for Operand {
 /// Why a run can't go on.
 #[derive(Clone, Copy)]
 pub enum Cause {
-    /// Memory was refused.
-    Memory,
-    /// A value of this type has more than 128 bits, and the interpreters keep no more.
-    TooWide(Type),
-    /// A stack slot has no place in accessible memory, or within the width of pointers.
-    NoPlace,
+    /// An instruction has no outcome, or a limit is reached.
+    Fault(Fault),
     /// The arguments of the run aren't as many as the entry block's parameters, or don't fit their types.
     Arguments,
     /// The caller's parameters of the entry block don't have the types of the signature's.
@@ -56,24 +52,17 @@ pub enum Cause {
     NotGiven(Operand),
     /// A value of another type is assigned to this variable.
     Assigned(Operand),
-    /// The instruction with this opcode isn't defined at such types.
-    Types(Opcode),
     /// The arguments of an edge don't have the types of its target's parameters.
     Edge,
-    /// The returned values don't have the types that the signature returns.
-    Returned,
-    /// The address isn't aligned, and the flag `aligned` claims that it is.
-    NotAligned,
-    /// A byte isn't accessible, and the flag `notrap` claims that it is.
-    NotAccessible,
-    /// An instruction doesn't give as many results as it has.
-    Results,
 }
 
 impl Cause {
     /// Whether it is a limit of the interpreters, and no fault of what is run.
     pub fn is_limit(self) -> bool {
-        matches!(&self, Cause::Memory | Cause::TooWide(_) | Cause::NoPlace)
+        match self {
+            Cause::Fault(fault) => fault.is_limit(),
+            _ => false,
+        }
     }
 
     /// The same, at a place.
@@ -84,18 +73,12 @@ impl Cause {
     // The text of a cause that has no parts.
     fn text(self) -> &'static str {
         match self {
-            Cause::Memory => "no memory",
-            Cause::NoPlace => "the stack slots don't fit into memory",
             Cause::Arguments => "the arguments don't fit the entry block's parameters",
             Cause::EntryParameters => "the entry block's parameters aren't the signature's",
             Cause::EntryTarget => "a branch leads to the entry block",
             Cause::NotFilled => "a branch leads to a block without a terminator",
             Cause::NoTarget => "a branch leads to no block",
-            Cause::Edge => "the arguments of an edge don't fit its target's parameters",
-            Cause::Returned => "the returned values don't fit the signature",
-            Cause::NotAligned => "the address isn't aligned, as the flag aligned claims",
-            Cause::NotAccessible => "a byte isn't accessible, as the flag notrap claims",
-            _ => "the instruction doesn't give its results",
+            _ => "the arguments of an edge don't fit its target's parameters",
         }
     }
 }
@@ -103,28 +86,33 @@ impl Cause {
 impl fmt::Display for Cause {
     fn fmt<W: fmt::Write>(&self, f: &mut fmt::Formatter<W>) -> fmt::Result {
         match self {
-            Cause::TooWide(ty) => write!(f, "a value of type {ty} has more than 128 bits"),
+            Cause::Fault(fault) => write!(f, "{fault}"),
             Cause::Unknown(operand) => write!(f, "{operand} leads to no value"),
             Cause::NotGiven(operand) => write!(f, "{operand} is used before it is given"),
             Cause::Assigned(operand) => write!(
                 f,
                 "a value of another type is assigned to {operand}"
             ),
-            Cause::Types(opcode) => write!(f, "{opcode} isn't defined at such types"),
             cause => f.write_str(cause.text()),
         }
     }
 }
 
+impl From<Fault> for Cause {
+    fn from(fault: Fault) -> Cause {
+        Cause::Fault(fault)
+    }
+}
+
 impl From<AllocError> for Cause {
     fn from(_error: AllocError) -> Cause {
-        Cause::Memory
+        Cause::Fault(Fault::Memory)
     }
 }
 
 impl<T: Drop> From<AllocFailed<T>> for Cause {
     fn from(_error: AllocFailed<T>) -> Cause {
-        Cause::Memory
+        Cause::Fault(Fault::Memory)
     }
 }
 
@@ -151,7 +139,7 @@ pub struct RunError {
 impl RunError {
     /// Memory was refused before the first step.
     pub(crate) fn memory() -> RunError {
-        Cause::Memory.at(Place::Start)
+        Cause::Fault(Fault::Memory).at(Place::Start)
     }
 }
 
@@ -174,28 +162,3 @@ impl fmt::Debug for RunError {
 }
 
 impl Error for RunError {}
-
-/// Why an instruction gives nothing.
-#[derive(Clone, Copy)]
-pub(crate) enum Fault {
-    /// The run ends with this trap.
-    Trapped(TrapCode),
-    /// As the causes of these names.
-    Memory,
-    NoPlace,
-    NotAligned,
-    NotAccessible,
-    Results,
-}
-
-impl From<TrapCode> for Fault {
-    fn from(code: TrapCode) -> Fault {
-        Fault::Trapped(code)
-    }
-}
-
-impl<T: Drop> From<AllocFailed<T>> for Fault {
-    fn from(_error: AllocFailed<T>) -> Fault {
-        Fault::Memory
-    }
-}

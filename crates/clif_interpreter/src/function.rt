@@ -1,9 +1,9 @@
 //! The interpreter of functions, written from the function machine. It has the bits of values, and follows aliases.
-use crate::arithmetic::bits_of_bytes;
 use crate::error::{Cause, Operand, Place, RunError};
-use crate::operation::{Operation, Outcome, Store, Typed, bits_of, carry_out, kept};
 use crate::run::{End, Ending, World};
 use clif_ir::{BlockArg, BlockCall, Function, InstructionData};
+use clif_operations::arithmetic::bits_of_bytes;
+use clif_operations::{Fault, Operation, Outcome, Store, Typed, bits_of, carry_out, kept};
 use clif_types::{Block, Constant, EntityRef, Inst, StackSlot, Type, Value};
 use std::alloc::Global;
 
@@ -138,7 +138,7 @@ impl<'a> State<'a> {
     // Gives bits to the results of an instruction.
     fn give_all(&mut self, results: &[Value], bits: &[u128]) -> Result<(), Cause> {
         if results.len() != bits.len() {
-            return Err(Cause::Results);
+            return Err(Cause::Fault(Fault::Results));
         }
         for (value, bits) in results.iter().zip(bits.iter()) {
             self.give(*value, *bits)?;

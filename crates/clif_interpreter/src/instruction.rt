@@ -1,8 +1,8 @@
 //! The instructions of scripts, by their parts.
-use crate::arithmetic::bits_of_bytes;
-use crate::operation::Operation;
 use clif_calls::{Call, Edge, Name, Plan};
 use clif_opcodes::PooledConstOpcode;
+use clif_operations::Operation;
+use clif_operations::arithmetic::bits_of_bytes;
 use clif_types::Type;
 use std::slice;
 

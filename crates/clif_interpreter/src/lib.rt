@@ -7,21 +7,18 @@
 #![tactic(auto)]
 
 pub mod arguments;
-pub mod arithmetic;
 pub mod comparison;
 pub mod error;
 pub mod function;
 pub mod instruction;
-pub mod memory;
-pub mod operation;
 mod program;
 pub mod run;
 pub mod script;
 pub mod shown;
 
 pub use arguments::{ArgumentError, arguments_of};
+pub use clif_operations::{Fault, Memory};
 pub use comparison::{Comparison, Verdict, compare};
 pub use error::{Cause, Operand, Place, RunError};
-pub use memory::Memory;
 pub use run::{End, Ending, World};
 pub use shown::Shown;

@@ -1,8 +1,7 @@
 //! What a run is given, and how it ends.
-use crate::arithmetic::greatest;
 use crate::error::Cause;
-use crate::memory::{Memory, Slots};
-use crate::operation::{Store, Typed, kept};
+use clif_operations::arithmetic::greatest;
+use clif_operations::{Memory, Slots, Store, Typed, kept};
 use clif_types::{PointerWidth, TrapCode, Type};
 use std::alloc::Global;
 
@@ -26,7 +25,7 @@ impl World<'_> {
         if bits > greatest(ty) {
             return Err(Cause::Arguments);
         }
-        kept(ty, bits)
+        Ok(kept(ty, bits)?)
     }
 
     /// Memory as the run begins, with no slot placed in it yet.

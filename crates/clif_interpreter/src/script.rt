@@ -2,10 +2,10 @@
 //! variables and names of answers, and no aliases and no parameters of variables.
 use crate::error::{Cause, Operand, Place, RunError};
 use crate::instruction::{Instruction, constant_of, edge_count, edge_of, instruction_of, plan_of};
-use crate::operation::{Operation, Outcome, Store, Typed, bits_of, carry_out, kept};
 use crate::program::{Program, ProgramBlock};
 use crate::run::{End, Ending, World};
 use clif_calls::{Call, Edge, Name, Plan};
+use clif_operations::{Fault, Operation, Outcome, Store, Typed, bits_of, carry_out, kept};
 use clif_types::{AbiParam, EntityRef, Signature, Type};
 use std::alloc::{AllocError, Global};
 
@@ -125,7 +125,7 @@ impl State<'_, '_> {
     ) -> Result<(), Cause> {
         let kinds = operation.opcode().typing().results;
         if kinds.len() != bits.len() {
-            return Err(Cause::Results);
+            return Err(Cause::Fault(Fault::Results));
         }
         for (index, (kind, bits)) in kinds.iter().zip(bits.iter()).enumerate() {
             let answer = index.saturating_add(1);

@@ -1,6 +1,6 @@
 //! How the end of a run is printed.
-use crate::arithmetic::{is_negative, magnitude};
 use crate::run::End;
+use clif_operations::arithmetic::{is_negative, magnitude};
 use clif_types::{AbiParam, Type};
 use std::fmt;
 

@@ -24,7 +24,7 @@ use Rattle.clif_types.specs.Types.{bytes_of, is_int, is_type}
 use Rattle.clif_tables.specs.Entries.{TableEntry, AStackSlot, AFunction}
 use Rattle.clif_tables.specs.Lists.{TableLists}
 use Rattle.clif_meaning.specs.SameType.{same_type}
-use Rattle.clif_meaning.specs.Instruction.{Iconst, FloatConst, PooledConst, Unary, Binary, Compare, Concat, Split, Convert, Select, Operation, operation_entries, Compute, Load, Store, Stack, StackStore, Trap, CondTrap, Jump, Brif, Return, Argument, Known, CallResult, CallPayload, Edge}
+use Rattle.clif_meaning.specs.Instruction.{Iconst, FloatConst, PooledConst, Unary, Binary, Compare, Concat, Split, Convert, Select, Operation, operation_entries, Compute, Load, Store, Stack, StackStore, Trap, CondTrap, Jump, Brif, BrTable, Return, Argument, Known, CallResult, CallPayload, Edge}
 use Rattle.clif_meaning.specs.Name.{Name}
 use Rattle.clif_meaning.specs.Request.{Request, CreateBlock, SwitchToBlock, SealBlock, SealAllBlocks, InsertBlockAfter, SetColdBlock, EnsureInsertedBlock, AppendBlockParams, AppendFunctionParams, DeclareVar, DefVar, UseVar, MakeEntry, Build, Finalize, Script, Attempt, outright}
 use Rattle.clif_meaning.specs.Ledger.{BlockState, Ledger, empty_ledger, type_of, or_invalid, has_value, has_block, is_filled, is_sealed, is_inserted, is_pristine, has_predecessors, is_unreachable, variable_type, ledger_with}
@@ -219,6 +219,10 @@ jump edge = Build (record { operation = Jump; controlling = type.Invalid; operan
 abbrev pub brif : Ledger → Name → Edge Name Name → Edge Name Name → Request
 brif ledger condition taken other =
     Build (record { operation = Brif; controlling = or_invalid (type_of ledger condition); operands = condition ∷ []; edges = taken ∷ other ∷ [] })
+
+-- the default, and then the entries
+abbrev pub br_table : Name → Edge Name Name → List (Edge Name Name) → Request
+br_table index default entries = Build (record { operation = BrTable (length entries); controlling = type.Invalid; operands = index ∷ []; edges = default ∷ entries })
 
 abbrev pub return_ : List Name → Request
 return_ values = Build (record { operation = Return; controlling = type.Invalid; operands = values; edges = [] })

@@ -1,6 +1,6 @@
 -- What is known once a call was made, or wasn't.
-use Rattle.std.proofs.Common.{◌≡◌, ℕ, ◌-◌, ◌^◌, List, [], ◌∷◌, length, refl, ap, sym, ◌∙◌, subst, append_assoc, ◌⊎◌, inl, inr}
-use Rattle.std.specs.Prelude.{◌≢◌, ◌↔◌, ◌&&◌, Option, IfSome, IsTrue, Bool, true, false, if◌then◌else◌, is_err, Err, OnOk, Ok, Result}
+use Rattle.std.proofs.Common.{◌≡◌, ℕ, ◌<◌, ◌-◌, ◌^◌, List, [], ◌∷◌, length, refl, ap, sym, ◌∙◌, subst, append_assoc, ◌⊎◌, inl, inr}
+use Rattle.std.specs.Prelude.{◌≢◌, ◌↔◌, ◌&&◌, Option, Some, IfSome, IsTrue, Contains, slice_get, Bool, true, false, if◌then◌else◌, is_err, Err, OnOk, Ok, Result}
 use Rattle.clif_types.specs.declared.error.BuildError.{BuildError}
 use Rattle.clif_types.specs.declared.error.BuildError.TheVariants as build
 use Rattle.clif_types.specs.declared.types.«Type».{«Type»}
@@ -9,7 +9,10 @@ use Rattle.clif_ir.specs.Body.{Body}
 use Rattle.clif_ir.specs.Changes.{inserted_in, with_layout}
 use Rattle.clif_instructions.specs.Members.{stands_in}
 use Rattle.clif_ssa.specs.Constructs.{OnlyConstructs}
-use Rattle.clif_ssa.specs.Limits.{ConstructionIsFull, IsFull}
+use Rattle.clif_records.specs.Tables.{pending_of}
+use Rattle.clif_ssa.specs.Limits.{IsFull}
+use Rattle.clif_ssa.specs.Pools.{types_of, SealingIsFull, UseIsFull, WaitsWithType}
+use Rattle.clif_ssa.specs.Ssa.{SsaState, sealed_of}
 use Rattle.clif_meaning.specs.Ledger.{Ledger}
 use Rattle.clif_meaning.specs.Request.{AnsweredCall, Request}
 use Rattle.clif_meaning.specs.Acceptance.{allows, blames_variable}
@@ -20,9 +23,10 @@ use Rattle.clif_replay.specs.Errors.{call_error_of}
 use Rattle.clif_replay.specs.declared.script.Answer.{Answer}
 use Rattle.clif_replay.specs.declared.script.CallError.{CallError}
 use Rattle.clif_replay.specs.declared.script.CallError.TheVariants as error
-use Rattle.clif_replay.specs.Limits.{ConstructsUntilFull}
+use Rattle.clif_replay.specs.Limits.{ConstructsUntil, UseMeetsFullTable}
 use Rattle.clif_replay.specs.Makes.{Finds, Makes}
 use Rattle.clif_replay.specs.Ready.{IsJudged, IsReady, IsReadyAfter}
+use Rattle.clif_replay.proofs.Options.{get-below}
 
 -- the request is allowed in each ledger with which the builder agrees, or in none
 abbrev pub Judges : (SignatureShape → Ledger → Request) → FunctionBuilder → List Answer → Bool → Type 0
@@ -249,8 +253,21 @@ constructs-inserted f g block = by (stands_in block f.layout)
     }
 
 -- a use of a variable did, in the current block
-pub constructs-met : {T : Type 0} (b : FunctionBuilder) (g : Body) (told : Result T BuildError) → HasCurrent b
-    → IfSome b.position (λ block. told ≡ Err build.Full → OnlyConstructs (inserted_in b.func.now block) g) → told ≡ Err build.Full → ConstructionIsFull g
-    → ConstructsUntilFull b.func.now
-constructs-met b g told current made full is_full =
+constructs-met : {T : Type 0} (TableIsFull : Body → Type 0) (b : FunctionBuilder) (g : Body) (told : Result T BuildError) → HasCurrent b
+    → IfSome b.position (λ block. told ≡ Err build.Full → OnlyConstructs (inserted_in b.func.now block) g) → told ≡ Err build.Full → TableIsFull g
+    → ConstructsUntil TableIsFull b.func.now
+constructs-met TableIsFull b g told current made full is_full =
     (g, constructs-inserted b.func.now g current.0 (subst (λ (o : Option ℕ). IfSome o (λ block. told ≡ Err build.Full → OnlyConstructs (inserted_in b.func.now block) g)) current.1 made full), is_full)
+
+pub use-met : {T : Type 0} (b : FunctionBuilder) (g : Body) (told : Result T BuildError) (variable : ℕ) → variable < length b.ctx.now.variables → HasCurrent b
+    → IfSome b.position (λ block. told ≡ Err build.Full → OnlyConstructs (inserted_in b.func.now block) g) → told ≡ Err build.Full
+    → ((ty : «Type») → slice_get b.ctx.now.variables variable ≡ Some ty → told ≡ Err build.Full → UseIsFull ty g) → UseMeetsFullTable variable b.func.now b.ctx.now
+use-met b g told variable declared current made full is_full =
+    let at = get-below b.ctx.now.variables variable declared in
+    (at.0, at.1, constructs-met (UseIsFull at.0) b g told current made full (is_full at.0 at.1 full))
+
+-- the parameters that wait in one block wait in some block
+pub one-block : (f g : Body) (s : SsaState) (b : ℕ) → b < length f.blocks → SealingIsFull (Contains (types_of f (pending_of (sealed_of s b)))) g
+    → SealingIsFull (WaitsWithType f s) g
+one-block f g s b there (inl full) = inl full
+one-block f g s b there (inr lacks) = inr (lacks.0, (b, there, lacks.1), lacks.2)

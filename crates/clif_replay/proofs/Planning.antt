@@ -21,7 +21,7 @@ use Rattle.clif_meaning.specs.Ledger.{or_invalid, type_of}
 use Rattle.clif_meaning.specs.Request.{AnsweredCall}
 use Rattle.cranelift_frontend.specs.declared.builder.FunctionBuilder.{FunctionBuilder}
 use Rattle.cranelift_frontend.specs.Builder.{CanLead}
-use Rattle.cranelift_frontend.specs.Ledger.{HasShape, NamesEdges, ledger_of, without_constants}
+use Rattle.cranelift_frontend.specs.Ledger.{HasShape, NamesEdges, ledger_of, tables_of_calls}
 use Rattle.clif_calls.specs.Plan.{edges_in, operands_in}
 use Rattle.clif_calls.specs.declared.call.Edge.{Edge}
 use Rattle.clif_calls.specs.declared.call.Name.{Name}
@@ -87,7 +87,7 @@ controlling-same first second same _ = refl
 
 -- what a plan names is no constant
 entries-kept : (tables : TableLists) (p : Plan)
-    → list_all (has_entry (without_constants tables)) (operation_entries (operation_in p)) ≡ list_all (has_entry tables) (operation_entries (operation_in p))
+    → list_all (has_entry (tables_of_calls tables)) (operation_entries (operation_in p)) ≡ list_all (has_entry tables) (operation_entries (operation_in p))
 entries-kept tables (plan.Jump destination) = refl
 entries-kept tables _ = refl
 

@@ -1,9 +1,11 @@
 -- Where a call meets a full table. Source: own.
-use Rattle.std.specs.Prelude.{◌≡◌, ◌-◌, ◌^◌, ◌⊎◌, ℕ, List, false, length}
+use Rattle.std.specs.Prelude.{◌≡◌, ◌-◌, ◌^◌, ◌⊎◌, ℕ, List, false, length, slice_get, Some}
 use Rattle.clif_tables.specs.Constants.{has_constant}
 use Rattle.clif_ir.specs.Body.{Body}
 use Rattle.clif_ssa.specs.Constructs.{OnlyConstructs}
-use Rattle.clif_ssa.specs.Limits.{ConstructionIsFull, IsFull}
+use Rattle.clif_ssa.specs.Limits.{IsFull}
+use Rattle.clif_ssa.specs.Pools.{SealingIsFull, UseIsFull, WaitsWithType}
+use Rattle.clif_types.specs.declared.types.«Type».{«Type»}
 use Rattle.clif_ir.specs.Changes.{HasNoRoom}
 use Rattle.clif_calls.specs.Plan.{plan_of}
 use Rattle.clif_calls.specs.declared.plan.Plan.{Plan}
@@ -13,9 +15,17 @@ use Rattle.clif_calls.specs.declared.call.Call.TheVariants as call
 use Rattle.cranelift_frontend.specs.Context.{ContextState}
 use Rattle.cranelift_frontend.specs.Growth.{NoRoomFor}
 
--- the construction of SSA form alone leads from this function to one whose table of values, of instructions or of constants is full
-abbrev pub ConstructsUntilFull : Body → Type 0
-ConstructsUntilFull f = (g : Body) × OnlyConstructs f g × ConstructionIsFull g
+-- the construction of SSA form alone leads from this function to one in which a table is full
+abbrev pub ConstructsUntil : (Body → Type 0) → Body → Type 0
+ConstructsUntil TableIsFull f = (g : Body) × OnlyConstructs f g × TableIsFull g
+
+-- That of values is, or that of instructions; or that of constants, and the zero of the variable's type needs one more.
+abbrev pub UseMeetsFullTable : ℕ → Body → ContextState → Type 0
+UseMeetsFullTable variable f c = (ty : «Type») × (slice_get c.variables variable ≡ Some ty) × ConstructsUntil (UseIsFull ty) f
+
+-- the same for the type of a parameter that waits
+abbrev pub SealingMeetsFullTable : Body → ContextState → Type 0
+SealingMeetsFullTable f c = ConstructsUntil (SealingIsFull (WaitsWithType f c.ssa)) f
 
 -- An instruction of this plan finds the table of instructions or that of values full; or, of one with two results, the table
 -- of values has a number left for one of them alone.
@@ -46,10 +56,10 @@ MeetsFullTable (call.Jump destination) f c = IsFull f
 MeetsFullTable (call.Brif condition block_then block_else) f c = IsFull f
 MeetsFullTable (call.Return values) f c = IsFull f
 MeetsFullTable (call.Trap code) f c = IsFull f
-MeetsFullTable (call.UseVar variable) f c = ConstructsUntilFull f
-MeetsFullTable (call.TryUseVar variable) f c = ConstructsUntilFull f
-MeetsFullTable (call.SealBlock block) f c = ConstructsUntilFull f
-MeetsFullTable call.SealAllBlocks f c = ConstructsUntilFull f
+MeetsFullTable (call.UseVar variable) f c = UseMeetsFullTable variable f c
+MeetsFullTable (call.TryUseVar variable) f c = UseMeetsFullTable variable f c
+MeetsFullTable (call.SealBlock block) f c = SealingMeetsFullTable f c
+MeetsFullTable call.SealAllBlocks f c = SealingMeetsFullTable f c
 MeetsFullTable (call.SwitchToBlock block) f c = ⊥
 MeetsFullTable (call.InsertBlockAfter block after) f c = ⊥
 MeetsFullTable (call.SetColdBlock block) f c = ⊥

@@ -5,7 +5,7 @@ ghost use Rattle.std.specs.Prelude.{◌<◌, IfOk};
 use crate::command::Run;
 use crate::program::{tell_call, tell_no_text, tell_unbuilt, tell_unread};
 use clif_interpreter::{
-    ArgumentError, Cause, Comparison, Place, RunError, Shown, Verdict, arguments_of, compare,
+    ArgumentError, Cause, Comparison, Fault, Place, RunError, Shown, Verdict, arguments_of, compare,
 };
 use clif_replay::{ReplayError, replay};
 use clif_text::{ReadError, Script, read};
@@ -228,7 +228,7 @@ fn tell_unrun<E: io::Write>(
     ensures { IfOk result (λ status. status < 6) }
 {
     let cause = error.cause;
-    let status = if let Cause::Memory = cause {
+    let status = if let Cause::Fault(Fault::Memory) = cause {
         writeln!(err, "{cause}")?;
         1
     } else if cause.is_limit() {

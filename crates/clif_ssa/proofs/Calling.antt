@@ -5,7 +5,7 @@ use Rattle.std.proofs.lemmas.Grind.{common_steps}
 use Rattle.std.proofs.lemmas.Bool.{cases_eq}
 use Rattle.clif_types.specs.declared.error.BuildError.{BuildError}
 use Rattle.clif_types.specs.declared.types.«Type».{«Type»}
-use Rattle.clif_ir.specs.Body.{Body}
+use Rattle.clif_ir.specs.Body.{Body, value_at}
 use Rattle.clif_ir.specs.Changes.{with_param}
 use Rattle.clif_instructions.specs.Members.{stands_in}
 use Rattle.clif_records.specs.declared.look_up.Call.{Call}
@@ -17,6 +17,7 @@ use Rattle.clif_records.specs.Stacks.{LookUpState, calls_for}
 use Rattle.clif_ssa.specs.LookUp.{Stage, Copies, LooksUp, FinishesLookUp, MakesCall, branch_block, with_calls}
 use Rattle.clif_ssa.specs.Running.{stage, with_call, CallExists, Balances, CallsFit, work_at, work_below, work_of, Got}
 use Rattle.clif_ssa.proofs.Making.{got_added}
+use Rattle.clif_ssa.proofs.ZeroSteps.{param_type}
 use Rattle.clif_records.proofs.Copying.{get_or-inside}
 
 none_some : {x : ℕ} → ◌≡◌ {A = Option ℕ} None (Some x) → ⊥
@@ -91,9 +92,13 @@ contains_looks (i ∷ branches) c (suc k, inside, at) =
     let rest = contains_looks branches c (k, omega (arith, inside), at) in
     (rest.0, (suc (rest.1).0, omega (arith, (rest.1).1), (rest.1).2), rest.2)
 
-call-exists : (f g : Body) (call : Call) → HasMore f g → CallExists f call → CallExists g call
-call-exists f g (UseVar branch) more there = omega (arith, there, more.insts)
-call-exists f g (FinishPredecessorsLookup param block) more there = omega (arith, there, more.values)
+-- each value keeps its type
+abbrev pub KeepsTypes : Body → Body → Type 0
+KeepsTypes f g = (v : ℕ) → v < length f.values → (v < length g.values) × ((value_at g v).ty ≡ (value_at f v).ty)
+
+call-exists : (ty : «Type») (f g : Body) (call : Call) → HasMore f g → KeepsTypes f g → CallExists ty f call → CallExists ty g call
+call-exists ty f g (UseVar branch) more typed there = omega (arith, there, more.insts)
+call-exists ty f g (FinishPredecessorsLookup param block) more typed there = let kept = typed param there.0 in (kept.0, kept.1 ∙ there.1)
 
 results-kept : (f g : Body) (results : List ℕ) → HasMore f g → EachIndex results (λ k. slice_index results k < length f.values) → EachIndex results (λ k. slice_index results k < length g.values)
 results-kept f g results more each k inside = omega (arith, each k inside, more.values)
@@ -107,36 +112,39 @@ inside_more : (f : Body) (b : ℕ) (ty : «Type») → length f.values < length 
 inside_more f b ty = grind (arith, common_steps)
 
 -- what is left once the next call, a look-up, is taken
-pub record Popped (m : Stage) : Type 0 where
-  pub calls : (call : Call) → Contains m.look_up.calls call → CallExists m.function call
+pub record Popped (ty : «Type») (m : Stage) : Type 0 where
+  pub calls : (call : Call) → Contains m.look_up.calls call → CallExists ty m.function call
   pub results : EachIndex m.look_up.results (λ k. slice_index m.look_up.results k < length m.function.values)
   pub balances : Balances m.state m.look_up.calls (suc (length m.look_up.results))
 
 pub look-fits : (x : ℕ) (ty : «Type») (block : ℕ) (m n : Stage) → LooksUp x ty block m n → NamesExist m.function m.state → HasMore m.function n.function
-    → SamePredecessors m.state n.state → Popped m → CallsFit n.function n.state n.look_up
-look-fits x ty block m n looks named more same popped =
+    → KeepsTypes m.function n.function → SamePredecessors m.state n.state → Popped ty m → CallsFit ty n.function n.state n.look_up
+look-fits x ty block m n looks named more typed same popped =
     elim looks [
-      | inl finds ↦ subst (λ l. CallsFit n.function n.state l) (sym finds.look_up)
+      | inl finds ↦ subst (λ l. CallsFit ty n.function n.state l) (sym finds.look_up)
           (pushed finds.value (omega (arith, named.recorded x finds.reached finds.value finds.is_recorded, more.values)))
       | inr later ↦
           elim later [
-            | inl waits ↦ subst (λ l. CallsFit n.function n.state l) (sym waits.look_up) (pushed (length m.function.values) (new_there waits.reached (waits.adds).function))
-            | inr begins ↦ subst (λ l. CallsFit n.function n.state l) (sym (begins.begins).look_up) (begun begins.reached (new_there begins.reached (begins.adds).function))
+            | inl waits ↦ subst (λ l. CallsFit ty n.function n.state l) (sym waits.look_up) (pushed (length m.function.values) (new_there waits.reached (waits.adds).function))
+            | inr begins ↦ subst (λ l. CallsFit ty n.function n.state l) (sym (begins.begins).look_up) (begun begins.reached (new_there begins.reached (begins.adds).function, new_type begins.reached (begins.adds).function))
           ]
     ]
   where
     new_there : (b : ℕ) → n.function ≡ with_param m.function b ty → length m.function.values < length n.function.values
     new_there b is = let same_count : length n.function.values ≡ length (with_param m.function b ty).values = ap (λ (f : Body). length f.values) is in omega (arith, inside_more m.function b ty, same_count)
 
-    pushed : (value : ℕ) → value < length n.function.values → CallsFit n.function n.state (record m.look_up { results = value ∷ m.look_up.results })
+    new_type : (b : ℕ) → n.function ≡ with_param m.function b ty → (value_at n.function (length m.function.values)).ty ≡ ty
+    new_type b is = ap (λ (f : Body). (value_at f (length m.function.values)).ty) is ∙ param_type m.function b ty
+
+    pushed : (value : ℕ) → value < length n.function.values → CallsFit ty n.function n.state (record m.look_up { results = value ∷ m.look_up.results })
     pushed value there = record {
-      calls = λ call here. call-exists m.function n.function call more (popped.calls call here);
+      calls = λ call here. call-exists ty m.function n.function call more typed (popped.calls call here);
       results = result-first m.function n.function value m.look_up.results more there popped.results;
       balances = balances-same m.state n.state m.look_up.calls (suc (length m.look_up.results)) same popped.balances;
     }
 
-    begun : (b : ℕ) → length m.function.values < length n.function.values
-        → CallsFit n.function n.state (record m.look_up { calls = calls_for (predecessors_of m.state b) (length m.function.values) b ++ m.look_up.calls })
+    begun : (b : ℕ) → CallExists ty n.function (FinishPredecessorsLookup (length m.function.values) b)
+        → CallsFit ty n.function n.state (record m.look_up { calls = calls_for (predecessors_of m.state b) (length m.function.values) b ++ m.look_up.calls })
     begun b there = record {
       calls = λ call here.
           elim (contains_parts (calls_for (predecessors_of m.state b) (length m.function.values) b) m.look_up.calls call here) [
@@ -144,10 +152,10 @@ look-fits x ty block m n looks named more same popped =
                 elim (contains_parts (map UseVar (predecessors_of m.state b)) (FinishPredecessorsLookup (length m.function.values) b ∷ []) call first) [
                   | inl look ↦
                       let at = contains_looks (predecessors_of m.state b) call look in
-                      subst (λ c. CallExists n.function c) at.2 (omega (arith, named.leading b at.0 at.1, more.insts))
-                  | inr last ↦ subst (λ c. CallExists n.function c) (only call last) there
+                      subst (λ c. CallExists ty n.function c) at.2 (omega (arith, named.leading b at.0 at.1, more.insts))
+                  | inr last ↦ subst (λ c. CallExists ty n.function c) (only call last) there
                 ]
-            | inr old ↦ call-exists m.function n.function call more (popped.calls call old)
+            | inr old ↦ call-exists ty m.function n.function call more typed (popped.calls call old)
           ];
       results = results-kept m.function n.function m.look_up.results more popped.results;
       balances = balances-same m.state n.state (calls_for (predecessors_of m.state b) (length m.function.values) b ++ m.look_up.calls) (length m.look_up.results) same
@@ -158,25 +166,30 @@ look-fits x ty block m n looks named more same popped =
         only call (zero, inside, at) = at
         only call (suc k, inside, at) = absurd (omega (arith, inside))
 
+-- the parameter whose look-up ends next exists, and has the variable's type
+pub next_typed : (ty : «Type») (f : Body) (s : SsaState) (l : LookUpState) (call : Call) (param block : ℕ) → call ≡ FinishPredecessorsLookup param block
+    → CallsFit ty f s (with_call call l) → CallExists ty f (FinishPredecessorsLookup param block)
+next_typed ty f s l call param block is fits = subst (CallExists ty f) is (fits.calls call (0, omega arith, refl))
+
 -- the next call is taken
-pub popped-look : (f : Body) (s : SsaState) (branch : ℕ) (l : LookUpState) → CallsFit f s (with_call (UseVar branch) l) → Popped (stage f s l)
-popped-look f s branch l fits = record {
+pub popped-look : (ty : «Type») (f : Body) (s : SsaState) (branch : ℕ) (l : LookUpState) → CallsFit ty f s (with_call (UseVar branch) l) → Popped ty (stage f s l)
+popped-look ty f s branch l fits = record {
   calls = λ call here. fits.calls call (contains_tail (UseVar branch) l.calls call here);
   results = fits.results;
   balances = fits.balances;
 }
 
-pub finish-fits : (param block : ℕ) (m n : Stage) → FinishesLookUp param block m n → HasMore m.function n.function
+pub finish-fits : (ty : «Type») (param block : ℕ) (m n : Stage) → FinishesLookUp param block m n → HasMore m.function n.function → KeepsTypes m.function n.function
     → EachIndex n.look_up.results (λ k. slice_index n.look_up.results k < length n.function.values)
-    → CallsFit m.function m.state (with_call (FinishPredecessorsLookup param block) m.look_up) → CallsFit n.function n.state n.look_up
-finish-fits param block m n finishes more exist fits =
+    → CallsFit ty m.function m.state (with_call (FinishPredecessorsLookup param block) m.look_up) → CallsFit ty n.function n.state n.look_up
+finish-fits ty param block m n finishes more typed exist fits =
     let p : ℕ = length (predecessors_of m.state block) in
     let total : length m.look_up.results ≡ length finishes.results + length finishes.others = ap length finishes.taken ∙ grind (arith, common_steps) in
     let left : length finishes.others ≡ length m.look_up.results - p = omega (arith, total, finishes.count) in
     let after : LookUpState = record { calls = m.look_up.calls; results = finishes.value ∷ finishes.others; zeros = m.look_up.zeros ++ finishes.zeros } in
     record {
       calls = λ call here.
-          call-exists m.function n.function call more
+          call-exists ty m.function n.function call more typed
           (fits.calls call (contains_tail (FinishPredecessorsLookup param block) m.look_up.calls call (subst (λ (l : LookUpState). Contains l.calls call) finishes.look_up here)));
       results = exist;
       balances = subst (λ (s : SsaState). Balances s n.look_up.calls (length n.look_up.results)) (sym finishes.state)

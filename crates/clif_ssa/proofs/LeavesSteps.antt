@@ -1,5 +1,6 @@
 -- What a step leaves, one after another.
 use Rattle.std.proofs.Common.{◌≡◌, ℕ, length, refl, ap, ◌∙◌}
+use Rattle.clif_types.specs.declared.types.«Type».{«Type»}
 use Rattle.clif_ir.specs.Body.{Body}
 use Rattle.clif_ssa.specs.Ssa.{SsaState, SameBlocks, SamePredecessors, SameRecords}
 use Rattle.clif_ssa.specs.Steps.{StepKeeps, StepLeaves}
@@ -32,7 +33,7 @@ leaves_then f s g t h u first next = record {
   names = λ named. next.names (first.names named);
 }
 
-pub leaves_from : (x : ℕ) (f : Body) (s : SsaState) (g : Body) (t : SsaState) → StepKeeps x f s g t → StepLeaves f s g t
+pub leaves_from : {ty : «Type»} (x : ℕ) (f : Body) (s : SsaState) (g : Body) (t : SsaState) → StepKeeps x ty f s g t → StepLeaves f s g t
 leaves_from x f s g t keeps = record {
   predecessors = keeps.predecessors;
   stay = keeps.stay;

@@ -23,6 +23,8 @@ pub mod Pooled
 pub mod ZeroTable
 pub mod PuttingSteps
 pub mod ZeroSteps
+pub mod Pooling
+pub mod SealPools
 pub mod Zeroing
 pub mod Completing
 pub mod Sealing

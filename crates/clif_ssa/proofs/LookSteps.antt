@@ -1,5 +1,5 @@
 -- What a look-up in a block keeps, and how it ends.
-use Rattle.std.proofs.Common.{◌≡◌, ℕ, ◌<◌, true, List, length, refl, ap, ◌∙◌, ◌⊎◌}
+use Rattle.std.proofs.Common.{◌≡◌, ℕ, ◌<◌, true, List, length, refl, ap, ◌∙◌, ◌⊎◌, inl}
 use Rattle.std.specs.Prelude.{Some, Result, Ok, Err, OnOk, OnErr}
 use Rattle.clif_types.specs.declared.error.BuildError.{BuildError}
 use Rattle.clif_types.specs.declared.error.BuildError.TheVariants.{Memory}
@@ -13,17 +13,19 @@ use Rattle.clif_ssa.specs.Running.{stage, Got}
 use Rattle.clif_ssa.specs.Ssa.{SsaState, record_of, NamesExist, SameBlocks, SameLookups}
 use Rattle.clif_ssa.specs.Steps.{StepKeeps, StepEnds}
 use Rattle.clif_records.specs.Tables.{is_yes, predecessors_at, sealed_at}
+use Rattle.clif_ssa.proofs.Constructing.{constructs_none}
 use Rattle.clif_ssa.proofs.CountedOnce.{NoneLost, counts_then, once_kept}
 use Rattle.clif_ssa.proofs.Making.{looked-named, looked-stay, looks_up}
+use Rattle.clif_ssa.proofs.Pooling.{pools_again, pools_kept}
 use Rattle.clif_ssa.proofs.Steps.{ends_memory, ends_ok, known_same}
 use Rattle.clif_ssa.proofs.Waited.{no_more-then}
 
 -- what was found or made is copied to the blocks that were passed
-pub keeps_looked : (x : ℕ) (f : Body) (s : SsaState) (g : Body) (t u : SsaState) (block reached value : ℕ) (passed : List ℕ) → IsConsistent f → NamesExist f s
-    → block < length f.blocks → IsWalk f s x block passed reached → value < length g.values → StepKeeps x f s g t → u.blocks ≡ t.blocks → SameLookups t u
+pub keeps_looked : {ty : «Type»} (x : ℕ) (f : Body) (s : SsaState) (g : Body) (t u : SsaState) (block reached value : ℕ) (passed : List ℕ) → IsConsistent f → NamesExist f s
+    → block < length f.blocks → IsWalk f s x block passed reached → value < length g.values → StepKeeps x ty f s g t → u.blocks ≡ t.blocks → SameLookups t u
     → ((y b v : ℕ) → record_of u y b ≡ Some v → (record_of t y b ≡ Some v) ⊎ (v ≡ value))
-    → ((y b : ℕ) → (record_of u y b ≡ record_of t y b) ⊎ ((y ≡ x) × (stands_in b passed ≡ true))) → NoneLost t u → StepKeeps x f s g u
-keeps_looked x f s g t u block reached value passed known named there walk exists keeps blocks lookups recorded others kept =
+    → ((y b : ℕ) → (record_of u y b ≡ record_of t y b) ⊎ ((y ≡ x) × (stands_in b passed ≡ true))) → NoneLost t u → StepKeeps x ty f s g u
+keeps_looked {ty} x f s g t u block reached value passed known named there walk exists keeps blocks lookups recorded others kept =
     let sealed : SameBlocks t u = λ b. ap (λ all. sealed_at all b) blocks in
     record {
       predecessors = λ b. ap (λ all. predecessors_at all b) blocks ∙ keeps.predecessors b;
@@ -34,6 +36,7 @@ keeps_looked x f s g t u block reached value passed known named there walk exist
       constructs = keeps.constructs;
       names = λ before. looked-named g t u value exists blocks recorded (keeps.names before);
       once = counts_then s t u keeps.once (once_kept t u kept lookups sealed);
+      pools = pools_again ty f s g t g u keeps.pools (pools_kept ty g g t u (inl refl) (constructs_none g) sealed);
     }
 
 pub looked_copied : (x : ℕ) (ty : «Type») (block : ℕ) (passed : List ℕ) (reached value : ℕ) (m n : Stage) (t : SsaState) {A E : Type 0} (answer : Result A E)
@@ -43,6 +46,6 @@ pub looked_copied : (x : ℕ) (ty : «Type») (block : ℕ) (passed : List ℕ) 
 looked_copied x ty block passed reached value m n t (Ok a) walks exists got copies blocks lookups = looks_up x ty block passed reached value m n t walks exists got copies blocks lookups
 looked_copied x ty block passed reached value m n t (Err e) walks exists got copies blocks lookups = tt
 
-pub ends_copied : (g : Body) {A : Type 0} (answer : Result A BuildError) → OnErr answer (answer ≡ Err Memory) → StepEnds g answer
+pub ends_copied : {TableIsFull : Body → Type 0} (g : Body) {A : Type 0} (answer : Result A BuildError) → OnErr answer (answer ≡ Err Memory) → StepEnds TableIsFull g answer
 ends_copied g (Ok a) memory = ends_ok g a
 ends_copied g (Err e) memory = ends_memory g e memory

@@ -52,7 +52,7 @@ within test (x ∷ xs) = by (test x) (within test xs)
 new_found : {X : Type 0} (test : X → Bool) (xs : List X) (y : X) → position test xs ≡ None → test y ≡ true → position test (xs ++ y ∷ []) ≡ Some (length xs)
 new_found test xs y missing passes = grind (arith, common_steps, missing, passes, within test xs)
 
-found_behind : (constants : List (List ℕ)) (bytes : List ℕ) → number_of constants bytes ≡ None → number_of (constants ++ bytes ∷ []) bytes ≡ Some (length constants)
+pub found_behind : (constants : List (List ℕ)) (bytes : List ℕ) → number_of constants bytes ≡ None → number_of (constants ++ bytes ∷ []) bytes ≡ Some (length constants)
 found_behind constants bytes missing = new_found (pointwise nat_eq bytes) constants bytes missing (nat_list_eq_equiv.refl bytes)
 
 -- The constants with these bytes among them: they keep what they have, and the bytes have the number that they get.
@@ -100,7 +100,7 @@ zeros_are (suc n) = (refl, zeros_are n)
 pub pools_none : (t : TableLists) → PoolsZeros t t
 pools_none t = record { same = refl; more = []; behind = sym (append-nil t.constants); zeros = tt }
 
-all_append : {X : Type 0} (P : X → Type 0) (xs ys : List X) → AllByRecursion P xs → AllByRecursion P ys → AllByRecursion P (xs ++ ys)
+pub all_append : {X : Type 0} (P : X → Type 0) (xs ys : List X) → AllByRecursion P xs → AllByRecursion P ys → AllByRecursion P (xs ++ ys)
 all_append P [] ys first second = second
 all_append P (x ∷ xs) ys first second = (first.0, all_append P xs ys first.1 second)
 

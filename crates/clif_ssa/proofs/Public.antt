@@ -91,8 +91,8 @@ machine_use own f h g s r t tables x ty b first begun last value nothing known b
     (uses_keeps own tables x ty b (stage f s no_look_up) all.last value refl known both there (looked_up x ty b f h g s r t first begun last value nothing looks all)))
 
 -- where nothing was looked up yet, no call takes a result
-pub popped_nothing : (f : Body) (s : SsaState) (l : LookUpState) → l ≡ no_look_up → Popped (stage f s l)
-popped_nothing f s l nothing = subst (λ k. Popped (stage f s k)) (sym nothing) (record {
+pub popped_nothing : (ty : «Type») (f : Body) (s : SsaState) (l : LookUpState) → l ≡ no_look_up → Popped ty (stage f s l)
+popped_nothing ty f s l nothing = subst (λ k. Popped ty (stage f s k)) (sym nothing) (record {
   calls = λ call here. absurd (none_contained call here);
   results = λ k inside. absurd (omega (arith, inside));
   balances = refl;

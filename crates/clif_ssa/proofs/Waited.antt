@@ -29,17 +29,17 @@ use Rattle.clif_ssa.proofs.Naming.{named-more}
 abbrev state_with : List Call → List ℕ → List ℕ → LookUpState
 state_with calls results zeros = record { calls = calls; results = results; zeros = zeros }
 
-calls_exist : (f : Body) (branches : List ℕ) (param block : ℕ) → ((i : ℕ) → Contains branches i → i < length f.insts) → param < length f.values
-    → (call : Call) → Contains (calls_for branches param block) call → CallExists f call
-calls_exist f [] param block lead there call here =
+calls_exist : (ty : «Type») (f : Body) (branches : List ℕ) (param block : ℕ) → ((i : ℕ) → Contains branches i → i < length f.insts)
+    → (param < length f.values) × ((value_at f param).ty ≡ ty) → (call : Call) → Contains (calls_for branches param block) call → CallExists ty f call
+calls_exist ty f [] param block lead there call here =
     elim (contains_cons (FinishPredecessorsLookup param block) [] call here) [
-      | inl is ↦ subst (λ k. CallExists f k) is there
+      | inl is ↦ subst (λ k. CallExists ty f k) is there
       | inr later ↦ absurd (none_contained call later)
     ]
-calls_exist f (i ∷ branches) param block lead there call here =
+calls_exist ty f (i ∷ branches) param block lead there call here =
     elim (contains_cons (UseVar i) (calls_for branches param block) call here) [
-      | inl is ↦ subst (λ k. CallExists f k) is (lead i (contains_first i branches))
-      | inr later ↦ calls_exist f branches param block (λ j at. lead j (contains_more i branches j at)) there call later
+      | inl is ↦ subst (λ k. CallExists ty f k) is (lead i (contains_first i branches))
+      | inr later ↦ calls_exist ty f branches param block (λ j at. lead j (contains_more i branches j at)) there call later
     ]
 
 begun_state : (xs : List Call) (l k : LookUpState) → l.calls ≡ [] → l.results ≡ [] → k ≡ state_with (xs ++ l.calls) l.results l.zeros → k ≡ state_with xs [] l.zeros
@@ -47,12 +47,13 @@ begun_state xs l k calls results is =
     is ∙ ap (λ cs. state_with (xs ++ cs) l.results l.zeros) calls ∙ ap (λ rs. state_with (xs ++ []) rs l.zeros) results ∙ ap (λ cs. state_with cs [] l.zeros) (append-nil xs)
 
 -- what was begun can be run to its end
-pub begun-fits : (f : Body) (s t : SsaState) (l k : LookUpState) (param block : ℕ) → NamesExist f s → SamePredecessors s t → param < length f.values
-    → l.calls ≡ [] → l.results ≡ [] → k ≡ record l { calls = calls_for (predecessors_of s block) param block ++ l.calls } → CallsFit f t k
-begun-fits f s t l k param block named same there calls results is =
+pub begun-fits : (ty : «Type») (f : Body) (s t : SsaState) (l k : LookUpState) (param block : ℕ) → NamesExist f s → SamePredecessors s t
+    → (param < length f.values) × ((value_at f param).ty ≡ ty)
+    → l.calls ≡ [] → l.results ≡ [] → k ≡ record l { calls = calls_for (predecessors_of s block) param block ++ l.calls } → CallsFit ty f t k
+begun-fits ty f s t l k param block named same there calls results is =
     let xs : List Call = calls_for (predecessors_of s block) param block in
-    subst (λ j. CallsFit f t j) (sym (begun_state xs l k calls results is)) (record {
-      calls = calls_exist f (predecessors_of s block) param block (λ i at. named.leading block i at) there;
+    subst (λ j. CallsFit ty f t j) (sym (begun_state xs l k calls results is)) (record {
+      calls = calls_exist ty f (predecessors_of s block) param block (λ i at. named.leading block i at) there;
       results = λ i inside. absurd (omega (arith, inside));
       balances = balances-same s t xs 0 same (begun-balance_alone s param block);
     })

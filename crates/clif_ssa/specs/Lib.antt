@@ -1,5 +1,6 @@
 pub mod Own
 pub mod Zeros
+pub mod Pools
 pub mod Ssa
 pub mod Constructs
 pub mod LookUp

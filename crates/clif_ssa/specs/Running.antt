@@ -24,10 +24,10 @@ found value zeros = record { calls = []; results = value ∷ []; zeros = zeros }
 abbrev pub with_call : Call → LookUpState → LookUpState
 with_call call l = record l { calls = call ∷ l.calls }
 
--- what a call names exists
-abbrev pub CallExists : Body → Call → Type 0
-CallExists f (UseVar branch) = branch < length f.insts
-CallExists f (FinishPredecessorsLookup param block) = param < length f.values
+-- what a call names exists, and a parameter has the variable's type
+abbrev pub CallExists : «Type» → Body → Call → Type 0
+CallExists ty f (UseVar branch) = branch < length f.insts
+CallExists ty f (FinishPredecessorsLookup param block) = (param < length f.values) × ((value_at f param).ty ≡ ty)
 
 -- each call has the results that it takes, and one is left after the last
 abbrev pub Balances : SsaState → List Call → ℕ → Type 0
@@ -36,8 +36,8 @@ Balances s (UseVar branch ∷ calls) results = Balances s calls (suc results)
 Balances s (FinishPredecessorsLookup param block ∷ calls) results =
     (length (predecessors_of s block) ≤ results) × Balances s calls (suc (results - length (predecessors_of s block)))
 
-pub record CallsFit (f : Body) (s : SsaState) (l : LookUpState) : Type 0 where
-  pub calls : (call : Call) → Contains l.calls call → CallExists f call
+pub record CallsFit (ty : «Type») (f : Body) (s : SsaState) (l : LookUpState) : Type 0 where
+  pub calls : (call : Call) → Contains l.calls call → CallExists ty f call
   pub results : EachIndex l.results (λ k. slice_index l.results k < length f.values)
   pub balances : Balances s l.calls (length l.results)
 

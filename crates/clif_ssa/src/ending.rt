@@ -3,7 +3,8 @@ ghost use Rattle.std.specs.Prelude.{◌≡◌, ◌≢◌, ◌<◌, ◌≤◌, �
 ghost use Rattle.std.specs.Option.{option_to_list};
 ghost use Rattle.clif_ir.specs.Reading.{param_home};
 ghost use Rattle.clif_ssa.specs.Constructs.{OnlyConstructs, TellsZeros, TellsMore};
-ghost use Rattle.clif_ssa.specs.Limits.{ConstructionIsFull};
+ghost use Rattle.clif_ir.specs.Body.{value_at};
+ghost use Rattle.clif_ssa.specs.Pools.{MayPool, UseIsFull};
 ghost use Rattle.clif_ssa.specs.Ssa.{SsaState, predecessors_of, HasMore};
 ghost use Rattle.clif_ssa.specs.LookUp.{EndsLookUp, IsNoParameter, FinishesLookUp, with_arguments};
 ghost use Rattle.clif_ssa.specs.Incoming.{IncomingExists, IsIncoming};
@@ -66,6 +67,7 @@ pub(crate) fn pass_arguments(
     ensures ok { OnOk result (func.new ≡ with_arguments func.old block branches.now values.now) }
     ensures more { HasMore func.old func.new }
     ensures constructs { OnlyConstructs func.old func.new }
+    ensures tables { func.new.tables ≡ func.old.tables }
     ensures tells { TellsZeros func.old func.new [] }
     ensures only_memory { OnErr result (result ≡ Err BuildError.Memory) }
 {
@@ -95,7 +97,8 @@ pub(crate) fn end_look_up(
     ensures more { HasMore func.old func.new }
     ensures constructs { OnlyConstructs func.old func.new }
     ensures tells { IfOk result (λ e. TellsZeros func.old func.new (option_to_list e.zero)) }
-    ensures full { result ≡ Err BuildError.Full → ConstructionIsFull func.new }
+    ensures pools { MayPool (value_at func.old param).ty func.old.tables func.new.tables }
+    ensures full { result ≡ Err BuildError.Full → UseIsFull (value_at func.old param).ty func.new }
     ensures never_failed { result ≢ Err BuildError.Failed }
 {
     func.law_consistent();
@@ -132,7 +135,8 @@ fn end_or_stay(
     ensures more { HasMore func.old func.new }
     ensures constructs { OnlyConstructs func.old func.new }
     ensures tells { IfOk result (λ e. TellsZeros func.old func.new (option_to_list e.zero)) }
-    ensures full { result ≡ Err BuildError.Full → ConstructionIsFull func.new }
+    ensures pools { MayPool (value_at func.old param).ty func.old.tables func.new.tables }
+    ensures full { result ≡ Err BuildError.Full → UseIsFull (value_at func.old param).ty func.new }
     ensures never_failed { result ≢ Err BuildError.Failed }
 {
     match func.param_home(param) {
@@ -162,7 +166,8 @@ pub(crate) fn finish_look_up(
     ensures more { HasMore func.old func.new }
     ensures constructs { OnlyConstructs func.old func.new }
     ensures tells { OnOk result (TellsMore func.old func.new look_up.old.zeros look_up.new.zeros) }
-    ensures full { result ≡ Err BuildError.Full → ConstructionIsFull func.new }
+    ensures pools { MayPool (value_at func.old param).ty func.old.tables func.new.tables }
+    ensures full { result ≡ Err BuildError.Full → UseIsFull (value_at func.old param).ty func.new }
     ensures never_failed { result ≢ Err BuildError.Failed }
 {
     let count = predecessors.len();

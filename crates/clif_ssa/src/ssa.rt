@@ -5,6 +5,7 @@ ghost use Rattle.clif_ir.specs.Body.{Body, block_at, value_at};
 ghost use Rattle.clif_instructions.specs.Members.{Stands};
 ghost use Rattle.clif_ssa.specs.Constructs.{OnlyConstructs, TellsMore, TellsZeros};
 ghost use Rattle.clif_ssa.specs.Limits.{ConstructionIsFull};
+ghost use Rattle.clif_ssa.specs.Pools.{types_of, MayPool, MayPoolAll, MayPoolWaiting, SealingIsFull, UseIsFull, WaitsWithType};
 ghost use Rattle.clif_records.specs.Tables.{is_yes, pending_of};
 ghost use Rattle.clif_records.specs.declared.tables.Pending.{Pending};
 ghost use Rattle.clif_paths.specs.Places.{start};
@@ -18,7 +19,7 @@ ghost use Rattle.clif_records.specs.Stacks.{no_look_up};
 ghost use Rattle.clif_ssa.specs.LookUp.{branch_block, LooksUp, MakesCall, UsesVariable, CompletesParameter};
 ghost use Rattle.clif_ssa.specs.Running.{stage, found, with_call, CallsFit, CompletesAll, MakesAll, ToComplete};
 ghost use Rattle.clif_ssa.specs.Sealing.{SealsBelow, SealsOne, SealsLocally, SealsByLookUp};
-ghost use Rattle.clif_ssa.specs.Steps.{SealKeeps, SealMakes, StepEnds, StepKeeps, StepLeaves, UsesLocally};
+ghost use Rattle.clif_ssa.specs.Steps.{SealKeeps, SealMakes, StepEnds, StepKeeps, StepLeaves, StepPools, UsesLocally};
 ghost use Rattle.clif_ssa.specs.Zeros.{steps_before};
 ghost use Rattle.clif_ssa.specs.Within.{HoldsBranches, HoldsWaiting, StaysWithin};
 ghost use Rattle.clif_ssa.specs.Ssa.{no_state, record_of, sealed_of, predecessors_of, lookups_of, completed, completing_blocks, CountsEach, CountsLookup, Declares, HasMore, IsLocal, Named, NamesExist, Records, KnowsNoMore, RecordsStay, Removes, SamePredecessors, SameBlocks, SameLookups, SameRecords, SealedStays, Seals, Waits, Zeroes};
@@ -239,7 +240,8 @@ impl SSABuilder {
         ensures within { (holds : ℕ → Bool) → HoldsBranches func.old self.old holds → holds block ≡ true → IfOk result (λ r. StaysWithin holds func.old func.new r.1.instructions_added_to_blocks.items) }
         ensures names { NamesExist func.old self.old → NamesExist func.new self.new }
         ensures exists { NamesExist func.old self.old → IfOk result (λ r. r.0 < length func.new.values) }
-        ensures full { result ≡ Err BuildError.Full → ConstructionIsFull func.new }
+        ensures pools { MayPool ty func.old.tables func.new.tables }
+        ensures full { result ≡ Err BuildError.Full → UseIsFull ty func.new }
         ensures err { IsLocal self.old variable block → OnErr result (SameBlocks self.old self.new) }
         ensures never_failed { result ≢ Err BuildError.Failed }
     {
@@ -295,8 +297,8 @@ impl SSABuilder {
         requires exists { block < length func.old.blocks }
         requires unrecorded { record_of self.old variable block ≡ None }
         ensures used { UsesLocally variable ty block func.old self.old func.new self.new result }
-        ensures keeps { StepKeeps variable func.old self.old func.new self.new }
-        ensures ends { StepEnds func.new result }
+        ensures keeps { StepKeeps variable ty func.old self.old func.new self.new }
+        ensures ends { StepEnds (UseIsFull ty) func.new result }
     {
         self.tables
             .use_locally(self.alloc, func, variable, ty, block)
@@ -314,9 +316,9 @@ impl SSABuilder {
         requires exists { block < length func.old.blocks }
         requires named { NamesExist func.old self.old }
         ensures looks { OnOk result (LooksUp variable ty block (stage func.old self.old look_up.old) (stage func.new self.new look_up.new)) }
-        ensures keeps { StepKeeps variable func.old self.old func.new self.new }
+        ensures keeps { StepKeeps variable ty func.old self.old func.new self.new }
         ensures tells { OnOk result (TellsMore func.old func.new look_up.old.zeros look_up.new.zeros) }
-        ensures ends { StepEnds func.new result }
+        ensures ends { StepEnds (UseIsFull ty) func.new result }
     {
         func.law_consistent();
         let reached = self.tables.walk(func, variable, block, &mut self.passed)?;
@@ -337,12 +339,12 @@ impl SSABuilder {
         look_up: &mut LookUp,
     ) -> Result<Value, BuildError>
         requires named { NamesExist func.old self.old }
-        requires calls_fit { CallsFit func.old self.old look_up.old }
+        requires calls_fit { CallsFit ty func.old self.old look_up.old }
         ensures made { IfOk result (λ v. MakesAll variable ty (stage func.old self.old look_up.old) v (stage func.new self.new look_up.new)) }
-        ensures keeps { StepKeeps variable func.old self.old func.new self.new }
+        ensures keeps { StepKeeps variable ty func.old self.old func.new self.new }
         ensures tells { OnOk result (TellsMore func.old func.new look_up.old.zeros look_up.new.zeros) }
         ensures exists { IfOk result (λ v. v < length func.new.values) }
-        ensures ends { StepEnds func.new result }
+        ensures ends { StepEnds (UseIsFull ty) func.new result }
     {
         while let Some(call) = look_up.next_call() {
             self.make_call(func, variable, ty, call, look_up)?;
@@ -360,12 +362,12 @@ impl SSABuilder {
         look_up: &mut LookUp,
     ) -> Result<(), BuildError>
         requires named { NamesExist func.old self.old }
-        requires calls_fit { CallsFit func.old self.old (with_call call look_up.old) }
+        requires calls_fit { CallsFit ty func.old self.old (with_call call look_up.old) }
         ensures made { OnOk result (MakesCall variable ty (stage func.old self.old (with_call call look_up.old)) (stage func.new self.new look_up.new)) }
-        ensures fits { OnOk result (CallsFit func.new self.new look_up.new) }
-        ensures keeps { StepKeeps variable func.old self.old func.new self.new }
+        ensures fits { OnOk result (CallsFit ty func.new self.new look_up.new) }
+        ensures keeps { StepKeeps variable ty func.old self.old func.new self.new }
         ensures tells { OnOk result (TellsMore func.old func.new look_up.old.zeros look_up.new.zeros) }
-        ensures ends { StepEnds func.new result }
+        ensures ends { StepEnds (UseIsFull ty) func.new result }
     {
         match call {
             Call::UseVar(branch) => {
@@ -396,9 +398,10 @@ impl SSABuilder {
         ensures completes { OnOk result (CompletesParameter waiting.variable (value_at func.old waiting.param).ty waiting.param block (stage func.old self.old look_up.old) (stage func.new self.new look_up.new)) }
         ensures idle { OnOk result ((look_up.new.calls ≡ []) × (look_up.new.results ≡ [])) }
         ensures leaves { StepLeaves func.old self.old func.new self.new }
+        ensures pools { StepPools ((value_at func.old waiting.param).ty ∷ []) func.old self.old func.new self.new }
         ensures tells { OnOk result (TellsMore func.old func.new look_up.old.zeros look_up.new.zeros) }
         ensures looks_once { (rest : List Pending) → ToComplete self.old block (waiting ∷ rest) → ToComplete self.new block rest }
-        ensures ends { StepEnds func.new result }
+        ensures ends { StepEnds (UseIsFull (value_at func.old waiting.param).ty) func.new result }
     {
         let Pending { variable, param } = waiting;
         let ty = func.value_type(param);
@@ -420,9 +423,10 @@ impl SSABuilder {
         requires idle { (look_up.old.calls ≡ []) × (look_up.old.results ≡ []) }
         ensures completes { OnOk result (CompletesAll block waiting.now (stage func.old self.old look_up.old) (stage func.new self.new look_up.new)) }
         ensures leaves { StepLeaves func.old self.old func.new self.new }
+        ensures pools { StepPools (types_of func.old waiting.now) func.old self.old func.new self.new }
         ensures tells { OnOk result (TellsMore func.old func.new look_up.old.zeros look_up.new.zeros) }
         ensures looks_once { ToComplete self.old block waiting.now → LooksOnce self.new }
-        ensures ends { StepEnds func.new result }
+        ensures ends { StepEnds (SealingIsFull (Contains (types_of func.old waiting.now))) func.new result }
     {
         for pending in waiting.iter() {
             self.complete_parameter(func, block, *pending, look_up)?;
@@ -447,6 +451,8 @@ impl SSABuilder {
         ensures constructs { OnlyConstructs func.old func.new }
         ensures tells { IfOk result (λ r. TellsZeros func.old func.new r.instructions_added_to_blocks.items) }
         ensures full { result ≡ Err BuildError.Full → ConstructionIsFull func.new }
+        ensures pools { ((p : Pending) → Contains waiting.now p → p.param < length func.old.values) → MayPoolAll (types_of func.old waiting.now) func.old.tables func.new.tables }
+        ensures full_waiting { ((p : Pending) → Contains waiting.now p → p.param < length func.old.values) → result ≡ Err BuildError.Full → SealingIsFull (Contains (types_of func.old waiting.now)) func.new }
         ensures never_failed { result ≢ Err BuildError.Failed }
     {
         let mut side_effects = SideEffects::new(self.alloc);
@@ -467,7 +473,9 @@ impl SSABuilder {
         requires named { Named func.old self.old }
         ensures makes { SealMakes block func.old self.old func.new self.new result }
         ensures keeps { SealKeeps block func.old self.old func.new self.new }
-        ensures ends { StepEnds func.new result }
+        ensures pools { NamesExist func.old self.old → StepPools (types_of func.old (pending_of (sealed_of self.old block))) func.old self.old func.new self.new }
+        ensures full_waiting { NamesExist func.old self.old → result ≡ Err BuildError.Full → SealingIsFull (Contains (types_of func.old (pending_of (sealed_of self.old block)))) func.new }
+        ensures ends { StepEnds ConstructionIsFull func.new result }
     {
         let waiting = self.tables.seal(block)?;
         if !self.tables.has_any_predecessors(block) {
@@ -507,6 +515,8 @@ impl SSABuilder {
         ensures tells { IfOk result (λ r. TellsZeros func.old func.new r.instructions_added_to_blocks.items) }
         ensures within { (holds : ℕ → Bool) → HoldsBranches func.old self.old holds → HoldsWaiting func.old self.old holds block → IfOk result (λ r. StaysWithin holds func.old func.new r.instructions_added_to_blocks.items) }
         ensures names { NamesExist func.old self.old → NamesExist func.new self.new }
+        ensures pools { NamesExist func.old self.old → MayPoolAll (types_of func.old (pending_of (sealed_of self.old block))) func.old.tables func.new.tables }
+        ensures full_waiting { NamesExist func.old self.old → result ≡ Err BuildError.Full → SealingIsFull (Contains (types_of func.old (pending_of (sealed_of self.old block)))) func.new }
         ensures full { result ≡ Err BuildError.Full → ConstructionIsFull func.new }
         ensures never_failed { result ≢ Err BuildError.Failed }
     {
@@ -535,6 +545,8 @@ impl SSABuilder {
         ensures tells { IfOk result (λ r. TellsZeros func.old func.new r.instructions_added_to_blocks.items) }
         ensures within { (holds : ℕ → Bool) → HoldsBranches func.old self.old holds → ((b : ℕ) → b < length func.old.blocks → HoldsWaiting func.old self.old holds b) → IfOk result (λ r. StaysWithin holds func.old func.new r.instructions_added_to_blocks.items) }
         ensures names { NamesExist func.old self.old → NamesExist func.new self.new }
+        ensures pools { NamesExist func.old self.old → MayPoolWaiting func.old self.old func.new.tables }
+        ensures full_waiting { NamesExist func.old self.old → result ≡ Err BuildError.Full → SealingIsFull (WaitsWithType func.old self.old) func.new }
         ensures full { result ≡ Err BuildError.Full → ConstructionIsFull func.new }
         ensures never_failed { result ≢ Err BuildError.Failed }
     {

@@ -7,6 +7,7 @@ ghost use Rattle.clif_ssa.specs.Constructs.{TellsMore};
 ghost use Rattle.clif_records.specs.Tables.{is_yes, pending_of};
 ghost use Rattle.clif_records.specs.declared.tables.Sealed.{Sealed};
 ghost use Rattle.clif_ssa.specs.Ssa.{no_state, Declares, Removes, Seals, record_of, sealed_of, predecessors_of, lookups_of, Named, Records, KnowsNoMore, SameRecords, SameBlocks, SamePredecessors, SameLookups, CountsLookup};
+ghost use Rattle.clif_ssa.specs.Pools.{UseIsFull};
 ghost use Rattle.clif_ssa.specs.Running.{stage, Got};
 ghost use Rattle.clif_ssa.specs.Steps.{StepKeeps, StepEnds, UsesLocally};
 ghost use Rattle.clif_records.specs.Passed.{before_first};
@@ -334,8 +335,8 @@ impl SsaTables {
         ensures records { OnOk result (Records self.old self.new variable block (length func.old.values)) }
         ensures blocks { self.new.blocks ≡ self.old.blocks }
         ensures lookups { SameLookups self.old self.new }
-        ensures keeps { StepKeeps variable func.old self.old func.new self.new }
-        ensures ends { StepEnds func.new result }
+        ensures keeps { StepKeeps variable ty func.old self.old func.new self.new }
+        ensures ends { StepEnds (UseIsFull ty) func.new result }
     {
         let param = func.append_block_param(block, ty)?;
         self.record(variable, block, param)?;
@@ -354,8 +355,8 @@ impl SsaTables {
         requires exists { block < length func.old.blocks }
         requires unrecorded { record_of self.old variable block ≡ None }
         ensures used { UsesLocally variable ty block func.old self.old func.new self.new result }
-        ensures keeps { StepKeeps variable func.old self.old func.new self.new }
-        ensures ends { StepEnds func.new result }
+        ensures keeps { StepKeeps variable ty func.old self.old func.new self.new }
+        ensures ends { StepEnds (UseIsFull ty) func.new result }
     {
         let param = self.new_parameter(func, variable, ty, block)?;
         let mut side_effects = SideEffects::new(alloc);
@@ -381,9 +382,9 @@ impl SsaTables {
         requires exists { block < length func.old.blocks }
         requires unrecorded { record_of self.old variable block ≡ None }
         ensures got { IfOk result (λ v. Got variable ty block v (stage func.old self.old look_up.old) (stage func.new self.new look_up.new)) }
-        ensures keeps { StepKeeps variable func.old self.old func.new self.new }
+        ensures keeps { StepKeeps variable ty func.old self.old func.new self.new }
         ensures tells { OnOk result (TellsMore func.old func.new look_up.old.zeros look_up.new.zeros) }
-        ensures ends { StepEnds func.new result }
+        ensures ends { StepEnds (UseIsFull ty) func.new result }
     {
         let param = self.new_parameter(func, variable, ty, block)?;
         if self.is_sealed(block) {
@@ -409,9 +410,9 @@ impl SsaTables {
         requires exists { block < length func.old.blocks }
         requires at_hand { recorded ≡ record_of self.old variable block }
         ensures got { IfOk result (λ v. Got variable ty block v (stage func.old self.old look_up.old) (stage func.new self.new look_up.new)) }
-        ensures keeps { StepKeeps variable func.old self.old func.new self.new }
+        ensures keeps { StepKeeps variable ty func.old self.old func.new self.new }
         ensures tells { OnOk result (TellsMore func.old func.new look_up.old.zeros look_up.new.zeros) }
-        ensures ends { StepEnds func.new result }
+        ensures ends { StepEnds (UseIsFull ty) func.new result }
     {
         if let Some(value) = recorded {
             look_up.push_result(value)?;

@@ -4,7 +4,8 @@ ghost use Rattle.std.specs.Option.{option_to_list};
 ghost use Rattle.clif_ir.specs.Body.{resolved, value_at};
 ghost use Rattle.clif_ir.specs.Reading.{param_home};
 ghost use Rattle.clif_ssa.specs.Constructs.{OnlyConstructs, TellsZeros};
-ghost use Rattle.clif_ssa.specs.Limits.{ConstructionIsFull};
+ghost use Rattle.clif_ssa.specs.Limits.{IsFull};
+ghost use Rattle.clif_ssa.specs.Pools.{LacksZero, MayPool, UseIsFull};
 ghost use Rattle.clif_ssa.specs.Ssa.{with_steps, with_zero, zero_value, zeroed_in, HasMore};
 ghost use Rattle.clif_ssa.specs.Ssa.{HasSomeSteps, MayHaveSomeSteps};
 ghost use Rattle.clif_ssa.specs.Zeros.{float_type, kind_of_zero, zero_size, zero_steps, zeros_number, with_pooled, IsStepAt, IsZeroConstant, only_step, first_or_last_step};
@@ -31,7 +32,8 @@ pub(crate) fn replace_by_zero(
     ensures more { HasMore func.old func.new }
     ensures constructs { OnlyConstructs func.old func.new }
     ensures tells { OnOk result (TellsZeros func.old func.new (option_to_list (param_home func.old param))) }
-    ensures full { result ≡ Err BuildError.Full → ConstructionIsFull func.new }
+    ensures pools { MayPool (value_at func.old param).ty func.old.tables func.new.tables }
+    ensures full { result ≡ Err BuildError.Full → UseIsFull (value_at func.old param).ty func.new }
     ensures never_failed { result ≢ Err BuildError.Failed }
 {
     let ending = become_zero(func, param)?;
@@ -59,7 +61,8 @@ pub(crate) fn become_zero(func: &mut Function, param: Value) -> Result<Ending, B
     ensures more { HasMore func.old func.new }
     ensures constructs { OnlyConstructs func.old func.new }
     ensures tells { IfOk result (λ e. TellsZeros func.old func.new (option_to_list e.zero)) }
-    ensures full { result ≡ Err BuildError.Full → ConstructionIsFull func.new }
+    ensures pools { MayPool (value_at func.old param).ty func.old.tables func.new.tables }
+    ensures full { result ≡ Err BuildError.Full → UseIsFull (value_at func.old param).ty func.new }
     ensures never_failed { result ≢ Err BuildError.Failed }
 {
     let Some(block) = func.param_home(param) else {
@@ -83,7 +86,8 @@ fn put_zero(func: &mut Function, block: Block, ty: Type) -> Result<Value, BuildE
     ensures number { IfOk result (λ v. v ≡ zero_value func.old ty) }
     ensures exists { IfOk result (λ v. v < length func.new.values) }
     ensures unaliased { IfOk result (λ v. resolved func.new v ≡ v) }
-    ensures full { result ≡ Err BuildError.Full → ConstructionIsFull func.new }
+    ensures pools { MayPool ty func.old.tables func.new.tables }
+    ensures full { result ≡ Err BuildError.Full → UseIsFull ty func.new }
     ensures err { OnErr result (MayHaveSomeSteps func.old func.new block ty) }
     ensures more { HasMore func.old func.new }
     ensures constructs { OnlyConstructs func.old func.new }
@@ -101,7 +105,7 @@ fn pool_zeros(func: &mut Function, ty: Type) -> Result<Constant, BuildError>
     ensures ok { OnOk result (func.new ≡ with_pooled func.old ty) }
     ensures number { IfOk result (λ constant. constant ≡ zeros_number func.old.tables.constants (zero_size ty)) }
     ensures err { OnErr result (func.new ≡ func.old) }
-    ensures full { result ≡ Err BuildError.Full → length func.old.tables.constants ≡ 2 ^ 32 - 1 }
+    ensures full { result ≡ Err BuildError.Full → LacksZero ty func.old }
     ensures never_failed { result ≢ Err BuildError.Failed }
 {
     match zero_size(ty) {
@@ -125,7 +129,7 @@ fn put_steps(
     requires pooled { IsZeroConstant func.old ty constant }
     ensures ok { OnOk result (func.new ≡ with_steps func.old block (zero_steps ty)) }
     ensures err { OnErr result (HasSomeSteps func.old func.new block ty) }
-    ensures full { result ≡ Err BuildError.Full → ConstructionIsFull func.new }
+    ensures full { result ≡ Err BuildError.Full → IsFull func.new }
     ensures never_failed { result ≢ Err BuildError.Failed }
 {
     let mut place = 0;

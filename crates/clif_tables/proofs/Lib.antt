@@ -1,4 +1,3 @@
-pub mod Texts
 mod LineByLine
 mod Positions
 mod Pooling

@@ -1,8 +1,7 @@
--- Pooled constants, and how they are printed. Source: own, after the crate's documentation of its constant pool.
-use Rattle.std.specs.Prelude.{◌≡◌, ◌≤◌, ◌-◌, ◌^◌, ℕ, Bool, false, List, [], ◌∷◌, ◌++◌, length, reverse, flat_map, Option, unwrap_or, is_some, if◌then◌else◌, codes, nat_eq}
+-- Pooled constants. Source: own, after the crate's documentation of its constant pool.
+use Rattle.std.specs.Prelude.{◌≡◌, ◌≤◌, ◌-◌, ◌^◌, ℕ, Bool, List, [], ◌∷◌, ◌++◌, length, Option, unwrap_or, is_some, if◌then◌else◌, nat_eq}
 use Rattle.std.specs.BTreeMap.{BTreeMap, get_by}
 use Rattle.std.specs.Cmp.Lexicographic.{slice_cmp, pointwise}
-use Rattle.std.specs.Fmt.{digits, padded_integral, format_spec}
 use Rattle.std.specs.Global.{Vec}
 use Rattle.std.specs.List.{position}
 use Rattle.std.specs.Ordering.{nat_cmp}
@@ -27,11 +26,3 @@ with_constant constants bytes = if has_constant constants bytes then constants e
 pub record IsIndexed (constants : List (List ℕ)) (numbers : BTreeMap (Vec ℕ) ℕ) : Type 0 where
   pub fits : length constants ≤ 2 ^ 32 - 1
   pub found : (bytes : List ℕ) → get_by (λ key. slice_cmp nat_cmp bytes key.items) numbers ≡ number_of constants bytes
-
--- a byte in two hexadecimal digits
-abbrev pub byte_text : ℕ → List ℕ
-byte_text byte = padded_integral (format_spec 32 0 4 2 (2 ^ 64 - 1)) false [] (digits 16 false byte)
-
--- `0x` and the bytes from last to first
-abbrev pub constant_text : List ℕ → List ℕ
-constant_text bytes = codes "0x" ++ flat_map byte_text (reverse bytes)

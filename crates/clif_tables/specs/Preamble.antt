@@ -2,10 +2,9 @@
 use Rattle.std.specs.Prelude.{ℕ, ◌+◌, List, [], ◌∷◌, ◌++◌, length, nat_lt, if◌then◌else◌, codes, flat_map}
 use Rattle.std.specs.Fmt.{decimal}
 use Rattle.std.specs.List.{enumerate_from}
-use Rattle.clif_types.specs.Texts.{stack_slot_text, global_value_text, signature_text, ext_func_text}
+use Rattle.clif_types.specs.Texts.{bytes_text, stack_slot_text, global_value_text, signature_text, ext_func_text}
 use Rattle.clif_types.specs.declared.alias_region.AliasRegionData.{AliasRegionData}
 use Rattle.clif_types.specs.declared.stackslot.DynamicStackSlotData.{DynamicStackSlotData}
-use Rattle.clif_tables.specs.Constants.{constant_text}
 use Rattle.clif_tables.specs.Lists.{TableLists}
 
 -- `    ss0 = explicit_slot 4`, with a line end
@@ -37,7 +36,7 @@ abbrev pub other_lines : TableLists → List ℕ
 other_lines t =
     lines (codes "sig") signature_text t.signatures
     ++ lines (codes "fn") ext_func_text t.functions
-    ++ lines (codes "const") constant_text t.constants
+    ++ lines (codes "const") bytes_text t.constants
 
 -- how many lines there are
 abbrev pub line_count : TableLists → ℕ

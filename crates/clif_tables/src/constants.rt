@@ -1,10 +1,9 @@
 //! Pooled constants: equal bytes are one constant.
-ghost use Rattle.std.specs.Prelude.{◌≡◌, Some, OnErr, IfOk, flat_map, reverse};
-ghost use Rattle.std.specs.Fmt.{WritesOnOk};
-ghost use Rattle.clif_tables.specs.Constants.{byte_text, constant_text};
+ghost use Rattle.std.specs.Prelude.{◌≡◌, Some, OnErr, IfOk};
+ghost use Rattle.clif_types.specs.Texts.{bytes_text};
 
 use crate::primary_map::next_number;
-use clif_types::{BuildError, Constant, EntityRef};
+use clif_types::{BuildError, Constant, EntityRef, HexBytes};
 use std::alloc::Global;
 use std::collections::BTreeMap;
 use std::fmt;
@@ -44,30 +43,11 @@ impl ConstantData {
 }
 
 impl fmt::Display for ConstantData {
-    ghost output = { λ c. Some (constant_text c) };
+    ghost output = { λ c. Some (bytes_text c) };
 
     fn fmt<W: fmt::Write>(&self, f: &mut fmt::Formatter<W>) -> fmt::Result {
-        f.write_str("0x")?;
-        write_from_last(f, self.bytes.as_slice())
+        write!(f, "{}", HexBytes(self.bytes.as_slice()))
     }
-}
-
-// Writes bytes from last to first, two hexadecimal digits each.
-fn write_from_last<W: fmt::Write>(f: &mut fmt::Formatter<W>, bytes: &[u8]) -> fmt::Result
-    ensures { WritesOnOk W.write_str_gives f.old result (flat_map byte_text (reverse bytes.now)) f.new }
-{
-    for place in 0..bytes.len() {
-        let byte = bytes[bytes.len() - 1 - place];
-        write_byte(f, byte)?;
-    }
-    Ok(())
-}
-
-// Writes a byte in two hexadecimal digits.
-fn write_byte<W: fmt::Write>(f: &mut fmt::Formatter<W>, byte: u8) -> fmt::Result
-    ensures { WritesOnOk W.write_str_gives f.old result (byte_text byte) f.new }
-{
-    write!(f, "{byte:02x}")
 }
 
 /// The constants of a function, by number, of which no two have equal bytes.

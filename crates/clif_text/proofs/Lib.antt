@@ -5,4 +5,3 @@ mod Giving
 mod Counting
 mod Headers
 mod Offsets
-mod FromLast

@@ -1,8 +1,7 @@
 -- The text behind the name of a call. Source: own; docs/SCRIPTS.md describes the format.
 use Rattle.std.specs.Prelude.{List, [], ◌++◌, ℕ, codes}
 use Rattle.std.specs.Fmt.{decimal}
-use Rattle.clif_types.specs.Texts.{type_text}
-use Rattle.clif_words.specs.Spelling.{bytes_text}
+use Rattle.clif_types.specs.Texts.{bytes_text, type_text}
 use Rattle.clif_text.specs.Texts.{answer_text, plan_text, variable_text}
 use Rattle.clif_text.specs.declared.writer.Operands.{Operands}
 use Rattle.clif_text.specs.declared.writer.Operands.TheVariants as operands

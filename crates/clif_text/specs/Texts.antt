@@ -2,11 +2,11 @@
 use Rattle.std.specs.Prelude.{ℕ, ℤ, List, [], ◌∷◌, ◌++◌, ◌==◌, codes, flat_map, nat_abs, if◌then◌else◌}
 use Rattle.std.specs.Fmt.{decimal, signed_decimal}
 use Rattle.clif_opcodes.specs.Names.{binary_name, cond_trap_name, convert_name, float_const_name, stack_name, unary_name}
-use Rattle.clif_types.specs.Texts.{type_text, call_conv_text, int_cc_text, mem_flags_text, signature_text, trap_code_text, user_func_name_text}
+use Rattle.clif_types.specs.Texts.{bytes_text, type_text, call_conv_text, int_cc_text, mem_flags_text, signature_text, trap_code_text, user_func_name_text}
 use Rattle.clif_types.specs.Signature.{SignatureShape}
 use Rattle.clif_types.specs.declared.extname.UserFuncName.{UserFuncName}
 use Rattle.clif_types.specs.declared.target.TargetFrontendConfig.{TargetFrontendConfig}
-use Rattle.clif_words.specs.Spelling.{bytes_text, pointer_text}
+use Rattle.clif_words.specs.Spelling.{pointer_text}
 use Rattle.clif_calls.specs.declared.call.Name.{Name}
 use Rattle.clif_calls.specs.declared.call.Edge.{Edge}
 use Rattle.clif_calls.specs.declared.call.Call.{Call}

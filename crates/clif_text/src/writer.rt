@@ -1,13 +1,11 @@
 //! Scripts as text, written.
-ghost use Rattle.std.specs.Prelude.{◌≡◌, ◌++◌, Some, IfOk, flat_map, reverse, string_bytes};
-ghost use Rattle.std.specs.Fmt.{WritesOnOk};
-ghost use Rattle.clif_words.specs.Spelling.{byte_text, bytes_text};
+ghost use Rattle.std.specs.Prelude.{◌≡◌, ◌++◌, Some, IfOk, string_bytes};
 ghost use Rattle.clif_text.specs.Texts.{answer_text, answers_text, edge_text, offset_text, plan_text, call_text, calls_text, header_text};
 ghost use Rattle.clif_text.specs.Operands.{operands_text};
 
 use clif_calls::{Call, Edge, Name, Plan};
 use clif_records::Variable;
-use clif_types::{PointerWidth, Signature, TargetFrontendConfig, Type, UserFuncName};
+use clif_types::{HexBytes, PointerWidth, Signature, TargetFrontendConfig, Type, UserFuncName};
 use std::alloc::{AllocError, Global};
 use std::fmt;
 
@@ -52,37 +50,6 @@ impl fmt::Display for EdgeText<'_> {
         let args = AnswersText(self.0.args.as_slice());
         write!(f, "{block}({args})")
     }
-}
-
-// Bytes, as `0x0100`: from the last one to the first.
-#[derive(Clone, Copy)]
-struct BytesText<'a>(&'a [u8]);
-
-impl fmt::Display for BytesText<'_> {
-    ghost output = { λ text. Some (bytes_text text.0.now) };
-
-    fn fmt<W: fmt::Write>(&self, f: &mut fmt::Formatter<W>) -> fmt::Result {
-        f.write_str("0x")?;
-        write_from_last(f, self.0)
-    }
-}
-
-// Writes bytes from the last one to the first, two hexadecimal digits each.
-fn write_from_last<W: fmt::Write>(f: &mut fmt::Formatter<W>, bytes: &[u8]) -> fmt::Result
-    ensures { WritesOnOk W.write_str_gives f.old result (flat_map byte_text (reverse bytes.now)) f.new }
-{
-    for place in 0..bytes.len() {
-        let byte = bytes[bytes.len() - 1 - place];
-        write_byte(f, byte)?;
-    }
-    Ok(())
-}
-
-// Writes a byte in two hexadecimal digits.
-fn write_byte<W: fmt::Write>(f: &mut fmt::Formatter<W>, byte: u8) -> fmt::Result
-    ensures { WritesOnOk W.write_str_gives f.old result (byte_text byte) f.new }
-{
-    write!(f, "{byte:02x}")
 }
 
 // An offset behind a space, and nothing where it is 0.
@@ -199,8 +166,8 @@ impl fmt::Display for Operands<'_> {
             Operands::Slot(size, align_shift) => write!(f, " {size} {align_shift}"),
             Operands::Definition(variable, x) => write!(f, " {variable} {}", AnswerText(*x)),
             Operands::Variable(variable) => write!(f, " {variable}"),
-            Operands::Bytes(bytes) => write!(f, " {}", BytesText(bytes)),
-            Operands::TypedBytes(ty, bytes) => write!(f, ".{ty} {}", BytesText(bytes)),
+            Operands::Bytes(bytes) => write!(f, " {}", HexBytes(bytes)),
+            Operands::TypedBytes(ty, bytes) => write!(f, ".{ty} {}", HexBytes(bytes)),
             Operands::Instruction(plan) => write!(f, "{}", PlanText(plan)),
         }
     }

@@ -1,5 +1,6 @@
 -- The texts of types and of plain data, as the printer writes them.
-use Rattle.std.specs.Prelude.{◌++◌, ◌==◌, List, [], ◌∷◌, ℕ, Option, Some, None, codes, if◌then◌else◌}
+use Rattle.std.specs.Prelude.{◌++◌, ◌==◌, ◌/◌, ◌%◌, List, [], ◌∷◌, ℕ, Option, Some, None, codes, flat_map, reverse, if◌then◌else◌}
+use Rattle.std.specs.Char.{digit_char}
 use Rattle.std.specs.Fmt.{decimal}
 use Rattle.std.specs.List.{join_by}
 use Rattle.clif_types.specs.Signature.{SignatureShape}
@@ -148,3 +149,11 @@ abbrev pub build_error_text : BuildError → List ℕ
 build_error_text build_error.Memory = codes "no memory"
 build_error_text build_error.Full = codes "table full"
 build_error_text build_error.Failed = codes "failed before"
+
+-- a byte in two hexadecimal digits, the letters in lower case
+abbrev pub byte_text : ℕ → List ℕ
+byte_text byte = digit_char (byte / 16) ∷ digit_char (byte % 16) ∷ []
+
+-- `0x` and the bytes from last to first, as a constant is printed
+abbrev pub bytes_text : List ℕ → List ℕ
+bytes_text bytes = codes "0x" ++ flat_map byte_text (reverse bytes)

@@ -9,6 +9,7 @@ use clif_types::error::BuildError;
 use clif_types::extfunc::{AbiParam, ExtFuncData, Signature};
 use clif_types::extname::{ExternalName, TestcaseName, UserExternalName, UserFuncName};
 use clif_types::globalvalue::GlobalValueData;
+use clif_types::hex::HexBytes;
 use clif_types::libcall::LibCall;
 use clif_types::memflags::MemFlagsData;
 use clif_types::sourceloc::SourceLoc;
@@ -193,6 +194,15 @@ fn callees(rt: HostRuntime) -> Result<(), Fail> {
     let symbol = GlobalValueData::Symbol(external(alloc, "name")?);
     copies(&rt, alloc, symbol, "symbol %name")?;
     prints(&rt, alloc, &GlobalValueData::VMContext, "vmctx")
+}
+
+// Bytes of a constant are written from the last one, which is the highest, to the first.
+#[test]
+fn bytes_of_constants(rt: HostRuntime) -> Result<(), Fail> {
+    let alloc = rt.alloc();
+    prints(&rt, alloc, &HexBytes(&[0x01, 0x20, 0xab]), "0xab2001")?;
+    prints(&rt, alloc, &HexBytes(&[0]), "0x00")?;
+    prints(&rt, alloc, &HexBytes(&[]), "0x")
 }
 
 #[test]

@@ -4,7 +4,7 @@ use Rattle.std.specs.Char.{digit_char}
 use Rattle.std.specs.Int.{cast_signed, w32, w64}
 use Rattle.std.specs.Str.Parse.{IsNumeral, digits_value, signed_digits_value, without_leading_sign}
 use Rattle.clif_types.specs.Types.{IsType}
-use Rattle.clif_types.specs.Texts.{trap_code_text, type_text}
+use Rattle.clif_types.specs.Texts.{bytes_text, trap_code_text, type_text}
 use Rattle.clif_types.specs.MemFlags.{MemFlagsShape}
 use Rattle.clif_types.specs.declared.types.«Type».{«Type»}
 use Rattle.clif_types.specs.declared.target.PointerWidth.{PointerWidth}
@@ -30,14 +30,6 @@ IsMagnitude word number = ((digits : List ℕ) × (word ≡ codes "0x" ++ digits
 abbrev pub IsNumber : List ℕ → ℤ → Type 0
 IsNumber word number = ((bits : ℕ) × (bits < 2 ^ 64) × IsMagnitude word bits × (number ≡ cast_signed w64 bits))
     ⊎ ((digits : List ℕ) × (magnitude bits : ℕ) × (bits < 2 ^ 64) × (word ≡ codes "-" ++ digits) × IsMagnitude digits magnitude × (magnitude ≤ 2 ^ 63) × ((bits + magnitude) % 2 ^ 64 ≡ 0) × (number ≡ cast_signed w64 bits))
-
--- a byte in two hexadecimal digits, the letters in lower case
-abbrev pub byte_text : ℕ → List ℕ
-byte_text byte = digit_char (byte / 16) ∷ digit_char (byte % 16) ∷ []
-
--- `0x` and bytes from last to first, as a constant is printed
-abbrev pub bytes_text : List ℕ → List ℕ
-bytes_text bytes = codes "0x" ++ flat_map byte_text (reverse bytes)
 
 -- these bytes, as they are printed, of which there is one at least
 pub record IsBytes (word bytes : List ℕ) : Type 0 where

@@ -1,7 +1,8 @@
 //! Bytes as words.
 ghost use Rattle.std.specs.Prelude.{◌≡◌, ◌<◌, ◌∷◌, [], IfOk, IfSome};
 ghost use Rattle.std.specs.Char.{digit_char};
-ghost use Rattle.clif_words.specs.Spelling.{IsBytes, byte_text};
+ghost use Rattle.clif_types.specs.Texts.{byte_text};
+ghost use Rattle.clif_words.specs.Spelling.{IsBytes};
 
 use crate::error::{Expected, LineError};
 use std::alloc::Global;

@@ -24,7 +24,7 @@ use Rattle.cranelift_frontend.specs.Context.{ContextState, status_of}
 use Rattle.cranelift_frontend.specs.Calls.{answered}
 use Rattle.cranelift_frontend.specs.Entries.{MakesEntry}
 use Rattle.cranelift_frontend.specs.Growth.{Grows, TypesStay}
-use Rattle.cranelift_frontend.specs.Ledger.{LedgerAgrees, ledger_of, without_constants}
+use Rattle.cranelift_frontend.specs.Ledger.{LedgerAgrees, ledger_of, tables_of_calls}
 use Rattle.cranelift_frontend.specs.Order.{IsInOrder, IsKept}
 use Rattle.cranelift_frontend.specs.StandsFor.{StandsIn}
 use Rattle.cranelift_frontend.proofs.Calls as calls
@@ -37,7 +37,7 @@ use Rattle.cranelift_frontend.proofs.StandingCallers.{alone_after, kept_alone, s
 
 -- the agreement, with other tables
 pub tabled : (calls : List AnsweredCall) (ledger : Ledger) (f : Body) (c : ContextState) (p : Option ℕ) (tables : TableLists) → KeepsConstants f (with_tables f tables)
-    → LedgerAgrees calls ledger f c p → LedgerAgrees calls (record ledger { tables = without_constants tables }) (with_tables f tables) c p
+    → LedgerAgrees calls ledger f c p → LedgerAgrees calls (record ledger { tables = tables_of_calls tables }) (with_tables f tables) c p
 tabled calls ledger f c p tables keeps agrees = record {
   places = agrees.places;
   answers = λ place call answers at_call at_answers.
@@ -62,11 +62,11 @@ tabled calls ledger f c p tables keeps agrees = record {
 }
 
 -- an entry is put into tables as it is into those without constants, which stay
-entry_aside : (t : TableLists) (entry : TableEntry) → with_entry (without_constants t) entry ≡ without_constants (with_entry t entry)
+entry_aside : (t : TableLists) (entry : TableEntry) → with_entry (tables_of_calls t) entry ≡ tables_of_calls (with_entry t entry)
 entry_aside t (AStackSlot slot) = refl
 entry_aside t _ = refl
 
-count_aside : (t : TableLists) (entry : TableEntry) → count_for (without_constants t) entry ≡ count_for t entry
+count_aside : (t : TableLists) (entry : TableEntry) → count_for (tables_of_calls t) entry ≡ count_for t entry
 count_aside t (AStackSlot slot) = refl
 count_aside t _ = refl
 
@@ -221,16 +221,21 @@ entry_refused entry old failed = record {
   current = λ current. tt;
 }
 
--- the function is kept in order
+-- the function is kept in order where its tables change
+pub tables_kept : {A : Type 0} (lists : TableLists) (answer : Result A BuildError) (f g : Body) (c : ContextState) (was now : Bool) → KeepsConstants f (with_tables f lists)
+    → was ≡ false → now ≡ is_err answer → OnOk answer (g ≡ with_tables f lists) → OnErr answer (g ≡ f) → ∥ IsKept f c was ∥₁ → ∥ IsKept g c now ∥₁
+tables_kept {A} lists answer f g c was now constants sound fails ok err kept =
+    kept_by answer f g c c was now sound fails (names_made answer ok err) (λ order. order_made answer ok order) kept
+  where
+    names_made : (r : Result A BuildError) → OnOk r (g ≡ with_tables f lists) → OnErr r (g ≡ f) → NamesExist f c.ssa → NamesExist g c.ssa
+    names_made (Ok n) is _ named = subst (λ (h : Body). NamesExist h c.ssa) (sym is) (names_tabled f c.ssa lists named)
+    names_made (Err e) _ is named = subst (λ (h : Body). NamesExist h c.ssa) (sym is) named
+
+    order_made : (r : Result A BuildError) → OnOk r (g ≡ with_tables f lists) → IsInOrder f c → OnOk r (IsInOrder g c)
+    order_made (Ok n) is order = subst (λ (h : Body). IsInOrder h c) (sym is) (order_tabled f c lists constants order)
+    order_made (Err e) is order = tt
+
 pub entry_kept : (entry : TableEntry) (answer : Result ℕ BuildError) (f g : Body) (c : ContextState) (was now : Bool) → was ≡ false → now ≡ is_err answer
     → MakesIn entry f g answer → ∥ IsKept f c was ∥₁ → ∥ IsKept g c now ∥₁
 entry_kept entry answer f g c was now sound fails makes kept =
-    kept_by answer f g c c was now sound fails (names_made answer makes.ok makes.err) (λ order. order_made answer makes.ok order) kept
-  where
-    names_made : (r : Result ℕ BuildError) → OnOk r (g ≡ with_more f entry) → OnErr r (g ≡ f) → NamesExist f c.ssa → NamesExist g c.ssa
-    names_made (Ok n) is _ named = subst (λ (h : Body). NamesExist h c.ssa) (sym is) (names_tabled f c.ssa (with_entry f.tables entry) named)
-    names_made (Err e) _ is named = subst (λ (h : Body). NamesExist h c.ssa) (sym is) named
-
-    order_made : (r : Result ℕ BuildError) → OnOk r (g ≡ with_more f entry) → IsInOrder f c → OnOk r (IsInOrder g c)
-    order_made (Ok n) is order = subst (λ (h : Body). IsInOrder h c) (sym is) (order_tabled f c (with_entry f.tables entry) (entry_keeps f entry) order)
-    order_made (Err e) is order = tt
+    tables_kept (with_entry f.tables entry) answer f g c was now (entry_keeps f entry) sound fails makes.ok makes.err kept

@@ -25,7 +25,7 @@ use Rattle.cranelift_frontend.specs.declared.context.BlockStatus.TheVariants.{Em
 use Rattle.cranelift_frontend.specs.Context.{Begins, ContextState, SameStatus, status_of}
 use Rattle.cranelift_frontend.specs.Builder.{is_empty_status, is_filled_status}
 use Rattle.cranelift_frontend.specs.Construction.{IsSealing}
-use Rattle.cranelift_frontend.specs.Ledger.{AnswersAgree, AreTypesOf, BlockAgrees, HaveTypes, IsBegun, IsEnded, IsStructured, LedgerAgrees, NamesBlock, block_name, ledger_of, value_type, without_constants}
+use Rattle.cranelift_frontend.specs.Ledger.{AnswersAgree, AreTypesOf, BlockAgrees, HaveTypes, IsBegun, IsEnded, IsStructured, LedgerAgrees, NamesBlock, block_name, ledger_of, value_type, tables_of_calls}
 use Rattle.cranelift_frontend.proofs.LedgerLists.{get-front, get-last, get-push, if-yes, if-no, named-more, one-named-more, map-some}
 use Rattle.cranelift_frontend.proofs.LedgerNames.{name-number, named-block, state-entries}
 use Rattle.cranelift_frontend.proofs.LedgerKept.{answer-still, Extends, Keeps, extends-constructs, keeps-block, keeps-itself, keeps-of, answers-after, places-after, answers-none, answers-one, concluded, types-kept}
@@ -145,7 +145,7 @@ agrees-created calls ledger f g c d p block agrees function number records seale
       layout = named-more (block_name ledger) (block_name (ledger_with ledger CreateBlock)) ledger.layout f.layout names agrees.layout
           ∙ ap (λ (h : Body). map (block_name (ledger_with ledger CreateBlock)) h.layout) (sym function);
       variables = agrees.variables ∙ sym variables;
-      tables = agrees.tables ∙ ap (λ (h : Body). without_constants h.tables) (sym function);
+      tables = agrees.tables ∙ ap (λ (h : Body). tables_of_calls h.tables) (sym function);
       own = agrees.own;
       structured = λ types are.
           let own : Own = agrees.own in

@@ -28,7 +28,7 @@ use Rattle.clif_ssa.specs.Constructs.{MayPassMore, OnlyConstructs}
 use Rattle.clif_ssa.specs.LookUp.{branch_block}
 use Rattle.clif_ssa.specs.Ssa.{step_values, with_steps, with_zero, zero_value, zeroed, zeroed_in, completed, completing_blocks}
 use Rattle.clif_simulation.proofs.Places.{mapped_count, mapped_from, range_at, range_count}
-use Rattle.cranelift_frontend.specs.Ledger.{AnswerAgrees, HaveTypes, ResultsFollow, AnswersAgree, LedgerAgrees, block_name, value_type, ledger_of, without_constants}
+use Rattle.cranelift_frontend.specs.Ledger.{AnswerAgrees, HaveTypes, ResultsFollow, AnswersAgree, LedgerAgrees, block_name, value_type, ledger_of, tables_of_calls}
 use Rattle.cranelift_frontend.specs.Context.{ContextState}
 use Rattle.cranelift_frontend.proofs.LedgerLists.{fold-push, get-front, get-push, map-some, some-is, and-then-some, if-yes, numbered-more}
 
@@ -59,7 +59,7 @@ pub record Extends (f g : Body) : Type 0 where
   pub insts : (i : ℕ) (node : InstNode) → slice_get f.insts i ≡ Some node → KeepsInst g i node
   pub block_count : length g.blocks ≡ length f.blocks
   pub cold : (b : ℕ) → (block_at g b).is_cold ≡ (block_at f b).is_cold
-  pub tables : without_constants g.tables ≡ without_constants f.tables
+  pub tables : tables_of_calls g.tables ≡ tables_of_calls f.tables
 
 -- where one block is written anew, and keeps its mark
 pub same_cold : (nodes : List BlockNode) (b x : ℕ) (node : BlockNode) → node.is_cold ≡ (slice_index_or nodes b empty_block).is_cold
@@ -113,7 +113,7 @@ extends-constructs f g constructs =
           };
       block_count = constructs.block_count;
       cold = λ b. ap (λ (n : BlockNode). n.is_cold) (constructs.blocks b).node;
-      tables = ap without_constants constructs.tables.same;
+      tables = ap tables_of_calls constructs.tables.same;
     }
 
 -- it has also its layout, and no other parameters
@@ -129,7 +129,7 @@ Extends-same f g same =
       insts = λ i node is. keeps-node g i node (ap (λ (h : Body). slice_get h.insts i) same ∙ is);
       block_count = ap (λ (h : Body). length h.blocks) same;
       cold = λ b. ap (λ (h : Body). (block_at h b).is_cold) same;
-      tables = ap (λ (h : Body). without_constants h.tables) same;
+      tables = ap (λ (h : Body). tables_of_calls h.tables) same;
     }
 
 pub Extends-then : (f g h : Body) → Extends f g → Extends g h → Extends f h
@@ -319,7 +319,7 @@ Continues-pooled f ty =
         insts = λ i node is. keeps-node (with_pooled f ty) i node is;
         block_count = refl;
         cold = λ x. refl;
-        tables = ap without_constants (zeros_pooled f.tables (zero_size ty)).same;
+        tables = ap tables_of_calls (zeros_pooled f.tables (zero_size ty)).same;
       };
       layout = refl;
       homes = λ v h is. is;

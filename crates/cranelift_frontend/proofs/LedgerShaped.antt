@@ -1,5 +1,5 @@
 -- An instruction of any shape is built: the agreement with the ledger is kept.
-use Rattle.std.proofs.Common.{◌≡◌, ◌≢◌, ◌<◌, ℕ, List, [], ◌∷◌, ◌++◌, length, refl, sym, ◌∙◌, ap, subst, ◌⊎◌, inl, inr}
+use Rattle.std.proofs.Common.{◌≡◌, ◌≢◌, ◌<◌, ℕ, suc, ◌-◌, List, [], ◌∷◌, ◌++◌, length, refl, sym, ◌∙◌, ap, subst, ◌⊎◌, inl, inr, arith}
 use Rattle.std.specs.Prelude.{All, Bool, map, slice_get, true, false, if◌then◌else◌, Option, Some, IfOk, Result, Ok, Err, ℤ}
 use Rattle.std.specs.List.{range_with_len}
 use Rattle.std.proofs.lemmas.Option.{get_or_from_slice_get, same_Some}
@@ -26,7 +26,7 @@ use Rattle.clif_opcodes.specs.declared.opcodes.StackOpcode.{StackOpcode}
 use Rattle.clif_opcodes.specs.declared.opcodes.StackOpcode.TheVariants as stack
 use Rattle.clif_opcodes.specs.declared.opcodes.UnaryOpcode.{UnaryOpcode}
 use Rattle.clif_instructions.specs.declared.instructions.InstructionData.{InstructionData}
-use Rattle.clif_instructions.specs.declared.instructions.InstructionData.TheVariants.{UnaryImm, UnaryIeee, UnaryConst, Unary, Binary, IntCompare, Concat, Split, Convert, Ternary, Load, Store, StackLoad, StackStore, Jump, Brif, MultiAry, Trap, CondTrap}
+use Rattle.clif_instructions.specs.declared.instructions.InstructionData.TheVariants.{UnaryImm, UnaryIeee, UnaryConst, Unary, Binary, IntCompare, Concat, Split, Convert, Ternary, Load, Store, StackLoad, StackStore, Jump, Brif, BranchTable, MultiAry, Trap, CondTrap}
 use Rattle.clif_ir.specs.Body.{Body, inst_at, no_inst, no_value, value_at}
 use Rattle.clif_ir.specs.Changes.{inserted_in, with_inst, inst_node}
 use Rattle.clif_ir.specs.Consistent.{IsConsistent}
@@ -323,6 +323,26 @@ brif-shape calls f c p agrees condition value taken other block_then block_else 
       controlling = named-type calls f c p agrees condition value names;
       operands_numbered = ap (λ (o : Option ℕ). o ∷ []) names.number;
       edges = subst (NamesEdges calls (taken ∷ other ∷ [])) (sym same) (first, (second, tt));
+    }
+
+-- as many edges are named as there are
+edges-count : (calls : List AnsweredCall) (edges : List (Edge Name Name)) (made : List BlockCall) → NamesEdges calls edges made → length edges ≡ length made
+edges-count calls [] [] names = refl
+edges-count calls (edge ∷ edges) (call ∷ others) names = ap suc (edges-count calls edges others names.1)
+edges-count calls [] (call ∷ others) names = absurd names
+edges-count calls (edge ∷ edges) [] names = absurd names
+
+pub table-shape : (calls : List AnsweredCall) (f : Body) (index : Name) (value : ℕ) (first : Edge Name Name) (others : List (Edge Name Name)) (table : List BlockCall)
+    → NamesValue calls index value → NamesEdges calls (first ∷ others) table
+    → HasShape calls f (record { operation = operation.BrTable (length others); controlling = type.Invalid; operands = index ∷ []; edges = first ∷ others }) (BranchTable value table) type.Invalid
+table-shape calls f index value first others table names edges =
+    let count : length others ≡ length table - 1 = omega (arith, edges-count calls (first ∷ others) table edges) in
+    record {
+      operation = ap operation.BrTable count;
+      typed = refl;
+      controlling = refl;
+      operands_numbered = ap (λ (o : Option ℕ). o ∷ []) names.number;
+      edges = edges;
     }
 
 pub return-shape : (calls : List AnsweredCall) (f : Body) (names : List Name) (values : List ℕ) → map (number_of calls) names ≡ map Some values

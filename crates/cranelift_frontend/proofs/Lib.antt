@@ -28,7 +28,7 @@ pub mod Standing
 pub mod StandingResults
 pub mod Marking
 pub mod Entries
-pub mod Pooling
+pub mod Tabling
 pub mod SealingAll
 pub mod Finishing
 pub mod StandingBuilt

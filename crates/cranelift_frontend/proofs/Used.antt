@@ -1,5 +1,5 @@
 -- A use of a variable in a block that came into the layout first.
-use Rattle.std.proofs.Common.{◌≡◌, ◌+◌, ℕ, List, [], ◌∷◌, length, ◌∙◌, ap, subst}
+use Rattle.std.proofs.Common.{◌≡◌, ◌+◌, ℕ, List, [], ◌∷◌, length, ◌∙◌, ap, subst, sym}
 use Rattle.std.specs.Prelude.{true, false, Option, Some, None, IfSome, IfOk, OnOk, Result, Ok, Err}
 use Rattle.clif_types.specs.declared.types.«Type».{«Type»}
 use Rattle.clif_ir.specs.Body.{Body}
@@ -12,6 +12,13 @@ use Rattle.cranelift_frontend.specs.Construction.{IsUse}
 use Rattle.cranelift_frontend.specs.Context.{Begins, ContextState, SetsStatus, begun, status_of}
 use Rattle.cranelift_frontend.proofs.Growing.{values-inserted}
 use Rattle.cranelift_frontend.proofs.Statuses.{begins_cons}
+
+-- what is so of the type that was found for a variable is so of each type that it has
+pub typed_so : (Is : «Type» → Type 0) (slot : Option «Type») (found ty : «Type») → slot ≡ Some found → Is found → slot ≡ Some ty → Is ty
+typed_so Is slot found ty at so is = subst Is (same_type (sym at ∙ is)) so
+  where
+    same_type : {x y : «Type»} → ◌≡◌ {A = Option «Type»} (Some x) (Some y) → x ≡ y
+    same_type same = cc
 
 at_some : (o : Option ℕ) (v : ℕ) (P : ℕ → Type 0) → o ≡ Some v → IfSome o P → P v
 at_some o v P is holds = let Q : Option ℕ → Type 0 = λ p. IfSome p P in subst Q is holds

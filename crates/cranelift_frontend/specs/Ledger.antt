@@ -120,9 +120,10 @@ pub record AnswersAgree (ledger : Ledger) (f : Body) (place : ℕ) (answers : Li
 abbrev pub HaveTypes : Body → List ℕ → List «Type» → Type 0
 HaveTypes f values types = map (value_type f) values ≡ map Some types
 
--- tables beside those of constants
-abbrev pub without_constants : TableLists → TableLists
-without_constants tables = record tables { constants = [] }
+-- the tables whose entries calls of a list make. Constants and jump tables are none: an instruction has its constant's bytes
+-- and its table's edges itself
+abbrev pub tables_of_calls : TableLists → TableLists
+tables_of_calls tables = record tables { constants = []; jump_tables = [] }
 
 -- a ledger of calls agrees with the parts of a builder: its function, its context and its current block
 pub record LedgerAgrees (calls : List AnsweredCall) (ledger : Ledger) (f : Body) (c : ContextState) (position : Option ℕ) : Type 0 where
@@ -139,8 +140,8 @@ pub record LedgerAgrees (calls : List AnsweredCall) (ledger : Ledger) (f : Body)
   pub layout : map Some ledger.layout ≡ map (block_name ledger) f.layout
   -- the types of the variables, in order
   pub variables : map (λ variable. variable.ty) ledger.variables ≡ c.variables
-  -- stack slots, signatures, functions and so on; the construction and instructions pool constants by themselves
-  pub tables : ledger.tables ≡ without_constants f.tables
+  -- stack slots, signatures, functions and so on
+  pub tables : ledger.tables ≡ tables_of_calls f.tables
   -- what the caller made, and beside it parameters, edges and records in order
   pub own : Own
   pub structured : IsStructured own f c

@@ -1,5 +1,5 @@
 -- What a ledger and requests say by names, where it agrees with a builder, as this crate's law functions state it. Own.
-use Rattle.std.specs.Prelude.{◌≡◌, ℕ, ◌<◌, ◌==◌, List, length, map, slice_get, Option, Some, true, ℤ}
+use Rattle.std.specs.Prelude.{◌≡◌, ℕ, ◌<◌, ◌==◌, List, ◌∷◌, length, map, slice_get, Option, Some, true, ℤ}
 use Rattle.clif_types.specs.declared.condcodes.IntCC.{IntCC}
 use Rattle.clif_types.specs.declared.trapcode.TrapCode.{TrapCode}
 use Rattle.clif_types.specs.MemFlags.{MemFlagsShape}
@@ -25,7 +25,7 @@ use Rattle.clif_meaning.specs.Name.{Name, same_name}
 use Rattle.clif_meaning.specs.Request.{AnsweredCall, Build, Request, number_of}
 use Rattle.clif_meaning.specs.Ledger.{BlockState, block_state, has_block, is_inserted, type_of, variable_type}
 use Rattle.cranelift_frontend.specs.Context.{ContextState}
-use Rattle.cranelift_frontend.specs.Ledger.{BlockAgrees, HasShape, LedgerAgrees, NamesBlock, NamesEdge, NamesValue, block_name, ledger_of, value_type}
+use Rattle.cranelift_frontend.specs.Ledger.{BlockAgrees, HasShape, LedgerAgrees, NamesBlock, NamesEdge, NamesEdges, NamesValue, block_name, ledger_of, value_type}
 
 -- this request asks for an instruction of this shape, made at this type
 abbrev pub AsksForShape : List AnsweredCall → Body → Request → InstructionData → «Type» → Type 0
@@ -71,6 +71,9 @@ pub record AskForTheirShapes (calls : List AnsweredCall) (f : Body) : Type 0 whe
   pub brif : (condition : Name) (c : ℕ) (first second : Edge Name Name) (taken other : BlockCall)
       → NamesValue calls condition c → NamesEdge calls first taken → NamesEdge calls second other
       → AsksForShape calls f (request.brif (ledger_of calls) condition first second) (shape.brif c taken other) Invalid
+  pub br_table : (index : Name) (x : ℕ) (first : Edge Name Name) (others : List (Edge Name Name)) (table : List BlockCall)
+      → NamesValue calls index x → NamesEdges calls (first ∷ others) table
+      → AsksForShape calls f (request.br_table index first others) (shape.branch_table x table) Invalid
   pub return_ : (names : List Name) (values : List ℕ) → map (number_of calls) names ≡ map Some values
       → AsksForShape calls f (request.return_ names) (multi_ary values) Invalid
 

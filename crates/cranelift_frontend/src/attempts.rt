@@ -6,7 +6,7 @@ ghost use Rattle.clif_meaning.specs.Name.{Name};
 ghost use Rattle.clif_meaning.specs.Request.{AnsweredCall, DefVar};
 ghost use Rattle.clif_simulation.specs.Structure.{KeepsNoParameter};
 ghost use Rattle.clif_ssa.specs.Constructs.{OnlyConstructs};
-ghost use Rattle.clif_ssa.specs.Limits.{ConstructionIsFull};
+ghost use Rattle.clif_ssa.specs.Pools.{MayPool, UseIsFull};
 ghost use Rattle.clif_ssa.specs.Ssa.{Records, SealedStays};
 ghost use Rattle.clif_types.specs.Signature.{SignatureShape};
 ghost use Rattle.clif_types.specs.declared.types.«Type».{«Type»};
@@ -46,7 +46,8 @@ impl<'a> FunctionBuilder<'a> {
         ensures is_use { (ty : «Type») → slice_get self.old.ctx.now.variables variable ≡ Some ty → IfSome self.old.position (λ block. IfOk result (λ answer. IfOk answer (λ value. (told : List ℕ) × IsUse (inserted_in self.old.func.now block) self.old.ctx.now.ssa self.new.func.now self.new.ctx.now.ssa variable ty block value told × Begins self.old.ctx.now self.new.ctx.now (block ∷ told)))) }
         ensures status { (calls : List AnsweredCall) → AgreesWithLedger calls self.old → IfSome self.old.position (λ block. OnOk result (SetsStatus self.old.ctx.now self.new.ctx.now block (begun (status_of self.old.ctx.now block)))) }
         ensures variables { self.new.ctx.now.variables ≡ self.old.ctx.now.variables }
-        ensures full { result ≡ Err BuildError.Full → ConstructionIsFull self.new.func.now }
+        ensures pools { (ty : «Type») → slice_get self.old.ctx.now.variables variable ≡ Some ty → MayPool ty self.old.func.now.tables self.new.func.now.tables }
+        ensures full { (ty : «Type») → slice_get self.old.ctx.now.variables variable ≡ Some ty → result ≡ Err BuildError.Full → UseIsFull ty self.new.func.now }
         ensures full_declared { result ≡ Err BuildError.Full → variable < length self.old.ctx.now.variables }
         ensures constructs { IfSome self.old.position (λ block. result ≡ Err BuildError.Full →
             OnlyConstructs (inserted_in self.old.func.now block) self.new.func.now) }

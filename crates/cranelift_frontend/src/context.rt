@@ -117,7 +117,7 @@ impl FunctionBuilderContext {
     ghost use Rattle.clif_ssa.specs.Sealing.{SealsBelow, SealsByLookUp};
     ghost use Rattle.clif_ssa.specs.Ssa.{record_of, sealed_of, predecessors_of, completed, HasMore, IsLocal, NamesExist, Records, RecordsStay, SameBlocks, SamePredecessors, SameRecords, Seals, Waits, Zeroes};
     ghost use Rattle.clif_ssa.specs.Zeros.{steps_before};
-    ghost use Rattle.clif_ssa.specs.Limits.{ConstructionIsFull};
+    ghost use Rattle.clif_ssa.specs.Pools.{types_of, MayPool, MayPoolAll, MayPoolWaiting, SealingIsFull, UseIsFull, WaitsWithType};
     ghost use Rattle.clif_ssa.specs.Structure.{LooksOnce};
     ghost use Rattle.clif_ssa.specs.Constructs.{OnlyConstructs};
     ghost use Rattle.clif_records.specs.Tables.{is_yes, pending_of};
@@ -262,7 +262,8 @@ impl FunctionBuilderContext {
         ensures more { HasMore func.old func.new }
         ensures variables { self.new.variables ≡ self.old.variables }
         ensures constructs { OnlyConstructs func.old func.new }
-        ensures full { result ≡ Err BuildError.Full → ConstructionIsFull func.new }
+        ensures pools { MayPool ty func.old.tables func.new.tables }
+        ensures full { result ≡ Err BuildError.Full → UseIsFull ty func.new }
         ensures never_failed { result ≢ Err BuildError.Failed }
     {
         let (value, side_effects) = self.ssa.use_var(func, variable, ty, block)?;
@@ -284,7 +285,8 @@ impl FunctionBuilderContext {
         ensures stay { RecordsStay self.old.ssa self.new.ssa }
         ensures variables { self.new.variables ≡ self.old.variables }
         ensures constructs { OnlyConstructs func.old func.new }
-        ensures full { result ≡ Err BuildError.Full → ConstructionIsFull func.new }
+        ensures pools { MayPoolAll (types_of func.old (pending_of (sealed_of self.old.ssa block))) func.old.tables func.new.tables }
+        ensures full { result ≡ Err BuildError.Full → SealingIsFull (Contains (types_of func.old (pending_of (sealed_of self.old.ssa block)))) func.new }
         ensures never_failed { result ≢ Err BuildError.Failed }
     {
         let side_effects = self.ssa.seal_block(block, func)?;
@@ -302,7 +304,8 @@ impl FunctionBuilderContext {
         ensures stay { RecordsStay self.old.ssa self.new.ssa }
         ensures variables { self.new.variables ≡ self.old.variables }
         ensures constructs { OnlyConstructs func.old func.new }
-        ensures full { result ≡ Err BuildError.Full → ConstructionIsFull func.new }
+        ensures pools { MayPoolWaiting func.old self.old.ssa func.new.tables }
+        ensures full { result ≡ Err BuildError.Full → SealingIsFull (WaitsWithType func.old self.old.ssa) func.new }
         ensures never_failed { result ≢ Err BuildError.Failed }
     {
         let side_effects = self.ssa.seal_all_blocks(func)?;

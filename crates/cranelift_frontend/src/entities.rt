@@ -1,12 +1,14 @@
-//! The builder's calls that make stack slots, signatures, functions and global values.
+//! The builder's calls that make stack slots, signatures, functions, global values and jump tables.
 ghost use Rattle.std.specs.Prelude.{◌≡◌, ◌<◌, length, slice_get, option_copied};
 ghost use Rattle.clif_tables.specs.Entries.{AStackSlot, ADynamicStackSlot, AGlobalValue, ASignature, AFunction};
-ghost use Rattle.cranelift_frontend.specs.Entries.{MakesEntry};
+ghost use Rattle.cranelift_frontend.specs.Entries.{CreatesJumpTable, MakesEdge, MakesEntry};
 
 use crate::builder::FunctionBuilder;
+use clif_instructions::block_call::{BlockArg, BlockCall};
+use clif_ir::JumpTableData;
 use clif_types::{
-    BuildError, DynamicStackSlot, DynamicStackSlotData, ExtFuncData, FuncRef, GlobalValue,
-    GlobalValueData, SigRef, Signature, StackSlot, StackSlotData,
+    Block, BuildError, DynamicStackSlot, DynamicStackSlotData, ExtFuncData, FuncRef, GlobalValue,
+    GlobalValueData, JumpTable, SigRef, Signature, StackSlot, StackSlotData,
 };
 
 impl<'a> FunctionBuilder<'a> {
@@ -83,6 +85,40 @@ impl<'a> FunctionBuilder<'a> {
             return Err(BuildError::Failed);
         }
         let made = self.func.import_function(function);
+        self.failed = made.is_err();
+        made
+    }
+
+    /// The edge to a block that passes these arguments to its parameters, in order, for a jump table: nothing is made in
+    /// the function.
+    ///
+    /// The only errors are `Memory` and `Failed`.
+    pub fn block_call(&mut self, block: Block, args: &[BlockArg]) -> Result<BlockCall, BuildError>
+        ensures { MakesEdge block args.now self.old self.new result }
+    {
+        if self.failed {
+            return Err(BuildError::Failed);
+        }
+        self.func.law_consistent();
+        let edge = BlockCall::new(self.ctx.allocator(), block, args);
+        self.failed = edge.is_err();
+        edge
+    }
+
+    /// Makes a jump table, for one `br_table`: its default and its entries are edges, of which [`block_call`] makes one.
+    ///
+    /// No branch is made, and what the edges name is asked for only by the `br_table`. Errors are those of
+    /// [`FunctionBuilder::create_sized_stack_slot`].
+    ///
+    /// [`block_call`]: FunctionBuilder::block_call
+    pub fn create_jump_table(&mut self, table: JumpTableData) -> Result<JumpTable, BuildError>
+        ensures { CreatesJumpTable table self.old self.new result }
+    {
+        if self.failed {
+            return Err(BuildError::Failed);
+        }
+        self.func.law_consistent();
+        let made = self.func.create_jump_table(table);
         self.failed = made.is_err();
         made
     }

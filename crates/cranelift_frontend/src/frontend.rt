@@ -1,5 +1,5 @@
 //! The builder of a function.
-ghost use Rattle.std.specs.Prelude.{◌≡◌, ◌≢◌, ◌<◌, ◌-◌, ◌^◌, ◌+◌, ◌++◌, ◌∷◌, [], ◌==◌, ℕ, List, IsTrue, ◌↔◌, OnOk, OnErr, IfOk, IfSome, IsSome, is_err, Some, None, true, false, length, slice_index, slice_get, EachIndex};
+ghost use Rattle.std.specs.Prelude.{◌≡◌, ◌≢◌, ◌<◌, ◌-◌, ◌^◌, ◌+◌, ◌++◌, ◌∷◌, [], ◌==◌, ℕ, List, IsTrue, ◌↔◌, OnOk, OnErr, IfOk, IfSome, IsSome, is_err, Some, None, true, false, length, slice_index, slice_get, EachIndex, Contains};
 ghost use Rattle.cranelift_frontend.specs.Context.{IsClear, IsFresh, status_of, begun, Begins, SetsStatus};
 ghost use Rattle.cranelift_frontend.specs.Growth.{Grows, HasRecordIn, RemembersIn};
 ghost use Rattle.cranelift_frontend.specs.Construction.{IsUse, IsSealing, IsSealingAll, SealsAtMost};
@@ -7,7 +7,7 @@ ghost use Rattle.cranelift_frontend.specs.Calls.{IsCall, IsTold, answered};
 ghost use Rattle.cranelift_frontend.specs.Order.{IsUntouched};
 ghost use Rattle.cranelift_frontend.specs.Builder.{with_position, is_unreachable, is_free, HasCurrent, Uses, UsesIn};
 ghost use Rattle.clif_types.specs.Types.{is_type};
-ghost use Rattle.clif_ssa.specs.Limits.{ConstructionIsFull};
+ghost use Rattle.clif_ssa.specs.Pools.{types_of, MayPool, MayPoolAll, MayPoolWaiting, SealingIsFull, UseIsFull, WaitsWithType};
 ghost use Rattle.clif_ssa.specs.Structure.{LooksOnce};
 ghost use Rattle.clif_ssa.specs.Constructs.{OnlyConstructs};
 ghost use Rattle.clif_records.specs.Tables.{is_yes, pending_of};
@@ -204,7 +204,8 @@ impl<'a> FunctionBuilder<'a> {
         ensures records { predecessors_of self.old.ctx.now.ssa block ≡ [] → SameRecords self.old.ctx.now.ssa self.new.ctx.now.ssa }
         ensures stay { RecordsStay self.old.ctx.now.ssa self.new.ctx.now.ssa }
         ensures variables { self.new.ctx.now.variables ≡ self.old.ctx.now.variables }
-        ensures full { result ≡ Err BuildError.Full → ConstructionIsFull self.new.func.now }
+        ensures pools { MayPoolAll (types_of self.old.func.now (pending_of (sealed_of self.old.ctx.now.ssa block))) self.old.func.now.tables self.new.func.now.tables }
+        ensures full { result ≡ Err BuildError.Full → SealingIsFull (Contains (types_of self.old.func.now (pending_of (sealed_of self.old.ctx.now.ssa block)))) self.new.func.now }
         ensures constructs { OnlyConstructs self.old.func.now self.new.func.now }
         ensures told { (name : Name) → IsTold self.old self.new result
             (λ calls. NamesBlock calls name block)
@@ -235,7 +236,8 @@ impl<'a> FunctionBuilder<'a> {
         ensures is_sealing { OnOk result ((told : List ℕ) × IsSealingAll self.old.func.now self.old.ctx.now.ssa self.new.func.now self.new.ctx.now.ssa told × Begins self.old.ctx.now self.new.ctx.now told) }
         ensures stay { RecordsStay self.old.ctx.now.ssa self.new.ctx.now.ssa }
         ensures variables { self.new.ctx.now.variables ≡ self.old.ctx.now.variables }
-        ensures full { result ≡ Err BuildError.Full → ConstructionIsFull self.new.func.now }
+        ensures pools { MayPoolWaiting self.old.func.now self.old.ctx.now.ssa self.new.func.now.tables }
+        ensures full { result ≡ Err BuildError.Full → SealingIsFull (WaitsWithType self.old.func.now self.old.ctx.now.ssa) self.new.func.now }
         ensures constructs { OnlyConstructs self.old.func.now self.new.func.now }
         ensures told { IsTold self.old self.new result
             (λ _. Unit {0})
@@ -347,7 +349,8 @@ impl<'a> FunctionBuilder<'a> {
         ensures is_use { (ty : «Type») → slice_get self.old.ctx.now.variables variable ≡ Some ty → IfSome self.old.position (λ block. IfOk result (λ value. (told : List ℕ) × IsUse (inserted_in self.old.func.now block) self.old.ctx.now.ssa self.new.func.now self.new.ctx.now.ssa variable ty block value told × Begins self.old.ctx.now self.new.ctx.now (block ∷ told))) }
         ensures status { (calls : List AnsweredCall) → AgreesWithLedger calls self.old → IfSome self.old.position (λ block. OnOk result (SetsStatus self.old.ctx.now self.new.ctx.now block (begun (status_of self.old.ctx.now block)))) }
         ensures variables { self.new.ctx.now.variables ≡ self.old.ctx.now.variables }
-        ensures full { result ≡ Err BuildError.Full → ConstructionIsFull self.new.func.now }
+        ensures pools { (ty : «Type») → slice_get self.old.ctx.now.variables variable ≡ Some ty → MayPool ty self.old.func.now.tables self.new.func.now.tables }
+        ensures full { (ty : «Type») → slice_get self.old.ctx.now.variables variable ≡ Some ty → result ≡ Err BuildError.Full → UseIsFull ty self.new.func.now }
         ensures constructs { IfSome self.old.position (λ block. result ≡ Err BuildError.Full →
             OnlyConstructs (inserted_in self.old.func.now block) self.new.func.now) }
         ensures told { IsTold self.old self.new result
@@ -387,6 +390,7 @@ pub(crate) fn begin_block(
     requires { block < length func.old.blocks }
     ensures function { OnOk result (func.new ≡ inserted_in func.old block) }
     ensures status { OnOk result (SetsStatus ctx.old ctx.new block (begun (status_of ctx.old block))) }
+    ensures tables { func.new.tables ≡ func.old.tables }
     ensures ssa { ctx.new.ssa ≡ ctx.old.ssa }
     ensures names { NamesExist func.old ctx.old.ssa → NamesExist func.new ctx.new.ssa }
     ensures variables { ctx.new.variables ≡ ctx.old.variables }
@@ -415,7 +419,8 @@ fn use_variable(
     ensures exists { IfOk result (λ value. value < length func.new.values) }
     ensures looks_once { LooksOnce ctx.old.ssa → LooksOnce ctx.new.ssa }
     ensures variables { ctx.new.variables ≡ ctx.old.variables }
-    ensures full { result ≡ Err BuildError.Full → ConstructionIsFull func.new }
+    ensures pools { MayPool ty func.old.tables func.new.tables }
+    ensures full { result ≡ Err BuildError.Full → UseIsFull ty func.new }
     ensures constructs { result ≡ Err BuildError.Full →
         OnlyConstructs (inserted_in func.old block) func.new }
     ensures never_failed { result ≢ Err BuildError.Failed }

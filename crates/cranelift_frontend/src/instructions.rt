@@ -11,7 +11,7 @@ ghost use Rattle.clif_ssa.specs.Structure.{LooksOnce};
 ghost use Rattle.cranelift_frontend.specs.Builder.{HasCurrent, CanLead, CanLeadIn, AppendsIn};
 ghost use Rattle.cranelift_frontend.specs.Built.{Builds, BuildsPair, BuildsValue};
 ghost use Rattle.cranelift_frontend.specs.Construction.{IsDeclared};
-ghost use Rattle.cranelift_frontend.specs.Entries.{PoolsConstant};
+ghost use Rattle.cranelift_frontend.specs.Entries.{MayServe, PoolsConstant, TakesJumpTable};
 ghost use Rattle.std.proofs.lemmas.Option.{slice_get_within as pooled_below};
 
 use crate::builder::FunctionBuilder;
@@ -19,8 +19,8 @@ use crate::context::{BlockStatus, FunctionBuilderContext};
 use crate::frontend::begin_block;
 use clif_inst_builder::InstBuilderBase;
 use clif_instructions::inst_list::InsertAt;
-use clif_ir::{Function, InstructionData};
-use clif_types::{Block, BuildError, Constant, Inst, SourceLoc, Type, Value};
+use clif_ir::{Function, InstructionData, JumpTableData};
+use clif_types::{Block, BuildError, Constant, Inst, JumpTable, SourceLoc, Type, Value};
 use std::alloc::Global;
 
 /// What [`FunctionBuilder::ins`] lends: the builder itself, whose methods make instructions.
@@ -53,6 +53,10 @@ impl<'a> InstBuilderBase for FunctionBuilder<'a> {
 
     ghost pools = { PoolsConstant };
 
+    ghost has_jump_table = { MayServe };
+
+    ghost takes = { TakesJumpTable };
+
     ghost builds = { Builds };
 
     ghost builds_value = { BuildsValue };
@@ -78,7 +82,15 @@ impl<'a> InstBuilderBase for FunctionBuilder<'a> {
     ghost pooled_exists = { λ old new bytes constant pooled.
         pooled_below new.func.now.tables.constants constant bytes pooled.found };
 
-    ghost pooled_builds = { λ old new bytes constant pooled current. pooled.current current };
+    ghost pooled_builds = { λ old new bytes constant pooled current.
+        pooled.sets.current current };
+
+    ghost taken_leads = { λ old new table edges taken serves. taken.leads serves };
+
+    ghost taken_values = { λ old new table edges taken value here.
+        lt_of_lt_of_le here taken.sets.grows.0 };
+
+    ghost taken_builds = { λ old new table edges taken current. taken.sets.current current };
 
     fn value_type(&self, value: Value) -> Type {
         self.func.value_type(value)
@@ -96,6 +108,17 @@ impl<'a> InstBuilderBase for FunctionBuilder<'a> {
         let pooled = self.func.pool_constant(bytes);
         self.failed = pooled.is_err();
         pooled
+    }
+
+    fn take_jump_table(&mut self, table: JumpTable) -> Result<JumpTableData, BuildError> {
+        if self.failed {
+            return Err(BuildError::Failed);
+        }
+        self.func.law_consistent();
+        let Some(edges) = self.func.take_jump_table(table) else {
+            unreachable!();
+        };
+        Ok(edges)
     }
 
     fn build(&mut self, shape: InstructionData, ctrl_type: Type) -> Result<Inst, BuildError> {

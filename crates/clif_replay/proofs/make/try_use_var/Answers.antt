@@ -9,7 +9,7 @@ use Rattle.cranelift_frontend.specs.StandsFor.{StandsFor}
 use Rattle.clif_replay.specs.declared.script.Answer.{Answer}
 use Rattle.clif_replay.specs.declared.script.Answer.TheVariants as answer
 use Rattle.clif_replay.specs.Ready.{IsReadyAfter}
-use Rattle.clif_replay.proofs.Making.{answered-sound, constructs-met, made-answer, made-denied, made-failed, made-refusal}
+use Rattle.clif_replay.proofs.Making.{answered-sound, made-answer, made-denied, made-failed, made-refusal, use-met}
 use Rattle.clif_replay.proofs.ReadyLaws.{ready-more}
 use Rattle.clif_replay.proofs.Conditions
 use Rattle.clif_replay.proofs.make.try_use_var.Goals as goal
@@ -28,7 +28,7 @@ returns-in_err-value c =
     let here = sym c.has_current.ensures ∙ c.if-not-has_current.false in
     made-failed c.args.builder.now c.try_use_var.new.self c.args.answers.now c.try_use_var.result c.in_err-value.field-0.0 p.0 c.from_residual.result c.in_err-value.was p.1 p.2 done.call.loans c.requires.sound done.call.failed
     (λ full declared calls ready. Conditions.use-declared calls c.args.builder.now c.args.answers.now ready c.args.variable here (done.full_declared full))
-    (λ full. constructs-met c.args.builder.now c.try_use_var.new.self.func.now c.try_use_var.result (Conditions.has-current c.requires.calls c.args.builder.now c.args.answers.now c.requires.ready here) done.constructs full (done.full full))
+    (λ full. use-met c.args.builder.now c.try_use_var.new.self.func.now c.try_use_var.result c.args.variable (done.full_declared full) (Conditions.has-current c.requires.calls c.args.builder.now c.args.answers.now c.requires.ready here) done.constructs full done.full)
 
 pub returns-in-Ok : goal.returns-in-Ok
 returns-in-Ok c =

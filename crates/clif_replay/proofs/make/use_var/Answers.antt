@@ -1,7 +1,7 @@
 use Rattle.std.proofs.Common.{List, [], ◌∷◌, sym, ◌∙◌, ap, refl, subst}
 use Rattle.std.proofs.lemmas.Result.{err_from_is_err_and}
 use Rattle.clif_replay.specs.declared.script.Answer.TheVariants as answer
-use Rattle.clif_replay.proofs.Making.{answered-sound, constructs-met, made-answer, made-misuse, made-refused}
+use Rattle.clif_replay.proofs.Making.{answered-sound, made-answer, made-misuse, made-refused, use-met}
 use Rattle.std.proofs.lemmas.Bool.{and_parts}
 use Rattle.clif_types.specs.declared.types.«Type».{«Type»}
 use Rattle.clif_meaning.specs.Request.{UseVar}
@@ -27,7 +27,7 @@ returns-in_err-value c =
     let done = c.use_var.ensures in
     let p = err_from_is_err_and c.from_residual.result c.from_residual.ensures.1 in
     made-refused c.args.builder.now c.use_var.new.self c.args.answers.now c.use_var.result c.in_err-value.field-0.0 p.0 c.from_residual.result c.in_err-value.was p.1 p.2 done.call.loans c.requires.sound.sound done.call.failed
-    (λ declared calls ready. Conditions.use-same calls c.args.builder.now c.args.answers.now ready c.args.variable ∙ ap (λ (types : List «Type»). can_use c.args.builder.now types c.args.variable) (sym c.requires.types) ∙ sym c.may_use.ensures ∙ c.if-not-may_use.false) (λ full. constructs-met c.args.builder.now c.use_var.new.self.func.now c.use_var.result (Conditions.has-current c.requires.sound.calls c.args.builder.now c.args.answers.now c.requires.sound.ready (and_parts _ _ (sym c.may_use.ensures ∙ c.if-not-may_use.false)).0) done.constructs full (done.full full))
+    (λ declared calls ready. Conditions.use-same calls c.args.builder.now c.args.answers.now ready c.args.variable ∙ ap (λ (types : List «Type»). can_use c.args.builder.now types c.args.variable) (sym c.requires.types) ∙ sym c.may_use.ensures ∙ c.if-not-may_use.false) (λ full. use-met c.args.builder.now c.use_var.new.self.func.now c.use_var.result c.args.variable (Conditions.declared-there c.args.builder.now c.args.types.now c.args.builder.now.ctx.now.variables c.args.variable c.requires.types (sym c.may_use.ensures ∙ c.if-not-may_use.false)) (Conditions.has-current c.requires.sound.calls c.args.builder.now c.args.answers.now c.requires.sound.ready (and_parts _ _ (sym c.may_use.ensures ∙ c.if-not-may_use.false)).0) done.constructs full done.full)
 
 pub returns : goal.returns
 returns c =

@@ -1,7 +1,7 @@
 use Rattle.std.proofs.Common.{[], sym, ◌∙◌, refl}
 use Rattle.std.proofs.lemmas.Result.{err_from_is_err_and}
 use Rattle.clif_replay.specs.declared.script.Answer.TheVariants as answer
-use Rattle.clif_replay.proofs.Making.{answered-sound, made-answer, made-misuse, made-refused}
+use Rattle.clif_replay.proofs.Making.{answered-sound, made-answer, made-misuse, made-refused, one-block}
 use Rattle.std.proofs.lemmas.Bool.{not-true}
 use Rattle.clif_records.specs.Tables.{is_yes}
 use Rattle.clif_ssa.specs.Ssa.{sealed_of}
@@ -27,7 +27,11 @@ returns-in_err-seal_block c =
     let done = c.seal_block.ensures in
     let p = err_from_is_err_and c.from_residual.result c.from_residual.ensures.1 in
     made-refused c.args.builder.now c.seal_block.new.self c.args.answers.now c.seal_block.result c.in_err-seal_block.field-0.0 p.0 c.from_residual.result c.in_err-seal_block.was p.1 p.2 done.call.loans c.requires.sound done.call.failed
-    (λ declared calls ready. Conditions.seal-some calls c.args.builder.now c.args.answers.now ready c.args.name c.in-Some.block (sym c.block_named.ensures ∙ c.in-Some.is) ∙ sym c.may_seal.ensures ∙ c.if-not-may_seal.false) (λ full. (c.seal_block.new.self.func.now, done.constructs, done.full full))
+    (λ declared calls ready. Conditions.seal-some calls c.args.builder.now c.args.answers.now ready c.args.name c.in-Some.block (sym c.block_named.ensures ∙ c.in-Some.is) ∙ sym c.may_seal.ensures ∙ c.if-not-may_seal.false) (λ full. (
+      c.seal_block.new.self.func.now,
+      done.constructs,
+      one-block c.args.builder.now.func.now c.seal_block.new.self.func.now c.args.builder.now.ctx.now.ssa c.in-Some.block (block-there c.requires.calls c.args.builder.now c.args.answers.now c.requires.ready c.args.name c.in-Some.block (sym c.block_named.ensures ∙ c.in-Some.is)) (done.full full),
+    ))
 
 pub returns : goal.returns
 returns c =

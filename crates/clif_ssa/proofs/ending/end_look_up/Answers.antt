@@ -1,4 +1,4 @@
-use Rattle.std.proofs.Common.{◌∙◌, ap, sym, length, arith}
+use Rattle.std.proofs.Common.{◌∙◌, ap, inl, sym, length, arith}
 use Rattle.clif_ir.specs.Body.{Body}
 use Rattle.clif_ssa.proofs.Alike.{zero_ending_exists}
 use Rattle.clif_ssa.proofs.Bodies.{param_exists}
@@ -41,3 +41,17 @@ pub returns-in-Nothing-clause-exists : goal.returns-in-Nothing-clause-exists
 returns-in-Nothing-clause-exists c =
     zero_ending_exists c.args.func.now c.become_zero.new.func c.args.param c.args.home c.become_zero.result c.requires.is_parameter
     c.become_zero.ensures.zero c.become_zero.ensures.answer
+
+-- WHICH CONSTANTS -------------------------------------------------------------------------------------------------
+
+pub returns-in_err-change_param_to_alias-in-One-clause-pools : goal.returns-in_err-change_param_to_alias-in-One-clause-pools
+returns-in_err-change_param_to_alias-in-One-clause-pools c = inl (ap (λ (g : Body). g.tables) c.in_err-change_param_to_alias-in-One.ensures.err)
+
+pub returns-in_ok-change_param_to_alias-in-One-clause-pools : goal.returns-in_ok-change_param_to_alias-in-One-clause-pools
+returns-in_ok-change_param_to_alias-in-One-clause-pools c = inl (ap (λ (g : Body). g.tables) c.in_ok-change_param_to_alias-in-One.ensures.ok)
+
+pub returns-in_err-pass_arguments-in-Several-clause-pools : goal.returns-in_err-pass_arguments-in-Several-clause-pools
+returns-in_err-pass_arguments-in-Several-clause-pools c = inl c.pass_arguments.ensures.tables
+
+pub returns-in_ok-pass_arguments-in-Several-clause-pools : goal.returns-in_ok-pass_arguments-in-Several-clause-pools
+returns-in_ok-pass_arguments-in-Several-clause-pools c = inl c.pass_arguments.ensures.tables

@@ -1,7 +1,12 @@
-use Rattle.std.proofs.Common.{◌∷◌, [], rules}
+use Rattle.std.proofs.Common.{◌∷◌, [], ap, inl, refl, rules, subst}
+use Rattle.std.proofs.lemmas.Result.{err_from_is_err_and}
+use Rattle.clif_ir.specs.Body.{Body}
+use Rattle.clif_ssa.specs.Pools.{MayPool, UseIsFull}
 use Rattle.clif_ssa.specs.Constructs.{OnlyConstructs}
 use Rattle.clif_ssa.proofs.Constructing.{constructs_none, constructs_same, constructs_then, tells_then}
 use Rattle.clif_ssa.proofs.Constructed.{alias_made, alias_told, param_is, zero_param}
+use Rattle.clif_ssa.proofs.Pooling.{pool_same}
+use Rattle.clif_ssa.proofs.PuttingSteps.{full_before}
 use Rattle.clif_ssa.proofs.zeros.become_zero.Goals as goal
 
 pub returns-in_default-clause-constructs : goal.returns-in_default-clause-constructs
@@ -33,3 +38,30 @@ pub returns-clause-tells : goal.returns-clause-tells
 returns-clause-tells c =
     tells_then c.args.func.now c.put_zero.new.func c.change_param_to_alias.new.self (c.in-Some.block ∷ []) [] (made c) c.in_ok-value.ensures.tells
     (alias_told c.put_zero.new.func c.change_param_to_alias.new.self c.args.param c.in_ok-value.value c.in_ok-change_param_to_alias.ensures.ok)
+
+-- WHICH CONSTANTS -------------------------------------------------------------------------------------------------
+
+pub returns-in_default-clause-pools : goal.returns-in_default-clause-pools
+returns-in_default-clause-pools c = inl refl
+
+pub returns-in_err-value-clause-pools : goal.returns-in_err-value-clause-pools
+returns-in_err-value-clause-pools c =
+    subst (λ ty. MayPool ty c.args.func.now.tables c.put_zero.new.func.tables) c.value_type.ensures c.put_zero.ensures.pools
+
+pub returns-in_err-change_param_to_alias-clause-pools : goal.returns-in_err-change_param_to_alias-clause-pools
+returns-in_err-change_param_to_alias-clause-pools c =
+    pool_same _ _ _ _
+    (subst (λ ty. MayPool ty c.args.func.now.tables c.put_zero.new.func.tables) c.value_type.ensures c.put_zero.ensures.pools)
+    (ap (λ (g : Body). g.tables) c.in_err-change_param_to_alias.ensures.err)
+
+pub returns-clause-pools : goal.returns-clause-pools
+returns-clause-pools c =
+    pool_same _ _ _ _
+    (subst (λ ty. MayPool ty c.args.func.now.tables c.put_zero.new.func.tables) c.value_type.ensures c.put_zero.ensures.pools)
+    (ap (λ (g : Body). g.tables) c.in_ok-change_param_to_alias.ensures.ok)
+
+pub returns-in_err-value-clause-full : goal.returns-in_err-value-clause-full
+returns-in_err-value-clause-full c = λ is.
+    let p = err_from_is_err_and c.from_residual.result c.from_residual.ensures.1 in
+    subst (λ ty. UseIsFull ty c.put_zero.new.func) c.value_type.ensures
+    (c.in_err-value.ensures.full (full_before c.from_residual.result c.in_err-value.field-0.0 p.0 is p.1 p.2))

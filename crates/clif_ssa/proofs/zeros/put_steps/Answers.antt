@@ -1,6 +1,6 @@
-use Rattle.std.proofs.Common.{arith, inl, sym, subst, ◌^◌, ◌<◌, ◌≤◌, ◌+◌, ◌-◌, length}
+use Rattle.std.proofs.Common.{arith, sym, subst, ◌^◌, ◌<◌, ◌≤◌, ◌+◌, ◌-◌, length}
 use Rattle.std.proofs.lemmas.Result.{err_from_is_err_and}
-use Rattle.clif_ssa.specs.Limits.{ConstructionIsFull}
+use Rattle.clif_ssa.specs.Limits.{IsFull}
 use Rattle.clif_ssa.specs.Zeros.{zero_steps}
 use Rattle.clif_ssa.proofs.PuttingSteps.{row_some, row_none, all_put, place_small, place_stands, step_edges, step_entries, step_fits, full_before, step_full, step_more, step_operands}
 use Rattle.clif_ssa.proofs.zeros.put_steps.Goals as goal
@@ -52,7 +52,7 @@ returns-clause-ok c =
 pub returns-in_err-insert_inst-clause-full : goal.returns-in_err-insert_inst-clause-full
 returns-in_err-insert_inst-clause-full c = λ is.
     let p = err_from_is_err_and c.from_residual.result c.from_residual.ensures.1 in
-    subst ConstructionIsFull (sym c.in_err-insert_inst.ensures.err)
-    (inl (step_full c.args.func.now c.loop-shape.func c.args.block c.args.ty c.loop-shape.place c.loop-shape.invariant.1 c.args.constant c.requires.pooled c.in-Some.shape c.in-Some.result
+    subst IsFull (sym c.in_err-insert_inst.ensures.err)
+    (step_full c.args.func.now c.loop-shape.func c.args.block c.args.ty c.loop-shape.place c.loop-shape.invariant.1 c.args.constant c.requires.pooled c.in-Some.shape c.in-Some.result
     (row_some _ _ _ _ _ _ _ _ c.zero_step.ensures c.in-Some.is c.latest_value.ensures) c.law_consistent.ensures.values_fit
-    (c.in_err-insert_inst.ensures.full (full_before c.from_residual.result c.in_err-insert_inst.field-0.0 p.0 is p.1 p.2))))
+    (c.in_err-insert_inst.ensures.full (full_before c.from_residual.result c.in_err-insert_inst.field-0.0 p.0 is p.1 p.2)))

@@ -1,13 +1,18 @@
-use Rattle.std.proofs.Common.{◌≡◌, ◌∙◌, ℕ, ap, inl, inr, length, subst}
+use Rattle.std.proofs.Common.{◌≡◌, ◌∙◌, ℕ, ap, inl, inr, length, subst, sym}
+use Rattle.std.proofs.lemmas.Result.{err_from_is_err_and}
+use Rattle.clif_tables.specs.Lists.{TableLists}
 use Rattle.clif_types.specs.declared.types.«Type».{«Type»}
 use Rattle.std.specs.Prelude.{Result, Ok, Err, OnErr}
 use Rattle.clif_ir.specs.Body.{Body}
+use Rattle.clif_ir.specs.Changes.{inserted_in}
+use Rattle.clif_ssa.specs.Pools.{LacksZero, MayPool}
 use Rattle.clif_ssa.specs.Ssa.{HasSomeSteps, with_steps}
-use Rattle.clif_ssa.specs.Zeros.{with_pooled, zero_steps}
+use Rattle.clif_ssa.specs.Zeros.{with_pooled, with_zeros, zero_size, zero_steps}
 use Rattle.clif_ssa.proofs.Pooled.{pooled_constant}
 use Rattle.clif_ssa.proofs.Completing.{inserted_same}
 use Rattle.clif_ssa.proofs.Constructing.{constructs_same}
 use Rattle.clif_ssa.proofs.Constructed.{inserted_made, some_steps_made, with_zero_made, with_zero_told}
+use Rattle.clif_ssa.proofs.PuttingSteps.{full_before}
 use Rattle.clif_ssa.proofs.ZeroSteps.{IsLatestZero, latest_zero, put_zero}
 use Rattle.clif_ssa.proofs.zeros.put_zero.Goals as goal
 
@@ -80,3 +85,39 @@ returns-in_err-constant-clause-err c =
 pub returns-in_err-constant-clause-constructs : goal.returns-in_err-constant-clause-constructs
 returns-in_err-constant-clause-constructs c =
     inserted_made c.args.func.now c.pool_zeros.new.func c.args.block (c.in_err-constant.ensures.err ∙ c.in_ok-ensure_block_inserted.ensures.ok)
+
+-- WHICH CONSTANTS -------------------------------------------------------------------------------------------------
+
+pub returns-in_err-ensure_block_inserted-clause-pools : goal.returns-in_err-ensure_block_inserted-clause-pools
+returns-in_err-ensure_block_inserted-clause-pools c = inl (ap (λ (g : Body). g.tables) c.in_err-ensure_block_inserted.ensures.err)
+
+pub returns-in_err-constant-clause-pools : goal.returns-in_err-constant-clause-pools
+returns-in_err-constant-clause-pools c =
+    inl (ap (λ (g : Body). g.tables) (c.in_err-constant.ensures.err ∙ c.in_ok-ensure_block_inserted.ensures.ok) ∙ (inserted_same c.args.func.now c.args.block).tables)
+
+-- the constant is there, whatever steps are
+pooled : (f g p : Body) (b : ℕ) (ty : «Type») → g ≡ inserted_in f b → p ≡ with_pooled g ty → MayPool ty f.tables p.tables
+pooled f g p b ty inserted is =
+    inr (ap (λ (k : Body). k.tables) is
+    ∙ ap (λ (t : TableLists). with_zeros t (zero_size ty)) (ap (λ (k : Body). k.tables) inserted ∙ (inserted_same f b).tables))
+
+pub returns-in_err-put_steps-clause-pools : goal.returns-in_err-put_steps-clause-pools
+returns-in_err-put_steps-clause-pools c =
+    subst (λ (t : TableLists). MayPool c.args.ty c.args.func.now.tables t) (sym (ap (λ (g : Body). g.tables) c.in_err-put_steps.ensures.err.2))
+    (pooled c.args.func.now c.ensure_block_inserted.new.self c.pool_zeros.new.func c.args.block c.args.ty c.in_ok-ensure_block_inserted.ensures.ok c.in_ok-constant.ensures.ok)
+
+pub returns-clause-pools : goal.returns-clause-pools
+returns-clause-pools c =
+    subst (λ (t : TableLists). MayPool c.args.ty c.args.func.now.tables t) (sym (ap (λ (g : Body). g.tables) c.in_ok-put_steps.ensures.ok))
+    (pooled c.args.func.now c.ensure_block_inserted.new.self c.pool_zeros.new.func c.args.block c.args.ty c.in_ok-ensure_block_inserted.ensures.ok c.in_ok-constant.ensures.ok)
+
+pub returns-in_err-constant-clause-full : goal.returns-in_err-constant-clause-full
+returns-in_err-constant-clause-full c = λ is.
+    let p = err_from_is_err_and c.from_residual-in_err-constant.result c.from_residual-in_err-constant.ensures.1 in
+    inr (subst (LacksZero c.args.ty) (sym c.in_err-constant.ensures.err)
+    (c.in_err-constant.ensures.full (full_before c.from_residual-in_err-constant.result c.in_err-constant.field-0.0 p.0 is p.1 p.2)))
+
+pub returns-in_err-put_steps-clause-full : goal.returns-in_err-put_steps-clause-full
+returns-in_err-put_steps-clause-full c = λ is.
+    let p = err_from_is_err_and c.from_residual-in_err-put_steps.result c.from_residual-in_err-put_steps.ensures.1 in
+    inl (c.in_err-put_steps.ensures.full (full_before c.from_residual-in_err-put_steps.result c.in_err-put_steps.field-0.0 p.0 is p.1 p.2))

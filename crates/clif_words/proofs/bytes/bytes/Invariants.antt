@@ -2,7 +2,7 @@
 use Rattle.std.proofs.Common.{◌≡◌, ◌++◌, length, reverse}
 use Rattle.std.specs.Prelude.{codes}
 use Rattle.std.specs.List.{flat_map}
-use Rattle.clif_words.specs.Spelling.{byte_text}
+use Rattle.clif_types.specs.Texts.{byte_text}
 use Rattle.clif_words.proofs.bytes.bytes.Given as goal
 
 abbrev pub invariant-loop-left : goal.invariant-loop-left

@@ -1,6 +1,6 @@
 use Rattle.std.proofs.Common.{refl}
 use Rattle.clif_inst_builder.specs.Shapes.{edge_to}
-use Rattle.cranelift_frontend.proofs.LedgerShaped.{binary-shape, brif-shape, compare-shape, concat-shape, cond_trap-shape, convert-shape, f128const-shape, float-shape, iconst-shape, jump-shape, load-shape, return-shape, select-shape, split-shape, stack-shape, stack_store-shape, store-shape, trap-shape, unary-shape, vconst-shape}
+use Rattle.cranelift_frontend.proofs.LedgerShaped.{binary-shape, brif-shape, compare-shape, concat-shape, cond_trap-shape, convert-shape, f128const-shape, float-shape, iconst-shape, jump-shape, load-shape, return-shape, select-shape, split-shape, stack-shape, stack_store-shape, store-shape, table-shape, trap-shape, unary-shape, vconst-shape}
 use Rattle.cranelift_frontend.proofs.laws.requests_ask_for_their_shapes.Goals as goal
 
 pub returns : goal.returns
@@ -25,5 +25,6 @@ returns c = λ calls f d p agrees. record {
   jump = λ edge block args names. (_, refl, jump-shape calls f edge (edge_to block args) names);
   brif = λ condition value first second taken other names one two.
       (_, refl, brif-shape calls f d p agrees condition value first second taken other _ refl names one two);
+  br_table = λ index value first others table names edges. (_, refl, table-shape calls f index value first others table names edges);
   return_ = λ names values numbered. (_, refl, return-shape calls f names values numbered);
 }

@@ -1,12 +1,14 @@
 use Rattle.std.proofs.Common.{rules, ◌<◌, ◌≤◌, ◌+◌, List, ◌∷◌, sym, length, drop, arith}
-use Rattle.std.specs.Prelude.{Contains}
+use Rattle.std.specs.Prelude.{Contains, Err}
 use Rattle.clif_records.specs.declared.tables.Pending.{Pending}
 use Rattle.clif_ssa.specs.Running.{stage}
 use Rattle.clif_ssa.proofs.CountedOnce.{once_same}
 use Rattle.clif_ssa.proofs.Constructing.{tells_more_none, tells_more_then}
 use Rattle.clif_ssa.proofs.Waited.{drop-item, all-further}
+use Rattle.clif_ssa.proofs.Pooling.{pools_none}
+use Rattle.clif_ssa.proofs.SealPools.{full_further, pools_further, same_type}
 use Rattle.clif_ssa.proofs.LeavesSteps.{leaves_none, leaves_then}
-use Rattle.clif_ssa.proofs.Steps.{ends_as, ends_ok}
+use Rattle.clif_ssa.proofs.Steps.{ends_as, ends_ok, ends_wider}
 use Rattle.std.proofs.lemmas.Result.{err_from_is_err_and}
 use Rattle.clif_ssa.proofs.ssa.SSABuilder.complete_all.Goals as goal
 
@@ -25,6 +27,7 @@ loop-pending-init c = record {
   named = c.requires.named;
   leaves = leaves_none c.args.func.now c.args.self.now;
   tells = tells_more_none c.args.func.now c.args.look_up.now.zeros;
+  pools = λ h u rest. rest;
   once = λ before. before;
 }
 
@@ -40,6 +43,13 @@ loop-pending-preserved c =
       idle = c.in_ok-complete_parameter.ensures.idle;
       named = c.complete_parameter.ensures.leaves.names c.loop-pending.invariant.named;
       leaves = leaves_then c.args.func.now c.args.self.now c.loop-pending.func c.loop-pending.self c.complete_parameter.new.func c.complete_parameter.new.self c.loop-pending.invariant.leaves c.complete_parameter.ensures.leaves;
+      pools = λ h u rest.
+          c.loop-pending.invariant.pools h u
+          (pools_further c.loop-pending.pending-index c.args.waiting.now c.pending-item.result c.args.func.now c.loop-pending.func c.loop-pending.self c.complete_parameter.new.func c.complete_parameter.new.self h u
+          (drop-item c.args.waiting.now c.loop-pending.pending-index c.pending-item.result inside c.pending-item.is)
+          (same_type c.args.func.now c.loop-pending.func c.args.waiting.now c.pending-item.result c.loop-pending.invariant.leaves.constructs c.requires.params_exist
+          (c.loop-pending.pending-index, inside, sym c.pending-item.is))
+          c.complete_parameter.ensures.pools rest);
       once = λ before.
           c.complete_parameter.ensures.looks_once (drop (c.loop-pending.pending-index + 1) c.args.waiting.now)
           (once_same c.loop-pending.self c.args.block (drop c.loop-pending.pending-index c.args.waiting.now) (c.pending-item.result ∷ drop (c.loop-pending.pending-index + 1) c.args.waiting.now)
@@ -84,9 +94,15 @@ returns-in_err-complete_parameter-clause-leaves c =
 
 pub returns-in_err-complete_parameter-clause-ends : goal.returns-in_err-complete_parameter-clause-ends
 returns-in_err-complete_parameter-clause-ends c =
+    let inside : c.loop-pending.pending-index < length c.args.waiting.now = search rules in
     let p = err_from_is_err_and c.from_residual.result c.from_residual.ensures.1 in
     rw (p.1, p.2)
-    ((ends_as c.complete_parameter.new.func c.in_err-complete_parameter.field-0.0 c.in_err-complete_parameter.ensures.ends))
+    (ends_wider c.complete_parameter.new.func (Err c.in_err-complete_parameter.field-0.0)
+    (full_further c.args.waiting.now c.pending-item.result c.args.func.now c.loop-pending.func c.complete_parameter.new.func
+    (c.loop-pending.pending-index, inside, sym c.pending-item.is)
+    (same_type c.args.func.now c.loop-pending.func c.args.waiting.now c.pending-item.result c.loop-pending.invariant.leaves.constructs c.requires.params_exist
+    (c.loop-pending.pending-index, inside, sym c.pending-item.is)))
+    (ends_as c.complete_parameter.new.func c.in_err-complete_parameter.field-0.0 c.in_err-complete_parameter.ensures.ends))
 
 pub returns-clause-leaves : goal.returns-clause-leaves
 returns-clause-leaves c =
@@ -95,3 +111,16 @@ returns-clause-leaves c =
 pub returns-clause-ends : goal.returns-clause-ends
 returns-clause-ends c =
     ends_ok c.loop-pending.func _
+
+pub returns-in_err-complete_parameter-clause-pools : goal.returns-in_err-complete_parameter-clause-pools
+returns-in_err-complete_parameter-clause-pools c =
+    let inside : c.loop-pending.pending-index < length c.args.waiting.now = search rules in
+    c.loop-pending.invariant.pools c.complete_parameter.new.func c.complete_parameter.new.self
+    (pools_further c.loop-pending.pending-index c.args.waiting.now c.pending-item.result c.args.func.now c.loop-pending.func c.loop-pending.self c.complete_parameter.new.func c.complete_parameter.new.self c.complete_parameter.new.func c.complete_parameter.new.self
+    (drop-item c.args.waiting.now c.loop-pending.pending-index c.pending-item.result inside c.pending-item.is)
+    (same_type c.args.func.now c.loop-pending.func c.args.waiting.now c.pending-item.result c.loop-pending.invariant.leaves.constructs c.requires.params_exist
+    (c.loop-pending.pending-index, inside, sym c.pending-item.is))
+    c.complete_parameter.ensures.pools (pools_none _ c.complete_parameter.new.func c.complete_parameter.new.self))
+
+pub returns-clause-pools : goal.returns-clause-pools
+returns-clause-pools c = c.loop-pending.invariant.pools c.loop-pending.func c.loop-pending.self (pools_none _ c.loop-pending.func c.loop-pending.self)

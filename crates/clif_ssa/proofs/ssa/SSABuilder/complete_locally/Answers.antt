@@ -1,9 +1,14 @@
-use Rattle.std.proofs.Common.{rules, ◌<◌, ◌+◌, ◌∙◌, ◌∷◌, ap, length, drop, arith, refl, inl, inr}
+use Rattle.std.proofs.Common.{rules, ◌<◌, ◌+◌, ◌∙◌, ◌∷◌, ap, length, drop, arith, refl, sym, inl, inr}
 use Rattle.std.proofs.lemmas.Grind.{common_steps}
 use Rattle.clif_records.specs.Tables.{sealed_at}
 use Rattle.clif_ssa.proofs.CountedOnce.{once_same, once_completes}
 use Rattle.clif_ssa.proofs.Constructing.{constructs_none, constructs_then, tells_all, tells_more_none, tells_more_then}
+use Rattle.std.proofs.lemmas.Result.{err_from_is_err_and}
+use Rattle.clif_ir.specs.Body.{value_at}
 use Rattle.clif_ssa.proofs.Naming.{has_more}
+use Rattle.clif_ssa.proofs.Pooling.{pool_none, use_full}
+use Rattle.clif_ssa.proofs.PuttingSteps.{full_before}
+use Rattle.clif_ssa.proofs.SealPools.{full_further, pool_further, same_type}
 use Rattle.clif_ssa.proofs.Waited.{counted-next, counted-all, drop-item}
 use Rattle.clif_ssa.proofs.ssa.SSABuilder.complete_locally.Goals as goal
 
@@ -17,6 +22,7 @@ loop-pending-init c = record {
   more = has_more c.args.func.now;
   constructs = constructs_none c.args.func.now;
   tells = tells_more_none c.args.func.now c.new-side_effects.result.instructions_added_to_blocks.items;
+  pools = λ exist t rest. rest;
   once = λ before. before;
 }
 
@@ -35,6 +41,13 @@ loop-pending-preserved c =
       blocks = first_of (search rules, grind (arith, common_steps));
       more = first_of (search rules, grind (arith, common_steps));
       constructs = constructs_then c.args.func.now c.loop-pending.func c.replace_by_zero.new.func c.loop-pending.invariant.constructs c.replace_by_zero.ensures.constructs;
+      pools = λ exist t rest.
+          c.loop-pending.invariant.pools exist t
+          (pool_further c.loop-pending.pending-index c.args.waiting.now c.pending-item.result c.args.func.now c.loop-pending.func c.loop-pending.func.tables c.replace_by_zero.new.func.tables t
+          (drop-item c.args.waiting.now c.loop-pending.pending-index c.pending-item.result inside c.pending-item.is)
+          (same_type c.args.func.now c.loop-pending.func c.args.waiting.now c.pending-item.result c.loop-pending.invariant.constructs exist
+          (c.loop-pending.pending-index, inside, sym c.pending-item.is))
+          c.replace_by_zero.ensures.pools rest);
       tells =
           tells_more_then c.args.func.now c.loop-pending.func c.replace_by_zero.new.func _ _ _ c.replace_by_zero.ensures.constructs c.loop-pending.invariant.tells
           (_, c.in_ok-replace_by_zero.ensures.told, c.in_ok-replace_by_zero.ensures.tells);
@@ -92,3 +105,37 @@ returns-clause-constructs c = c.loop-pending.invariant.constructs
 
 pub returns-clause-tells : goal.returns-clause-tells
 returns-clause-tells c = tells_all c.args.func.now c.loop-pending.func _ _ c.new-side_effects.ensures c.loop-pending.invariant.tells
+
+-- WHICH CONSTANTS -------------------------------------------------------------------------------------------------
+
+pub returns-in_err-count_lookup-clause-pools : goal.returns-in_err-count_lookup-clause-pools
+returns-in_err-count_lookup-clause-pools c = λ exist. c.loop-pending.invariant.pools exist c.loop-pending.func.tables (pool_none _ c.loop-pending.func.tables)
+
+pub returns-in_err-replace_by_zero-clause-pools : goal.returns-in_err-replace_by_zero-clause-pools
+returns-in_err-replace_by_zero-clause-pools c = λ exist.
+    let inside : c.loop-pending.pending-index < length c.args.waiting.now = search rules in
+    c.loop-pending.invariant.pools exist c.replace_by_zero.new.func.tables
+    (pool_further c.loop-pending.pending-index c.args.waiting.now c.pending-item.result c.args.func.now c.loop-pending.func c.loop-pending.func.tables c.replace_by_zero.new.func.tables c.replace_by_zero.new.func.tables
+    (drop-item c.args.waiting.now c.loop-pending.pending-index c.pending-item.result inside c.pending-item.is)
+    (same_type c.args.func.now c.loop-pending.func c.args.waiting.now c.pending-item.result c.loop-pending.invariant.constructs exist
+    (c.loop-pending.pending-index, inside, sym c.pending-item.is))
+    c.replace_by_zero.ensures.pools (pool_none _ c.replace_by_zero.new.func.tables))
+
+pub returns-clause-pools : goal.returns-clause-pools
+returns-clause-pools c = λ exist. c.loop-pending.invariant.pools exist c.loop-pending.func.tables (pool_none _ c.loop-pending.func.tables)
+
+pub returns-in_err-replace_by_zero-clause-full : goal.returns-in_err-replace_by_zero-clause-full
+returns-in_err-replace_by_zero-clause-full c = λ is.
+    let p = err_from_is_err_and c.from_residual-in_err-replace_by_zero.result c.from_residual-in_err-replace_by_zero.ensures.1 in
+    use_full (value_at c.loop-pending.func c.pending-item.result.param).ty c.replace_by_zero.new.func
+    (c.in_err-replace_by_zero.ensures.full (full_before c.from_residual-in_err-replace_by_zero.result c.in_err-replace_by_zero.field-0.0 p.0 is p.1 p.2))
+
+pub returns-in_err-replace_by_zero-clause-full_waiting : goal.returns-in_err-replace_by_zero-clause-full_waiting
+returns-in_err-replace_by_zero-clause-full_waiting c = λ exist is.
+    let inside : c.loop-pending.pending-index < length c.args.waiting.now = search rules in
+    let p = err_from_is_err_and c.from_residual-in_err-replace_by_zero.result c.from_residual-in_err-replace_by_zero.ensures.1 in
+    full_further c.args.waiting.now c.pending-item.result c.args.func.now c.loop-pending.func c.replace_by_zero.new.func
+    (c.loop-pending.pending-index, inside, sym c.pending-item.is)
+    (same_type c.args.func.now c.loop-pending.func c.args.waiting.now c.pending-item.result c.loop-pending.invariant.constructs exist
+    (c.loop-pending.pending-index, inside, sym c.pending-item.is))
+    (c.in_err-replace_by_zero.ensures.full (full_before c.from_residual-in_err-replace_by_zero.result c.in_err-replace_by_zero.field-0.0 p.0 is p.1 p.2))

@@ -1,4 +1,8 @@
-use Rattle.std.proofs.Common.{◌≡◌, ◌++◌, ℕ, drop}
+use Rattle.std.proofs.Common.{◌≡◌, ◌++◌, ◌<◌, ℕ, drop, length}
+use Rattle.std.specs.Prelude.{Contains}
+use Rattle.clif_records.specs.declared.tables.Pending.{Pending}
+use Rattle.clif_tables.specs.Lists.{TableLists}
+use Rattle.clif_ssa.specs.Pools.{types_of, MayPoolAll}
 use Rattle.clif_ssa.specs.Constructs.{OnlyConstructs, TellsMore}
 use Rattle.clif_ssa.specs.Ssa.{completed, completing_blocks, counted_for, lookups_of, HasMore, SameRecords}
 use Rattle.clif_ssa.specs.Running.{ToComplete}
@@ -15,6 +19,8 @@ invariant-loop-pending l = record {
   blocks : l.self-inside.tables.blocks ≡ l.initial.self-inside.tables.blocks;
   more : HasMore l.initial.func l.func;
   once : ToComplete l.initial.self-inside.tables l.block l.waiting → ToComplete l.self-inside.tables l.block (drop l.pending-index l.waiting);
+  pools : ((p : Pending) → Contains l.waiting p → p.param < length l.initial.func.values) → (t : TableLists)
+      → MayPoolAll (types_of l.initial.func (drop l.pending-index l.waiting)) l.func.tables t → MayPoolAll (types_of l.initial.func l.waiting) l.initial.func.tables t;
   constructs : OnlyConstructs l.initial.func l.func;
   tells : TellsMore l.initial.func l.func l.initial.side_effects.instructions_added_to_blocks.items l.side_effects.instructions_added_to_blocks.items;
 }

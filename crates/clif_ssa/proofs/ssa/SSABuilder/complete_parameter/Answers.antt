@@ -1,13 +1,17 @@
-use Rattle.std.proofs.Common.{ap, subst}
+use Rattle.std.proofs.Common.{ap, inl, refl, subst, sym, [], ◌∷◌}
+use Rattle.std.specs.Prelude.{Err}
 use Rattle.clif_ir.specs.Body.{value_at}
 use Rattle.clif_ssa.specs.Running.{stage, MakesAll}
+use Rattle.clif_ssa.specs.Steps.{StepPools}
 use Rattle.clif_records.specs.Tables.{sealed_at, predecessors_at}
+use Rattle.clif_ssa.proofs.Constructing.{constructs_none}
 use Rattle.clif_ssa.proofs.CountedOnce.{once_completes, once_follows}
 use Rattle.clif_ssa.proofs.Naming.{has_more}
 use Rattle.clif_ssa.proofs.Local.{named-same}
 use Rattle.clif_ssa.proofs.Waited.{begun-fits, parameter-completed}
 use Rattle.clif_ssa.proofs.LeavesSteps.{leaves_from, leaves_kept, leaves_then}
-use Rattle.clif_ssa.proofs.Steps.{ends_as, ends_memory, ends_ok}
+use Rattle.clif_ssa.proofs.Pooling.{pools_again, pools_kept}
+use Rattle.clif_ssa.proofs.Steps.{ends_as, ends_memory, ends_ok, ends_typed}
 use Rattle.std.proofs.lemmas.Result.{err_from_is_err_and}
 use Rattle.clif_ssa.proofs.ssa.SSABuilder.complete_parameter.Goals as goal
 
@@ -19,8 +23,9 @@ make_calls-requires-clause-named c =
 
 pub make_calls-requires-clause-calls_fit : goal.make_calls-requires-clause-calls_fit
 make_calls-requires-clause-calls_fit c =
-    begun-fits c.args.func.now c.self.inside.tables c.begin_look_up.new.self c.args.look_up.now c.begin_look_up.new.look_up c.args.waiting.param c.args.block
-    (rw (c.self.view_is) c.requires.named) (λ b. ap (λ blocks. predecessors_at blocks b) c.begin_look_up.ensures.blocks) c.requires.param_exists
+    begun-fits _ c.args.func.now c.self.inside.tables c.begin_look_up.new.self c.args.look_up.now c.begin_look_up.new.look_up c.args.waiting.param c.args.block
+    (rw (c.self.view_is) c.requires.named) (λ b. ap (λ blocks. predecessors_at blocks b) c.begin_look_up.ensures.blocks)
+    (c.requires.param_exists, sym c.value_type-ty.ensures)
     c.requires.idle.0 c.requires.idle.1 c.in_ok-begin_look_up.ensures.look_up
 
 -- ONCE ------------------------------------------------------------------------------------------------------------
@@ -103,7 +108,8 @@ pub returns-in_err-_value-clause-ends : goal.returns-in_err-_value-clause-ends
 returns-in_err-_value-clause-ends c =
     let p = err_from_is_err_and c.from_residual-in_err-_value.result c.from_residual-in_err-_value.ensures.1 in
     rw (p.1, p.2)
-    (((ends_as c.make_calls.new.func c.in_err-_value.field-0.0 c.in_err-_value.ensures.ends)))
+    (ends_typed _ _ c.make_calls.new.func (Err c.in_err-_value.field-0.0) c.value_type-ty.ensures
+    (ends_as c.make_calls.new.func c.in_err-_value.field-0.0 c.in_err-_value.ensures.ends))
 
 pub returns-clause-leaves : goal.returns-clause-leaves
 returns-clause-leaves c =
@@ -124,3 +130,29 @@ returns-clause-completes c =
     c.args.func.now c.self.inside.tables c.begin_look_up.new.self c.args.look_up.now c.begin_look_up.new.look_up (stage c.make_calls.new.func c.make_calls.new.self c.make_calls.new.look_up)
     c.begin_look_up.ensures.records c.begin_look_up.ensures.blocks c.in_ok-begin_look_up.ensures.counted c.in_ok-begin_look_up.ensures.look_up
     typed)
+
+-- WHICH CONSTANTS -------------------------------------------------------------------------------------------------
+
+pub returns-in_err-begin_look_up-clause-pools : goal.returns-in_err-begin_look_up-clause-pools
+returns-in_err-begin_look_up-clause-pools c =
+    rw (← c.self.view_is)
+    (pools_kept (value_at c.args.func.now c.args.waiting.param).ty c.args.func.now c.args.func.now c.self.inside.tables c.begin_look_up.new.self (inl refl)
+    (constructs_none c.args.func.now) (λ b. ap (λ blocks. sealed_at blocks b) c.begin_look_up.ensures.blocks))
+
+pub returns-in_err-_value-clause-pools : goal.returns-in_err-_value-clause-pools
+returns-in_err-_value-clause-pools c =
+    rw (← c.self.view_is)
+    (pools_again (value_at c.args.func.now c.args.waiting.param).ty c.args.func.now c.self.inside.tables c.args.func.now c.begin_look_up.new.self c.make_calls.new.func c.make_calls.new.self
+    (pools_kept (value_at c.args.func.now c.args.waiting.param).ty c.args.func.now c.args.func.now c.self.inside.tables c.begin_look_up.new.self (inl refl)
+    (constructs_none c.args.func.now) (λ b. ap (λ blocks. sealed_at blocks b) c.begin_look_up.ensures.blocks))
+    (subst (λ ty. StepPools (ty ∷ []) c.args.func.now c.begin_look_up.new.self c.make_calls.new.func c.make_calls.new.self) c.value_type-ty.ensures
+    c.make_calls.ensures.keeps.pools))
+
+pub returns-clause-pools : goal.returns-clause-pools
+returns-clause-pools c =
+    rw (← c.self.view_is)
+    (pools_again (value_at c.args.func.now c.args.waiting.param).ty c.args.func.now c.self.inside.tables c.args.func.now c.begin_look_up.new.self c.make_calls.new.func c.make_calls.new.self
+    (pools_kept (value_at c.args.func.now c.args.waiting.param).ty c.args.func.now c.args.func.now c.self.inside.tables c.begin_look_up.new.self (inl refl)
+    (constructs_none c.args.func.now) (λ b. ap (λ blocks. sealed_at blocks b) c.begin_look_up.ensures.blocks))
+    (subst (λ ty. StepPools (ty ∷ []) c.args.func.now c.begin_look_up.new.self c.make_calls.new.func c.make_calls.new.self) c.value_type-ty.ensures
+    c.make_calls.ensures.keeps.pools))

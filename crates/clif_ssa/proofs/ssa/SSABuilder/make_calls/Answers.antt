@@ -13,7 +13,7 @@ use Rattle.clif_ssa.proofs.ssa.SSABuilder.make_calls.Goals as goal
 
 pub make_call-requires-clause-calls_fit : goal.make_call-requires-clause-calls_fit
 make_call-requires-clause-calls_fit c =
-    subst (λ l. CallsFit c.loop-call.func c.loop-call.self l)
+    subst (λ l. CallsFit c.args.ty c.loop-call.func c.loop-call.self l)
     (sym (popped_is c.in-Some.call c.loop-call.look_up c.next_call.new.self c.in-Some.ensures.0 c.in-Some.ensures.1)) c.loop-call.invariant.fits
 
 pub loop-call-init : goal.loop-call-init

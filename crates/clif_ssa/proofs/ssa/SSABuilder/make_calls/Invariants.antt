@@ -9,8 +9,8 @@ abbrev pub invariant-loop-call : goal.invariant-loop-call
 invariant-loop-call l = record {
   made : MakesCalls l.variable l.ty (stage l.initial.func l.initial.self l.initial.look_up) (stage l.func l.self l.look_up);
   named : NamesExist l.func l.self;
-  fits : CallsFit l.func l.self l.look_up;
-  keeps : StepKeeps l.variable l.initial.func l.initial.self l.func l.self;
+  fits : CallsFit l.ty l.func l.self l.look_up;
+  keeps : StepKeeps l.variable l.ty l.initial.func l.initial.self l.func l.self;
   tells : TellsMore l.initial.func l.func l.initial.look_up.zeros l.look_up.zeros;
 }
 

@@ -8,6 +8,8 @@ use Rattle.clif_ssa.proofs.Alongside.{seal_remembers, remembers_then}
 use Rattle.clif_ssa.proofs.Losing.{same_remembers}
 use Rattle.clif_ssa.proofs.Public.{seal_keeps, keeps_then, keeps_itself}
 use Rattle.clif_ssa.proofs.Waited.{named-kept, no_more-sealed, other-same, sealed-below, still-sealed}
+use Rattle.clif_ssa.proofs.PuttingSteps.{full_before}
+use Rattle.clif_ssa.proofs.SealPools.{first_pools, first_waits, next_full, next_pools, next_waits}
 use Rattle.clif_ssa.proofs.StructuredPublic.{seal_structured}
 use Rattle.clif_ssa.proofs.WithinUses.{leads_of, seals_within}
 use Rattle.std.proofs.lemmas.Result.{err_from_is_err_and}
@@ -32,6 +34,8 @@ loop-number-init c = record {
   stay = λ x b v is. is;
   more = has_more c.args.func.now;
   no_more = λ fits. fits;
+  pools = λ named. first_pools c.args.func.now c.args.self.now;
+  waits = λ named. first_waits c.args.func.now c.args.self.now;
   constructs = constructs_none c.args.func.now;
   tells = tells_more_none c.args.func.now c.new-side_effects.result.instructions_added_to_blocks.items;
   keeps = λ own tables both. keeps_itself own tables c.args.func.now c.args.self.now both;
@@ -69,6 +73,14 @@ loop-number-preserved c =
       no_more = λ fits.
           no_more-sealed c.loop-number.self c.seal_one_block.new.self (length c.args.func.now.blocks) (length c.loop-number.func.blocks) c.new-block.result (length c.args.func.now.blocks)
           (omega (arith, number, inside)) (omega arith) c.loop-number.invariant.more.blocks (c.loop-number.invariant.no_more fits) c.seal_one_block.ensures.keeps.no_more;
+      pools = λ named.
+          next_pools c.args.func.now c.args.self.now c.loop-number.func c.loop-number.self c.seal_one_block.new.func c.seal_one_block.new.self c.new-block.result
+          (omega (arith, number, inside)) (c.loop-number.invariant.waits named) (c.loop-number.invariant.pools named)
+          (c.seal_one_block.ensures.pools (c.loop-number.invariant.names named));
+      waits = λ named.
+          next_waits c.args.func.now c.args.self.now c.loop-number.func c.loop-number.self c.seal_one_block.new.func c.seal_one_block.new.self c.new-block.result
+          (omega (arith, number, inside)) (c.loop-number.invariant.names named) (c.loop-number.invariant.waits named)
+          (c.seal_one_block.ensures.pools (c.loop-number.invariant.names named));
       constructs = constructs_then c.args.func.now c.loop-number.func c.seal_one_block.new.func c.loop-number.invariant.constructs c.seal_one_block.ensures.keeps.constructs;
       tells =
           tells_more_then c.args.func.now c.loop-number.func c.seal_one_block.new.func _ _ _ c.seal_one_block.ensures.keeps.constructs c.loop-number.invariant.tells
@@ -289,3 +301,33 @@ returns-clause-remembers c = c.loop-number.invariant.remembers
 
 pub returns-clause-structured : goal.returns-clause-structured
 returns-clause-structured c = c.loop-number.invariant.structured
+
+-- WHICH CONSTANTS -------------------------------------------------------------------------------------------------
+
+pub returns-in_err-told-clause-pools : goal.returns-in_err-told-clause-pools
+returns-in_err-told-clause-pools c = λ named.
+    let number : c.new-block.result ≡ c.loop-number.number = first_of (search rules, grind (arith, common_steps)) in
+    let inside : c.loop-number.number < length c.args.func.now.blocks = first_of (search rules, grind (arith, common_steps)) in
+    next_pools c.args.func.now c.args.self.now c.loop-number.func c.loop-number.self c.seal_one_block.new.func c.seal_one_block.new.self c.new-block.result
+    (omega (arith, number, inside)) (c.loop-number.invariant.waits named) (c.loop-number.invariant.pools named)
+    (c.seal_one_block.ensures.pools (c.loop-number.invariant.names named))
+
+pub returns-in_err-append-clause-pools : goal.returns-in_err-append-clause-pools
+returns-in_err-append-clause-pools c = λ named.
+    let number : c.new-block.result ≡ c.loop-number.number = first_of (search rules, grind (arith, common_steps)) in
+    let inside : c.loop-number.number < length c.args.func.now.blocks = first_of (search rules, grind (arith, common_steps)) in
+    next_pools c.args.func.now c.args.self.now c.loop-number.func c.loop-number.self c.seal_one_block.new.func c.seal_one_block.new.self c.new-block.result
+    (omega (arith, number, inside)) (c.loop-number.invariant.waits named) (c.loop-number.invariant.pools named)
+    (c.seal_one_block.ensures.pools (c.loop-number.invariant.names named))
+
+pub returns-clause-pools : goal.returns-clause-pools
+returns-clause-pools c = c.loop-number.invariant.pools
+
+pub returns-in_err-told-clause-full_waiting : goal.returns-in_err-told-clause-full_waiting
+returns-in_err-told-clause-full_waiting c = λ named is.
+    let number : c.new-block.result ≡ c.loop-number.number = first_of (search rules, grind (arith, common_steps)) in
+    let inside : c.loop-number.number < length c.args.func.now.blocks = first_of (search rules, grind (arith, common_steps)) in
+    let p = err_from_is_err_and c.from_residual.result c.from_residual.ensures.1 in
+    next_full c.args.func.now c.args.self.now c.loop-number.func c.loop-number.self c.seal_one_block.new.func c.new-block.result
+    (omega (arith, number, inside)) (c.loop-number.invariant.waits named)
+    (c.in_err-told.ensures.full_waiting (c.loop-number.invariant.names named) (full_before c.from_residual.result c.in_err-told.field-0.0 p.0 is p.1 p.2))

@@ -9,6 +9,8 @@ use Rattle.clif_records.specs.Tables.{is_yes}
 use Rattle.clif_ssa.specs.Ssa.{sealed_of, SamePredecessors, RecordsStay, HasMore, Named, NamesExist}
 use Rattle.clif_ssa.specs.Structure.{LooksOnce, Remembers}
 use Rattle.clif_ssa.specs.Structured.{Structured, VariableTypes}
+use Rattle.clif_ssa.specs.Pools.{MayPoolWaiting}
+use Rattle.clif_ssa.proofs.SealPools.{WaitsAsFirst}
 use Rattle.clif_ssa.proofs.ssa.SSABuilder.seal_all_blocks.Given as goal
 
 abbrev pub invariant-loop-number : goal.invariant-loop-number
@@ -25,6 +27,8 @@ invariant-loop-number l = record {
   more : HasMore l.initial.func l.func;
   keeps : (own : Own) (tables : Blocks) → DescribesSoundly own l.initial.func l.initial.self tables → Keeps own tables l.func l.self;
   no_more : length l.initial.self.blocks ≤ length l.initial.func.blocks → length l.self.blocks ≤ length l.initial.func.blocks;
+  pools : NamesExist l.initial.func l.initial.self → MayPoolWaiting l.initial.func l.initial.self l.func.tables;
+  waits : NamesExist l.initial.func l.initial.self → WaitsAsFirst l.initial.func l.initial.self l.func l.self;
   constructs : OnlyConstructs l.initial.func l.func;
   tells : TellsMore l.initial.func l.func l.initial.side_effects.instructions_added_to_blocks.items l.side_effects.instructions_added_to_blocks.items;
   remembers : (x b : ℕ) → Remembers x b l.initial.func l.initial.self l.func l.self;

@@ -73,3 +73,9 @@ returns-clause-full c = c.seal_one_block-told.ensures.ends.full
 
 pub returns-clause-never_failed : goal.returns-clause-never_failed
 returns-clause-never_failed c = c.seal_one_block-told.ensures.ends.never_failed
+
+pub returns-clause-pools : goal.returns-clause-pools
+returns-clause-pools c = λ named. (c.seal_one_block-told.ensures.pools named).tables
+
+pub returns-clause-full_waiting : goal.returns-clause-full_waiting
+returns-clause-full_waiting c = c.seal_one_block-told.ensures.full_waiting

@@ -1,14 +1,17 @@
 use Rattle.std.proofs.Common.{rules, ap, ◌≡◌, ◌≢◌, ◌∙◌, [], false, true, arith, refl, subst}
-use Rattle.std.specs.Prelude.{Contains}
+use Rattle.std.specs.Prelude.{Contains, Err}
 use Rattle.std.proofs.lemmas.Grind.{common_steps}
 use Rattle.std.proofs.lemmas.Result.{err_from_is_err_and}
 use Rattle.clif_records.specs.Tables.{pending_of, record_at}
 use Rattle.clif_ssa.specs.Ssa.{SsaState, NamesExist, sealed_of, predecessors_of}
+use Rattle.clif_ssa.specs.Pools.{types_of}
 use Rattle.clif_ssa.specs.Running.{stage, CompletesAll, ToComplete}
-use Rattle.clif_ssa.specs.Steps.{StepLeaves}
+use Rattle.clif_ssa.specs.Steps.{StepLeaves, StepPools}
 use Rattle.clif_ssa.specs.Structure.{LooksOnce}
 use Rattle.clif_ssa.proofs.SealSteps.{failed_makes, local_keeps, local_makes, looked_keeps, looked_makes, refused_keeps, refused_makes}
-use Rattle.clif_ssa.proofs.Steps.{ends_as, ends_memory, ends_ok, ends_zeros}
+use Rattle.clif_ssa.proofs.Pooling.{sealing_full}
+use Rattle.clif_ssa.proofs.SealPools.{block_full, block_pools, pools_local, pools_refused, pools_sealed, waiting_exist}
+use Rattle.clif_ssa.proofs.Steps.{ends_as, ends_memory, ends_ok, ends_wider, ends_zeros}
 use Rattle.clif_ssa.proofs.Waited.{leading-named, sealed-named}
 use Rattle.clif_ssa.proofs.ssa.SSABuilder.seal_one_block.Goals as goal
 
@@ -89,7 +92,8 @@ pub returns-in_err-complete_all-clause-ends : goal.returns-in_err-complete_all-c
 returns-in_err-complete_all-clause-ends c =
     let p = err_from_is_err_and c.from_residual-in_err-complete_all.result c.from_residual-in_err-complete_all.ensures.1 in
     rw (p.1, p.2)
-    (ends_as c.complete_all.new.func c.in_err-complete_all.field-0.0 c.in_err-complete_all.ensures.ends)
+    (ends_wider c.complete_all.new.func (Err c.in_err-complete_all.field-0.0) (sealing_full (Contains (types_of c.args.func.now c.as_slice-2.result.now)) c.complete_all.new.func)
+    (ends_as c.complete_all.new.func c.in_err-complete_all.field-0.0 c.in_err-complete_all.ensures.ends))
 
 pub returns-clause-makes : goal.returns-clause-makes
 returns-clause-makes c =
@@ -116,3 +120,55 @@ returns-clause-keeps c =
 pub returns-clause-ends : goal.returns-clause-ends
 returns-clause-ends c =
     (ends_ok c.complete_all.new.func _)
+
+-- WHICH CONSTANTS -------------------------------------------------------------------------------------------------
+
+pub returns-in_err-waiting-clause-pools : goal.returns-in_err-waiting-clause-pools
+returns-in_err-waiting-clause-pools c =
+    rw (← c.self.view_is)
+    (λ named. pools_refused _ c.args.func.now c.self.inside.tables c.seal.new.self c.in_err-waiting.ensures.err)
+
+pub returns-then-not-has_any_predecessors-clause-pools : goal.returns-then-not-has_any_predecessors-clause-pools
+returns-then-not-has_any_predecessors-clause-pools c =
+    let same : c.as_slice.result.now ≡ pending_of (sealed_of c.self.inside.tables c.args.block) = first_of (search rules, grind (arith, common_steps)) in
+    rw (← c.self.view_is)
+    (λ named.
+    block_pools c.args.func.now c.complete_locally.new.func c.self.inside.tables c.complete_locally.new.self c.args.block c.as_slice.result.now same
+    (pools_local (types_of c.args.func.now c.as_slice.result.now) c.args.func.now c.complete_locally.new.func c.self.inside.tables c.seal.new.self c.complete_locally.new.self c.args.block
+    (c.complete_locally.ensures.pools (waiting_exist c.args.func.now c.self.inside.tables c.args.block c.as_slice.result.now same named))
+    c.complete_locally.ensures.constructs c.in_ok-waiting.ensures.ok c.complete_locally.ensures.blocks))
+
+pub returns-in_err-complete_all-clause-pools : goal.returns-in_err-complete_all-clause-pools
+returns-in_err-complete_all-clause-pools c =
+    let same : c.as_slice-2.result.now ≡ pending_of (sealed_of c.self.inside.tables c.args.block) = first_of (search rules, grind (arith, common_steps)) in
+    rw (← c.self.view_is)
+    (λ named.
+    block_pools c.args.func.now c.complete_all.new.func c.self.inside.tables c.complete_all.new.self c.args.block c.as_slice-2.result.now same
+    (pools_sealed (types_of c.args.func.now c.as_slice-2.result.now) c.args.func.now c.complete_all.new.func c.self.inside.tables c.seal.new.self c.complete_all.new.self c.args.block c.in_ok-waiting.ensures.ok
+    (subst (λ (t : SsaState). StepPools (types_of c.args.func.now c.as_slice-2.result.now) c.args.func.now t c.complete_all.new.func c.complete_all.new.self) c.take_look_up-look_up.ensures.kept c.complete_all.ensures.pools)))
+
+pub returns-clause-pools : goal.returns-clause-pools
+returns-clause-pools c =
+    let same : c.as_slice-2.result.now ≡ pending_of (sealed_of c.self.inside.tables c.args.block) = first_of (search rules, grind (arith, common_steps)) in
+    rw (c.give_back-instructions_added_to_blocks.ensures.kept, ← c.self.view_is)
+    (λ named.
+    block_pools c.args.func.now c.complete_all.new.func c.self.inside.tables c.complete_all.new.self c.args.block c.as_slice-2.result.now same
+    (pools_sealed (types_of c.args.func.now c.as_slice-2.result.now) c.args.func.now c.complete_all.new.func c.self.inside.tables c.seal.new.self c.complete_all.new.self c.args.block c.in_ok-waiting.ensures.ok
+    (subst (λ (t : SsaState). StepPools (types_of c.args.func.now c.as_slice-2.result.now) c.args.func.now t c.complete_all.new.func c.complete_all.new.self) c.take_look_up-look_up.ensures.kept c.complete_all.ensures.pools)))
+
+pub returns-then-not-has_any_predecessors-clause-full_waiting : goal.returns-then-not-has_any_predecessors-clause-full_waiting
+returns-then-not-has_any_predecessors-clause-full_waiting c =
+    let same : c.as_slice.result.now ≡ pending_of (sealed_of c.self.inside.tables c.args.block) = first_of (search rules, grind (arith, common_steps)) in
+    rw (← c.self.view_is)
+    (λ named is.
+    block_full c.args.func.now c.complete_locally.new.func c.self.inside.tables c.args.block c.as_slice.result.now same
+    (c.complete_locally.ensures.full_waiting (waiting_exist c.args.func.now c.self.inside.tables c.args.block c.as_slice.result.now same named) is))
+
+pub returns-in_err-complete_all-clause-full_waiting : goal.returns-in_err-complete_all-clause-full_waiting
+returns-in_err-complete_all-clause-full_waiting c =
+    let same : c.as_slice-2.result.now ≡ pending_of (sealed_of c.self.inside.tables c.args.block) = first_of (search rules, grind (arith, common_steps)) in
+    let p = err_from_is_err_and c.from_residual-in_err-complete_all.result c.from_residual-in_err-complete_all.ensures.1 in
+    rw (p.1, p.2, ← c.self.view_is)
+    (λ named is.
+    block_full c.args.func.now c.complete_all.new.func c.self.inside.tables c.args.block c.as_slice-2.result.now same
+    ((ends_as c.complete_all.new.func c.in_err-complete_all.field-0.0 c.in_err-complete_all.ensures.ends).full is))

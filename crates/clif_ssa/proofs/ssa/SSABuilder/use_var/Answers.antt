@@ -1,4 +1,4 @@
-use Rattle.std.proofs.Common.{rules, ◌≡◌, ◌≢◌, Some, None, true, [], ◌∙◌, refl, sym, subst, arith}
+use Rattle.std.proofs.Common.{rules, ◌≡◌, ◌≢◌, Some, None, true, [], ◌∙◌, refl, sym, subst, arith, inl}
 use Rattle.std.proofs.lemmas.Grind.{common_steps}
 use Rattle.clif_records.specs.Tables.{is_yes}
 use Rattle.clif_ssa.specs.Ssa.{record_of, sealed_of, predecessors_of, Named, NamesExist}
@@ -6,6 +6,7 @@ use Rattle.clif_ssa.specs.Running.{stage}
 use Rattle.clif_ssa.specs.Structured.{HasType}
 use Rattle.clif_ssa.proofs.Calling.{look-fits}
 use Rattle.clif_ssa.proofs.Naming.{more-then}
+use Rattle.clif_ssa.proofs.Pooling.{pool_one, pool_then}
 use Rattle.clif_ssa.proofs.Steps.{ends_as}
 use Rattle.clif_ssa.proofs.Answered.{use_recorded}
 use Rattle.clif_ssa.proofs.Constructing.{constructs_none, constructs_then}
@@ -47,8 +48,8 @@ make_calls-requires-clause-calls_fit c =
     let some : predecessors_of c.args.self.now c.args.block ≢ [] = rw (← c.self.view_is) ((c.if-is_local.ensures.no refl).1) in
     let named : NamesExist c.args.func.now c.take_look_up-look_up.new.self = rw (c.take_look_up-look_up.ensures.kept) (c.requires.named (something_leads c.args.self.now c.args.block some)) in
     look-fits c.args.variable c.args.ty c.args.block (stage c.args.func.now c.take_look_up-look_up.new.self c.take_look_up-look_up.result) (stage c.look_up_in.new.func c.look_up_in.new.self c.look_up_in.new.look_up)
-    c.in_ok-look_up_in.ensures.looks named c.look_up_in.ensures.keeps.more c.look_up_in.ensures.keeps.predecessors
-    (popped_nothing c.args.func.now c.take_look_up-look_up.new.self c.take_look_up-look_up.result c.take_look_up-look_up.ensures.empty)
+    c.in_ok-look_up_in.ensures.looks named c.look_up_in.ensures.keeps.more c.look_up_in.ensures.keeps.pools.typed c.look_up_in.ensures.keeps.predecessors
+    (popped_nothing c.args.ty c.args.func.now c.take_look_up-look_up.new.self c.take_look_up-look_up.result c.take_look_up-look_up.ensures.empty)
 
 pub returns-in_err-value-clause-stay : goal.returns-in_err-value-clause-stay
 returns-in_err-value-clause-stay c =
@@ -142,6 +143,33 @@ returns-clause-parameters c = λ is_local sealed b.
 
 pub returns-in-Some-clause-constructs : goal.returns-in-Some-clause-constructs
 returns-in-Some-clause-constructs c = constructs_none c.args.func.now
+
+-- WHICH CONSTANTS -------------------------------------------------------------------------------------------------
+
+pub returns-in-Some-clause-pools : goal.returns-in-Some-clause-pools
+returns-in-Some-clause-pools c = inl refl
+
+pub returns-then-is_local-clause-pools : goal.returns-then-is_local-clause-pools
+returns-then-is_local-clause-pools c =
+    pool_one c.args.ty c.args.func.now.tables c.use_locally.new.func.tables c.use_locally.ensures.keeps.pools.tables
+
+pub returns-in_err-look_up_in-clause-pools : goal.returns-in_err-look_up_in-clause-pools
+returns-in_err-look_up_in-clause-pools c =
+    pool_one c.args.ty c.args.func.now.tables c.look_up_in.new.func.tables c.look_up_in.ensures.keeps.pools.tables
+
+pub returns-in_err-value-clause-pools : goal.returns-in_err-value-clause-pools
+returns-in_err-value-clause-pools c =
+    pool_then c.args.ty c.args.func.now.tables c.look_up_in.new.func.tables c.make_calls.new.func.tables
+    (pool_one c.args.ty c.args.func.now.tables c.look_up_in.new.func.tables c.look_up_in.ensures.keeps.pools.tables)
+    (pool_one c.args.ty c.look_up_in.new.func.tables c.make_calls.new.func.tables c.make_calls.ensures.keeps.pools.tables)
+
+pub returns-clause-pools : goal.returns-clause-pools
+returns-clause-pools c =
+    pool_then c.args.ty c.args.func.now.tables c.look_up_in.new.func.tables c.make_calls.new.func.tables
+    (pool_one c.args.ty c.args.func.now.tables c.look_up_in.new.func.tables c.look_up_in.ensures.keeps.pools.tables)
+    (pool_one c.args.ty c.look_up_in.new.func.tables c.make_calls.new.func.tables c.make_calls.ensures.keeps.pools.tables)
+
+-- WHAT IS CONSTRUCTED ---------------------------------------------------------------------------------------------
 
 pub returns-in_err-value-clause-constructs : goal.returns-in_err-value-clause-constructs
 returns-in_err-value-clause-constructs c =

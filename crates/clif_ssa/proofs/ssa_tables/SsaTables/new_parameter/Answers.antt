@@ -13,7 +13,7 @@ pub returns-in_err-param-clause-ends : goal.returns-in_err-param-clause-ends
 returns-in_err-param-clause-ends c =
     let p = err_from_is_err_and c.from_residual.result c.from_residual.ensures.1 in
     rw (p.1, p.2)
-    (ends_unmade c.args.func.now c.append_block_param.new.self c.in_err-param.field-0.0 c.in_err-param.ensures.err c.in_err-param.ensures.full c.in_err-param.ensures.never_failed)
+    (ends_unmade c.args.ty c.args.func.now c.append_block_param.new.self c.in_err-param.field-0.0 c.in_err-param.ensures.err c.in_err-param.ensures.full c.in_err-param.ensures.never_failed)
 
 pub returns-in_err-record-clause-keeps : goal.returns-in_err-record-clause-keeps
 returns-in_err-record-clause-keeps c =

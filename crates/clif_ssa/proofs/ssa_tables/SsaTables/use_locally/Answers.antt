@@ -2,6 +2,7 @@ use Rattle.std.proofs.Common.{◌∙◌, ap, sym, inl, inr, length}
 use Rattle.std.proofs.lemmas.Result.{err_from_is_err_and}
 use Rattle.clif_records.specs.Tables.{is_yes, sealed_at, record_at, lookups_at}
 use Rattle.clif_ssa.proofs.LocalSteps.{counted_from, use_refused, use_waits, use_zeroes, waiting_from}
+use Rattle.clif_ssa.proofs.Pooling.{zero_full, zero_pools}
 use Rattle.clif_ssa.proofs.Steps.{ends_as, ends_grown, ends_memory, ends_ok, keeps_begun, keeps_grown, keeps_not_waiting, keeps_then, keeps_waits}
 use Rattle.clif_ssa.proofs.ssa_tables.SsaTables.use_locally.Goals as goal
 
@@ -50,13 +51,18 @@ returns-in_err-zero-clause-used c =
 pub returns-in_err-zero-clause-keeps : goal.returns-in_err-zero-clause-keeps
 returns-in_err-zero-clause-keeps c =
     keeps_then c.args.variable c.args.func.now c.args.self.now c.new_parameter.new.func c.count_lookup.new.self c.replace_by_zero.new.func c.count_lookup.new.self (keeps_begun c.args.variable c.args.func.now c.new_parameter.new.func c.args.self.now c.new_parameter.new.self c.count_lookup.new.self c.args.block c.args.ty c.requires.exists c.requires.unrecorded (ap (λ known. is_yes (sealed_at known c.args.block)) (sym c.new_parameter.ensures.blocks) ∙ sym c.if-is_sealed.ensures) c.in_ok-param.ensures.function c.in_ok-param.ensures.records c.new_parameter.ensures.blocks c.new_parameter.ensures.lookups c.count_lookup.ensures.records c.count_lookup.ensures.blocks (inr c.in_ok-count_lookup.ensures.ok))
-    (keeps_grown c.args.variable c.new_parameter.new.func c.replace_by_zero.new.func c.count_lookup.new.self c.replace_by_zero.ensures.more c.replace_by_zero.ensures.constructs)
+    (keeps_grown c.args.variable c.new_parameter.new.func c.replace_by_zero.new.func c.count_lookup.new.self c.replace_by_zero.ensures.more c.replace_by_zero.ensures.constructs
+    (zero_pools c.args.func.now c.new_parameter.new.func c.replace_by_zero.new.func c.args.block c.in_ok-param.param c.args.ty c.in_ok-param.ensures.function c.in_ok-param.ensures.number
+    c.replace_by_zero.ensures.pools))
 
 pub returns-in_err-zero-clause-ends : goal.returns-in_err-zero-clause-ends
 returns-in_err-zero-clause-ends c =
     let p = err_from_is_err_and c.from_residual-in_err-zero.result c.from_residual-in_err-zero.ensures.1 in
     rw (p.1, p.2)
-    ((ends_grown c.replace_by_zero.new.func c.in_err-zero.field-0.0 c.in_err-zero.ensures.full c.in_err-zero.ensures.never_failed))
+    (ends_grown c.replace_by_zero.new.func c.in_err-zero.field-0.0
+    (λ is. zero_full c.args.func.now c.new_parameter.new.func c.replace_by_zero.new.func c.args.block c.in_ok-param.param c.args.ty c.in_ok-param.ensures.function c.in_ok-param.ensures.number
+    (c.in_err-zero.ensures.full is))
+    c.in_err-zero.ensures.never_failed)
 
 pub returns-then-is_sealed-clause-used : goal.returns-then-is_sealed-clause-used
 returns-then-is_sealed-clause-used c =
@@ -68,7 +74,9 @@ returns-then-is_sealed-clause-used c =
 pub returns-then-is_sealed-clause-keeps : goal.returns-then-is_sealed-clause-keeps
 returns-then-is_sealed-clause-keeps c =
     keeps_then c.args.variable c.args.func.now c.args.self.now c.new_parameter.new.func c.count_lookup.new.self c.replace_by_zero.new.func c.count_lookup.new.self (keeps_begun c.args.variable c.args.func.now c.new_parameter.new.func c.args.self.now c.new_parameter.new.self c.count_lookup.new.self c.args.block c.args.ty c.requires.exists c.requires.unrecorded (ap (λ known. is_yes (sealed_at known c.args.block)) (sym c.new_parameter.ensures.blocks) ∙ sym c.if-is_sealed.ensures) c.in_ok-param.ensures.function c.in_ok-param.ensures.records c.new_parameter.ensures.blocks c.new_parameter.ensures.lookups c.count_lookup.ensures.records c.count_lookup.ensures.blocks (inr c.in_ok-count_lookup.ensures.ok))
-    (keeps_grown c.args.variable c.new_parameter.new.func c.replace_by_zero.new.func c.count_lookup.new.self c.replace_by_zero.ensures.more c.replace_by_zero.ensures.constructs)
+    (keeps_grown c.args.variable c.new_parameter.new.func c.replace_by_zero.new.func c.count_lookup.new.self c.replace_by_zero.ensures.more c.replace_by_zero.ensures.constructs
+    (zero_pools c.args.func.now c.new_parameter.new.func c.replace_by_zero.new.func c.args.block c.in_ok-param.param c.args.ty c.in_ok-param.ensures.function c.in_ok-param.ensures.number
+    c.replace_by_zero.ensures.pools))
 
 pub returns-then-is_sealed-clause-ends : goal.returns-then-is_sealed-clause-ends
 returns-then-is_sealed-clause-ends c =

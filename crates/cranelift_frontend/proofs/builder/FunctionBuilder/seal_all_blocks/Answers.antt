@@ -10,6 +10,7 @@ use Rattle.cranelift_frontend.proofs.Named.{kept_by, opened}
 use Rattle.cranelift_frontend.proofs.Ordered.{order-sealed-all}
 use Rattle.clif_simulation.proofs.CarriedStructure.{sealed_parameters}
 use Rattle.clif_ssa.proofs.Constructing.{constructs_none}
+use Rattle.clif_ssa.proofs.SealPools.{first_pools}
 use Rattle.cranelift_frontend.proofs.builder.FunctionBuilder.seal_all_blocks.Goals as goal
 
 pub seal_all_blocks-sealed-requires : goal.seal_all_blocks-sealed-requires
@@ -71,3 +72,12 @@ invariant_of-self c =
           (order-sealed-all c.seal_all_blocks-sealed.result c.args.self.now.func.now c.seal_all_blocks-sealed.new.func c.args.self.now.ctx.now c.seal_all_blocks-sealed.new.self done.is_sealing c.law_consistent.ensures c.law_consistent-2.ensures done.variables)
           c.args.self.now.named;
     }
+
+pub returns-then-self-clause-pools : goal.returns-then-self-clause-pools
+returns-then-self-clause-pools c = first_pools c.args.self.now.func.now c.args.self.now.ctx.now.ssa
+
+pub returns-clause-pools : goal.returns-clause-pools
+returns-clause-pools c = c.seal_all_blocks-sealed.ensures.pools
+
+pub returns-clause-full : goal.returns-clause-full
+returns-clause-full c = c.seal_all_blocks-sealed.ensures.full

@@ -11,6 +11,7 @@ use Rattle.cranelift_frontend.proofs.Named.{kept_by, opened}
 use Rattle.cranelift_frontend.proofs.Ordered.{order-sealed-one}
 use Rattle.clif_simulation.proofs.CarriedStructure.{sealed_parameters}
 use Rattle.clif_ssa.proofs.Constructing.{constructs_none}
+use Rattle.clif_ssa.proofs.Pooling.{pool_none}
 use Rattle.cranelift_frontend.proofs.builder.FunctionBuilder.seal_block.Goals as goal
 
 pub returns-clause-told : goal.returns-clause-told
@@ -68,3 +69,12 @@ invariant_of-self c =
           (order-sealed-one c.seal_block-sealed.result c.args.self.now.func.now c.seal_block-sealed.new.func c.args.self.now.ctx.now c.seal_block-sealed.new.self c.args.block c.requires.exists done.is_sealing c.law_consistent.ensures c.law_consistent-2.ensures done.variables)
           c.args.self.now.named;
     }
+
+pub returns-then-self-clause-pools : goal.returns-then-self-clause-pools
+returns-then-self-clause-pools c = pool_none _ _
+
+pub returns-clause-pools : goal.returns-clause-pools
+returns-clause-pools c = c.seal_block-sealed.ensures.pools
+
+pub returns-clause-full : goal.returns-clause-full
+returns-clause-full c = c.seal_block-sealed.ensures.full

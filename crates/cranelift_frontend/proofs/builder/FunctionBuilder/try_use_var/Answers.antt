@@ -42,6 +42,12 @@ returns-in_err-value-clause-call c =
     failed_as c.args.self.now c.use_var.new.self c.use_var.result c.from_residual-in_err-value.result c.in_err-value.field-0.0 p.0 c.in_err-value.was p.1 p.2 c.use_var.ensures.call
 
 pub returns-in_err-value-clause-full : goal.returns-in_err-value-clause-full
-returns-in_err-value-clause-full c = λ full.
+returns-in_err-value-clause-full c = λ ty is full.
     let p = err_from_is_err_and c.from_residual-in_err-value.result c.from_residual-in_err-value.ensures.1 in
-    c.use_var.ensures.full (error_as c.use_var.result c.from_residual-in_err-value.result c.in_err-value.field-0.0 p.0 _ c.in_err-value.was p.1 p.2 full)
+    c.use_var.ensures.full ty is (error_as c.use_var.result c.from_residual-in_err-value.result c.in_err-value.field-0.0 p.0 _ c.in_err-value.was p.1 p.2 full)
+
+pub returns-in_err-value-clause-pools : goal.returns-in_err-value-clause-pools
+returns-in_err-value-clause-pools c = c.use_var.ensures.pools
+
+pub returns-clause-pools : goal.returns-clause-pools
+returns-clause-pools c = c.use_var.ensures.pools

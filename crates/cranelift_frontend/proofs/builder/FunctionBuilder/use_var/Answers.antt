@@ -1,4 +1,7 @@
-use Rattle.std.proofs.Common.{refl}
+use Rattle.std.proofs.Common.{refl, inl}
+use Rattle.clif_types.specs.declared.types.«Type».{«Type»}
+use Rattle.clif_ssa.specs.Pools.{MayPool, UseIsFull}
+use Rattle.cranelift_frontend.proofs.Used.{typed_so}
 use Rattle.cranelift_frontend.proofs.Calls.{told_by, made}
 use Rattle.cranelift_frontend.proofs.Remembered.{remembers_used, has_record_used}
 use Rattle.std.proofs.Common.{sym, ◌∙◌, ℕ, subst}
@@ -77,3 +80,16 @@ invariant_of-self c =
           (current_exists c.args.self.now c.requires.current c.in-Some.block c.in-Some.is) (sym c.var_type.ensures ∙ c.in-Some-var_type.is) done.is_use c.law_consistent-2.ensures done.variables)
           c.args.self.now.named;
     }
+
+pub returns-then-self-clause-pools : goal.returns-then-self-clause-pools
+returns-then-self-clause-pools c = λ ty is. inl refl
+
+pub returns-clause-pools : goal.returns-clause-pools
+returns-clause-pools c = λ ty is.
+    typed_so (λ (t : «Type»). MayPool t c.args.self.now.func.now.tables c.use_variable-used.new.func.tables) _ c.in-Some-var_type.ty ty
+    (sym c.var_type.ensures ∙ c.in-Some-var_type.is) c.use_variable-used.ensures.pools is
+
+pub returns-clause-full : goal.returns-clause-full
+returns-clause-full c = λ ty is full.
+    typed_so (λ (t : «Type»). UseIsFull t c.use_variable-used.new.func) _ c.in-Some-var_type.ty ty
+    (sym c.var_type.ensures ∙ c.in-Some-var_type.is) (c.use_variable-used.ensures.full full) is

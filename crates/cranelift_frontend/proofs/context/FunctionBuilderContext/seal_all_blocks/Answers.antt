@@ -1,8 +1,11 @@
 use Rattle.std.proofs.Common.{◌<◌, ◌≤◌, true, List, ℕ, length, sym, ap, subst, ◌∙◌, arith, ◌⊎◌, inl, inr}
 use Rattle.std.specs.Prelude.{ltb}
 use Rattle.std.proofs.lemmas.Bool.{le-ltb, lt-ltb}
-use Rattle.clif_ssa.specs.Ssa.{SsaState, RecordsStay, sealed_of}
+use Rattle.clif_ssa.specs.Ssa.{SsaState, NamesExist, RecordsStay, sealed_of}
 use Rattle.clif_records.specs.Tables.{is_yes}
+use Rattle.std.proofs.lemmas.Result.{err_from_is_err_and}
+use Rattle.clif_ssa.specs.Pools.{SealingIsFull, WaitsWithType}
+use Rattle.clif_ssa.proofs.PuttingSteps.{full_before}
 use Rattle.cranelift_frontend.specs.Context.{ContextState}
 use Rattle.cranelift_frontend.specs.Construction.{IsSealingAll}
 use Rattle.cranelift_frontend.proofs.Growing.{on_ok_step}
@@ -48,3 +51,11 @@ returns-clause-stay c =
 pub returns-in_err-side_effects-clause-stay : goal.returns-in_err-side_effects-clause-stay
 returns-in_err-side_effects-clause-stay c =
     subst (λ (v : ContextState). RecordsStay v.ssa c.seal_all_blocks.new.self) c.self.view_is c.seal_all_blocks.ensures.stay
+
+pub returns-in_err-side_effects-clause-full : goal.returns-in_err-side_effects-clause-full
+returns-in_err-side_effects-clause-full c = λ is.
+    let p = err_from_is_err_and c.from_residual.result c.from_residual.ensures.1 in
+    subst (λ (v : ContextState). SealingIsFull (WaitsWithType c.args.func.now v.ssa) c.seal_all_blocks.new.func) c.self.view_is
+    (c.in_err-side_effects.ensures.full_waiting
+    (subst (λ (v : ContextState). NamesExist c.args.func.now v.ssa) (sym c.self.view_is) c.requires.named)
+    (full_before c.from_residual.result c.in_err-side_effects.field-0.0 p.0 is p.1 p.2))

@@ -1,6 +1,11 @@
 use Rattle.std.proofs.Common.{List, ℕ, refl, sym, ap, subst}
 use Rattle.std.proofs.lemmas.Bool.{eq-eqb}
-use Rattle.clif_ssa.specs.Ssa.{SsaState, RecordsStay}
+use Rattle.std.specs.Prelude.{Contains}
+use Rattle.clif_records.specs.Tables.{pending_of}
+use Rattle.clif_ssa.specs.Ssa.{SsaState, NamesExist, RecordsStay, sealed_of}
+use Rattle.std.proofs.lemmas.Result.{err_from_is_err_and}
+use Rattle.clif_ssa.specs.Pools.{types_of, SealingIsFull}
+use Rattle.clif_ssa.proofs.PuttingSteps.{full_before}
 use Rattle.cranelift_frontend.specs.Context.{ContextState}
 use Rattle.cranelift_frontend.specs.Construction.{IsSealing}
 use Rattle.cranelift_frontend.proofs.Growing.{on_ok_step}
@@ -38,3 +43,11 @@ returns-clause-stay c =
 pub returns-in_err-side_effects-clause-stay : goal.returns-in_err-side_effects-clause-stay
 returns-in_err-side_effects-clause-stay c =
     subst (λ (v : ContextState). RecordsStay v.ssa c.seal_block.new.self) c.self.view_is c.seal_block.ensures.stay
+
+pub returns-in_err-side_effects-clause-full : goal.returns-in_err-side_effects-clause-full
+returns-in_err-side_effects-clause-full c = λ is.
+    let p = err_from_is_err_and c.from_residual.result c.from_residual.ensures.1 in
+    subst (λ (v : ContextState). SealingIsFull (Contains (types_of c.args.func.now (pending_of (sealed_of v.ssa c.args.block)))) c.seal_block.new.func) c.self.view_is
+    (c.in_err-side_effects.ensures.full_waiting
+    (subst (λ (v : ContextState). NamesExist c.args.func.now v.ssa) (sym c.self.view_is) c.requires.named)
+    (full_before c.from_residual.result c.in_err-side_effects.field-0.0 p.0 is p.1 p.2))

@@ -1,5 +1,6 @@
 use Rattle.std.proofs.Common.{refl}
-use Rattle.cranelift_frontend.proofs.Pooling.{constant_pooled, constant_refused, pool_kept}
+use Rattle.cranelift_frontend.proofs.Entries.{tables_kept}
+use Rattle.cranelift_frontend.proofs.Tabling.{constant_pooled, constant_refused, pooled_aside}
 use Rattle.cranelift_frontend.proofs.instructions.FunctionBuilderInstBuilderBase.pool_constant.Goals as goal
 
 pub returns-then-self : goal.returns-then-self
@@ -14,6 +15,8 @@ returns c = record {
 
 pub invariant_of-self : goal.invariant_of-self
 invariant_of-self c = record {
-  named = pool_kept c.args.bytes.now c.pool_constant-pooled.result c.args.self.now.func.now _ c.args.self.now.ctx.now _ _ c.if-self.false c.is_err-self.ensures.value
-      c.pool_constant-pooled.ensures c.args.self.now.named;
+  named =
+      let pools = c.pool_constant-pooled.ensures in
+      tables_kept _ c.pool_constant-pooled.result c.args.self.now.func.now _ c.args.self.now.ctx.now _ _ (pooled_aside c.args.self.now.func.now c.args.bytes.now).constants c.if-self.false
+      c.is_err-self.ensures.value pools.ok pools.err c.args.self.now.named;
 }

@@ -1,8 +1,8 @@
 use Rattle.std.proofs.Common.{take, reverse}
 use Rattle.std.specs.List.{flat_map}
 use Rattle.std.specs.Fmt.{HasWritten, IsPlainFormatter}
-use Rattle.clif_words.specs.Spelling.{byte_text}
-use Rattle.clif_text.proofs.writer.write_from_last.Given as goal
+use Rattle.clif_types.specs.Texts.{byte_text}
+use Rattle.clif_types.proofs.hex.write_from_last.Given as goal
 
 abbrev pub invariant-loop-place : goal.invariant-loop-place
 invariant-loop-place g l =

@@ -1,8 +1,8 @@
 use Rattle.std.proofs.Common.{arith, rules, sym}
 use Rattle.std.proofs.lemmas.Grind.{put_two}
-use Rattle.clif_tables.specs.Constants.{byte_text}
-use Rattle.clif_tables.proofs.Texts.{one_byte_more}
-use Rattle.clif_tables.proofs.constants.write_from_last.Goals as goal
+use Rattle.clif_types.specs.Texts.{byte_text}
+use Rattle.clif_types.proofs.FromLast.{one_byte_more}
+use Rattle.clif_types.proofs.hex.write_from_last.Goals as goal
 
 pub loop-place-preserved : goal.loop-place-preserved
 loop-place-preserved g c = λ plain.

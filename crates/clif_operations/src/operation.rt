@@ -3,7 +3,7 @@
 use crate::arithmetic::{
     binary, compares, concat, constant, convert, greatest, split, traps, unary,
 };
-use crate::error::{Cause, Fault};
+use crate::fault::{Fault, Stop};
 use crate::memory::{Access, Memory, Slots};
 use clif_opcodes::{
     BinaryOpcode, CondTrapOpcode, Control, ConvertOpcode, FloatConstOpcode, Opcode, OperandKind,
@@ -14,9 +14,9 @@ use std::alloc::Global;
 
 /// Bits and the type that they have.
 #[derive(Clone, Copy)]
-pub(crate) struct Typed {
-    pub(crate) ty: Type,
-    pub(crate) bits: u128,
+pub struct Typed {
+    pub ty: Type,
+    pub bits: u128,
 }
 
 /// What an instruction does.
@@ -107,7 +107,7 @@ impl Operation {
 
 /// What an instruction did.
 #[derive(Drop)]
-pub(crate) enum Outcome {
+pub enum Outcome {
     /// It gave these bits to its results.
     Gave(Vec<u128>),
     /// Control goes along the edge with this number.
@@ -120,31 +120,27 @@ pub(crate) enum Outcome {
 
 /// Memory of a run, and where the stack slots lie in it.
 #[derive(Drop)]
-pub(crate) struct Store {
-    pub(crate) memory: Memory,
-    pub(crate) slots: Slots,
+pub struct Store {
+    pub memory: Memory,
+    pub slots: Slots,
 }
 
 /// What an instruction does to operands and memory, and its controlling type. `given` is the type that is given with
 /// the instruction, if one is; `returns` is what the function returns.
-pub(crate) fn carry_out(
+pub fn carry_out(
     alloc: Global,
     operation: &Operation,
     given: Type,
     operands: &[Typed],
     returns: &[AbiParam],
     store: &mut Store,
-) -> Result<(Type, Outcome), Cause> {
+) -> Result<(Type, Outcome), Fault> {
     let ty = controlling(operation, given, operands);
     check_types(operation.opcode(), ty, operands, returns)?;
     match store.outcome(alloc, operation, ty, operands) {
         Ok(outcome) => Ok((ty, outcome)),
-        Err(Fault::Trapped(code)) => Ok((ty, Outcome::Trapped(code))),
-        Err(Fault::Memory) => Err(Cause::Memory),
-        Err(Fault::NoPlace) => Err(Cause::NoPlace),
-        Err(Fault::NotAligned) => Err(Cause::NotAligned),
-        Err(Fault::NotAccessible) => Err(Cause::NotAccessible),
-        Err(Fault::Results) => Err(Cause::Results),
+        Err(Stop::Trap(code)) => Ok((ty, Outcome::Trapped(code))),
+        Err(Stop::Fault(fault)) => Err(fault),
     }
 }
 
@@ -172,16 +168,16 @@ fn check_types(
     ty: Type,
     operands: &[Typed],
     returns: &[AbiParam],
-) -> Result<(), Cause> {
+) -> Result<(), Fault> {
     let typing = opcode.typing();
     if !typing.demand.is_met(ty) {
-        return Err(Cause::Types(opcode));
+        return Err(Fault::Types(opcode));
     }
     match typing.others {
         OtherOperands::Nothing if are_admitted(typing.operands, ty, operands) => Ok(()),
         OtherOperands::Returned if have_types(operands, returns) => Ok(()),
-        OtherOperands::Returned => Err(Cause::Returned),
-        OtherOperands::Nothing | OtherOperands::Arguments => Err(Cause::Types(opcode)),
+        OtherOperands::Returned => Err(Fault::Returned),
+        OtherOperands::Nothing | OtherOperands::Arguments => Err(Fault::Types(opcode)),
     }
 }
 
@@ -212,7 +208,7 @@ fn have_types(values: &[Typed], params: &[AbiParam]) -> bool {
 
 impl Store {
     /// Places one more stack slot in memory, of so many bytes, whose address is a multiple of 2 to the power of `shift`.
-    pub(crate) fn add_slot(&mut self, size: u32, shift: u8) -> Result<(), Cause> {
+    pub fn add_slot(&mut self, size: u32, shift: u8) -> Result<(), Fault> {
         let end = self.memory.end();
         self.slots.add(size, shift, end)
     }
@@ -224,7 +220,7 @@ impl Store {
         operation: &Operation,
         ty: Type,
         operands: &[Typed],
-    ) -> Result<Outcome, Fault> {
+    ) -> Result<Outcome, Stop> {
         let first = operand(operands, 0);
         match operation {
             Operation::Store { flags, offset } => {
@@ -255,7 +251,7 @@ impl Store {
     }
 
     // The row of an operation that gives one result.
-    fn computed(&self, operation: &Operation, ty: Type, operands: &[Typed]) -> Result<u128, Fault> {
+    fn computed(&self, operation: &Operation, ty: Type, operands: &[Typed]) -> Result<u128, Stop> {
         let x = operand(operands, 0);
         let y = operand(operands, 1);
         let bits = match operation {
@@ -277,7 +273,7 @@ impl Store {
                 slot,
                 offset,
             } => self.at_slot(*opcode, ty, *slot, *offset)?,
-            _ => return Err(Fault::Results),
+            _ => return Err(Stop::Fault(Fault::Results)),
         };
         Ok(bits)
     }
@@ -289,7 +285,7 @@ impl Store {
         ty: Type,
         slot: StackSlot,
         offset: i32,
-    ) -> Result<u128, Fault> {
+    ) -> Result<u128, Stop> {
         let access = self.slots.access(ty, slot, offset)?;
         match opcode {
             StackOpcode::StackAddr => Ok(access.byte_address(0) & greatest(ty)),
@@ -317,7 +313,7 @@ fn access(ty: Type, p: Typed, flags: MemFlagsData, offset: i32) -> Access {
     }
 }
 
-fn gave(alloc: Global, bits: &[u128]) -> Result<Outcome, Fault> {
+fn gave(alloc: Global, bits: &[u128]) -> Result<Outcome, Stop> {
     let mut results = Vec::new(alloc);
     for result in bits {
         results.push(*result)?;
@@ -326,7 +322,7 @@ fn gave(alloc: Global, bits: &[u128]) -> Result<Outcome, Fault> {
 }
 
 /// The bits of values.
-pub(crate) fn bits_of(alloc: Global, values: &[Typed]) -> Result<Vec<u128>, Cause> {
+pub fn bits_of(alloc: Global, values: &[Typed]) -> Result<Vec<u128>, Fault> {
     let mut bits = Vec::new(alloc);
     for value in values {
         bits.push(value.bits)?;
@@ -335,9 +331,9 @@ pub(crate) fn bits_of(alloc: Global, values: &[Typed]) -> Result<Vec<u128>, Caus
 }
 
 /// The same bits at a type, if the interpreters keep so many.
-pub(crate) fn kept(ty: Type, bits: u128) -> Result<Typed, Cause> {
+pub fn kept(ty: Type, bits: u128) -> Result<Typed, Fault> {
     if ty.bits() > 128 {
-        return Err(Cause::TooWide(ty));
+        return Err(Fault::TooWide(ty));
     }
     Ok(Typed { ty, bits })
 }

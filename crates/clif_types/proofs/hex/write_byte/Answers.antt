@@ -1,7 +1,7 @@
 use Rattle.std.proofs.Common.{arith, false, rules, subst}
 use Rattle.std.specs.Fmt.{WritesOnOk}
 use Rattle.std.proofs.lemmas.Fmt.{hex_byte}
-use Rattle.clif_text.proofs.writer.write_byte.Goals as goal
+use Rattle.clif_types.proofs.hex.write_byte.Goals as goal
 
 pub returns : goal.returns
 returns g c =

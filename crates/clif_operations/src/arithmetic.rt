@@ -15,7 +15,7 @@ pub fn greatest(ty: Type) -> u128 {
 }
 
 /// The bits of a value with these bytes, the lowest first, of which at most 128 bits are kept.
-pub(crate) fn bits_of_bytes(bytes: &[u8]) -> u128 {
+pub fn bits_of_bytes(bytes: &[u8]) -> u128 {
     let mut bits = 0u128;
     for byte in bytes.iter().rev() {
         bits = bits.wrapping_shl(8) | u128::from(*byte);
@@ -24,7 +24,7 @@ pub(crate) fn bits_of_bytes(bytes: &[u8]) -> u128 {
 }
 
 /// A number of 64 bits in two's complement: its low bits, or its sign repeated.
-pub(crate) fn constant(ty: Type, number: i64) -> u128 {
+pub fn constant(ty: Type, number: i64) -> u128 {
     let size = u128::from(number.unsigned_abs());
     if number < 0 {
         (size - 1) & greatest(ty) ^ greatest(ty)
@@ -34,7 +34,7 @@ pub(crate) fn constant(ty: Type, number: i64) -> u128 {
 }
 
 /// An operation on one operand, of a type.
-pub(crate) fn unary(opcode: UnaryOpcode, ty: Type, x: u128) -> u128 {
+pub fn unary(opcode: UnaryOpcode, ty: Type, x: u128) -> u128 {
     let bits = match opcode {
         UnaryOpcode::Ineg => 0u128.wrapping_sub(x),
         UnaryOpcode::Bnot => !x,
@@ -52,7 +52,7 @@ fn splat(ty: Type, x: u128) -> u128 {
 }
 
 /// A value of a type from the bits of one operand, and the type of that.
-pub(crate) fn convert(opcode: ConvertOpcode, ty: Type, from: Type, x: u128) -> u128 {
+pub fn convert(opcode: ConvertOpcode, ty: Type, from: Type, x: u128) -> u128 {
     let bits = match opcode {
         ConvertOpcode::Uextend | ConvertOpcode::Ireduce => x,
         ConvertOpcode::Sextend if is_negative(from, x) => x | !greatest(from),
@@ -130,7 +130,7 @@ fn shifted(ty: Type, x: u128, count: u32) -> u128 {
 }
 
 /// An operation on two operands, of a type.
-pub(crate) fn binary(opcode: BinaryOpcode, ty: Type, x: u128, y: u128) -> Result<u128, TrapCode> {
+pub fn binary(opcode: BinaryOpcode, ty: Type, x: u128, y: u128) -> Result<u128, TrapCode> {
     let bits = match opcode {
         BinaryOpcode::Iadd => x.wrapping_add(y),
         BinaryOpcode::Isub => x.wrapping_sub(y),
@@ -150,12 +150,12 @@ pub(crate) fn binary(opcode: BinaryOpcode, ty: Type, x: u128, y: u128) -> Result
 }
 
 /// The integer of two halves of a type.
-pub(crate) fn concat(ty: Type, low: u128, high: u128) -> u128 {
+pub fn concat(ty: Type, low: u128, high: u128) -> u128 {
     low | high.wrapping_shl(ty.bits())
 }
 
 /// The low half and the high half of an integer of a type.
-pub(crate) fn split(ty: Type, x: u128) -> (u128, u128) {
+pub fn split(ty: Type, x: u128) -> (u128, u128) {
     let half = ty.bits() / 2;
     let high = x.wrapping_shr(half);
     (x ^ high.wrapping_shl(half), high)
@@ -163,7 +163,7 @@ pub(crate) fn split(ty: Type, x: u128) -> (u128, u128) {
 
 /// Whether a condition holds of two numbers of a type. With their signs turned, signed numbers are in the order of
 /// unsigned ones.
-pub(crate) fn compares(cond: IntCC, ty: Type, x: u128, y: u128) -> bool {
+pub fn compares(cond: IntCC, ty: Type, x: u128, y: u128) -> bool {
     let sign = greatest(ty) ^ (greatest(ty) >> 1);
     match cond {
         IntCC::Equal => x == y,
@@ -180,7 +180,7 @@ pub(crate) fn compares(cond: IntCC, ty: Type, x: u128, y: u128) -> bool {
 }
 
 /// Whether a trap under a condition comes.
-pub(crate) fn traps(opcode: CondTrapOpcode, c: u128) -> bool {
+pub fn traps(opcode: CondTrapOpcode, c: u128) -> bool {
     match opcode {
         CondTrapOpcode::Trapz => c == 0,
         CondTrapOpcode::Trapnz => c != 0,

@@ -1,6 +1,6 @@
 //! Memory of a run: accessible bytes that lie one after another, and the stack slots in it.
 use crate::arithmetic::{constant, greatest};
-use crate::error::{Cause, Fault};
+use crate::fault::{Fault, Stop};
 use clif_types::{EntityRef, MemFlagsData, PointerWidth, StackSlot, TrapCode, Type, types};
 use std::alloc::{AllocError, Global};
 
@@ -94,22 +94,22 @@ impl Memory {
     }
 
     // What becomes of an access before it is made. What is claimed is asked first.
-    fn allows(&self, access: &Access) -> Result<(), Fault> {
+    fn allows(&self, access: &Access) -> Result<(), Stop> {
         if access.flags.aligned() && !access.is_aligned() {
-            return Err(Fault::NotAligned);
+            return Err(Stop::Fault(Fault::NotAligned));
         }
         if (0..access.ty.bytes()).all(|byte| self.place(access, byte).is_some()) {
             return Ok(());
         }
         if access.flags.notrap() {
-            Err(Fault::NotAccessible)
+            Err(Stop::Fault(Fault::NotAccessible))
         } else {
-            Err(Fault::Trapped(TrapCode::HeapOutOfBounds))
+            Err(Stop::Trap(TrapCode::HeapOutOfBounds))
         }
     }
 
     /// The bits that are there, of which at most 128 are kept. The lowest byte comes first.
-    pub(crate) fn load(&self, access: &Access) -> Result<u128, Fault> {
+    pub(crate) fn load(&self, access: &Access) -> Result<u128, Stop> {
         self.allows(access)?;
         let mut bits = 0u128;
         for byte in (0..access.ty.bytes()).rev() {
@@ -119,7 +119,7 @@ impl Memory {
     }
 
     /// Puts bits there.
-    pub(crate) fn store(&mut self, access: &Access, bits: u128) -> Result<(), Fault> {
+    pub(crate) fn store(&mut self, access: &Access, bits: u128) -> Result<(), Stop> {
         self.allows(access)?;
         let mut left = bits;
         for byte in 0..access.ty.bytes() {
@@ -134,7 +134,7 @@ impl Memory {
 
 /// Where the stack slots lie: in order, each at the next address that its alignment allows.
 #[derive(Drop)]
-pub(crate) struct Slots {
+pub struct Slots {
     pointer: Type,
     places: Vec<u64>,
     next: u64,
@@ -142,7 +142,7 @@ pub(crate) struct Slots {
 
 impl Slots {
     /// No slot so far; the first one comes to this address, or behind it.
-    pub(crate) fn new(alloc: Global, pointer: PointerWidth, start: u64) -> Slots {
+    pub fn new(alloc: Global, pointer: PointerWidth, start: u64) -> Slots {
         let pointer = match pointer {
             PointerWidth::U16 => types::I16,
             PointerWidth::U32 => types::I32,
@@ -157,13 +157,13 @@ impl Slots {
 
     /// Places one more slot, of so many bytes, whose address is a multiple of 2 to the power of `shift`. It ends at most
     /// at `limit`, where accessible memory ends.
-    pub(crate) fn add(&mut self, size: u32, shift: u8, limit: u128) -> Result<(), Cause> {
+    pub(crate) fn add(&mut self, size: u32, shift: u8, limit: u128) -> Result<(), Fault> {
         let Some((place, end)) = placed(self.next, size, shift) else {
-            return Err(Cause::NoPlace);
+            return Err(Fault::NoPlace);
         };
         let above = greatest(self.pointer).saturating_add(1);
         if u128::from(end) > above || u128::from(end) > limit {
-            return Err(Cause::NoPlace);
+            return Err(Fault::NoPlace);
         }
         self.places.push(place)?;
         self.next = end;

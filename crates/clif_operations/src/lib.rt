@@ -1,0 +1,13 @@
+//! What instructions do to bits and to memory, as plain code: a row for each format, shared by the interpreters of scripts
+//! and of functions. It follows the tables in the definitions of what instructions mean, and no contract names it: that it
+//! does as they say is only tested. Values have at most 128 bits.
+#![tactic(auto)]
+
+pub mod arithmetic;
+pub mod fault;
+pub mod memory;
+pub mod operation;
+
+pub use fault::Fault;
+pub use memory::{Memory, Slots};
+pub use operation::{Operation, Outcome, Store, Typed, bits_of, carry_out, kept};

@@ -1,0 +1,186 @@
+-- The function's machine keeps values of their types in its values.
+use Rattle.std.proofs.Common.{◌≡◌, ℕ, zero, suc, List, [], ◌∷◌, ◌++◌, map, slice_get, refl, sym, subst, true, Some, None, Option}
+use Rattle.std.proofs.lemmas.Bool.{eqb-true}
+use Rattle.std.proofs.lemmas.List.{append-nil}
+use Rattle.std.specs.List.{AllByRecursion}
+use Rattle.clif_types.specs.declared.types.«Type».{«Type»}
+use Rattle.clif_meaning.specs.Bits.{Bits, IsValue, AreValues}
+use Rattle.clif_meaning.specs.Event.{types_of}
+use Rattle.clif_meaning.specs.Instruction.{Edge}
+use Rattle.clif_meaning.specs.Machine.{Control, At, HasReturned, HasTrapped, IsStuck, state_after}
+use Rattle.clif_meaning.specs.Memory.{Memory}
+use Rattle.clif_meaning.specs.Outcome.{Outcome, Gives, Goes, Returns, Traps, Calls, NoStep, outcome_of}
+use Rattle.clif_meaning.specs.FunctionView.{FunctionView, Placed}
+use Rattle.clif_meaning.specs.FunctionMachine.{FunctionRun, FunctionState, blank_state, carry_out, enter_block, follow_edge, function_machine, same_value, start_at, step_at, value_bits}
+use Rattle.clif_meaning.specs.Typing.{EdgeMatches, value_types_at}
+use Rattle.clif_meaning.specs.World.{World}
+use Rattle.clif_value_laws.specs.ValuesFit.{AliasesTyped, EntryHas, FunctionFits, HoldValues, IsPlacedTyped}
+use Rattle.clif_value_laws.specs.Laws.{FunctionRunsFit, FunctionStepsFit, OfNextPlaced}
+use Rattle.clif_value_laws.proofs.Outcomes.{GivesValues, typed_gives}
+use Rattle.clif_value_laws.proofs.Holding.{zeros_hold, assigned_front, assigned_hold, edge_fits}
+
+values_equal : (a b : ℕ) → same_value a b ≡ true → a ≡ b
+values_equal a b same = eqb-true a b same
+
+-- what an instruction gives fits, wherever all values fit
+abbrev pub GivesFitting : FunctionView → Placed → Type 0
+GivesFitting function placed =
+    (world : World) (bits : ℕ → Bits) (memory : Memory) → HoldValues function.value_type bits
+    → GivesValues (map function.value_type placed.results) (types_of function.signature.returns)
+    (outcome_of world placed.instruction.operation placed.instruction.controlling
+    (map function.value_type placed.instruction.operands) (map bits placed.instruction.operands) memory)
+
+-- and what its edges pass does
+pub record WorksFitting (function : FunctionView) (placed : Placed) : Type 0 where
+  pub gives : GivesFitting function placed
+  pub edges : AllByRecursion (EdgeMatches function.value_type (value_types_at function) [] []) placed.instruction.edges
+
+pub typed_works : (function : FunctionView) (placed : Placed) → IsPlacedTyped function placed → WorksFitting function placed
+typed_works function placed typed = record {
+  gives = λ world bits memory holds.
+      typed_gives function.value_type (value_types_at function) (types_of function.signature.returns) placed.instruction placed.results world bits memory typed holds;
+  edges = typed.takes.edges;
+}
+
+module _ (run : FunctionRun) where
+  abbrev returns : List «Type»
+  returns = types_of run.function.signature.returns
+
+  stuck : (state : FunctionState) → FunctionFits run state → FunctionFits run (record state { control = IsStuck })
+  stuck state fits = record { values = fits.values; returned = tt }
+
+  with_memory : (state : FunctionState) (memory : Memory) → FunctionFits run state → FunctionFits run (record state { memory = memory })
+  with_memory state memory fits = record { values = fits.values; returned = fits.returned }
+
+  -- a block is entered whose first parameters have these types
+  entered : (state : FunctionState) (block : ℕ) (arguments : List Bits) (types more : List «Type») → FunctionFits run state
+      → value_types_at run.function block ≡ types ++ more → AreValues types arguments → FunctionFits run (enter_block run state block arguments)
+  entered state block arguments types more fits begins values = record {
+    values = assigned_front same_value values_equal run.function.value_type (run.function.blocks block).parameters arguments state.values types more begins values fits.values;
+    returned = tt;
+  }
+
+  blank : FunctionFits run (blank_state run)
+  blank = record { values = zeros_hold run.function.value_type; returned = tt }
+
+  started : (types : List «Type») (entry : Option ℕ) → EntryHas (value_types_at run.function) types entry → AreValues types run.world.arguments
+      → FunctionFits run (start_at run entry)
+  started types None has values = blank
+  started types (Some entry) has values = entered (blank_state run) entry run.world.arguments types has.0 blank has.1 values
+
+  module _ (aliases : AliasesTyped run.function) where
+    -- what operands read, after their aliases
+    operands_hold : (state : FunctionState) → FunctionFits run state → HoldValues run.function.value_type (value_bits run state)
+    operands_hold state fits value =
+        subst (λ (ty : «Type»). IsValue ty (value_bits run state value)) (aliases value) (fits.values (run.function.resolved value))
+
+    followed : (state : FunctionState) (given : List Bits) (edges : List (Edge ℕ ℕ)) (k : ℕ)
+        → AllByRecursion (EdgeMatches run.function.value_type (value_types_at run.function) [] []) edges → FunctionFits run state
+        → FunctionFits run (follow_edge run state given (slice_get edges k))
+    followed state given [] k match fits = stuck state fits
+    followed state given (edge ∷ edges) zero match fits =
+        entered state edge.target _ (value_types_at run.function edge.target) [] fits (sym (append-nil (value_types_at run.function edge.target)))
+        (edge_fits run.function.value_type (value_bits run state) (operands_hold state fits) (value_types_at run.function) given edge match.0)
+    followed state given (edge ∷ edges) (suc k) match fits = followed state given edges k match.1 fits
+
+    carried : (state : FunctionState) (placed : Placed) (rest : List Placed) (outcome : Outcome) → WorksFitting run.function placed
+        → GivesValues (map run.function.value_type placed.results) returns outcome
+        → FunctionFits run state → FunctionFits run (carry_out run state placed rest outcome)
+    carried state placed rest (Gives values memory) works gives fits = record {
+      values = assigned_hold same_value values_equal run.function.value_type placed.results values state.values gives fits.values;
+      returned = tt;
+    }
+    carried state placed rest (Goes edge given memory) works gives fits =
+        followed (record state { memory = memory }) given placed.instruction.edges edge works.edges (with_memory state memory fits)
+    carried state placed rest (Returns values) works gives fits = record { values = fits.values; returned = gives }
+    carried state placed rest (Traps reason) works gives fits = record { values = fits.values; returned = tt }
+    carried state placed rest (Calls callee call arguments) works gives fits = absurd gives
+    carried state placed rest NoStep works gives fits = stuck state fits
+
+    stepped : (state : FunctionState) (control : Control Placed) → OfNextPlaced (WorksFitting run.function) control → FunctionFits run state
+        → FunctionFits run (step_at run state control)
+    stepped state (At []) next fits = stuck state fits
+    stepped state (At (placed ∷ rest)) next fits =
+        carried state placed rest _ next (next.gives run.world (value_bits run state) state.memory (operands_hold state fits)) fits
+    stepped state (HasReturned results) next fits = fits
+    stepped state (HasTrapped reason) next fits = fits
+    stepped state IsStuck next fits = fits
+
+next_works : (function : FunctionView) (control : Control Placed) → OfNextPlaced (IsPlacedTyped function) control → OfNextPlaced (WorksFitting function) control
+next_works function (At []) next = tt
+next_works function (At (placed ∷ rest)) next = typed_works function placed next
+next_works function (HasReturned results) next = tt
+next_works function (HasTrapped reason) next = tt
+next_works function IsStuck next = tt
+
+pub steps_fit : FunctionStepsFit
+steps_fit run state aliases next fits = stepped run aliases state state.control (next_works run.function state.control next) fits
+
+-- RUNS ------------------------------------------------------------------------------------------------------------------
+
+-- each instruction that is left in the block works
+abbrev AreLeft : FunctionRun → Control Placed → Type 0
+AreLeft run (At rest) = AllByRecursion (WorksFitting run.function) rest
+AreLeft run (HasReturned results) = Unit {0}
+AreLeft run (HasTrapped reason) = Unit {0}
+AreLeft run IsStuck = Unit {0}
+
+module _ (run : FunctionRun) (aliases : AliasesTyped run.function) (items : (block : ℕ) → AllByRecursion (WorksFitting run.function) (run.function.blocks block).items) where
+  along : (state : FunctionState) (given : List Bits) (edge : Option (Edge ℕ ℕ)) → AreLeft run (follow_edge run state given edge).control
+  along state given None = tt
+  along state given (Some edge) = items edge.target
+
+  left_carried : (state : FunctionState) (placed : Placed) (rest : List Placed) (outcome : Outcome) (results : List «Type»)
+      → GivesValues results (types_of run.function.signature.returns) outcome → AllByRecursion (WorksFitting run.function) rest
+      → AreLeft run (carry_out run state placed rest outcome).control
+  left_carried state placed rest (Gives values memory) results gives left = left
+  left_carried state placed rest (Goes edge given memory) results gives left = along (record state { memory = memory }) given (slice_get placed.instruction.edges edge)
+  left_carried state placed rest (Returns values) results gives left = tt
+  left_carried state placed rest (Traps reason) results gives left = tt
+  left_carried state placed rest (Calls callee call arguments) results gives left = absurd gives
+  left_carried state placed rest NoStep results gives left = tt
+
+  left_stepped : (state : FunctionState) (control : Control Placed) → state.control ≡ control → FunctionFits run state → AreLeft run control
+      → AreLeft run (step_at run state control).control
+  left_stepped state (At []) is fits left = tt
+  left_stepped state (At (placed ∷ rest)) is fits left =
+      left_carried state placed rest _ (map run.function.value_type placed.results)
+      (left.0.gives run.world (value_bits run state) state.memory (operands_hold run aliases state fits)) left.1
+  left_stepped state (HasReturned results) is fits left = subst (AreLeft run) (sym is) tt
+  left_stepped state (HasTrapped reason) is fits left = subst (AreLeft run) (sym is) tt
+  left_stepped state IsStuck is fits left = subst (AreLeft run) (sym is) tt
+
+  left_started : (entry : Option ℕ) → AreLeft run (start_at run entry).control
+  left_started None = tt
+  left_started (Some entry) = items entry
+
+  next_of : (control : Control Placed) → AreLeft run control → OfNextPlaced (WorksFitting run.function) control
+  next_of (At []) left = tt
+  next_of (At (placed ∷ rest)) left = left.0
+  next_of (HasReturned results) left = tt
+  next_of (HasTrapped reason) left = tt
+  next_of IsStuck left = tt
+
+  -- in each state the values fit, and what is left works
+  both_after : (types : List «Type») → EntryHas (value_types_at run.function) types run.function.entry → AreValues types run.world.arguments → (n : ℕ)
+      → FunctionFits run (state_after (function_machine run) n) × AreLeft run (state_after (function_machine run) n).control
+  both_after types has values zero = (started run types run.function.entry has values, left_started run.function.entry)
+  both_after types has values (suc n) =
+      let before = both_after types has values n in
+      let state : FunctionState = state_after (function_machine run) n in (
+        stepped run aliases state state.control (next_of state.control before.1) before.0,
+        left_stepped state state.control refl before.0 before.1,
+      )
+
+  pub working_runs_fit : (types : List «Type») → EntryHas (value_types_at run.function) types run.function.entry → AreValues types run.world.arguments → (n : ℕ)
+      → FunctionFits run (state_after (function_machine run) n)
+  working_runs_fit types has values n = let both = both_after types has values n in both.0
+
+each_works : (function : FunctionView) (items : List Placed) → AllByRecursion (IsPlacedTyped function) items → AllByRecursion (WorksFitting function) items
+each_works function [] typed = tt
+each_works function (placed ∷ items) typed = (typed_works function placed typed.0, each_works function items typed.1)
+
+pub runs_fit : FunctionRunsFit
+runs_fit run typed n =
+    working_runs_fit run typed.aliases (λ block. each_works run.function (run.function.blocks block).items (typed.items block))
+    (types_of run.function.signature.params) typed.entry typed.arguments n

@@ -1,0 +1,9 @@
+pub mod Outcomes
+pub mod Holding
+pub mod ScriptSteps
+pub mod FunctionSteps
+pub mod SumRow
+pub mod AcceptedScripts
+pub mod CheckedFunctions
+pub mod ZeroValues
+pub mod CarriedFunctions

@@ -1,0 +1,4 @@
+pub mod ValuesFit
+pub mod Laws
+pub mod Functions
+pub mod FittingExamples

@@ -1,0 +1,258 @@
+-- Tables change that the calls of a list don't make: the agreement with the ledger is kept, and the builder stands for the same
+-- calls.
+use Rattle.std.proofs.Common.{◌≡◌, ◌≢◌, ◌<◌, ℕ, List, length, refl, sym, ◌∙◌, ap, subst, arith, Bool, false, inl, inr}
+use Rattle.std.specs.Prelude.{Option, Some, true, is_err, slice_get, Result, Ok, Err, IfOk, OnOk, OnErr, All}
+use Rattle.clif_types.specs.declared.error.BuildError.{BuildError}
+use Rattle.clif_types.specs.declared.error.BuildError.TheVariants.{Failed, Full, Memory}
+use Rattle.clif_types.specs.Signature.{SignatureShape}
+use Rattle.clif_instructions.specs.declared.block_call.BlockCall.{BlockCall}
+use Rattle.clif_instructions.specs.declared.block_call.BlockArg.{BlockArg}
+use Rattle.clif_tables.specs.Constants.{constant_of}
+use Rattle.clif_tables.specs.Lists.{TableLists, unserved, with_constant, with_jump_table, with_table_served}
+use Rattle.clif_tables.specs.Makes.{MakesEntry, Pools}
+use Rattle.clif_ir.specs.Body.{Body}
+use Rattle.clif_ir.specs.Changes.{with_tables}
+use Rattle.clif_ir.specs.Consistent.{IsConsistent}
+use Rattle.clif_meaning.specs.Request.{AnsweredCall}
+use Rattle.clif_meaning.specs.Ledger.{Ledger}
+use Rattle.clif_ssa.specs.Ssa.{SsaState, record_of}
+use Rattle.clif_ssa.specs.Structure.{Remembers}
+use Rattle.clif_ssa.proofs.Pooled.{KeepsConstants, is_pooled}
+use Rattle.clif_simulation.proofs.Further.{carries_pooled}
+use Rattle.cranelift_frontend.specs.declared.builder.FunctionBuilder.{FunctionBuilder}
+use Rattle.cranelift_frontend.specs.declared.context.BlockStatus.TheVariants.{Filled}
+use Rattle.cranelift_frontend.specs.Builder.{CanLead, CanLeadIn, HasCurrent, SameLoans}
+use Rattle.cranelift_frontend.specs.Context.{ContextState, status_of}
+use Rattle.cranelift_frontend.specs.Entries.{CreatesJumpTable, MakesEdge, MayServe, PoolsConstant, SetsTables, TakesJumpTable, table_edges}
+use Rattle.cranelift_frontend.specs.Growth.{Grows, TypesStay}
+use Rattle.cranelift_frontend.specs.Ledger.{LedgerAgrees, ledger_of, tables_of_calls}
+use Rattle.cranelift_frontend.specs.StandsFor.{StandsIn}
+use Rattle.cranelift_frontend.proofs.Calls as calls
+use Rattle.cranelift_frontend.proofs.Calls.{refused, same_looks}
+use Rattle.cranelift_frontend.proofs.Entries.{tabled}
+use Rattle.cranelift_frontend.proofs.Framed.{filled-same}
+use Rattle.cranelift_frontend.proofs.LedgerLists.{get-front, get-last}
+
+-- The tables of calls stay, and each constant keeps its number; there are as many stack slots.
+pub record AreAside (f : Body) (lists : TableLists) : Type 0 where
+  pub of_calls : tables_of_calls lists ≡ tables_of_calls f.tables
+  pub constants : KeepsConstants f (with_tables f lists)
+
+module _ (f : Body) (lists : TableLists) (aside : AreAside f lists) where
+  agrees_aside : (calls : List AnsweredCall) (ledger : Ledger) (c : ContextState) (p : Option ℕ) → LedgerAgrees calls ledger f c p
+      → LedgerAgrees calls ledger (with_tables f lists) c p
+  agrees_aside calls ledger c p agrees =
+      subst (λ (tables : TableLists). LedgerAgrees calls (record ledger { tables = tables }) (with_tables f lists) c p)
+      (aside.of_calls ∙ sym agrees.tables)
+      (tabled calls ledger f c p lists aside.constants agrees)
+
+  stands_aside : (declared : SignatureShape) (calls : List AnsweredCall) (c : ContextState) (p : Option ℕ) → IsConsistent f
+      → StandsIn declared calls f c p → StandsIn declared calls (with_tables f lists) c p
+  stands_aside declared calls c p consistent stands = record {
+    signature = stands.signature;
+    ledger = agrees_aside calls (ledger_of calls) c p stands.ledger;
+    carries = carries_pooled calls f c.ssa lists consistent aside.constants stands.carries;
+    begun = stands.begun;
+    callers_alone = λ d. elim (stands.callers_alone d) [
+      | inl alone ↦ inl alone
+      | inr old ↦ inr (record { inserted = old.inserted; begun = old.begun })
+    ];
+  }
+
+  slots_aside : length lists.stack_slots ≡ length f.tables.stack_slots
+  slots_aside = ap (λ (t : TableLists). length t.stack_slots) aside.of_calls
+
+-- WHICH TABLES ------------------------------------------------------------------------------------------------------------
+
+pub pooled_aside : (f : Body) (bytes : List ℕ) → AreAside f (with_constant f.tables bytes)
+pooled_aside f bytes = record {
+  of_calls = refl;
+  constants = λ constant found here.
+      let pooled = is_pooled f.tables.constants bytes in
+      ap (λ (constants : List (List ℕ)). slice_get constants constant) pooled.behind ∙ get-front f.tables.constants pooled.more constant found here;
+}
+
+pub created_aside : (f : Body) (edges : List BlockCall) → AreAside f (with_jump_table f.tables edges)
+created_aside f edges = record { of_calls = refl; constants = λ constant found here. here }
+
+pub served_aside : (f : Body) (table : ℕ) → AreAside f (with_table_served f.tables table)
+served_aside f table = record { of_calls = refl; constants = λ constant found here. here }
+
+pub same_aside : (f : Body) → AreAside f f.tables
+same_aside f = record { of_calls = refl; constants = λ constant found here. here }
+
+-- THE BUILDER -----------------------------------------------------------------------------------------------------------
+
+module _ (lists : TableLists) (f g : Body) where
+  -- what holds of the function as it is now
+  pub on_ok : {X : Type 0} (P : Body → Type 0) (r : Result X BuildError) → OnOk r (g ≡ with_tables f lists) → P (with_tables f lists) → OnOk r (P g)
+  on_ok P (Err e) is holds = tt
+  on_ok P (Ok n) is holds = subst P (sym is) holds
+
+current_aside : {A : Type 0} (lists : TableLists) (old new : FunctionBuilder) (r : Result A BuildError) → new.position ≡ old.position → new.ctx.now ≡ old.ctx.now
+    → OnOk r (new.func.now ≡ with_tables old.func.now lists) → HasCurrent old → OnOk r (HasCurrent new)
+current_aside lists old new (Err e) position context is current = tt
+current_aside lists old new (Ok n) position context is current = (
+  current.0,
+  position ∙ current.1,
+  subst (λ (f : Body). current.0 < length f.blocks) (sym is) current.2,
+  subst (λ (c : ContextState). status_of c current.0 ≢ Filled) (sym context) current.3,
+)
+
+-- a call on a builder that hasn't failed
+pub set_tables : {A : Type 0} (lists : TableLists) (old new : FunctionBuilder) (answer : Result A BuildError) → AreAside old.func.now lists → old.failed ≡ false → SameLoans old new
+    → new.position ≡ old.position → new.ctx.now ≡ old.ctx.now → new.failed ≡ is_err answer → IsConsistent old.func.now → answer ≢ Err Failed
+    → OnOk answer (new.func.now ≡ with_tables old.func.now lists) → OnErr answer (new.func.now ≡ old.func.now) → SetsTables lists old new answer
+set_tables {A} lists old new answer aside fine loans position context fails consistent never_failed ok err =
+    let f : Body = old.func.now in
+    let g : Body = new.func.now in
+    let ssa : new.ctx.now.ssa ≡ old.ctx.now.ssa = ap (λ (c : ContextState). c.ssa) context in
+    let slots = slots_aside f lists aside in
+    let parts : (P : Body → ContextState → Option ℕ → Type 0) → P (with_tables f lists) old.ctx.now old.position → P (with_tables f lists) new.ctx.now new.position =
+    λ P holds. subst (λ (r : Option ℕ). P (with_tables f lists) new.ctx.now r) (sym position) (subst (λ (e : ContextState). P (with_tables f lists) e old.position) (sym context) holds) in
+    record {
+      call = calls.made old new answer loans position fine never_failed fails (same_looks old.ctx.now.ssa new.ctx.now.ssa ssa)
+          (on_ok lists f g (TypesStay f) answer ok (λ v inside. refl)) (filled-same answer old.ctx.now new.ctx.now (ap (λ (c : ContextState). c.status) context));
+      function = ok;
+      kept = err;
+      context = context;
+      ledger = λ cs agrees.
+          on_ok lists f g (λ h. LedgerAgrees cs (ledger_of cs) h new.ctx.now new.position) answer ok
+          (parts (λ h e r. LedgerAgrees cs (ledger_of cs) h e r) (agrees_aside f lists aside cs (ledger_of cs) old.ctx.now old.position agrees));
+      stands = λ signature cs stands.
+          on_ok lists f g (λ h. StandsIn signature cs h new.ctx.now new.position) answer ok
+          (parts (λ h e r. StandsIn signature cs h e r) (stands_aside f lists aside signature cs old.ctx.now old.position consistent stands));
+      grows = on_ok lists f g (Grows f) answer ok (omega arith, omega arith, omega arith, refl, refl, omega (arith, slots));
+      remembers = λ x b.
+          on_ok lists f g (λ h. Remembers x b f old.ctx.now.ssa h new.ctx.now.ssa) answer ok
+          (record { recorded = λ v here. ap (λ (u : SsaState). record_of u x b) ssa ∙ here; alike = λ u v alike. alike });
+      current = current_aside lists old new answer position context ok;
+    }
+
+-- a call on one that has
+pub set_refused : {A : Type 0} (lists : TableLists) (old : FunctionBuilder) → old.failed ≡ true → SetsTables {A = A} lists old old (Err Failed)
+set_refused {A} lists old failed = record {
+  call = refused old failed;
+  function = tt;
+  kept = refl;
+  context = refl;
+  ledger = λ calls agrees. tt;
+  stands = λ signature calls stands. tt;
+  grows = tt;
+  remembers = λ x b. tt;
+  current = λ current. tt;
+}
+
+-- CONSTANTS -------------------------------------------------------------------------------------------------------------
+
+module _ (bytes : List ℕ) (f g : Body) where
+  found_pooled : (r : Result ℕ BuildError) → OnOk r (g ≡ with_tables f (with_constant f.tables bytes)) → IfOk r (λ number. number ≡ constant_of f.tables.constants bytes)
+      → IfOk r (λ number. slice_get g.tables.constants number ≡ Some bytes)
+  found_pooled (Err e) is number = tt
+  found_pooled (Ok n) is number =
+      let h : Body = with_tables f (with_constant f.tables bytes) in
+      ap (λ (h : Body). slice_get h.tables.constants n) is ∙ ap (slice_get h.tables.constants) number ∙ (is_pooled f.tables.constants bytes).found
+
+pub constant_pooled : (bytes : List ℕ) (old new : FunctionBuilder) (answer : Result ℕ BuildError) → old.failed ≡ false → SameLoans old new → new.position ≡ old.position
+    → new.ctx.now ≡ old.ctx.now → new.failed ≡ is_err answer → IsConsistent old.func.now
+    → Pools bytes old.func.now.tables.constants old.func.now new.func.now (with_tables old.func.now (with_constant old.func.now.tables bytes)) answer → PoolsConstant old new bytes answer
+constant_pooled bytes old new answer fine loans position context fails consistent pools =
+    let f : Body = old.func.now in
+    record {
+      sets = set_tables (with_constant f.tables bytes) old new answer (pooled_aside f bytes) fine loans position context fails consistent pools.never_failed pools.ok pools.err;
+      number = pools.number;
+      found = found_pooled bytes f new.func.now answer pools.ok pools.number;
+      full = (λ is. let new = pools.full.0 is in (fine, new.0, new.1), λ all. pools.full.1 (all.1, all.2));
+    }
+
+pub constant_refused : (bytes : List ℕ) (old : FunctionBuilder) → old.failed ≡ true → PoolsConstant old old bytes (Err Failed)
+constant_refused bytes old failed = record {
+  sets = set_refused (with_constant old.func.now.tables bytes) old failed;
+  number = tt;
+  found = tt;
+  full = (λ is. let no_way : ⊥ = cc in absurd no_way, λ all. let no_way : ⊥ = cc in absurd no_way);
+}
+
+-- JUMP TABLES AND EDGES --------------------------------------------------------------------------------------------------
+
+pub table_created : (edges : List BlockCall) (old new : FunctionBuilder) (answer : Result ℕ BuildError) → old.failed ≡ false → SameLoans old new → new.position ≡ old.position
+    → new.ctx.now ≡ old.ctx.now → new.failed ≡ is_err answer → IsConsistent old.func.now
+    → MakesEntry (λ number. number) (length old.func.now.tables.jump_tables) old.func.now new.func.now (with_tables old.func.now (with_jump_table old.func.now.tables edges)) answer
+    → CreatesJumpTable edges old new answer
+table_created edges old new answer fine loans position context fails consistent makes =
+    let f : Body = old.func.now in
+    record {
+      sets = set_tables (with_jump_table f.tables edges) old new answer (created_aside f edges) fine loans position context fails consistent makes.never_failed makes.ok makes.err;
+      number = makes.number;
+      serves = created answer makes.ok makes.number;
+      full = (λ is. (fine, makes.full.0 is), λ both. makes.full.1 both.1);
+    }
+  where
+    created : (r : Result ℕ BuildError) → OnOk r (new.func.now ≡ with_tables old.func.now (with_jump_table old.func.now.tables edges))
+        → IfOk r (λ number. number ≡ length old.func.now.tables.jump_tables) → IfOk r (λ number. table_edges new number ≡ Some edges)
+    created (Ok n) is number =
+        ap (λ (h : Body). unserved (slice_get h.tables.jump_tables n)) is
+        ∙ ap (λ (k : ℕ). unserved (slice_get (with_jump_table old.func.now.tables edges).jump_tables k)) number
+        ∙ ap unserved (get-last old.func.now.tables.jump_tables (Some edges))
+    created (Err e) is number = tt
+
+pub table_refused : (edges : List BlockCall) (old : FunctionBuilder) → old.failed ≡ true → CreatesJumpTable edges old old (Err Failed)
+table_refused edges old failed = record {
+  sets = set_refused (with_jump_table old.func.now.tables edges) old failed;
+  number = tt;
+  serves = tt;
+  full = (λ is. let no_way : ⊥ = cc in absurd no_way, λ both. let no_way : ⊥ = cc in absurd no_way);
+}
+
+-- the edges of a table that may serve are taken
+leads_taken : (table : ℕ) (edges : List BlockCall) (old new : FunctionBuilder) → new.ctx.now ≡ old.ctx.now → table_edges old table ≡ Some edges
+    → new.func.now ≡ with_tables old.func.now (with_table_served old.func.now.tables table) → MayServe old table → All (CanLead new) edges
+leads_taken table edges old new context found made (others, other, leads) =
+    let same : others ≡ edges = cc in
+    subst (λ (c : ContextState). All (CanLeadIn new.func.now c) edges) (sym context)
+    (subst (λ (f : Body). All (CanLeadIn f old.ctx.now) edges) (sym made) (subst (All (CanLead old)) same leads))
+
+pub table_taken : (table : ℕ) (edges : List BlockCall) (old new : FunctionBuilder) → old.failed ≡ false → SameLoans old new → new.position ≡ old.position
+    → new.ctx.now ≡ old.ctx.now → new.failed ≡ false → IsConsistent old.func.now → table_edges old table ≡ Some edges
+    → new.func.now ≡ with_tables old.func.now (with_table_served old.func.now.tables table) → TakesJumpTable old new table (Ok edges)
+table_taken table edges old new fine loans position context fails consistent found made =
+    let f : Body = old.func.now in
+    record {
+      sets = set_tables (with_table_served f.tables table) old new (Ok edges) (served_aside f table) fine loans position context fails consistent (calls.by_success edges) made tt;
+      edges = found;
+      leads = leads_taken table edges old new context found made;
+      only_failed = tt;
+    }
+
+pub take_refused : (table : ℕ) (old : FunctionBuilder) → old.failed ≡ true → TakesJumpTable old old table (Err Failed)
+take_refused table old failed = record { sets = set_refused (with_table_served old.func.now.tables table) old failed; edges = tt; leads = λ serves. tt; only_failed = refl }
+
+-- what holds, whatever is answered
+pub on_any : {X P : Type 0} (r : Result X BuildError) → P → OnOk r P
+on_any (Ok x) here = here
+on_any (Err e) here = tt
+
+pub err_any : {X P : Type 0} (r : Result X BuildError) → P → OnErr r P
+err_any (Ok x) here = tt
+err_any (Err e) here = here
+
+pub edge_made : (block : ℕ) (args : List BlockArg) (old new : FunctionBuilder) (answer : Result BlockCall BuildError) → old.failed ≡ false → SameLoans old new → new.position ≡ old.position
+    → new.ctx.now ≡ old.ctx.now → new.failed ≡ is_err answer → IsConsistent old.func.now → new.func.now ≡ old.func.now → OnErr answer (answer ≡ Err Memory)
+    → IfOk answer (λ edge. (edge.block ≡ block) × (edge.args ≡ args)) → MakesEdge block args old new answer
+edge_made block args old new answer fine loans position context fails consistent same only_memory edge = record {
+  sets = set_tables old.func.now.tables old new answer (same_aside old.func.now) fine loans position context fails consistent (calls.by_memory answer only_memory) (on_any answer same) (err_any answer same);
+  edge = parts answer edge;
+  never_full = not_full answer only_memory;
+}
+  where
+    parts : (r : Result BlockCall BuildError) → IfOk r (λ edge. (edge.block ≡ block) × (edge.args ≡ args)) → IfOk r (λ edge. edge ≡ record { block = block; args = args })
+    parts (Ok e) is = subst (λ (b : ℕ). e ≡ record { block = b; args = args }) is.0 (subst (λ (as_are : List BlockArg). e ≡ record { block = e.block; args = as_are }) is.1 refl)
+    parts (Err e) is = tt
+
+    not_full : (r : Result BlockCall BuildError) → OnErr r (r ≡ Err Memory) → r ≢ Err Full
+    not_full (Ok e) only is = let no_way : ⊥ = cc in absurd no_way
+    not_full (Err e) only is = let no_way : ⊥ = cc in absurd no_way
+
+pub edge_refused : (block : ℕ) (args : List BlockArg) (old : FunctionBuilder) → old.failed ≡ true → MakesEdge block args old old (Err Failed)
+edge_refused block args old failed =
+    record { sets = set_refused old.func.now.tables old failed; edge = tt; never_full = λ is. let no_way : ⊥ = cc in absurd no_way }

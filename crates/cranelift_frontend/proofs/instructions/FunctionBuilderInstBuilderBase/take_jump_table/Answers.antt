@@ -1,0 +1,22 @@
+use Rattle.std.proofs.Common.{refl, sym, ◌∙◌}
+use Rattle.std.specs.Prelude.{Ok}
+use Rattle.cranelift_frontend.proofs.Entries.{tables_kept}
+use Rattle.cranelift_frontend.proofs.Tabling.{served_aside, table_taken, take_refused}
+use Rattle.cranelift_frontend.proofs.instructions.FunctionBuilderInstBuilderBase.take_jump_table.Goals as goal
+
+pub returns-then-self : goal.returns-then-self
+returns-then-self c = record { taken = take_refused c.args.table c.args.self.now c.if-self.true }
+
+pub returns : goal.returns
+returns c = record {
+  taken =
+      table_taken c.args.table c.in-Some.edges c.args.self.now _ c.if-self.false (record { func = refl; ctx = refl }) refl refl c.if-self.false
+      c.law_consistent.ensures (sym c.take_jump_table.ensures.taken ∙ c.in-Some.is) c.take_jump_table.ensures.served;
+}
+
+pub invariant_of-self : goal.invariant_of-self
+invariant_of-self c = record {
+  named =
+      tables_kept {A = Unit {0}} _ (Ok tt) c.args.self.now.func.now _ c.args.self.now.ctx.now _ _ (served_aside c.args.self.now.func.now c.args.table).constants c.if-self.false
+      c.if-self.false c.take_jump_table.ensures.served tt c.args.self.now.named;
+}
