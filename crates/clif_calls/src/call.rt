@@ -1,6 +1,6 @@
 //! The calls of a script, and the names of their answers.
 use clif_records::Variable;
-use clif_types::{IntCC, MemFlagsData, StackSlot, TrapCode, Type};
+use clif_types::{IntCC, JumpTable, MemFlagsData, StackSlot, TrapCode, Type};
 
 /// An answer of an earlier call: which call, and which of its answers.
 ///
@@ -258,6 +258,17 @@ pub enum Call {
         size: u32,
         align_shift: u8,
     },
+    /// `block_call(block, args)`: answers the edge, which a jump table may be made of. Its target exists, and what it
+    /// passes.
+    BlockCall {
+        edge: Edge,
+    },
+    /// `create_jump_table(JumpTableData::new(default, entries))`: answers the table, which is numbered from 0 on. The
+    /// names are answers of [`Call::BlockCall`].
+    CreateJumpTable {
+        default: Name,
+        entries: Vec<Name>,
+    },
     /// `declare_var(ty)`: answers the variable, which is numbered from 0 on. The type is any but `Invalid`.
     DeclareVar {
         ty: Type,
@@ -307,6 +318,13 @@ pub enum Call {
         condition: Name,
         block_then: Edge,
         block_else: Edge,
+    },
+    /// `br_table index, table`, an instruction without results, which fills the block: control goes along the entry whose
+    /// number the index is, and along the default where there is none. The table, which is known by its number, served no
+    /// instruction before, and no target of its edges is sealed.
+    BrTable {
+        index: Name,
+        table: JumpTable,
     },
     /// `return values`, an instruction without results, which fills the block.
     Return {
