@@ -27,7 +27,6 @@ quiet = FirstRow.first_items _ (tt, (tt, (tt, (tt, (tt, (tt, tt))))))
 premises_beside : (function : FunctionView) (world : World) → Premises first_script first_signature (pointer_type_of U64) (script_run first_script function world)
 premises_beside function world = record {
   targets_filled = FirstRow.first_items _ (tt, (tt, (tt, (tt, (tt, (tt, tt))))));
-  tables_once = tt;
   well_typed = record {
     items = FirstRow.first_items _ (
       tt,

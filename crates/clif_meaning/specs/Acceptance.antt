@@ -1,6 +1,6 @@
 -- Which calls a script may make, and which of them are refused. A call outside its condition is a misuse. After the
 -- documentation of Cranelift's `FunctionBuilder`.
-use Rattle.std.specs.Prelude.{ℕ, suc, not, ◌==◌, ◌&&◌, ◌||◌, if◌then◌else◌, Bool, true, false, List, [], ◌∷◌, ◌++◌, Option, Some, None, is_some, find, length, map, nat_lt, ℤ}
+use Rattle.std.specs.Prelude.{ℕ, suc, not, ◌-◌, ◌==◌, ◌&&◌, ◌||◌, if◌then◌else◌, Bool, true, false, List, [], ◌∷◌, ◌++◌, Option, Some, None, is_some, unwrap_or, find, length, map, nat_lt, ℤ}
 use Rattle.std.specs.List.{list_all}
 use Rattle.clif_opcodes.specs.declared.opcodes.UnaryOpcode.{UnaryOpcode}
 use Rattle.clif_opcodes.specs.declared.opcodes.BinaryOpcode.{BinaryOpcode}
@@ -24,10 +24,10 @@ use Rattle.clif_types.specs.Types.{bytes_of, is_int, is_type}
 use Rattle.clif_tables.specs.Entries.{TableEntry, AStackSlot, AFunction}
 use Rattle.clif_tables.specs.Lists.{TableLists}
 use Rattle.clif_meaning.specs.SameType.{same_type}
-use Rattle.clif_meaning.specs.Instruction.{Iconst, FloatConst, PooledConst, Unary, Binary, Compare, Concat, Split, Convert, Select, Operation, operation_entries, Compute, Load, Store, Stack, StackStore, Trap, CondTrap, Jump, Brif, BrTable, Return, Argument, Known, CallResult, CallPayload, Edge}
+use Rattle.clif_meaning.specs.Instruction.{Iconst, FloatConst, PooledConst, Unary, Binary, Compare, Concat, Split, Convert, Select, Operation, operation_entries, Instruction, Compute, Load, Store, Stack, StackStore, Trap, CondTrap, Jump, Brif, BrTable, Return, Argument, Known, CallResult, CallPayload, Edge}
 use Rattle.clif_meaning.specs.Name.{Name}
-use Rattle.clif_meaning.specs.Request.{Request, CreateBlock, SwitchToBlock, SealBlock, SealAllBlocks, InsertBlockAfter, SetColdBlock, EnsureInsertedBlock, AppendBlockParams, AppendFunctionParams, DeclareVar, DefVar, UseVar, MakeEntry, Build, Finalize, Script, Attempt, outright}
-use Rattle.clif_meaning.specs.Ledger.{BlockState, Ledger, empty_ledger, type_of, or_invalid, has_value, has_block, is_filled, is_sealed, is_inserted, is_pristine, has_predecessors, is_unreachable, variable_type, ledger_with}
+use Rattle.clif_meaning.specs.Request.{Request, CreateBlock, SwitchToBlock, SealBlock, SealAllBlocks, InsertBlockAfter, SetColdBlock, EnsureInsertedBlock, AppendBlockParams, AppendFunctionParams, DeclareVar, DefVar, UseVar, MakeEntry, MakeEdge, MakeJumpTable, Build, Finalize, Script, Attempt, outright}
+use Rattle.clif_meaning.specs.Ledger.{BlockState, Ledger, empty_ledger, type_of, or_invalid, has_value, has_block, edge_named, unserved_edges, is_filled, is_sealed, is_inserted, is_pristine, has_predecessors, is_unreachable, variable_type, ledger_with}
 
 -- there is a current block, and it isn't filled
 abbrev pub is_open : Ledger → Option Name → Bool
@@ -53,6 +53,11 @@ has_argument ledger (CallPayload index) = true
 -- an edge leads to a block that isn't sealed, and passes what is there
 abbrev pub can_lead : Ledger → Edge Name Name → Bool
 can_lead ledger edge = has_block ledger edge.target && not (is_sealed ledger edge.target) && list_all (has_argument ledger) edge.arguments
+
+-- the jump table that is to serve an instruction is there, and serves none so far
+abbrev pub may_serve : Ledger → Option ℕ → Bool
+may_serve ledger None = true
+may_serve ledger (Some table) = is_some (unserved_edges ledger table)
 
 -- a pooled constant has as many bytes as its type
 abbrev pub has_bytes : PooledConstOpcode → «Type» → List ℕ → Bool
@@ -97,8 +102,10 @@ allows ledger (DeclareVar ty) = is_type ty
 allows ledger (DefVar variable value) = is_open ledger ledger.current && can_assign (variable_type ledger variable) (type_of ledger value)
 allows ledger (UseVar variable) = is_open ledger ledger.current && is_some (variable_type ledger variable)
 allows ledger (MakeEntry entry) = can_make ledger.tables entry
-allows ledger (Build instruction) =
-    is_open ledger ledger.current && list_all (has_value ledger) instruction.operands && list_all (can_lead ledger) instruction.edges
+allows ledger (MakeEdge edge) = has_block ledger edge.target && list_all (has_argument ledger) edge.arguments
+allows ledger (MakeJumpTable default entries) = list_all (λ name. is_some (edge_named ledger name)) (default ∷ entries)
+allows ledger (Build table instruction) =
+    may_serve ledger table && is_open ledger ledger.current && list_all (has_value ledger) instruction.operands && list_all (can_lead ledger) instruction.edges
     && can_operate instruction.operation instruction.controlling && list_all (has_entry ledger.tables) (operation_entries instruction.operation)
 allows ledger Finalize = true
 
@@ -157,72 +164,76 @@ verdict_on script = verdict_on_attempts (map outright script)
 
 -- The instruction calls. Operations on operands and `brif` are made at the type of their first operand.
 abbrev pub iconst : «Type» → ℤ → Request
-iconst ty number = Build (record { operation = Compute (Iconst number); controlling = ty; operands = []; edges = [] })
+iconst ty number = Build None (record { operation = Compute (Iconst number); controlling = ty; operands = []; edges = [] })
 
 abbrev pub unary : Ledger → UnaryOpcode → Name → Request
-unary ledger opcode a = Build (record { operation = Compute (Unary opcode); controlling = or_invalid (type_of ledger a); operands = a ∷ []; edges = [] })
+unary ledger opcode a = Build None (record { operation = Compute (Unary opcode); controlling = or_invalid (type_of ledger a); operands = a ∷ []; edges = [] })
 
 abbrev pub binary : Ledger → BinaryOpcode → Name → Name → Request
-binary ledger opcode a b = Build (record { operation = Compute (Binary opcode); controlling = or_invalid (type_of ledger a); operands = a ∷ b ∷ []; edges = [] })
+binary ledger opcode a b = Build None (record { operation = Compute (Binary opcode); controlling = or_invalid (type_of ledger a); operands = a ∷ b ∷ []; edges = [] })
 
 abbrev pub convert : ConvertOpcode → «Type» → Name → Request
-convert opcode ty a = Build (record { operation = Compute (Convert opcode); controlling = ty; operands = a ∷ []; edges = [] })
+convert opcode ty a = Build None (record { operation = Compute (Convert opcode); controlling = ty; operands = a ∷ []; edges = [] })
 
 abbrev pub float_const : FloatConstOpcode → ℕ → Request
-float_const opcode bits = Build (record { operation = Compute (FloatConst opcode bits); controlling = type.Invalid; operands = []; edges = [] })
+float_const opcode bits = Build None (record { operation = Compute (FloatConst opcode bits); controlling = type.Invalid; operands = []; edges = [] })
 
 abbrev pub pooled_const : PooledConstOpcode → «Type» → List ℕ → Request
-pooled_const opcode ty bytes = Build (record { operation = Compute (PooledConst opcode bytes); controlling = ty; operands = []; edges = [] })
+pooled_const opcode ty bytes = Build None (record { operation = Compute (PooledConst opcode bytes); controlling = ty; operands = []; edges = [] })
 
 abbrev pub compare : Ledger → IntCC → Name → Name → Request
 compare ledger condition a b =
-    Build (record { operation = Compute (Compare condition); controlling = or_invalid (type_of ledger a); operands = a ∷ b ∷ []; edges = [] })
+    Build None (record { operation = Compute (Compare condition); controlling = or_invalid (type_of ledger a); operands = a ∷ b ∷ []; edges = [] })
 
 abbrev pub concat : Ledger → Name → Name → Request
 concat ledger low high =
-    Build (record { operation = Compute Concat; controlling = or_invalid (type_of ledger low); operands = low ∷ high ∷ []; edges = [] })
+    Build None (record { operation = Compute Concat; controlling = or_invalid (type_of ledger low); operands = low ∷ high ∷ []; edges = [] })
 
 abbrev pub split : Ledger → Name → Request
-split ledger a = Build (record { operation = Compute Split; controlling = or_invalid (type_of ledger a); operands = a ∷ []; edges = [] })
+split ledger a = Build None (record { operation = Compute Split; controlling = or_invalid (type_of ledger a); operands = a ∷ []; edges = [] })
 
 abbrev pub load : MemFlagsShape → «Type» → Name → ℤ → Request
-load flags ty address offset = Build (record { operation = Load flags offset; controlling = ty; operands = address ∷ []; edges = [] })
+load flags ty address offset = Build None (record { operation = Load flags offset; controlling = ty; operands = address ∷ []; edges = [] })
 
 -- at the type of what is stored
 abbrev pub store : Ledger → MemFlagsShape → Name → Name → ℤ → Request
 store ledger flags stored address offset =
-    Build (record { operation = Store flags offset; controlling = or_invalid (type_of ledger stored); operands = stored ∷ address ∷ []; edges = [] })
+    Build None (record { operation = Store flags offset; controlling = or_invalid (type_of ledger stored); operands = stored ∷ address ∷ []; edges = [] })
 
 abbrev pub stack : StackOpcode → «Type» → ℕ → ℤ → Request
-stack opcode ty slot offset = Build (record { operation = Stack opcode slot offset; controlling = ty; operands = []; edges = [] })
+stack opcode ty slot offset = Build None (record { operation = Stack opcode slot offset; controlling = ty; operands = []; edges = [] })
 
 -- at the type of what is stored
 abbrev pub stack_store : Ledger → Name → ℕ → ℤ → Request
 stack_store ledger stored slot offset =
-    Build (record { operation = StackStore slot offset; controlling = or_invalid (type_of ledger stored); operands = stored ∷ []; edges = [] })
+    Build None (record { operation = StackStore slot offset; controlling = or_invalid (type_of ledger stored); operands = stored ∷ []; edges = [] })
 
 abbrev pub trap : TrapCode → Request
-trap reason = Build (record { operation = Trap reason; controlling = type.Invalid; operands = []; edges = [] })
+trap reason = Build None (record { operation = Trap reason; controlling = type.Invalid; operands = []; edges = [] })
 
 abbrev pub cond_trap : Ledger → CondTrapOpcode → Name → TrapCode → Request
 cond_trap ledger opcode condition reason =
-    Build (record { operation = CondTrap opcode reason; controlling = or_invalid (type_of ledger condition); operands = condition ∷ []; edges = [] })
+    Build None (record { operation = CondTrap opcode reason; controlling = or_invalid (type_of ledger condition); operands = condition ∷ []; edges = [] })
 
 -- at the type of its second operand
 abbrev pub select : Ledger → Name → Name → Name → Request
 select ledger condition a b =
-    Build (record { operation = Compute Select; controlling = or_invalid (type_of ledger a); operands = condition ∷ a ∷ b ∷ []; edges = [] })
+    Build None (record { operation = Compute Select; controlling = or_invalid (type_of ledger a); operands = condition ∷ a ∷ b ∷ []; edges = [] })
 
 abbrev pub jump : Edge Name Name → Request
-jump edge = Build (record { operation = Jump; controlling = type.Invalid; operands = []; edges = edge ∷ [] })
+jump edge = Build None (record { operation = Jump; controlling = type.Invalid; operands = []; edges = edge ∷ [] })
 
 abbrev pub brif : Ledger → Name → Edge Name Name → Edge Name Name → Request
 brif ledger condition taken other =
-    Build (record { operation = Brif; controlling = or_invalid (type_of ledger condition); operands = condition ∷ []; edges = taken ∷ other ∷ [] })
+    Build None (record { operation = Brif; controlling = or_invalid (type_of ledger condition); operands = condition ∷ []; edges = taken ∷ other ∷ [] })
 
--- the default, and then the entries
-abbrev pub br_table : Name → Edge Name Name → List (Edge Name Name) → Request
-br_table index default entries = Build (record { operation = BrTable (length entries); controlling = type.Invalid; operands = index ∷ []; edges = default ∷ entries })
+-- a branch along these edges: the default, and then the entries
+abbrev pub table_branch : Name → List (Edge Name Name) → Instruction Name Name
+table_branch index edges = record { operation = BrTable (length edges - 1); controlling = type.Invalid; operands = index ∷ []; edges = edges }
+
+-- a branch along the edges of a jump table, which serves it
+abbrev pub br_table : Ledger → Name → ℕ → Request
+br_table ledger index table = Build (Some table) (table_branch index (unwrap_or (unserved_edges ledger table) []))
 
 abbrev pub return_ : List Name → Request
-return_ values = Build (record { operation = Return; controlling = type.Invalid; operands = values; edges = [] })
+return_ values = Build None (record { operation = Return; controlling = type.Invalid; operands = values; edges = [] })

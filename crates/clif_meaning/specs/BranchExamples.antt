@@ -1,6 +1,6 @@
 -- Branches, by computation: differences, the edge that a condition takes, and the row `both_arms` on both machines.
 -- Own; the row is from the project's worked examples.
-use Rattle.std.specs.Prelude.{◌≡◌, ◌≢◌, ◌-◌, ◌^◌, ℕ, zero, suc, List, [], ◌∷◌, Some, pos, negsuc}
+use Rattle.std.specs.Prelude.{◌≡◌, ◌≢◌, ◌-◌, ◌^◌, ℕ, zero, suc, List, [], ◌∷◌, None, Some, pos, negsuc}
 use Rattle.clif_types.specs.declared.types.«Type».TheVariants as type
 use Rattle.clif_types.specs.declared.call_conv.CallConv.TheVariants.{SystemV}
 use Rattle.clif_types.specs.Signature.{SignatureShape}
@@ -9,8 +9,8 @@ use Rattle.clif_meaning.specs.Instruction.{Iconst, Binary, Compute, Jump, Brif, 
 use Rattle.clif_opcodes.specs.declared.opcodes.BinaryOpcode.TheVariants.{Iadd, Isub}
 use Rattle.clif_meaning.specs.Outcome.{Goes, Values, computed, outcome_of}
 use Rattle.clif_meaning.specs.Name.{Name, answer_of}
-use Rattle.clif_meaning.specs.Request.{Request, CreateBlock, SwitchToBlock, SealBlock, DeclareVar, DefVar, UseVar, Build, Script}
-use Rattle.clif_meaning.specs.Acceptance.{iconst, jump, return_, Accepted, Misuse, verdict_on}
+use Rattle.clif_meaning.specs.Request.{Request, CreateBlock, SwitchToBlock, SealBlock, DeclareVar, DefVar, UseVar, MakeEdge, MakeJumpTable, Build, Script}
+use Rattle.clif_meaning.specs.Acceptance.{iconst, jump, table_branch, return_, Accepted, Misuse, verdict_on}
 use Rattle.clif_meaning.specs.FunctionView.{Placed, BlockView, FunctionView}
 use Rattle.clif_meaning.specs.Typing.{EdgesMatch}
 use Rattle.clif_meaning.specs.SameMeaning.{SameMeaning}
@@ -28,7 +28,7 @@ passing block value = record { target = block; arguments = Known value ∷ [] }
 -- a branch of 32 bits
 abbrev pub branch : Name → Name → Name → Request
 branch condition taken other =
-    Build (record { operation = Brif; controlling = i32; operands = condition ∷ []; edges = plain taken ∷ plain other ∷ [] })
+    Build None (record { operation = Brif; controlling = i32; operands = condition ∷ []; edges = plain taken ∷ plain other ∷ [] })
 
 abbrev pub block : ℕ → Name
 block number = answer_of number 0
@@ -41,7 +41,7 @@ both_arms_script =
     ∷ SwitchToBlock (block 0) ∷ SealBlock (block 0) ∷ iconst i32 (pos 5) ∷ DefVar 0 (answer_of 7 1) ∷ jump (plain (block 1))
     ∷ SwitchToBlock (block 1) ∷ UseVar 0 ∷ branch (answer_of 11 0) (block 2) (block 3)
     ∷ SwitchToBlock (block 2) ∷ SealBlock (block 2) ∷ UseVar 0 ∷ iconst i32 (negsuc 0)
-    ∷ Build (record { operation = Compute (Binary Iadd); controlling = i32; operands = answer_of 15 0 ∷ answer_of 16 1 ∷ []; edges = [] })
+    ∷ Build None (record { operation = Compute (Binary Iadd); controlling = i32; operands = answer_of 15 0 ∷ answer_of 16 1 ∷ []; edges = [] })
     ∷ DefVar 0 (answer_of 17 1) ∷ branch (answer_of 17 1) (block 1) (block 1) ∷ SealBlock (block 1)
     ∷ SwitchToBlock (block 3) ∷ SealBlock (block 3) ∷ UseVar 0 ∷ return_ (answer_of 23 0 ∷ []) ∷ []
 
@@ -98,6 +98,17 @@ one_arm_function = both_arms_with (plain 2 ∷ plain 3 ∷ []) (passing 1 3 ∷ 
 abbrev pub swapped_function : FunctionView
 swapped_function = both_arms_with (plain 3 ∷ plain 2 ∷ []) (passing 1 3 ∷ passing 1 3 ∷ [])
 
+-- by a table of two edges to block1
+abbrev pub by_table : ℕ → Request
+by_table number = Build (Some number) (table_branch (answer_of 4 1) (plain (block 1) ∷ plain (block 1) ∷ []))
+
+-- block0 and block2 branch by the same table
+abbrev pub table_twice_script : Script
+table_twice_script =
+    CreateBlock ∷ CreateBlock ∷ CreateBlock ∷ SwitchToBlock (block 0) ∷ iconst i32 (pos 5)
+    ∷ MakeEdge (plain (block 1)) ∷ MakeJumpTable (answer_of 5 0) (answer_of 5 0 ∷ []) ∷ by_table 0
+    ∷ SwitchToBlock (block 2) ∷ by_table 0 ∷ []
+
 pub record BranchExamples : Type 0 where
   pub difference : computed (Binary Isub) i8 [] (3 ∷ 5 ∷ []) ≡ Values (254 ∷ [])
   pub no_difference : computed (Binary Isub) i8 [] (200 ∷ 200 ∷ []) ≡ Values (0 ∷ [])
@@ -118,5 +129,7 @@ pub record BranchExamples : Type 0 where
   pub accepted : verdict_on both_arms_script ≡ Accepted
   pub edges_match : EdgesMatch both_arms_function
   pub one_arm : EdgesMatch one_arm_function → ⊥
+  -- a table serves one instruction
+  pub table_twice : verdict_on table_twice_script ≡ Misuse 9
   -- a jump to a sealed block
   pub sealed : verdict_on (CreateBlock ∷ SwitchToBlock (block 0) ∷ SealBlock (block 0) ∷ jump (plain (block 0)) ∷ []) ≡ Misuse 3

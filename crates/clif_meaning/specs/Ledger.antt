@@ -1,15 +1,15 @@
 -- The ledger of a script: what its calls alone tell. Which answers there are and of which kind and type, the state of
 -- each block, the layout, variables with their types, and which tables serve. The conditions on calls speak of it.
 -- After the documentation of Cranelift's `FunctionBuilder`.
-use Rattle.std.specs.Prelude.{ℕ, zero, suc, not, ◌&&◌, if◌then◌else◌, Bool, true, false, List, [], ◌∷◌, ◌++◌, length, map, fold, find, slice_get, Option, Some, None, option_and_then, option_map, is_some}
+use Rattle.std.specs.Prelude.{ℕ, zero, suc, not, ◌&&◌, if◌then◌else◌, Bool, true, false, List, [], ◌∷◌, ◌++◌, length, map, fold, find, slice_get, slice_set, filter_map, Option, Some, None, option_and_then, option_map, is_some}
 use Rattle.std.specs.List.{list_any}
 use Rattle.clif_types.specs.declared.types.«Type».{«Type»}
 use Rattle.clif_types.specs.declared.types.«Type».TheVariants as type
 use Rattle.clif_tables.specs.Entries.{TableEntry, count_for, with_entry}
 use Rattle.clif_tables.specs.Lists.{TableLists, no_entries}
-use Rattle.clif_meaning.specs.Instruction.{Operation, operation_typing, Edge}
+use Rattle.clif_meaning.specs.Instruction.{Operation, operation_typing, Edge, Instruction}
 use Rattle.clif_meaning.specs.Name.{Name, answer_of, same_name}
-use Rattle.clif_meaning.specs.Request.{Request, CreateBlock, SwitchToBlock, SealBlock, SealAllBlocks, InsertBlockAfter, SetColdBlock, EnsureInsertedBlock, AppendBlockParams, AppendFunctionParams, DeclareVar, DefVar, UseVar, MakeEntry, Build, Finalize, Script}
+use Rattle.clif_meaning.specs.Request.{Request, CreateBlock, SwitchToBlock, SealBlock, SealAllBlocks, InsertBlockAfter, SetColdBlock, EnsureInsertedBlock, AppendBlockParams, AppendFunctionParams, DeclareVar, DefVar, UseVar, MakeEntry, MakeEdge, MakeJumpTable, Build, Finalize, Script}
 use Rattle.clif_meaning.specs.Program.{result_types}
 
 -- what an answer is
@@ -20,6 +20,9 @@ pub data Answered : Type 0 where
   AnInstruction : Answered
   -- an entry of a table, with this number there
   AnEntry : TableEntry → (number : ℕ) → Answered
+  AnEdge : Edge Name Name → Answered
+  -- a jump table, with this number
+  AJumpTable : (number : ℕ) → Answered
 
 -- a block: pristine until something is made in it, filled once it has its terminator, sealed once it was told that no
 -- more branches to it come
@@ -52,14 +55,14 @@ pub record Ledger : Type 0 where
   pub layout : List Name
   -- by their numbers
   pub variables : List VariableState
-  -- the tables that an instruction was given
-  pub served : List Name
+  -- the edges of each jump table, by number: none once it serves an instruction
+  pub jump_tables : List (Option (List (Edge Name Name)))
   -- stack slots, signatures, functions and so on
   pub tables : TableLists
 
 -- before the first call
 abbrev pub empty_ledger : Ledger
-empty_ledger = record { answers = []; blocks = []; current = None; layout = []; variables = []; served = []; tables = no_entries }
+empty_ledger = record { answers = []; blocks = []; current = None; layout = []; variables = []; jump_tables = []; tables = no_entries }
 
 -- how many stack slots the calls created: those with higher numbers are spill slots
 abbrev pub slot_count : Ledger → ℕ
@@ -84,6 +87,23 @@ or_invalid (Some ty) = ty
 
 abbrev pub has_value : Ledger → Name → Bool
 has_value ledger name = is_some (type_of ledger name)
+
+-- the edge that an answer is
+abbrev pub answered_edge : Option Answered → Option (Edge Name Name)
+answered_edge (Some (AnEdge edge)) = Some edge
+answered_edge _ = None
+
+-- the edge with this name, if there is one
+abbrev pub edge_named : Ledger → Name → Option (Edge Name Name)
+edge_named ledger name = answered_edge (answer_at ledger name)
+
+-- the edges with these names
+abbrev pub edges_named : Ledger → List Name → List (Edge Name Name)
+edges_named ledger names = filter_map (edge_named ledger) names
+
+-- the edges of the jump table with this number, if there is one that serves no instruction so far
+abbrev pub unserved_edges : Ledger → ℕ → Option (List (Edge Name Name))
+unserved_edges ledger table = option_and_then (λ edges. edges) (slice_get ledger.jump_tables table)
 
 -- the state of the block with this name, if there is one
 abbrev pub block_state : Ledger → Name → Option BlockState
@@ -198,7 +218,9 @@ answers_to ledger (DeclareVar ty) = AVariable (length ledger.variables) ∷ []
 answers_to ledger (DefVar variable value) = []
 answers_to ledger (UseVar variable) = AValue (or_invalid (variable_type ledger variable)) ∷ []
 answers_to ledger (MakeEntry entry) = AnEntry entry (count_for ledger.tables entry) ∷ []
-answers_to ledger (Build instruction) = AnInstruction ∷ map AValue (result_types instruction.operation instruction.controlling)
+answers_to ledger (MakeEdge edge) = AnEdge edge ∷ []
+answers_to ledger (MakeJumpTable default entries) = AJumpTable (length ledger.jump_tables) ∷ []
+answers_to ledger (Build table instruction) = AnInstruction ∷ map AValue (result_types instruction.operation instruction.controlling)
 answers_to ledger Finalize = []
 
 -- the name of the first answer to the next call
@@ -229,6 +251,16 @@ abbrev pub put_after : Name → Name → List Name → List Name
 put_after block after [] = []
 put_after block after (other ∷ layout) = if same_name other after then other ∷ block ∷ layout else other ∷ put_after block after layout
 
+-- an instruction in the current block
+abbrev pub with_instruction : Ledger → Instruction Name Name → Ledger
+with_instruction ledger instruction =
+    fold (with_predecessor (next_answer ledger)) (with_terminator (with_begun ledger) instruction.operation) instruction.edges
+
+-- a jump table serves an instruction, if one does
+abbrev pub with_served : List (Option (List (Edge Name Name))) → Option ℕ → List (Option (List (Edge Name Name)))
+with_served tables None = tables
+with_served tables (Some table) = slice_set tables table None
+
 -- What each kind of call changes, its answers aside.
 abbrev pub changed_by : Ledger → Request → Ledger
 changed_by ledger CreateBlock = record ledger { blocks = ledger.blocks ++ new_block (next_answer ledger) ∷ [] }
@@ -244,8 +276,11 @@ changed_by ledger (DeclareVar ty) = record ledger { variables = ledger.variables
 changed_by ledger (DefVar variable value) = with_touched ledger variable
 changed_by ledger (UseVar variable) = with_touched (with_begun ledger) variable
 changed_by ledger (MakeEntry entry) = record ledger { tables = with_entry ledger.tables entry }
-changed_by ledger (Build instruction) =
-    fold (with_predecessor (next_answer ledger)) (with_terminator (with_begun ledger) instruction.operation) instruction.edges
+changed_by ledger (MakeEdge edge) = ledger
+changed_by ledger (MakeJumpTable default entries) =
+    record ledger { jump_tables = ledger.jump_tables ++ Some (edges_named ledger (default ∷ entries)) ∷ [] }
+changed_by ledger (Build table instruction) =
+    record (with_instruction ledger instruction) { jump_tables = with_served ledger.jump_tables table }
 changed_by ledger Finalize = ledger
 
 -- the ledger with one more call

@@ -36,11 +36,6 @@ HasGoodTargets ledger program (Instruct place instruction results) = AllByRecurs
 HasGoodTargets ledger program (Use variable name) = Unit {0}
 HasGoodTargets ledger program (Assign variable name) = Unit {0}
 
--- no two elements are one
-abbrev pub AreDistinct : {X : Type 0} → List X → Type 0
-AreDistinct [] = Unit {0}
-AreDistinct (x ∷ xs) = AllByRecursion (λ y. x ≢ y) xs × AreDistinct xs
-
 -- the types of the caller's parameters of a block
 abbrev pub parameter_types : Ledger → Program → Name → List «Type»
 parameter_types ledger program block = map (λ name. or_invalid (type_of ledger name)) (program.parameters block)
@@ -127,8 +122,6 @@ CallsLibraryAsNamed pointer (Assign variable name) = Unit {0}
 pub record Premises (script : Script) (signature : SignatureShape) (pointer : «Type») (run : ScriptRun) : Type 0 where
   -- every target of a branch is filled, and isn't the entry
   pub targets_filled : EachItem (HasGoodTargets (ledger_after script) (program_of script)) (program_of script)
-  -- a table serves one instruction
-  pub tables_once : AreDistinct (ledger_after script).served
   -- operands, arguments of edges, assigned and returned values are well typed, and the entry's parameters are the
   -- signature's
   pub well_typed : WellTyped (ledger_after script) (program_of script) signature

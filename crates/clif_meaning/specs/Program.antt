@@ -6,7 +6,7 @@ use Rattle.clif_types.specs.declared.types.«Type».{«Type»}
 use Rattle.clif_opcodes.specs.Kinds.{result_type}
 use Rattle.clif_meaning.specs.Instruction.{Operation, operation_typing, Instruction}
 use Rattle.clif_meaning.specs.Name.{Name, answer_of, same_name}
-use Rattle.clif_meaning.specs.Request.{Request, CreateBlock, SwitchToBlock, SealBlock, SealAllBlocks, InsertBlockAfter, SetColdBlock, EnsureInsertedBlock, AppendBlockParams, AppendFunctionParams, DeclareVar, DefVar, UseVar, MakeEntry, Build, Finalize, Script}
+use Rattle.clif_meaning.specs.Request.{Request, CreateBlock, SwitchToBlock, SealBlock, SealAllBlocks, InsertBlockAfter, SetColdBlock, EnsureInsertedBlock, AppendBlockParams, AppendFunctionParams, DeclareVar, DefVar, UseVar, MakeEntry, MakeEdge, MakeJumpTable, Build, Finalize, Script}
 
 -- the types of an instruction's results, at the controlling type
 abbrev pub result_types : Operation → «Type» → List «Type»
@@ -82,7 +82,9 @@ extended program (DeclareVar ty) = program
 extended program (DefVar variable value) = with_item program (Assign variable value)
 extended program (UseVar variable) = with_item (with_inserted program) (Use variable (answer_of program.place 0))
 extended program (MakeEntry entry) = program
-extended program (Build instruction) =
+extended program (MakeEdge edge) = program
+extended program (MakeJumpTable default entries) = program
+extended program (Build table instruction) =
     with_item (with_inserted program) (Instruct program.place instruction (result_names program.place instruction))
 extended program Finalize = program
 

@@ -3,7 +3,7 @@
 use Rattle.std.specs.Prelude.{ℕ, List, map, Option, slice_get, option_and_then, Bool, true, false}
 use Rattle.clif_types.specs.declared.types.«Type».{«Type»}
 use Rattle.clif_tables.specs.Entries.{TableEntry}
-use Rattle.clif_meaning.specs.Instruction.{Instruction}
+use Rattle.clif_meaning.specs.Instruction.{Edge, Instruction}
 use Rattle.clif_meaning.specs.Name.{Name}
 
 pub data Request : Type 0 where
@@ -24,8 +24,13 @@ pub data Request : Type 0 where
   UseVar : (variable : ℕ) → Request
   -- an entry at the end of its table in the function. It is known by its number there, and by nothing else.
   MakeEntry : TableEntry → Request
-  -- an instruction at the end of the current block. It answers its number, and then its results.
-  Build : Instruction Name Name → Request
+  -- an edge to a block, with what it passes, for a table
+  MakeEdge : Edge Name Name → Request
+  -- a jump table of edges that were made. It is known by its number among the jump tables.
+  MakeJumpTable : (default : Name) (entries : List Name) → Request
+  -- an instruction at the end of the current block, and the jump table that serves it, if one does. It answers its number,
+  -- and then its results.
+  Build : (table : Option ℕ) → Instruction Name Name → Request
   -- the end of every script
   Finalize : Request
 

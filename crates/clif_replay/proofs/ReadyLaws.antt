@@ -11,7 +11,7 @@ use Rattle.clif_ir.specs.declared.function.InstNode.{InstNode}
 use Rattle.clif_ir.specs.declared.function.ValueNode.{ValueNode}
 use Rattle.clif_ir.specs.Body.{inst_at, no_inst}
 use Rattle.clif_meaning.specs.Request.{AnsweredCall, number_of, script_of}
-use Rattle.clif_meaning.specs.Ledger.{Answered, ABlock, AVariable, AValue, AnInstruction, AnEntry, Ledger, answer_at, answers_to, empty_ledger, has_block, ledger_with, has_value, type_of, value_answer_type}
+use Rattle.clif_meaning.specs.Ledger.{Answered, ABlock, AVariable, AValue, AnInstruction, AnEntry, AnEdge, AJumpTable, Ledger, answer_at, answers_to, empty_ledger, has_block, ledger_with, has_value, type_of, value_answer_type}
 use Rattle.clif_simulation.specs.Carries.{numbers_from}
 use Rattle.cranelift_frontend.specs.declared.builder.FunctionBuilder.{FunctionBuilder}
 use Rattle.cranelift_frontend.specs.StandsFor.{StandsFor}
@@ -279,6 +279,8 @@ value-missing calls b answers ready name missing =
     answer_is (Some (AVariable variable)) ty is = absurd (none-some ty is)
     answer_is (Some (AValue other)) ty is = ap (λ (t : «Type»). Some (AValue t)) (same_Some other ty is)
     answer_is (Some (AnEntry entry place)) ty is = absurd (none-some ty is)
+    answer_is (Some (AnEdge edge)) ty is = absurd (none-some ty is)
+    answer_is (Some (AJumpTable place)) ty is = absurd (none-some ty is)
     answer_is (Some AnInstruction) ty is = absurd (none-some ty is)
 
     by_values : (first count index : ℕ) → index < count → (test : Bool) → nat_lt index count ≡ test → (if test then Some (first + index) else None) ≡ None → ⊥

@@ -81,7 +81,7 @@ controlling_in typed _ = Invalid
 -- the request of an instruction, which is made at types that the ledger tells
 abbrev pub request_in : Ledger → Plan → Request
 request_in ledger plan =
-    Build (record { operation = operation_in plan; controlling = controlling_in (λ name. or_invalid (type_of ledger (name_of name))) plan; operands = map name_of (operands_in plan); edges = map edge_of (edges_in plan) })
+    Build None (record { operation = operation_in plan; controlling = controlling_in (λ name. or_invalid (type_of ledger (name_of name))) plan; operands = map name_of (operands_in plan); edges = map edge_of (edges_in plan) })
 
 -- the request of a call, on a function of this signature. `brif` is made at the type of its condition, which the ledger
 -- tells.

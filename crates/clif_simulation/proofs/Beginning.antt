@@ -74,7 +74,7 @@ current_of_program program request = by (program_effect request)
     by (Switches block is) = of_request _ is refl
     by (Assigns variable value is) = of_request _ is (current-item program program.current _)
     by (Uses variable is) = of_request _ is (current-item (with_inserted program) program.current _)
-    by (Builds instruction is) = of_request _ is (current-item (with_inserted program) program.current _)
+    by (Builds table instruction is) = of_request _ is (current-item (with_inserted program) program.current _)
 
 current_of_ledger : (ledger : Ledger) (request : Request) → (ledger_with ledger request).current ≡ first_block (switch_of request) ledger.current
 current_of_ledger ledger request = by (ledger_effect request)
@@ -90,7 +90,7 @@ current_of_ledger ledger request = by (ledger_effect request)
 
     by : LedgerEffect request → (ledger_with ledger request).current ≡ first_block (switch_of request) ledger.current
     by (Keeps stays is) = of_ledger _ (is ledger) refl stays
-    by (Lays layout tables stays is) = of_ledger _ (is ledger) refl stays
+    by (Lays layout tables jump_tables stays is) = of_ledger _ (is ledger) refl stays
     by (Changes block change keeps stays is) = of_ledger _ (is ledger) refl stays
     by (Begins stays is) = of_ledger _ (is ledger) (current-begun ledger ledger.current) stays
     by (Creates is) = of_request _ is refl
@@ -99,7 +99,7 @@ current_of_ledger ledger request = by (ledger_effect request)
     by (Declares ty is) = of_request _ is refl
     by (Touches variable value is) = of_request _ is refl
     by (Reads variable is) = of_request _ is (current-begun ledger ledger.current)
-    by (Appends instruction is) =
+    by (Appends table instruction is) =
         of_request _ is
         (current-edges (answer_of (length ledger.answers) 0) (with_terminator (with_begun ledger) instruction.operation) instruction.edges
         ∙ current-terminator (with_begun ledger) instruction.operation ∙ current-begun ledger ledger.current)

@@ -160,9 +160,9 @@ first_new h b shape types loc t ts is =
 
 module _ (calls : List AnsweredCall) (f : Body) (s : SsaState) (c : Carries calls f s) (consistent : IsConsistent f)
     (b : ℕ) (B : Name) (current : IsCurrent calls b B) (unfilled : is_filled (ledger_after (script_of calls)) B ≡ false) (there : b < length f.blocks)
-    (shape : InstructionData) (instruction : Instruction Name Name) (loc : ℕ) (numbers : List ℕ) where
+    (shape : InstructionData) (table : Option ℕ) (instruction : Instruction Name Name) (loc : ℕ) (numbers : List ℕ) where
   abbrev call : AnsweredCall
-  call = record { request = Build instruction; numbers = numbers }
+  call = record { request = Build table instruction; numbers = numbers }
 
   abbrev after : List AnsweredCall
   after = calls ++ call ∷ []
@@ -311,7 +311,7 @@ module _ (calls : List AnsweredCall) (f : Body) (s : SsaState) (c : Carries call
     leads_plain = leads_kept calls call c.own mine s s stays own_still (λ d. refl) c.holds.leads_own
 
     entry_on : HasEntry after g
-    entry_on = entry_begun calls after f g b B (Requests.entry_instructed calls call B current.current instruction refl) refl current.named stays c.holds.entry
+    entry_on = entry_begun calls after f g b B (Requests.entry_instructed calls call B current.current table instruction refl) refl current.named stays c.holds.entry
 
   -- the tables once the block is in the layout
   abbrev entered : SoundOnPaths calls c.own f s → Blocks
@@ -330,7 +330,7 @@ module _ (calls : List AnsweredCall) (f : Body) (s : SsaState) (c : Carries call
   open_here = open_kept f h s s b (insts_inserted f b) (λ d. refl) exist open_in
 
   entry_is : (program_so_far after).entry ≡ first_block (program_so_far calls).entry (Some B)
-  entry_is = Requests.entry_instructed calls call B current.current instruction refl
+  entry_is = Requests.entry_instructed calls call B current.current table instruction refl
 
   -- THE INSTRUCTION -----------------------------------------------------------------------------------------------------
 
@@ -349,7 +349,7 @@ module _ (calls : List AnsweredCall) (f : Body) (s : SsaState) (c : Carries call
 
     puts : PutsItem calls call B (Instruct (length calls) instruction (answers_from (length calls) 1 types))
     puts = subst (λ (ts : List «Type»). PutsItem calls call B (Instruct (length calls) instruction (answers_from (length calls) 1 ts))) typed
-        (Requests.puts_instruction calls call B current.current instruction refl)
+        (Requests.puts_instruction calls call B current.current table instruction refl)
 
     operands_after : operands shape ≡ map (answered after) instruction.operands
     operands_after = matches.arguments ∙ sym (numbers_kept calls call instruction.operands matches.earlier)
@@ -465,7 +465,7 @@ module _ (calls : List AnsweredCall) (f : Body) (s : SsaState) (c : Carries call
               → (block : ℕ) × (name : Name) × Contains (mine.insts block) j × (block_name after block ≡ Some name) × IsTrue (is_filled (ledger_after (script_of after)) name)
           by (inl old) = leads_plain types target j old
           by (inr is) =
-              (b, B, subst (λ (e : ℕ). Contains (mine.insts b) e) (sym is) own_it, stays b B current.named, fills calls call instruction b B refl ends current)
+              (b, B, subst (λ (e : ℕ). Contains (mine.insts b) e) (sym is) own_it, stays b B current.named, fills calls call table instruction b B refl ends current)
 
       -- none of the blocks is the entry
       no_entry : SparesEntry after → (x : ℕ) → Contains told x → entry_of m ≢ Some x

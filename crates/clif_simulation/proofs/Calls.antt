@@ -312,7 +312,7 @@ module _ (calls : List AnsweredCall) (f : Body) (s : SsaState) (c : Carries call
       no_value keeps (λ b out. ap (stands_in b) (sym layout) ∙ out) leads structured sound
 
   -- nothing is constructed
-  still : (own : Own) (tables : Blocks) → DescribesSoundly own f s tables → Keeps own tables f s
+  pub still : (own : Own) (tables : Blocks) → DescribesSoundly own f s tables → Keeps own tables f s
   still own tables before = record { tables = tables; describes = before.0; sound = before.1; same = same_program tables; counts = before.2 }
 
   -- another block is made current

@@ -55,7 +55,7 @@ with_request program request all = by (program_effect request)
     by (Uses variable is) =
         subst (λ (r : Request). AllGive (extended program r)) (sym is)
         (with_one (with_inserted program) program.current (Use variable (answer_of program.place 0)) all tt)
-    by (Builds instruction is) =
+    by (Builds table instruction is) =
         subst (λ (r : Request). AllGive (extended program r)) (sym is)
         (with_one (with_inserted program) program.current (Instruct program.place instruction (result_names program.place instruction)) all refl)
 

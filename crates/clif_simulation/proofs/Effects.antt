@@ -1,15 +1,15 @@
 -- What a call does to the variable program and to the ledger: a few effects serve all calls. Laws of one more call are by
 -- these effects, so that a new call needs its two rows here, and none there.
-use Rattle.std.proofs.Common.{◌≡◌, ℕ, List, refl, Some, None, IsTrue}
+use Rattle.std.proofs.Common.{◌≡◌, ℕ, List, [], ◌∷◌, ◌++◌, refl, Some, None, IsTrue}
 use Rattle.std.specs.Prelude.{Option}
 use Rattle.clif_types.specs.declared.types.«Type».{«Type»}
 use Rattle.clif_tables.specs.Entries.{with_entry}
 use Rattle.clif_tables.specs.Lists.{TableLists}
 use Rattle.clif_meaning.specs.Name.{Name}
-use Rattle.clif_meaning.specs.Instruction.{Instruction}
-use Rattle.clif_meaning.specs.Request.{Request, CreateBlock, SwitchToBlock, SealBlock, SealAllBlocks, InsertBlockAfter, SetColdBlock, EnsureInsertedBlock, AppendBlockParams, AppendFunctionParams, DeclareVar, DefVar, UseVar, MakeEntry, Build, Finalize}
+use Rattle.clif_meaning.specs.Instruction.{Edge, Instruction}
+use Rattle.clif_meaning.specs.Request.{Request, CreateBlock, SwitchToBlock, SealBlock, SealAllBlocks, InsertBlockAfter, SetColdBlock, EnsureInsertedBlock, AppendBlockParams, AppendFunctionParams, DeclareVar, DefVar, UseVar, MakeEntry, MakeEdge, MakeJumpTable, Build, Finalize}
 use Rattle.clif_meaning.specs.Program.{Program, answers_from, extended, with_inserted, with_parameters}
-use Rattle.clif_meaning.specs.Ledger.{BlockState, Ledger, changed_by, put_after, sealed, with_begun, with_cold_mark, with_parameter_types, with_state}
+use Rattle.clif_meaning.specs.Ledger.{BlockState, Ledger, changed_by, edges_named, put_after, sealed, with_begun, with_cold_mark, with_parameter_types, with_state}
 
 -- the call makes no block
 abbrev pub MakesNoBlock : Request → Type 0
@@ -41,7 +41,7 @@ pub data ProgramEffect (request : Request) : Type 0 where
   -- an item of the current block
   Assigns : (variable : ℕ) (value : Name) → request ≡ DefVar variable value → ProgramEffect request
   Uses : (variable : ℕ) → request ≡ UseVar variable → ProgramEffect request
-  Builds : (instruction : Instruction Name Name) → request ≡ Build instruction → ProgramEffect request
+  Builds : (table : Option ℕ) (instruction : Instruction Name Name) → request ≡ Build table instruction → ProgramEffect request
 
 pub program_effect : (request : Request) → ProgramEffect request
 program_effect CreateBlock = Leaves refl (λ program. refl)
@@ -57,7 +57,9 @@ program_effect (DeclareVar ty) = Leaves refl (λ program. refl)
 program_effect (DefVar variable value) = Assigns variable value refl
 program_effect (UseVar variable) = Uses variable refl
 program_effect (MakeEntry entry) = Leaves refl (λ program. refl)
-program_effect (Build instruction) = Builds instruction refl
+program_effect (MakeEdge edge) = Leaves refl (λ program. refl)
+program_effect (MakeJumpTable default entries) = Leaves refl (λ program. refl)
+program_effect (Build table instruction) = Builds table instruction refl
 program_effect Finalize = Leaves refl (λ program. refl)
 
 -- THE LEDGER --------------------------------------------------------------------------------------------------------------
@@ -71,8 +73,10 @@ pub data LedgerEffect (request : Request) : Type 0 where
   -- its answers aside, it changes nothing
   Keeps : switch_of request ≡ None → ((ledger : Ledger) → changed_by ledger request ≡ ledger) → LedgerEffect request
   -- the order of the layout, or the tables
-  Lays : (layout : Ledger → List Name) (tables : Ledger → TableLists) → switch_of request ≡ None
-      → ((ledger : Ledger) → changed_by ledger request ≡ record ledger { layout = layout ledger; tables = tables ledger }) → LedgerEffect request
+  Lays : (layout : Ledger → List Name) (tables : Ledger → TableLists) (jump_tables : Ledger → List (Option (List (Edge Name Name))))
+      → switch_of request ≡ None
+      → ((ledger : Ledger) → changed_by ledger request ≡ record ledger { layout = layout ledger; tables = tables ledger; jump_tables = jump_tables ledger })
+      → LedgerEffect request
   -- the state of one block
   Changes : (block : Name) (change : BlockState → BlockState) → KeepsFilled change → switch_of request ≡ None
       → ((ledger : Ledger) → changed_by ledger request ≡ with_state ledger block change) → LedgerEffect request
@@ -84,7 +88,7 @@ pub data LedgerEffect (request : Request) : Type 0 where
   Declares : (ty : «Type») → request ≡ DeclareVar ty → LedgerEffect request
   Touches : (variable : ℕ) (value : Name) → request ≡ DefVar variable value → LedgerEffect request
   Reads : (variable : ℕ) → request ≡ UseVar variable → LedgerEffect request
-  Appends : (instruction : Instruction Name Name) → request ≡ Build instruction → LedgerEffect request
+  Appends : (table : Option ℕ) (instruction : Instruction Name Name) → request ≡ Build table instruction → LedgerEffect request
 
 seals : KeepsFilled sealed
 seals = record { name = λ state. refl; filled = λ state is. is }
@@ -100,7 +104,7 @@ ledger_effect CreateBlock = Creates refl
 ledger_effect (SwitchToBlock block) = Enters block refl
 ledger_effect (SealBlock block) = Changes block sealed seals refl (λ ledger. refl)
 ledger_effect SealAllBlocks = Seals refl
-ledger_effect (InsertBlockAfter block after) = Lays (λ ledger. put_after block after ledger.layout) (λ ledger. ledger.tables) refl (λ ledger. refl)
+ledger_effect (InsertBlockAfter block after) = Lays (λ ledger. put_after block after ledger.layout) (λ ledger. ledger.tables) (λ ledger. ledger.jump_tables) refl (λ ledger. refl)
 ledger_effect (SetColdBlock block) = Changes block with_cold_mark marks refl (λ ledger. refl)
 ledger_effect EnsureInsertedBlock = Begins refl (λ ledger. refl)
 ledger_effect (AppendBlockParams block types) = Changes block (with_parameter_types types) (takes types) refl (λ ledger. refl)
@@ -108,6 +112,10 @@ ledger_effect (AppendFunctionParams block types) = Changes block (with_parameter
 ledger_effect (DeclareVar ty) = Declares ty refl
 ledger_effect (DefVar variable value) = Touches variable value refl
 ledger_effect (UseVar variable) = Reads variable refl
-ledger_effect (MakeEntry entry) = Lays (λ ledger. ledger.layout) (λ ledger. with_entry ledger.tables entry) refl (λ ledger. refl)
-ledger_effect (Build instruction) = Appends instruction refl
+ledger_effect (MakeEntry entry) = Lays (λ ledger. ledger.layout) (λ ledger. with_entry ledger.tables entry) (λ ledger. ledger.jump_tables) refl (λ ledger. refl)
+ledger_effect (MakeEdge edge) = Keeps refl (λ ledger. refl)
+ledger_effect (MakeJumpTable default entries) =
+    Lays (λ ledger. ledger.layout) (λ ledger. ledger.tables) (λ ledger. ledger.jump_tables ++ Some (edges_named ledger (default ∷ entries)) ∷ []) refl
+    (λ ledger. refl)
+ledger_effect (Build table instruction) = Appends table instruction refl
 ledger_effect Finalize = Keeps refl (λ ledger. refl)

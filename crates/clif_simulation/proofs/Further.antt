@@ -23,13 +23,14 @@ use Rattle.clif_ssa.proofs.StructuredLaws.{blocks_structured, inserted_structure
 use Rattle.clif_ssa.proofs.Writing.{blocks_described}
 use Rattle.clif_meaning.specs.Name.{Name}
 use Rattle.clif_meaning.specs.Ledger.{answers_to, ledger_after}
-use Rattle.clif_meaning.specs.Program.{first_block}
+use Rattle.clif_meaning.specs.Program.{Program, extended, first_block}
 use Rattle.clif_meaning.specs.Request.{Request, SealAllBlocks, InsertBlockAfter, SetColdBlock, EnsureInsertedBlock, MakeEntry, AnsweredCall, script_of}
 use Rattle.clif_meaning.specs.FunctionView.{Placed}
 use Rattle.clif_ir.specs.Body.{inst_at}
 use Rattle.clif_ssa.proofs.Constructing.{more_none}
 use Rattle.clif_simulation.specs.Carries.{Carries, Holds, IsCurrent, SoundOnPaths, own_placed}
-use Rattle.clif_simulation.proofs.Calls.{carries_kept, carries_on, inserted_soundly, name_stays}
+use Rattle.clif_simulation.proofs.Calls.{carries_kept, carries_on, inserted_soundly, name_stays, still}
+use Rattle.clif_simulation.proofs.Effects.{MakesNoBlock, MakesNoParameter}
 use Rattle.clif_simulation.proofs.Growing.{GoesOn, KeepsInsts, goes_on-constructs, insts_kept, insts_same}
 use Rattle.clif_simulation.proofs.Layouts as layouts
 use Rattle.clif_simulation.proofs.Values.{is_value_at}
@@ -191,6 +192,15 @@ module _ (calls : List AnsweredCall) (f : Body) (s : SsaState) (c : Carries call
       (insts_same f (with_cold f b) refl refl refl) refl (λ x. refl)
       (relaid_structured f nodes f.layout f.tables (λ constant bytes here. here) s (cold_params f.blocks b) (cold_insts f.blocks b) refl)
       (relaid_keeps f nodes f.layout f.tables (λ constant bytes here. here) s (cold_params f.blocks b) (cold_insts f.blocks b) refl)
+
+  -- a call that adds nothing to the program, and answers no value
+  pub carries_still : (call : AnsweredCall) → MakesNoBlock call.request → MakesNoParameter call.request
+      → ((program : Program) → extended program call.request ≡ program)
+      → ((index : ℕ) → is_value_at (answers_to (ledger_after (script_of calls)) call.request) index ≡ false)
+      → Carries (calls ++ call ∷ []) f s
+  carries_still call no_block no_parameter leaves no_value =
+      carries_kept calls f s c call f s no_block no_parameter (Requests.items_left calls call leaves) (Requests.entry_left calls call leaves) no_value
+      (insts_same f f refl refl refl) refl (λ b. refl) (λ types own h. h) (still calls f s c)
 
   -- an entry is put into its table
   pub carries_tables : (entry : TableEntry) (number : ℕ) (lists : TableLists) → lists.constants ≡ f.tables.constants

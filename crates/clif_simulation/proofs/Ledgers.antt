@@ -130,7 +130,7 @@ module _ (name : Name) where
 
       by : LedgerEffect request → IsTrue (is_filled (ledger_with ledger request) name)
       by (Keeps stays is) = of_ledger _ (is ledger) filled
-      by (Lays layout tables stays is) = of_ledger _ (is ledger) filled
+      by (Lays layout tables jump_tables stays is) = of_ledger _ (is ledger) filled
       by (Changes block change keeps stays is) = of_ledger _ (is ledger) (filled-with_state ledger block change keeps filled)
       by (Begins stays is) = of_ledger _ (is ledger) (filled-with_begun_at ledger ledger.current filled)
       by (Creates is) = of_request _ is (filled_longer ledger.blocks _ name filled)
@@ -139,7 +139,7 @@ module _ (name : Name) where
       by (Declares ty is) = of_request _ is filled
       by (Touches variable value is) = of_request _ is filled
       by (Reads variable is) = of_request _ is (filled-with_begun_at ledger ledger.current filled)
-      by (Appends instruction is) =
+      by (Appends table instruction is) =
           of_request _ is
           (filled-with_edges (answer_of (length ledger.answers) 0) (with_terminator (with_begun ledger) instruction.operation) instruction.edges
           (filled-with_terminator (with_begun ledger) instruction.operation (filled-with_begun_at ledger ledger.current filled)))
@@ -185,20 +185,20 @@ filled_here (state ∷ states) block name found = by (same_name state.block name
         (subst (λ (test : Bool). IsTrue (first_or name test state (map (with_name_filled name) states))) (sym is) (other_block block is found rest))
 
 -- a terminator fills the current block
-fills_with : (ledger : Ledger) (instruction : Instruction Name Name) (block : ℕ) (name : Name) → ledger.current ≡ Some name → is_terminator instruction.operation ≡ true
+fills_with : (ledger : Ledger) (table : Option ℕ) (instruction : Instruction Name Name) (block : ℕ) (name : Name) → ledger.current ≡ Some name → is_terminator instruction.operation ≡ true
     → slice_get (map (λ (state : BlockState). state.block) ledger.blocks) block ≡ Some name
-    → IsTrue (is_filled (ledger_with ledger (Build instruction)) name)
-fills_with ledger instruction block name current ends named =
+    → IsTrue (is_filled (ledger_with ledger (Build table instruction)) name)
+fills_with ledger table instruction block name current ends named =
     filled-with_edges name (answer_of (length ledger.answers) 0) (with_terminator (with_begun ledger) instruction.operation) instruction.edges
     (subst (λ (test : Bool). IsTrue (is_filled (if test then with_filled_at (with_begun ledger) (with_begun ledger).current else with_begun ledger) name)) (sym ends)
     (subst (λ (o : Option Name). IsTrue (is_filled (with_filled_at (with_begun ledger) o) name)) (sym (current-begun ledger ledger.current ∙ current))
     (filled_here (with_begun ledger).blocks block name (ap (λ (names : List Name). slice_get names block) (names-with_begun_at ledger ledger.current) ∙ named))))
 
-pub fills : (calls : List AnsweredCall) (call : AnsweredCall) (instruction : Instruction Name Name) (block : ℕ) (name : Name) → call.request ≡ Build instruction → is_terminator instruction.operation ≡ true
+pub fills : (calls : List AnsweredCall) (call : AnsweredCall) (table : Option ℕ) (instruction : Instruction Name Name) (block : ℕ) (name : Name) → call.request ≡ Build table instruction → is_terminator instruction.operation ≡ true
     → carries.IsCurrent calls block name → IsTrue (is_filled (ledger_after (script_of (calls ++ call ∷ []))) name)
-fills calls call instruction block name request ends current =
+fills calls call table instruction block name request ends current =
     subst (λ (ledger : Ledger). IsTrue (is_filled ledger name)) (sym (ledger_longer calls call ∙ ap (ledger_with (ledger_after (script_of calls))) request))
-    (fills_with (ledger_after (script_of calls)) instruction block name (sym (one_current calls) ∙ current.current) ends current.named)
+    (fills_with (ledger_after (script_of calls)) table instruction block name (sym (one_current calls) ∙ current.current) ends current.named)
 
 -- TYPES -----------------------------------------------------------------------------------------------------------------
 
@@ -252,7 +252,7 @@ type_with ledger request x ty typed = by (ledger_effect request)
 
     by : LedgerEffect request → variable_type (ledger_with ledger request) x ≡ Some ty
     by (Keeps stays is) = of_ledger _ (is ledger) typed
-    by (Lays layout tables stays is) = of_ledger _ (is ledger) typed
+    by (Lays layout tables jump_tables stays is) = of_ledger _ (is ledger) typed
     by (Changes block change keeps stays is) = of_ledger _ (is ledger) typed
     by (Begins stays is) = of_ledger _ (is ledger) begun
     by (Creates is) = of_request _ is typed
@@ -261,7 +261,7 @@ type_with ledger request x ty typed = by (ledger_effect request)
     by (Declares declared is) = of_request _ is (type_longer ledger.variables (new_variable declared ∷ []) x ty typed)
     by (Touches variable value is) = of_request _ is (type_touched ledger.variables variable x ∙ typed)
     by (Reads variable is) = of_request _ is (type_touched (with_begun ledger).variables variable x ∙ begun)
-    by (Appends instruction is) =
+    by (Appends table instruction is) =
         of_request _ is
         (ap (λ (states : List VariableState). type_in states x)
         (variables-edges (answer_of (length ledger.answers) 0) (with_terminator (with_begun ledger) instruction.operation) instruction.edges

@@ -54,7 +54,6 @@ meets world =
     record {
       targets_filled = each_items_of_row (AllByRecursion (HasGoodTargets (ledger_after both_arms_script) (program_of both_arms_script))) tt
           (tt, (tt, ((good_second, tt), tt))) (tt, ((good_third, (good_last, tt)), tt)) (tt, (tt, (tt, (tt, ((good_second, (good_second, tt)), tt))))) (tt, (tt, tt));
-      tables_once = tt;
       well_typed = LoopAlong.well_typed;
       given_before = LoopAlong.premises.given_before;
       tracked_apart = each_items_of_row (AllByRecursion (KeepsTrackedApart (ledger_after both_arms_script) (is_tracked both_arms_script))) tt

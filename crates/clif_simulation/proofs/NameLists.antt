@@ -112,7 +112,7 @@ names_after ledger request made = by (ledger_effect request)
 
     by : LedgerEffect request → names_of (ledger_with ledger request).blocks ≡ names_of ledger.blocks
     by (Keeps stays is) = ap (λ (l : Ledger). names_of l.blocks) (is ledger)
-    by (Lays layout tables stays is) = ap (λ (l : Ledger). names_of l.blocks) (is ledger)
+    by (Lays layout tables jump_tables stays is) = ap (λ (l : Ledger). names_of l.blocks) (is ledger)
     by (Changes block change keeps stays is) = ap (λ (l : Ledger). names_of l.blocks) (is ledger) ∙ names-with_state block change keeps.name ledger
     by (Begins stays is) = ap (λ (l : Ledger). names_of l.blocks) (is ledger) ∙ names-with_begun_at ledger ledger.current
     by (Creates is) = absurd (subst MakesNoBlock is made)
@@ -121,7 +121,7 @@ names_after ledger request made = by (ledger_effect request)
     by (Declares ty is) = of_request _ is refl
     by (Touches variable value is) = of_request _ is refl
     by (Reads variable is) = of_request _ is (names-with_begun_at ledger ledger.current)
-    by (Appends instruction is) =
+    by (Appends table instruction is) =
         of_request _ is
         (names-with_edges (answer_of (length ledger.answers) 0) (with_terminator (with_begun ledger) instruction.operation) instruction.edges
         ∙ names-with_terminator (with_begun ledger) instruction.operation ∙ names-with_begun_at ledger ledger.current)

@@ -78,20 +78,20 @@ module _ (calls : List AnsweredCall) (call : AnsweredCall) where
     entry_assigned x n is =
         ap (λ (p : Program). p.entry) (program_with (DefVar x n) is) ∙ ap (λ (o : Option Name). (with_item_at before o (Assign x n)).entry) current
 
-    pub puts_instruction : (instruction : Instruction Name Name) → call.request ≡ Build instruction
+    pub puts_instruction : (table : Option ℕ) (instruction : Instruction Name Name) → call.request ≡ Build table instruction
         → PutsItem calls call B (Instruct (length calls) instruction (result_names (length calls) instruction))
-    puts_instruction instruction is = record {
+    puts_instruction table instruction is = record {
       items = λ N.
-          ap (λ (p : Program). p.items N) (program_with (Build instruction) is)
+          ap (λ (p : Program). p.items N) (program_with (Build table instruction) is)
           ∙ ap (λ (o : Option Name). (with_item_at (with_inserted before) o (Instruct before.place instruction (result_names before.place instruction))).items N) current
           ∙ ap (λ (place : ℕ). (with_item_at before (Some B) (Instruct place instruction (result_names place instruction))).items N) (place_so_far calls);
       no_block = subst MakesNoBlock (sym is) tt;
       no_parameter = subst MakesNoParameter (sym is) tt;
     }
 
-    pub entry_instructed : (instruction : Instruction Name Name) → call.request ≡ Build instruction → longer.entry ≡ first_block before.entry (Some B)
-    entry_instructed instruction is =
-        ap (λ (p : Program). p.entry) (program_with (Build instruction) is)
+    pub entry_instructed : (table : Option ℕ) (instruction : Instruction Name Name) → call.request ≡ Build table instruction → longer.entry ≡ first_block before.entry (Some B)
+    entry_instructed table instruction is =
+        ap (λ (p : Program). p.entry) (program_with (Build table instruction) is)
         ∙ ap (λ (o : Option Name). (with_item_at (with_inserted before) o (Instruct before.place instruction (result_names before.place instruction))).entry) current
         ∙ ap (first_block before.entry) current
 

@@ -209,7 +209,6 @@ meets world =
       targets_filled = each_item (HasGoodTargets (ledger_after sample_script) (program_of sample_script))
           (tt, (tt, (tt, (tt, (tt, (tt, (tt, ((good_second, tt), tt)))))))) (tt, (tt, (tt, (tt, (tt, ((good_last, (good_third, tt)), tt))))))
           (tt, (tt, (tt, (tt, (tt, (tt, tt)))))) (tt, (tt, (tt, (tt, ((good_second, tt), tt)))));
-      tables_once = tt;
       well_typed = well_typed;
       given_before = well_placed;
       tracked_apart = each_item (KeepsTrackedApart (ledger_after sample_script) (is_tracked sample_script))

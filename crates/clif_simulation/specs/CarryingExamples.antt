@@ -1,5 +1,5 @@
 -- A worked example of a function that carries calls: the row `both_arms`, whose loop has both arms of one branch. Own.
-use Rattle.std.specs.Prelude.{◌≡◌, ℕ, ◌<◌, length, false, List, [], ◌∷◌, Some, ℤ, pos, negsuc}
+use Rattle.std.specs.Prelude.{◌≡◌, ℕ, ◌<◌, length, false, List, [], ◌∷◌, None, Some, ℤ, pos, negsuc}
 use Rattle.clif_types.specs.declared.target.PointerWidth.TheVariants.{U64}
 use Rattle.clif_types.specs.Target.{pointer_type_of}
 use Rattle.clif_types.specs.declared.extname.UserFuncName.TheVariants.{Testcase}
@@ -55,7 +55,7 @@ loop_calls =
     ∷ record { request = UseVar 0; numbers = 1 ∷ [] }
     ∷ record { request = iconst i32 (negsuc 0); numbers = 3 ∷ 2 ∷ [] }
     ∷ record {
-      request = Build (record { operation = Compute (operation.Binary binary.Iadd); controlling = i32; operands = answer_of 15 0 ∷ answer_of 16 1 ∷ []; edges = [] });
+      request = Build None (record { operation = Compute (operation.Binary binary.Iadd); controlling = i32; operands = answer_of 15 0 ∷ answer_of 16 1 ∷ []; edges = [] });
       numbers = 4 ∷ 3 ∷ [];
     }
     ∷ record { request = DefVar 0 (answer_of 17 1); numbers = [] }

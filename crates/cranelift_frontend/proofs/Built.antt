@@ -72,15 +72,15 @@ module _ (old new : FunctionBuilder) (shape : InstructionData) (ty : «Type») (
   appends_at = subst (λ (o : Option ℕ). IfSome o (λ b. IfOk r (Appends old new b shape ty))) (sym at) appends
 
   -- the calls after it, on a builder of these parts
-  abbrev Agrees : List AnsweredCall → Instruction Name Name → Option ℕ → Type 0
-  Agrees calls instruction position =
-      IfOk r (λ inst. LedgerAgrees (after_build calls instruction (numbers_of new inst))
-      (ledger_of (after_build calls instruction (numbers_of new inst))) new.func.now new.ctx.now position)
+  abbrev Agrees : List AnsweredCall → Option ℕ → Instruction Name Name → Option ℕ → Type 0
+  Agrees calls table instruction position =
+      IfOk r (λ inst. LedgerAgrees (after_build calls table instruction (numbers_of new inst))
+      (ledger_of (after_build calls table instruction (numbers_of new inst))) new.func.now new.ctx.now position)
 
-  agrees_after : (calls : List AnsweredCall) (instruction : Instruction Name Name) → AgreesWithLedger calls old
-      → HasShape calls old.func.now instruction shape ty → Agrees calls instruction old.position
-  agrees_after calls instruction agrees has =
-      ledger-shaped calls old.func.now new.func.now old.ctx.now new.ctx.now old.position block instruction shape ty r agrees at
+  agrees_after : (calls : List AnsweredCall) (table : Option ℕ) (instruction : Instruction Name Name) → AgreesWithLedger calls old
+      → HasShape calls old.func.now instruction shape ty → Agrees calls table instruction old.position
+  agrees_after calls table instruction agrees has =
+      ledger-shaped calls old.func.now new.func.now old.ctx.now new.ctx.now old.position block table instruction shape ty r agrees at
       (current-is old current block at) consistent has edges appends declares ssa variables
 
   pub builds_appended : Builds old new shape ty r
@@ -98,14 +98,14 @@ module _ (old new : FunctionBuilder) (shape : InstructionData) (ty : «Type») (
         unchanged = λ failed. let no_way : ⊥ = cc in absurd no_way;
         fails = fails;
         looks_once = looks_once;
-        ledger = λ calls instruction agrees has.
-            subst (Agrees calls instruction) (sym position) (agrees_after calls instruction agrees has);
-        stands = λ signature calls instruction stands has.
-            subst (λ (o : Option ℕ). IfOk r (λ inst. StandsIn signature (after_build calls instruction (numbers_of new inst)) new.func.now new.ctx.now o))
+        ledger = λ calls table instruction agrees has.
+            subst (Agrees calls table instruction) (sym position) (agrees_after calls table instruction agrees has);
+        stands = λ signature calls table instruction stands has.
+            subst (λ (o : Option ℕ). IfOk r (λ inst. StandsIn signature (after_build calls table instruction (numbers_of new inst)) new.func.now new.ctx.now o))
             (sym position)
-            (stands_shaped signature calls old.func.now new.func.now old.ctx.now new.ctx.now old.position instruction shape ty r block
+            (stands_shaped signature calls old.func.now new.func.now old.ctx.now new.ctx.now old.position table instruction shape ty r block
             stands consistent has (λ k below. operands_exist k 0 below) at (current_exists old current block at) (current_open old current block at) appends edges declares ssa
-            (agrees_after calls instruction stands.ledger has));
+            (agrees_after calls table instruction stands.ledger has));
         exists = append_exists r old.func.now old.ctx.now new.func.now new.ctx.now block shape ty appends;
         grows = append_grows r old.func.now old.ctx.now new.func.now new.ctx.now block shape ty appends;
         remembers = λ v b.
@@ -138,8 +138,8 @@ builds_value_refused old new shape ty e no_branch one built =
       unchanged = built.unchanged;
       fails = built.fails;
       looks_once = built.looks_once;
-      ledger = λ calls instruction agrees has. tt;
-      stands = λ signature calls instruction stands has. tt;
+      ledger = λ calls table instruction agrees has. tt;
+      stands = λ signature calls table instruction stands has. tt;
       exists = tt;
       grows = tt;
       remembers = λ v b. tt;
@@ -163,8 +163,8 @@ builds_pair_refused old new shape ty e no_branch two built =
       unchanged = built.unchanged;
       fails = built.fails;
       looks_once = built.looks_once;
-      ledger = λ calls instruction agrees has. tt;
-      stands = λ signature calls instruction stands has. tt;
+      ledger = λ calls table instruction agrees has. tt;
+      stands = λ signature calls table instruction stands has. tt;
       exists = tt;
       grows = tt;
       remembers = λ v b. tt;
@@ -208,10 +208,10 @@ module _ (old new : FunctionBuilder) (shape : InstructionData) (ty : «Type») (
     unchanged = built.unchanged;
     fails = built.fails;
     looks_once = built.looks_once;
-    ledger = λ calls instruction agrees has.
-        subst (λ (ns : List ℕ). AgreesWithLedger (after_build calls instruction ns) new) numbers (built.ledger calls instruction agrees has);
-    stands = λ signature calls instruction stands has.
-        subst (λ (ns : List ℕ). StandsFor signature (after_build calls instruction ns) new) numbers (built.stands signature calls instruction stands has);
+    ledger = λ calls table instruction agrees has.
+        subst (λ (ns : List ℕ). AgreesWithLedger (after_build calls table instruction ns) new) numbers (built.ledger calls table instruction agrees has);
+    stands = λ signature calls table instruction stands has.
+        subst (λ (ns : List ℕ). StandsFor signature (after_build calls table instruction ns) new) numbers (built.stands signature calls table instruction stands has);
     exists = exists;
     grows = built.grows;
     remembers = built.remembers;
@@ -288,10 +288,10 @@ module _ (old new : FunctionBuilder) (shape : InstructionData) (ty : «Type») (
     unchanged = built.unchanged;
     fails = built.fails;
     looks_once = built.looks_once;
-    ledger = λ calls instruction agrees has.
-        subst (λ (ns : List ℕ). AgreesWithLedger (after_build calls instruction ns) new) pair_numbers (built.ledger calls instruction agrees has);
-    stands = λ signature calls instruction stands has.
-        subst (λ (ns : List ℕ). StandsFor signature (after_build calls instruction ns) new) pair_numbers (built.stands signature calls instruction stands has);
+    ledger = λ calls table instruction agrees has.
+        subst (λ (ns : List ℕ). AgreesWithLedger (after_build calls table instruction ns) new) pair_numbers (built.ledger calls table instruction agrees has);
+    stands = λ signature calls table instruction stands has.
+        subst (λ (ns : List ℕ). StandsFor signature (after_build calls table instruction ns) new) pair_numbers (built.stands signature calls table instruction stands has);
     exists = exist;
     grows = built.grows;
     remembers = built.remembers;

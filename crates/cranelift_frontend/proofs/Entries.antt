@@ -74,6 +74,10 @@ constants_aside : (t : TableLists) (entry : TableEntry) → (with_entry t entry)
 constants_aside t (AStackSlot slot) = refl
 constants_aside t _ = refl
 
+jump_tables_aside : (t : TableLists) (entry : TableEntry) → (with_entry t entry).jump_tables ≡ t.jump_tables
+jump_tables_aside t (AStackSlot slot) = refl
+jump_tables_aside t _ = refl
+
 entry_keeps : (f : Body) (entry : TableEntry) → KeepsConstants f (with_tables f (with_entry f.tables entry))
 entry_keeps f entry constant bytes here = ap (λ (constants : List (List ℕ)). slice_get constants constant) (constants_aside f.tables entry) ∙ here
 
@@ -162,7 +166,7 @@ module _ (entry : TableEntry) (f g : Body) where
 
   grows_made : (r : Result ℕ BuildError) → OnOk r (g ≡ with_more f entry) → OnOk r (Grows f g)
   grows_made (Err e) is = tt
-  grows_made (Ok n) is = subst (Grows f) (sym is) (omega arith, omega arith, omega arith, refl, refl, slots entry)
+  grows_made (Ok n) is = subst (Grows f) (sym is) (omega arith, omega arith, omega arith, refl, refl, slots entry, jump_tables_aside f.tables entry)
     where
       slots : (e : TableEntry) → length f.tables.stack_slots ≤ length (with_entry f.tables e).stack_slots
       slots (AStackSlot slot) = grind (arith, common_steps)

@@ -35,6 +35,7 @@ use Rattle.clif_instructions.specs.Edges.{targets}
 use Rattle.clif_meaning.specs.Name.{Name}
 use Rattle.clif_meaning.specs.Instruction.{Edge, Instruction, Operation, Iconst, Compute}
 use Rattle.clif_meaning.specs.Instruction as operation
+use Rattle.clif_meaning.specs.Acceptance.{table_branch}
 use Rattle.clif_meaning.specs.Program as program
 use Rattle.clif_meaning.specs.Request.{AnsweredCall, Build, number_of}
 use Rattle.clif_meaning.specs.Ledger.{or_invalid, type_of}
@@ -55,8 +56,8 @@ use Rattle.cranelift_frontend.proofs.Sorts.{EndsBlock, StaysInBlock, same_opcode
 -- SHAPES ----------------------------------------------------------------------------------------------------------
 
 -- the call that builds an instruction
-abbrev pub built : Instruction Name Name → List ℕ → AnsweredCall
-built instruction numbers = record { request = Build instruction; numbers = numbers }
+abbrev pub built : Option ℕ → Instruction Name Name → List ℕ → AnsweredCall
+built table instruction numbers = record { request = Build table instruction; numbers = numbers }
 
 -- an instruction without edges, by its other parts
 abbrev pub plain : Operation → «Type» → List Name → Instruction Name Name
@@ -89,7 +90,7 @@ same_end calls f instruction shape ty has =
 
 -- THE PARTS OF A BUILDER ------------------------------------------------------------------------------------------
 
-module _ (calls : List AnsweredCall) (f g : Body) (c d : ContextState) (p : Option ℕ) (block : ℕ) (instruction : Instruction Name Name) (shape : InstructionData) (ty : «Type») (inst : ℕ)
+module _ (calls : List AnsweredCall) (f g : Body) (c d : ContextState) (p : Option ℕ) (block : ℕ) (table : Option ℕ) (instruction : Instruction Name Name) (shape : InstructionData) (ty : «Type») (inst : ℕ)
     (agrees : LedgerAgrees calls (ledger_of calls) f c p) (at : p ≡ Some block) (exists : block < length f.blocks) (consistent : IsConsistent f)
     (has : HasShape calls f instruction shape ty) (appends : AppendsIn f c g d block shape ty inst) (variables : d.variables ≡ c.variables) where
   function_of : (types : List «Type») → result_types shape ty ≡ types → g ≡ with_inst (inserted_in f block) block Back shape types no_srcloc
@@ -106,7 +107,7 @@ module _ (calls : List AnsweredCall) (f g : Body) (c d : ContextState) (p : Opti
 
   -- the agreement, where the instruction has these results
   abbrev Agrees : Instruction Name Name → List ℕ → Type 0
-  Agrees i results = LedgerAgrees (calls ++ built i (inst ∷ results) ∷ []) (ledger_of (calls ++ built i (inst ∷ results) ∷ [])) g d p
+  Agrees i results = LedgerAgrees (calls ++ built table i (inst ∷ results) ∷ []) (ledger_of (calls ++ built table i (inst ∷ results) ∷ [])) g d p
 
   -- the instruction, where it has no edges
   same-plain : destinations shape ≡ [] → instruction ≡ plain instruction.operation instruction.controlling instruction.operands
@@ -119,8 +120,8 @@ module _ (calls : List AnsweredCall) (f g : Body) (c d : ContextState) (p : Opti
       let results : List ℕ = range_with_len (length (inserted_in f block).values) (length types) in
       subst (Agrees instruction) (sym (results-of types refl))
       (subst (λ (i : Instruction Name Name). Agrees i results) (sym (same-plain known.no_edges))
-      (concluded calls (built (plain instruction.operation instruction.controlling names) (inst ∷ results)) g d p
-      (agrees-built calls (ledger_of calls) f g c d p block shape instruction.operation instruction.controlling types names inst
+      (concluded calls (built table (plain instruction.operation instruction.controlling names) (inst ∷ results)) g d p
+      (agrees-built calls (ledger_of calls) f g c d p block shape table instruction.operation instruction.controlling types names inst
       agrees at consistent exists (function_of types refl) (sets_status false known.goes_on) ssa variables appends.number
       (same_end calls f instruction shape ty has ∙ known.goes_on) (same_types calls f instruction shape ty has))))
 
@@ -129,31 +130,31 @@ module _ (calls : List AnsweredCall) (f g : Body) (c d : ContextState) (p : Opti
       → Agrees instruction (inst_at g inst).results
   ending known open_in may declared =
       subst (Agrees instruction) (sym (results-of [] known.none))
-      (concluded calls (built instruction (inst ∷ [])) g d p
-      (agrees-ended calls f g c d p block shape instruction inst agrees at consistent exists open_in (function_of [] known.none) (sets_status true known.ends) variables appends.number has.edges may declared
+      (concluded calls (built table instruction (inst ∷ [])) g d p
+      (agrees-ended calls f g c d p block shape table instruction inst agrees at consistent exists open_in (function_of [] known.none) (sets_status true known.ends) variables appends.number has.edges may declared
       (same_end calls f instruction shape ty has ∙ known.ends) (same_types calls f instruction shape ty has ∙ known.none)))
 
-pub shaped-ledger : (calls : List AnsweredCall) (f g : Body) (c d : ContextState) (p : Option ℕ) (block : ℕ) (instruction : Instruction Name Name) (shape : InstructionData) (ty : «Type») (inst : ℕ)
+pub shaped-ledger : (calls : List AnsweredCall) (f g : Body) (c d : ContextState) (p : Option ℕ) (block : ℕ) (table : Option ℕ) (instruction : Instruction Name Name) (shape : InstructionData) (ty : «Type») (inst : ℕ)
     → LedgerAgrees calls (ledger_of calls) f c p → p ≡ Some block → block < length f.blocks → status_of c block ≢ Filled → IsConsistent f
     → HasShape calls f instruction shape ty → All (CanLeadIn f c) (destinations shape) → AppendsIn f c g d block shape ty inst
     → IsDeclared c.ssa inst (targets (destinations shape)) d.ssa → (is_branch shape ≡ false → d.ssa ≡ c.ssa) → d.variables ≡ c.variables
-    → LedgerAgrees (calls ++ built instruction (inst ∷ (inst_at g inst).results) ∷ []) (ledger_of (calls ++ built instruction (inst ∷ (inst_at g inst).results) ∷ [])) g d p
-shaped-ledger calls f g c d p block instruction shape ty inst agrees at exists open_in consistent has may appends declared ssa variables = by (sort_of shape ty)
+    → LedgerAgrees (calls ++ built table instruction (inst ∷ (inst_at g inst).results) ∷ []) (ledger_of (calls ++ built table instruction (inst ∷ (inst_at g inst).results) ∷ [])) g d p
+shaped-ledger calls f g c d p block table instruction shape ty inst agrees at exists open_in consistent has may appends declared ssa variables = by (sort_of shape ty)
   where
     by : StaysInBlock shape ⊎ EndsBlock shape ty
-        → LedgerAgrees (calls ++ built instruction (inst ∷ (inst_at g inst).results) ∷ []) (ledger_of (calls ++ built instruction (inst ∷ (inst_at g inst).results) ∷ [])) g d p
-    by (inl known) = staying calls f g c d p block instruction shape ty inst agrees at exists consistent has appends variables known (ssa known.no_branch)
-    by (inr known) = ending calls f g c d p block instruction shape ty inst agrees at exists consistent has appends variables known open_in may declared
+        → LedgerAgrees (calls ++ built table instruction (inst ∷ (inst_at g inst).results) ∷ []) (ledger_of (calls ++ built table instruction (inst ∷ (inst_at g inst).results) ∷ [])) g d p
+    by (inl known) = staying calls f g c d p block table instruction shape ty inst agrees at exists consistent has appends variables known (ssa known.no_branch)
+    by (inr known) = ending calls f g c d p block table instruction shape ty inst agrees at exists consistent has appends variables known open_in may declared
 
 -- where no error is answered
-pub ledger-shaped : {E : Type 0} (calls : List AnsweredCall) (f g : Body) (c d : ContextState) (p : Option ℕ) (block : ℕ) (instruction : Instruction Name Name) (shape : InstructionData) (ty : «Type») (r : Result ℕ E)
+pub ledger-shaped : {E : Type 0} (calls : List AnsweredCall) (f g : Body) (c d : ContextState) (p : Option ℕ) (block : ℕ) (table : Option ℕ) (instruction : Instruction Name Name) (shape : InstructionData) (ty : «Type») (r : Result ℕ E)
     → LedgerAgrees calls (ledger_of calls) f c p → p ≡ Some block → (block < length f.blocks) × (status_of c block ≢ Filled) → IsConsistent f
     → HasShape calls f instruction shape ty → All (CanLeadIn f c) (destinations shape) → IfOk r (λ inst. AppendsIn f c g d block shape ty inst)
     → IfOk r (λ inst. IsDeclared c.ssa inst (targets (destinations shape)) d.ssa) → (is_branch shape ≡ false → d.ssa ≡ c.ssa) → d.variables ≡ c.variables
-    → IfOk r (λ inst. LedgerAgrees (calls ++ built instruction (inst ∷ (inst_at g inst).results) ∷ []) (ledger_of (calls ++ built instruction (inst ∷ (inst_at g inst).results) ∷ [])) g d p)
-ledger-shaped calls f g c d p block instruction shape ty (Err e) agrees at current consistent has may appends declared ssa variables = tt
-ledger-shaped calls f g c d p block instruction shape ty (Ok inst) agrees at current consistent has may appends declared ssa variables =
-    shaped-ledger calls f g c d p block instruction shape ty inst agrees at current.0 current.1 consistent has may appends declared ssa variables
+    → IfOk r (λ inst. LedgerAgrees (calls ++ built table instruction (inst ∷ (inst_at g inst).results) ∷ []) (ledger_of (calls ++ built table instruction (inst ∷ (inst_at g inst).results) ∷ [])) g d p)
+ledger-shaped calls f g c d p block table instruction shape ty (Err e) agrees at current consistent has may appends declared ssa variables = tt
+ledger-shaped calls f g c d p block table instruction shape ty (Ok inst) agrees at current consistent has may appends declared ssa variables =
+    shaped-ledger calls f g c d p block table instruction shape ty inst agrees at current.0 current.1 consistent has may appends declared ssa variables
 
 -- BUILDERS --------------------------------------------------------------------------------------------------------
 
@@ -332,18 +333,15 @@ edges-count calls (edge ∷ edges) (call ∷ others) names = ap suc (edges-count
 edges-count calls [] (call ∷ others) names = absurd names
 edges-count calls (edge ∷ edges) [] names = absurd names
 
-pub table-shape : (calls : List AnsweredCall) (f : Body) (index : Name) (value : ℕ) (first : Edge Name Name) (others : List (Edge Name Name)) (table : List BlockCall)
-    → NamesValue calls index value → NamesEdges calls (first ∷ others) table
-    → HasShape calls f (record { operation = operation.BrTable (length others); controlling = type.Invalid; operands = index ∷ []; edges = first ∷ others }) (BranchTable value table) type.Invalid
-table-shape calls f index value first others table names edges =
-    let count : length others ≡ length table - 1 = omega (arith, edges-count calls (first ∷ others) table edges) in
-    record {
-      operation = ap operation.BrTable count;
-      typed = refl;
-      controlling = refl;
-      operands_numbered = ap (λ (o : Option ℕ). o ∷ []) names.number;
-      edges = edges;
-    }
+pub table-shape : (calls : List AnsweredCall) (f : Body) (index : Name) (value : ℕ) (edges : List (Edge Name Name)) (table : List BlockCall)
+    → NamesValue calls index value → NamesEdges calls edges table → HasShape calls f (table_branch index edges) (BranchTable value table) type.Invalid
+table-shape calls f index value edges table names named = record {
+  operation = ap (λ (count : ℕ). operation.BrTable (count - 1)) (edges-count calls edges table named);
+  typed = refl;
+  controlling = refl;
+  operands_numbered = ap (λ (o : Option ℕ). o ∷ []) names.number;
+  edges = named;
+}
 
 pub return-shape : (calls : List AnsweredCall) (f : Body) (names : List Name) (values : List ℕ) → map (number_of calls) names ≡ map Some values
     → HasShape calls f (plain operation.Return type.Invalid names) (MultiAry values) type.Invalid

@@ -28,6 +28,7 @@ pub mod Standing
 pub mod StandingResults
 pub mod Marking
 pub mod Entries
+pub mod TableCalls
 pub mod Tabling
 pub mod SealingAll
 pub mod Finishing

@@ -74,19 +74,19 @@ declared_nowhere s t inst same = record {
 
 -- AN INSTRUCTION --------------------------------------------------------------------------------------------------------
 
-abbrev pub built : Instruction Name Name → List ℕ → AnsweredCall
-built instruction numbers = record { request = Build instruction; numbers = numbers }
+abbrev pub built : Option ℕ → Instruction Name Name → List ℕ → AnsweredCall
+built table instruction numbers = record { request = Build table instruction; numbers = numbers }
 
-module _ (declared : SignatureShape) (calls : List AnsweredCall) (f g : Body) (c d : ContextState) (p : Option ℕ) (instruction : Instruction Name Name) (shape : InstructionData)
+module _ (declared : SignatureShape) (calls : List AnsweredCall) (f g : Body) (c d : ContextState) (p : Option ℕ) (table : Option ℕ) (instruction : Instruction Name Name) (shape : InstructionData)
     (ty : «Type») (inst block : ℕ) (stands : StandsIn declared calls f c p) (consistent : IsConsistent f) (has : HasShape calls f instruction shape ty)
     (operands_exist : (k : ℕ) → k < length (operands shape) → slice_index (operands shape) k < length f.values) (at : p ≡ Some block)
     (there : block < length f.blocks) (open_block : status_of c block ≢ Filled) (appends : AppendsIn f c g d block shape ty inst)
-    (kept : LedgerAgrees (calls ++ built instruction (inst ∷ (inst_at g inst).results) ∷ []) (ledger_of (calls ++ built instruction (inst ∷ (inst_at g inst).results) ∷ [])) g d p) where
+    (kept : LedgerAgrees (calls ++ built table instruction (inst ∷ (inst_at g inst).results) ∷ []) (ledger_of (calls ++ built table instruction (inst ∷ (inst_at g inst).results) ∷ [])) g d p) where
   abbrev numbers : List ℕ
   numbers = inst ∷ (inst_at g inst).results
 
   abbrev call : AnsweredCall
-  call = built instruction (inst ∷ (inst_at g inst).results)
+  call = built table instruction (inst ∷ (inst_at g inst).results)
 
   here : (name : Name) × IsCurrent calls block name
   here = current_name declared calls f c p stands block at
@@ -122,7 +122,7 @@ module _ (declared : SignatureShape) (calls : List AnsweredCall) (f g : Body) (c
   controlled_at : (types : List «Type») → result_types shape ty ≡ types
       → controlling_of (with_inst (inserted_in f block) block Back shape types no_srcloc) shape (inst_node (inserted_in f block) block shape types no_srcloc).results ≡ instruction.controlling
   controlled_at types is =
-      made_controlling calls f c.ssa stands.carries consistent block here.0 here.1 unfilled there shape instruction no_srcloc numbers types ty (sym is) operands_exist ∙ sym has.controlling
+      made_controlling calls f c.ssa stands.carries consistent block here.0 here.1 unfilled there shape table instruction no_srcloc numbers types ty (sym is) operands_exist ∙ sym has.controlling
 
   -- its results have the next numbers of values
   numbered : (k : ℕ) → k < length (result_types shape ty) → slice_get (inst ∷ (inst_at g inst).results) (suc k) ≡ Some (length (inserted_in f block).values + k)
@@ -134,7 +134,7 @@ module _ (declared : SignatureShape) (calls : List AnsweredCall) (f g : Body) (c
   stands_plain : StaysInBlock shape → d.ssa ≡ c.ssa → StandsIn declared (calls ++ call ∷ []) g d p
   stands_plain known same =
       let types : List «Type» = result_types shape ty in
-      let carries = carries_plain calls f c.ssa stands.carries consistent block here.0 here.1 unfilled there shape instruction no_srcloc numbers (plainly known.no_edges)
+      let carries = carries_plain calls f c.ssa stands.carries consistent block here.0 here.1 unfilled there shape table instruction no_srcloc numbers (plainly known.no_edges)
       types program_types (controlled_at types refl) numbered in
       finished types refl (subst (Carries (calls ++ call ∷ []) (with_inst (inserted_in f block) block Back shape types no_srcloc)) (sym same) carries)
 
@@ -142,7 +142,7 @@ module _ (declared : SignatureShape) (calls : List AnsweredCall) (f g : Body) (c
   stands_end : EndsBlock shape ty → All (CanLeadIn f c) (destinations shape) → IsDeclared c.ssa inst (targets (destinations shape)) d.ssa → StandsIn declared (calls ++ call ∷ []) g d p
   stands_end known edges declares =
       finished [] known.none
-      (carries_branch calls f c.ssa stands.carries consistent block here.0 here.1 unfilled there shape instruction no_srcloc numbers branch [] (program_types ∙ known.none) (controlled_at [] known.none) (λ k below. absurd (omega (arith, below)))
+      (carries_branch calls f c.ssa stands.carries consistent block here.0 here.1 unfilled there shape table instruction no_srcloc numbers branch [] (program_types ∙ known.none) (controlled_at [] known.none) (λ k below. absurd (omega (arith, below)))
       declares.told d.ssa (same_end calls f instruction shape ty has ∙ known.ends) declares.once
       exactly (λ x told. let to = (exactly x).0 told in target_unsealed f c (destinations shape) to.0 x edges to.1 to.2)
       (subst (λ (i : ℕ). DeclaredAlong c.ssa i declares.told d.ssa) appends.number declares.along))
@@ -155,27 +155,27 @@ module _ (declared : SignatureShape) (calls : List AnsweredCall) (f g : Body) (c
 
 -- AN INSTRUCTION OF ANY SHAPE -------------------------------------------------------------------------------------------
 
-pub shaped_stands : (declared : SignatureShape) (calls : List AnsweredCall) (f g : Body) (c d : ContextState) (p : Option ℕ) (instruction : Instruction Name Name) (shape : InstructionData)
+pub shaped_stands : (declared : SignatureShape) (calls : List AnsweredCall) (f g : Body) (c d : ContextState) (p : Option ℕ) (table : Option ℕ) (instruction : Instruction Name Name) (shape : InstructionData)
     (ty : «Type») (inst block : ℕ) → StandsIn declared calls f c p → IsConsistent f → HasShape calls f instruction shape ty
     → ((k : ℕ) → k < length (operands shape) → slice_index (operands shape) k < length f.values) → p ≡ Some block
     → block < length f.blocks → status_of c block ≢ Filled → AppendsIn f c g d block shape ty inst
     → All (CanLeadIn f c) (destinations shape) → IsDeclared c.ssa inst (targets (destinations shape)) d.ssa → (is_branch shape ≡ false → d.ssa ≡ c.ssa)
-    → LedgerAgrees (calls ++ built instruction (inst ∷ (inst_at g inst).results) ∷ []) (ledger_of (calls ++ built instruction (inst ∷ (inst_at g inst).results) ∷ [])) g d p
-    → StandsIn declared (calls ++ built instruction (inst ∷ (inst_at g inst).results) ∷ []) g d p
-shaped_stands declared calls f g c d p instruction shape ty inst block stands consistent has exist at there open_block appends edges declares same kept = by (sort_of shape ty)
+    → LedgerAgrees (calls ++ built table instruction (inst ∷ (inst_at g inst).results) ∷ []) (ledger_of (calls ++ built table instruction (inst ∷ (inst_at g inst).results) ∷ [])) g d p
+    → StandsIn declared (calls ++ built table instruction (inst ∷ (inst_at g inst).results) ∷ []) g d p
+shaped_stands declared calls f g c d p table instruction shape ty inst block stands consistent has exist at there open_block appends edges declares same kept = by (sort_of shape ty)
   where
-    by : StaysInBlock shape ⊎ EndsBlock shape ty → StandsIn declared (calls ++ built instruction (inst ∷ (inst_at g inst).results) ∷ []) g d p
-    by (inl known) = stands_plain declared calls f g c d p instruction shape ty inst block stands consistent has exist at there open_block appends kept known (same known.no_branch)
-    by (inr known) = stands_end declared calls f g c d p instruction shape ty inst block stands consistent has exist at there open_block appends kept known edges declares
+    by : StaysInBlock shape ⊎ EndsBlock shape ty → StandsIn declared (calls ++ built table instruction (inst ∷ (inst_at g inst).results) ∷ []) g d p
+    by (inl known) = stands_plain declared calls f g c d p table instruction shape ty inst block stands consistent has exist at there open_block appends kept known (same known.no_branch)
+    by (inr known) = stands_end declared calls f g c d p table instruction shape ty inst block stands consistent has exist at there open_block appends kept known edges declares
 
 -- where no error is answered
-pub stands_shaped : {E : Type 0} (declared : SignatureShape) (calls : List AnsweredCall) (f g : Body) (c d : ContextState) (p : Option ℕ) (instruction : Instruction Name Name) (shape : InstructionData)
+pub stands_shaped : {E : Type 0} (declared : SignatureShape) (calls : List AnsweredCall) (f g : Body) (c d : ContextState) (p : Option ℕ) (table : Option ℕ) (instruction : Instruction Name Name) (shape : InstructionData)
     (ty : «Type») (r : Result ℕ E) (block : ℕ) → StandsIn declared calls f c p → IsConsistent f → HasShape calls f instruction shape ty
     → ((k : ℕ) → k < length (operands shape) → slice_index (operands shape) k < length f.values) → p ≡ Some block
     → block < length f.blocks → status_of c block ≢ Filled → IfOk r (λ inst. AppendsIn f c g d block shape ty inst)
     → All (CanLeadIn f c) (destinations shape) → IfOk r (λ inst. IsDeclared c.ssa inst (targets (destinations shape)) d.ssa) → (is_branch shape ≡ false → d.ssa ≡ c.ssa)
-    → IfOk r (λ inst. LedgerAgrees (calls ++ built instruction (inst ∷ (inst_at g inst).results) ∷ []) (ledger_of (calls ++ built instruction (inst ∷ (inst_at g inst).results) ∷ [])) g d p)
-    → IfOk r (λ inst. StandsIn declared (calls ++ built instruction (inst ∷ (inst_at g inst).results) ∷ []) g d p)
-stands_shaped declared calls f g c d p instruction shape ty (Err e) block stands consistent has exist at there open_block appends edges declares same kept = tt
-stands_shaped declared calls f g c d p instruction shape ty (Ok inst) block stands consistent has exist at there open_block appends edges declares same kept =
-    shaped_stands declared calls f g c d p instruction shape ty inst block stands consistent has exist at there open_block appends edges declares same kept
+    → IfOk r (λ inst. LedgerAgrees (calls ++ built table instruction (inst ∷ (inst_at g inst).results) ∷ []) (ledger_of (calls ++ built table instruction (inst ∷ (inst_at g inst).results) ∷ [])) g d p)
+    → IfOk r (λ inst. StandsIn declared (calls ++ built table instruction (inst ∷ (inst_at g inst).results) ∷ []) g d p)
+stands_shaped declared calls f g c d p table instruction shape ty (Err e) block stands consistent has exist at there open_block appends edges declares same kept = tt
+stands_shaped declared calls f g c d p table instruction shape ty (Ok inst) block stands consistent has exist at there open_block appends edges declares same kept =
+    shaped_stands declared calls f g c d p table instruction shape ty inst block stands consistent has exist at there open_block appends edges declares same kept

@@ -24,7 +24,7 @@ use Rattle.cranelift_frontend.specs.declared.context.BlockStatus.TheVariants.{Fi
 use Rattle.cranelift_frontend.specs.Builder.{CanLead, CanLeadIn, HasCurrent, SameLoans}
 use Rattle.cranelift_frontend.specs.Context.{ContextState, status_of}
 use Rattle.cranelift_frontend.specs.Entries.{CreatesJumpTable, MakesEdge, MayServe, PoolsConstant, SetsTables, TakesJumpTable, table_edges}
-use Rattle.cranelift_frontend.specs.Growth.{Grows, TypesStay}
+use Rattle.cranelift_frontend.specs.Growth.{Grows, GrowsBesideTables, TypesStay}
 use Rattle.cranelift_frontend.specs.Ledger.{LedgerAgrees, ledger_of, tables_of_calls}
 use Rattle.cranelift_frontend.specs.StandsFor.{StandsIn}
 use Rattle.cranelift_frontend.proofs.Calls as calls
@@ -122,7 +122,7 @@ set_tables {A} lists old new answer aside fine loans position context fails cons
       stands = λ signature cs stands.
           on_ok lists f g (λ h. StandsIn signature cs h new.ctx.now new.position) answer ok
           (parts (λ h e r. StandsIn signature cs h e r) (stands_aside f lists aside signature cs old.ctx.now old.position consistent stands));
-      grows = on_ok lists f g (Grows f) answer ok (omega arith, omega arith, omega arith, refl, refl, omega (arith, slots));
+      grows = on_ok lists f g (GrowsBesideTables f) answer ok (omega arith, omega arith, omega arith, refl, refl, omega (arith, slots));
       remembers = λ x b.
           on_ok lists f g (λ h. Remembers x b f old.ctx.now.ssa h new.ctx.now.ssa) answer ok
           (record { recorded = λ v here. ap (λ (u : SsaState). record_of u x b) ssa ∙ here; alike = λ u v alike. alike });
@@ -160,6 +160,7 @@ constant_pooled bytes old new answer fine loans position context fails consisten
     let f : Body = old.func.now in
     record {
       sets = set_tables (with_constant f.tables bytes) old new answer (pooled_aside f bytes) fine loans position context fails consistent pools.never_failed pools.ok pools.err;
+      grows = on_ok (with_constant f.tables bytes) f new.func.now (Grows f) answer pools.ok (omega arith, omega arith, omega arith, refl, refl, omega arith, refl);
       number = pools.number;
       found = found_pooled bytes f new.func.now answer pools.ok pools.number;
       full = (λ is. let new = pools.full.0 is in (fine, new.0, new.1), λ all. pools.full.1 (all.1, all.2));
@@ -168,6 +169,7 @@ constant_pooled bytes old new answer fine loans position context fails consisten
 pub constant_refused : (bytes : List ℕ) (old : FunctionBuilder) → old.failed ≡ true → PoolsConstant old old bytes (Err Failed)
 constant_refused bytes old failed = record {
   sets = set_refused (with_constant old.func.now.tables bytes) old failed;
+  grows = tt;
   number = tt;
   found = tt;
   full = (λ is. let no_way : ⊥ = cc in absurd no_way, λ all. let no_way : ⊥ = cc in absurd no_way);
@@ -241,6 +243,7 @@ pub edge_made : (block : ℕ) (args : List BlockArg) (old new : FunctionBuilder)
     → IfOk answer (λ edge. (edge.block ≡ block) × (edge.args ≡ args)) → MakesEdge block args old new answer
 edge_made block args old new answer fine loans position context fails consistent same only_memory edge = record {
   sets = set_tables old.func.now.tables old new answer (same_aside old.func.now) fine loans position context fails consistent (calls.by_memory answer only_memory) (on_any answer same) (err_any answer same);
+  grows = on_any answer (subst (Grows old.func.now) (sym same) (omega arith, omega arith, omega arith, refl, refl, omega arith, refl));
   edge = parts answer edge;
   never_full = not_full answer only_memory;
 }
@@ -255,4 +258,4 @@ edge_made block args old new answer fine loans position context fails consistent
 
 pub edge_refused : (block : ℕ) (args : List BlockArg) (old : FunctionBuilder) → old.failed ≡ true → MakesEdge block args old old (Err Failed)
 edge_refused block args old failed =
-    record { sets = set_refused old.func.now.tables old failed; edge = tt; never_full = λ is. let no_way : ⊥ = cc in absurd no_way }
+    record { sets = set_refused old.func.now.tables old failed; grows = tt; edge = tt; never_full = λ is. let no_way : ⊥ = cc in absurd no_way }

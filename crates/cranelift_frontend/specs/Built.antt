@@ -1,6 +1,6 @@
 -- What building an instruction makes of a builder, whatever it answers. Source: own, after the crate's documentation of
 -- `InstBuilder`.
-use Rattle.std.specs.Prelude.{◌≡◌, ◌<◌, ◌≤◌, ◌-◌, ◌^◌, ◌⊎◌, ◌↔◌, ℕ, List, [], ◌∷◌, ◌++◌, length, true, false, is_err, map, IsTrue, Result, Err, IfOk, OnOk, IfSome}
+use Rattle.std.specs.Prelude.{◌≡◌, ◌<◌, ◌≤◌, ◌-◌, ◌^◌, ◌⊎◌, ◌↔◌, ℕ, List, [], ◌∷◌, ◌++◌, length, true, false, is_err, map, IsTrue, Option, Result, Err, IfOk, OnOk, IfSome}
 use Rattle.clif_types.specs.declared.error.BuildError.{BuildError}
 use Rattle.clif_types.specs.declared.error.BuildError.TheVariants.{Full, Failed}
 use Rattle.clif_types.specs.declared.types.«Type».{«Type»}
@@ -23,9 +23,9 @@ use Rattle.cranelift_frontend.specs.Growth.{Grows, RemembersIn, TypesStay}
 use Rattle.cranelift_frontend.specs.Ledger.{AgreesWithLedger, HasShape}
 use Rattle.cranelift_frontend.specs.StandsFor.{StandsFor}
 
--- the calls, and at their end the one that builds an instruction, answered by these numbers
-abbrev pub after_build : List AnsweredCall → Instruction Name Name → List ℕ → List AnsweredCall
-after_build calls instruction numbers = calls ++ record { request = Build instruction; numbers = numbers } ∷ []
+-- the calls, and at their end the one that builds an instruction, which this jump table serves, if one does, answered by these numbers
+abbrev pub after_build : List AnsweredCall → Option ℕ → Instruction Name Name → List ℕ → List AnsweredCall
+after_build calls table instruction numbers = calls ++ record { request = Build table instruction; numbers = numbers } ∷ []
 
 -- the numbers that answer an instruction: its own, and those of its results
 abbrev pub numbers_of : FunctionBuilder → ℕ → List ℕ
@@ -57,12 +57,12 @@ pub record Builds (old new : FunctionBuilder) (shape : InstructionData) (ty : «
   pub unchanged : IsTrue old.failed → new ≡ old
   pub fails : new.failed ≡ is_err answer
   pub looks_once : LooksOnce old.ctx.now.ssa → LooksOnce new.ctx.now.ssa
-  pub ledger : (calls : List AnsweredCall) (instruction : Instruction Name Name)
+  pub ledger : (calls : List AnsweredCall) (table : Option ℕ) (instruction : Instruction Name Name)
       → AgreesWithLedger calls old → HasShape calls old.func.now instruction shape ty
-      → IfOk answer (λ inst. AgreesWithLedger (after_build calls instruction (numbers_of new inst)) new)
-  pub stands : (signature : SignatureShape) (calls : List AnsweredCall) (instruction : Instruction Name Name)
+      → IfOk answer (λ inst. AgreesWithLedger (after_build calls table instruction (numbers_of new inst)) new)
+  pub stands : (signature : SignatureShape) (calls : List AnsweredCall) (table : Option ℕ) (instruction : Instruction Name Name)
       → StandsFor signature calls old → HasShape calls old.func.now instruction shape ty
-      → IfOk answer (λ inst. StandsFor signature (after_build calls instruction (numbers_of new inst)) new)
+      → IfOk answer (λ inst. StandsFor signature (after_build calls table instruction (numbers_of new inst)) new)
   pub exists : IfOk answer (λ inst. inst < length new.func.now.insts)
   pub grows : OnOk answer (Grows old.func.now new.func.now)
   pub remembers : (v b : ℕ) → OnOk answer (RemembersIn v b old new)
@@ -86,12 +86,12 @@ pub record BuildsValue (old new : FunctionBuilder) (shape : InstructionData) (ty
   pub unchanged : IsTrue old.failed → new ≡ old
   pub fails : new.failed ≡ is_err answer
   pub looks_once : LooksOnce old.ctx.now.ssa → LooksOnce new.ctx.now.ssa
-  pub ledger : (calls : List AnsweredCall) (instruction : Instruction Name Name)
+  pub ledger : (calls : List AnsweredCall) (table : Option ℕ) (instruction : Instruction Name Name)
       → AgreesWithLedger calls old → HasShape calls old.func.now instruction shape ty
-      → IfOk answer (λ value. AgreesWithLedger (after_build calls instruction (numbers_with old value)) new)
-  pub stands : (signature : SignatureShape) (calls : List AnsweredCall) (instruction : Instruction Name Name)
+      → IfOk answer (λ value. AgreesWithLedger (after_build calls table instruction (numbers_with old value)) new)
+  pub stands : (signature : SignatureShape) (calls : List AnsweredCall) (table : Option ℕ) (instruction : Instruction Name Name)
       → StandsFor signature calls old → HasShape calls old.func.now instruction shape ty
-      → IfOk answer (λ value. StandsFor signature (after_build calls instruction (numbers_with old value)) new)
+      → IfOk answer (λ value. StandsFor signature (after_build calls table instruction (numbers_with old value)) new)
   pub exists : IfOk answer (λ value. value < length new.func.now.values)
   pub grows : OnOk answer (Grows old.func.now new.func.now)
   pub remembers : (v b : ℕ) → OnOk answer (RemembersIn v b old new)
@@ -112,12 +112,12 @@ pub record BuildsPair (old new : FunctionBuilder) (shape : InstructionData) (ty 
   pub unchanged : IsTrue old.failed → new ≡ old
   pub fails : new.failed ≡ is_err answer
   pub looks_once : LooksOnce old.ctx.now.ssa → LooksOnce new.ctx.now.ssa
-  pub ledger : (calls : List AnsweredCall) (instruction : Instruction Name Name)
+  pub ledger : (calls : List AnsweredCall) (table : Option ℕ) (instruction : Instruction Name Name)
       → AgreesWithLedger calls old → HasShape calls old.func.now instruction shape ty
-      → IfOk answer (λ pair. AgreesWithLedger (after_build calls instruction (numbers_with_pair old pair)) new)
-  pub stands : (signature : SignatureShape) (calls : List AnsweredCall) (instruction : Instruction Name Name)
+      → IfOk answer (λ pair. AgreesWithLedger (after_build calls table instruction (numbers_with_pair old pair)) new)
+  pub stands : (signature : SignatureShape) (calls : List AnsweredCall) (table : Option ℕ) (instruction : Instruction Name Name)
       → StandsFor signature calls old → HasShape calls old.func.now instruction shape ty
-      → IfOk answer (λ pair. StandsFor signature (after_build calls instruction (numbers_with_pair old pair)) new)
+      → IfOk answer (λ pair. StandsFor signature (after_build calls table instruction (numbers_with_pair old pair)) new)
   pub exists : IfOk answer (λ pair. (pair.0 < length new.func.now.values) × (pair.1 < length new.func.now.values))
   pub grows : OnOk answer (Grows old.func.now new.func.now)
   pub remembers : (v b : ℕ) → OnOk answer (RemembersIn v b old new)

@@ -14,7 +14,7 @@ use Rattle.clif_meaning.specs.Request.{AnsweredCall, MakeEntry}
 use Rattle.cranelift_frontend.specs.declared.builder.FunctionBuilder.{FunctionBuilder}
 use Rattle.cranelift_frontend.specs.Builder.{CanLead, HasCurrent}
 use Rattle.cranelift_frontend.specs.Calls.{IsCall, IsTold, answered}
-use Rattle.cranelift_frontend.specs.Growth.{Grows, RemembersIn}
+use Rattle.cranelift_frontend.specs.Growth.{Grows, GrowsBesideTables, RemembersIn}
 use Rattle.cranelift_frontend.specs.Ledger.{AgreesWithLedger}
 use Rattle.cranelift_frontend.specs.StandsFor.{StandsFor}
 
@@ -41,13 +41,14 @@ pub record SetsTables {A : Type 0} (tables : TableLists) (old new : FunctionBuil
   pub context : new.ctx.now ≡ old.ctx.now
   pub ledger : (calls : List AnsweredCall) → AgreesWithLedger calls old → OnOk answer (AgreesWithLedger calls new)
   pub stands : (signature : SignatureShape) (calls : List AnsweredCall) → StandsFor signature calls old → OnOk answer (StandsFor signature calls new)
-  pub grows : OnOk answer (Grows old.func.now new.func.now)
+  pub grows : OnOk answer (GrowsBesideTables old.func.now new.func.now)
   pub remembers : (x b : ℕ) → OnOk answer (RemembersIn x b old new)
   pub current : HasCurrent old → OnOk answer (HasCurrent new)
 
 -- Bytes are pooled: the answer is the number of the constant with them, and nothing but the constants changes.
 pub record PoolsConstant (old new : FunctionBuilder) (bytes : List ℕ) (answer : Result ℕ BuildError) : Type 0 where
   pub sets : SetsTables (with_constant old.func.now.tables bytes) old new answer
+  pub grows : OnOk answer (Grows old.func.now new.func.now)
   pub number : IfOk answer (λ number. number ≡ constant_of old.func.now.tables.constants bytes)
   pub found : IfOk answer (λ number. slice_get new.func.now.tables.constants number ≡ Some bytes)
   -- a full table is answered exactly where the bytes are new and there are 2^32 - 1 constants
@@ -80,5 +81,6 @@ pub record TakesJumpTable (old new : FunctionBuilder) (table : ℕ) (answer : Re
 -- The answer is an edge to a block that passes these arguments. Nothing changes.
 pub record MakesEdge (block : ℕ) (args : List BlockArg) (old new : FunctionBuilder) (answer : Result BlockCall BuildError) : Type 0 where
   pub sets : SetsTables old.func.now.tables old new answer
+  pub grows : OnOk answer (Grows old.func.now new.func.now)
   pub edge : IfOk answer (λ edge. edge ≡ record { block = block; args = args })
   pub never_full : answer ≢ Err Full

@@ -4,11 +4,18 @@ use Rattle.clif_ir.specs.Body.{Body, resolved, value_at}
 use Rattle.clif_ssa.specs.Structure.{HasRecordOf, Remembers}
 use Rattle.cranelift_frontend.specs.declared.builder.FunctionBuilder.{FunctionBuilder}
 
--- no table of the function is shorter, and its name and its signature stay
+-- no table of the function is shorter, and its name and its signature stay; jump tables may change
+abbrev pub GrowsBesideTables : Body → Body → Type 0
+GrowsBesideTables f g =
+    (length f.values ≤ length g.values) × (length f.insts ≤ length g.insts) × (length f.blocks ≤ length g.blocks)
+    × (g.name ≡ f.name) × (g.signature ≡ f.signature) × (length f.tables.stack_slots ≤ length g.tables.stack_slots)
+
+-- no table of the function is shorter, and its name, its signature and its jump tables stay
 abbrev pub Grows : Body → Body → Type 0
 Grows f g =
     (length f.values ≤ length g.values) × (length f.insts ≤ length g.insts) × (length f.blocks ≤ length g.blocks)
     × (g.name ≡ f.name) × (g.signature ≡ f.signature) × (length f.tables.stack_slots ≤ length g.tables.stack_slots)
+    × (g.tables.jump_tables ≡ f.tables.jump_tables)
 
 -- each value keeps its type
 abbrev pub TypesStay : Body → Body → Type 0

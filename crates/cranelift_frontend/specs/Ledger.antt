@@ -15,7 +15,7 @@ use Rattle.clif_ir.specs.declared.function.InstNode.{InstNode}
 use Rattle.clif_ir.specs.Body.{Body, block_at}
 use Rattle.clif_meaning.specs.Name.{Name, answer_of}
 use Rattle.clif_meaning.specs.Request.{AnsweredCall, script_of, number_of}
-use Rattle.clif_meaning.specs.Ledger.{Answered, ABlock, AVariable, AValue, AnInstruction, AnEntry, BlockState, Ledger, ledger_after, answer_at, has_block, has_value}
+use Rattle.clif_meaning.specs.Ledger.{Answered, ABlock, AVariable, AValue, AnInstruction, AnEntry, AnEdge, AJumpTable, BlockState, Ledger, ledger_after, answer_at, has_block, has_value}
 use Rattle.clif_meaning.specs.Acceptance.{Refusal}
 use Rattle.clif_meaning.specs.Acceptance as refusal
 use Rattle.clif_records.specs.Tables.{is_yes}
@@ -95,12 +95,15 @@ pub record BlockAgrees (calls : List AnsweredCall) (f : Body) (c : ContextState)
   pub predecessors : map (number_of calls) state.predecessors ≡ map Some (predecessors_of c.ssa k)
 
 -- an answer of the ledger with this name is the builder's answer with this number: the block that the ledger has
--- under the name, the variable, the entry of a table, an existing value of the type, an existing instruction
+-- under the name, the variable, the entry of a table, the jump table, an existing value of the type, an existing instruction. An edge has no number
+-- of the builder's: any will do.
 abbrev pub AnswerAgrees : Ledger → Body → Name → Answered → ℕ → Type 0
 AnswerAgrees ledger f name ABlock number = block_name ledger number ≡ Some name
 AnswerAgrees ledger f name (AVariable variable) number = number ≡ variable
 AnswerAgrees ledger f name (AValue ty) number = value_type f number ≡ Some ty
 AnswerAgrees ledger f name (AnEntry entry place) number = number ≡ place
+AnswerAgrees ledger f name (AnEdge edge) number = Unit {0}
+AnswerAgrees ledger f name (AJumpTable place) number = number ≡ place
 AnswerAgrees ledger f name AnInstruction number = (node : InstNode) × (slice_get f.insts number ≡ Some node)
 
 -- what follows the number of an instruction are its results, all of them and in order

@@ -1,5 +1,5 @@
 -- What a ledger and requests say by names, where it agrees with a builder, as this crate's law functions state it. Own.
-use Rattle.std.specs.Prelude.{◌≡◌, ℕ, ◌<◌, ◌==◌, List, ◌∷◌, length, map, slice_get, Option, Some, true, ℤ}
+use Rattle.std.specs.Prelude.{◌≡◌, ℕ, ◌<◌, ◌==◌, List, [], ◌∷◌, ◌++◌, length, map, slice_get, Option, Some, true, ℤ}
 use Rattle.clif_types.specs.declared.condcodes.IntCC.{IntCC}
 use Rattle.clif_types.specs.declared.trapcode.TrapCode.{TrapCode}
 use Rattle.clif_types.specs.MemFlags.{MemFlagsShape}
@@ -22,15 +22,19 @@ use Rattle.clif_types.specs.declared.types.«Type».{«Type»}
 use Rattle.clif_ir.specs.Body.{Body, value_at}
 use Rattle.clif_instructions.specs.Members.{stands_in}
 use Rattle.clif_meaning.specs.Name.{Name, same_name}
-use Rattle.clif_meaning.specs.Request.{AnsweredCall, Build, Request, number_of}
-use Rattle.clif_meaning.specs.Ledger.{BlockState, block_state, has_block, is_inserted, type_of, variable_type}
+use Rattle.clif_meaning.specs.Request.{AnsweredCall, Build, MakeEdge, MakeJumpTable, Request, number_of}
+use Rattle.clif_meaning.specs.Ledger.{BlockState, block_state, has_block, is_inserted, type_of, unserved_edges, variable_type}
+use Rattle.clif_types.specs.Signature.{SignatureShape}
+use Rattle.cranelift_frontend.specs.declared.builder.FunctionBuilder.{FunctionBuilder}
+use Rattle.cranelift_frontend.specs.Calls.{answered}
 use Rattle.cranelift_frontend.specs.Context.{ContextState}
-use Rattle.cranelift_frontend.specs.Ledger.{BlockAgrees, HasShape, LedgerAgrees, NamesBlock, NamesEdge, NamesEdges, NamesValue, block_name, ledger_of, value_type}
+use Rattle.cranelift_frontend.specs.StandsFor.{StandsFor}
+use Rattle.cranelift_frontend.specs.Ledger.{AgreesWithLedger, BlockAgrees, HasShape, LedgerAgrees, NamesBlock, NamesEdge, NamesEdges, NamesValue, block_name, ledger_of, value_type}
 
 -- this request asks for an instruction of this shape, made at this type
 abbrev pub AsksForShape : List AnsweredCall → Body → Request → InstructionData → «Type» → Type 0
 AsksForShape calls f asked shape ty =
-    (instruction : Instruction Name Name) × (asked ≡ Build instruction) × HasShape calls f instruction shape ty
+    (table : Option ℕ) × (instruction : Instruction Name Name) × (asked ≡ Build table instruction) × HasShape calls f instruction shape ty
 
 -- The request of each format, with names of its operands, asks for the shape that the method of the format builds.
 pub record AskForTheirShapes (calls : List AnsweredCall) (f : Body) : Type 0 where
@@ -71,11 +75,26 @@ pub record AskForTheirShapes (calls : List AnsweredCall) (f : Body) : Type 0 whe
   pub brif : (condition : Name) (c : ℕ) (first second : Edge Name Name) (taken other : BlockCall)
       → NamesValue calls condition c → NamesEdge calls first taken → NamesEdge calls second other
       → AsksForShape calls f (request.brif (ledger_of calls) condition first second) (shape.brif c taken other) Invalid
-  pub br_table : (index : Name) (x : ℕ) (first : Edge Name Name) (others : List (Edge Name Name)) (table : List BlockCall)
-      → NamesValue calls index x → NamesEdges calls (first ∷ others) table
-      → AsksForShape calls f (request.br_table index first others) (shape.branch_table x table) Invalid
+  -- of a table with these edges
+  pub br_table : (index : Name) (x number : ℕ) (edges : List (Edge Name Name)) (table : List BlockCall)
+      → NamesValue calls index x → unserved_edges (ledger_of calls) number ≡ Some edges → NamesEdges calls edges table
+      → AsksForShape calls f (request.br_table (ledger_of calls) index number) (shape.branch_table x table) Invalid
   pub return_ : (names : List Name) (values : List ℕ) → map (number_of calls) names ≡ map Some values
       → AsksForShape calls f (request.return_ names) (multi_ary values) Invalid
+
+-- Edges and jump tables that a list makes add nothing to what a builder stands for: they reach the function with the
+-- instruction that they serve. The numbers of jump tables count those of the list.
+pub record TableCallsAddNothing : Type 0 where
+  pub edge_ledger : (calls : List AnsweredCall) (b : FunctionBuilder) (edge : Edge Name Name) (number : ℕ)
+      → AgreesWithLedger calls b → AgreesWithLedger (calls ++ answered (MakeEdge edge) (number ∷ []) ∷ []) b
+  pub edge : (signature : SignatureShape) (calls : List AnsweredCall) (b : FunctionBuilder) (edge : Edge Name Name) (number : ℕ)
+      → StandsFor signature calls b → StandsFor signature (calls ++ answered (MakeEdge edge) (number ∷ []) ∷ []) b
+  pub table_ledger : (calls : List AnsweredCall) (b : FunctionBuilder) (default : Name) (entries : List Name) (number : ℕ)
+      → number ≡ length (ledger_of calls).jump_tables → AgreesWithLedger calls b
+      → AgreesWithLedger (calls ++ answered (MakeJumpTable default entries) (number ∷ []) ∷ []) b
+  pub table : (signature : SignatureShape) (calls : List AnsweredCall) (b : FunctionBuilder) (default : Name) (entries : List Name) (number : ℕ)
+      → number ≡ length (ledger_of calls).jump_tables → StandsFor signature calls b
+      → StandsFor signature (calls ++ answered (MakeJumpTable default entries) (number ∷ []) ∷ []) b
 
 -- They do where the ledger agrees with a builder's parts.
 abbrev pub RequestsAskForTheirShapes : Type 0

@@ -3,7 +3,7 @@
 
 ghost use Rattle.cranelift_frontend.specs.Growth.{BuilderUsesAgree};
 ghost use Rattle.cranelift_frontend.specs.Laws.{StandingIsWellPlaced, StandingMatchesEdges, StandingReadsRight, StandingReadsRightFromAnywhere, StandingRecordsAreWellPlaced};
-ghost use Rattle.cranelift_frontend.specs.LedgerLaws.{LedgerIsReadByNumber, RequestsAskForTheirShapes};
+ghost use Rattle.cranelift_frontend.specs.LedgerLaws.{LedgerIsReadByNumber, RequestsAskForTheirShapes, TableCallsAddNothing};
 
 /// Two uses of a variable in a block stand for one value, where no call between them assigns it there.
 pub fn uses_agree()
@@ -49,4 +49,10 @@ pub fn ledger_is_read_by_number()
 /// the method of the format builds: so what `ledger` and `stands` say of instructions holds of these requests.
 pub fn requests_ask_for_their_shapes()
     ensures { RequestsAskForTheirShapes }
+{}
+
+/// A builder stands for the same list with the calls at its end that make an edge or a jump table: such a call changes
+/// nothing that a builder stands for, until its table serves an instruction.
+pub fn table_calls_add_nothing()
+    ensures { TableCallsAddNothing }
 {}

@@ -1,30 +1,36 @@
-use Rattle.std.proofs.Common.{refl}
+use Rattle.std.proofs.Common.{refl, ap, List, []}
+use Rattle.std.specs.Prelude.{Option, Some, unwrap_or}
+use Rattle.clif_meaning.specs.Acceptance.{table_branch}
+use Rattle.clif_meaning.specs.Instruction.{Edge}
+use Rattle.clif_meaning.specs.Name.{Name}
+use Rattle.clif_meaning.specs.Request.{Build}
 use Rattle.clif_inst_builder.specs.Shapes.{edge_to}
 use Rattle.cranelift_frontend.proofs.LedgerShaped.{binary-shape, brif-shape, compare-shape, concat-shape, cond_trap-shape, convert-shape, f128const-shape, float-shape, iconst-shape, jump-shape, load-shape, return-shape, select-shape, split-shape, stack-shape, stack_store-shape, store-shape, table-shape, trap-shape, unary-shape, vconst-shape}
 use Rattle.cranelift_frontend.proofs.laws.requests_ask_for_their_shapes.Goals as goal
 
 pub returns : goal.returns
 returns c = λ calls f d p agrees. record {
-  iconst = λ ty imm. (_, refl, iconst-shape calls f ty imm);
-  unary = λ opcode a x first. (_, refl, unary-shape calls f d p agrees opcode a x first);
-  binary = λ opcode a b x y first second. (_, refl, binary-shape calls f d p agrees opcode a b x y first second);
-  convert = λ opcode ty a x names. (_, refl, convert-shape calls f opcode ty a x names);
-  select = λ condition a b c x y tested first second. (_, refl, select-shape calls f d p agrees condition a b c x y tested first second);
-  float_const = λ opcode bits. (_, refl, float-shape calls f opcode bits);
-  f128const = λ bytes constant found. (_, refl, f128const-shape calls f bytes constant found);
-  vconst = λ ty bytes constant found. (_, refl, vconst-shape calls f ty bytes constant found);
-  compare = λ condition a b x y first second. (_, refl, compare-shape calls f d p agrees condition a b x y first second);
-  concat = λ a b x y first second. (_, refl, concat-shape calls f d p agrees a b x y first second);
-  split = λ a x names. (_, refl, split-shape calls f d p agrees a x names);
-  load = λ flags ty a x offset names. (_, refl, load-shape calls f flags ty a x offset names);
-  store = λ flags a b x y offset first second. (_, refl, store-shape calls f d p agrees flags a b x y offset first second);
-  stack = λ opcode ty slot offset. (_, refl, stack-shape calls f opcode ty slot offset);
-  stack_store = λ a x slot offset names. (_, refl, stack_store-shape calls f d p agrees a x slot offset names);
-  trap = λ code. (_, refl, trap-shape calls f code);
-  cond_trap = λ opcode a x code names. (_, refl, cond_trap-shape calls f d p agrees opcode a x code names);
-  jump = λ edge block args names. (_, refl, jump-shape calls f edge (edge_to block args) names);
+  iconst = λ ty imm. (_, _, refl, iconst-shape calls f ty imm);
+  unary = λ opcode a x first. (_, _, refl, unary-shape calls f d p agrees opcode a x first);
+  binary = λ opcode a b x y first second. (_, _, refl, binary-shape calls f d p agrees opcode a b x y first second);
+  convert = λ opcode ty a x names. (_, _, refl, convert-shape calls f opcode ty a x names);
+  select = λ condition a b c x y tested first second. (_, _, refl, select-shape calls f d p agrees condition a b c x y tested first second);
+  float_const = λ opcode bits. (_, _, refl, float-shape calls f opcode bits);
+  f128const = λ bytes constant found. (_, _, refl, f128const-shape calls f bytes constant found);
+  vconst = λ ty bytes constant found. (_, _, refl, vconst-shape calls f ty bytes constant found);
+  compare = λ condition a b x y first second. (_, _, refl, compare-shape calls f d p agrees condition a b x y first second);
+  concat = λ a b x y first second. (_, _, refl, concat-shape calls f d p agrees a b x y first second);
+  split = λ a x names. (_, _, refl, split-shape calls f d p agrees a x names);
+  load = λ flags ty a x offset names. (_, _, refl, load-shape calls f flags ty a x offset names);
+  store = λ flags a b x y offset first second. (_, _, refl, store-shape calls f d p agrees flags a b x y offset first second);
+  stack = λ opcode ty slot offset. (_, _, refl, stack-shape calls f opcode ty slot offset);
+  stack_store = λ a x slot offset names. (_, _, refl, stack_store-shape calls f d p agrees a x slot offset names);
+  trap = λ code. (_, _, refl, trap-shape calls f code);
+  cond_trap = λ opcode a x code names. (_, _, refl, cond_trap-shape calls f d p agrees opcode a x code names);
+  jump = λ edge block args names. (_, _, refl, jump-shape calls f edge (edge_to block args) names);
   brif = λ condition value first second taken other names one two.
-      (_, refl, brif-shape calls f d p agrees condition value first second taken other _ refl names one two);
-  br_table = λ index value first others table names edges. (_, refl, table-shape calls f index value first others table names edges);
-  return_ = λ names values numbered. (_, refl, return-shape calls f names values numbered);
+      (_, _, refl, brif-shape calls f d p agrees condition value first second taken other _ refl names one two);
+  br_table = λ index value number edges table names found named.
+      (_, _, ap (λ (o : Option (List (Edge Name Name))). Build (Some number) (table_branch index (unwrap_or o []))) found, table-shape calls f index value edges table names named);
+  return_ = λ names values numbered. (_, _, refl, return-shape calls f names values numbered);
 }
