@@ -98,16 +98,16 @@ one_arm_function = both_arms_with (plain 2 ∷ plain 3 ∷ []) (passing 1 3 ∷ 
 abbrev pub swapped_function : FunctionView
 swapped_function = both_arms_with (plain 3 ∷ plain 2 ∷ []) (passing 1 3 ∷ passing 1 3 ∷ [])
 
--- by a table of two edges to block1
-abbrev pub by_table : ℕ → Request
-by_table number = Build (Some number) (table_branch (answer_of 4 1) (plain (block 1) ∷ plain (block 1) ∷ []))
+-- by this name, along the one edge of the jump table, to block1
+abbrev pub by_table : Name → Request
+by_table index = Build (Some 0) (table_branch index (plain (block 1) ∷ []))
 
--- block0 and block2 branch by the same table
-abbrev pub table_twice_script : Script
-table_twice_script =
-    CreateBlock ∷ CreateBlock ∷ CreateBlock ∷ SwitchToBlock (block 0) ∷ iconst i32 (pos 5)
-    ∷ MakeEdge (plain (block 1)) ∷ MakeJumpTable (answer_of 5 0) (answer_of 5 0 ∷ []) ∷ by_table 0
-    ∷ SwitchToBlock (block 2) ∷ by_table 0 ∷ []
+-- two blocks branch by one jump table
+abbrev pub served_twice : Script
+served_twice =
+    CreateBlock ∷ CreateBlock ∷ MakeEdge (plain (block 1)) ∷ MakeJumpTable (answer_of 2 0) [] ∷ SwitchToBlock (block 0)
+    ∷ iconst i32 (pos 0) ∷ by_table (answer_of 5 1) ∷ CreateBlock ∷ SwitchToBlock (block 7) ∷ iconst i32 (pos 0)
+    ∷ by_table (answer_of 9 1) ∷ []
 
 pub record BranchExamples : Type 0 where
   pub difference : computed (Binary Isub) i8 [] (3 ∷ 5 ∷ []) ≡ Values (254 ∷ [])
@@ -130,6 +130,6 @@ pub record BranchExamples : Type 0 where
   pub edges_match : EdgesMatch both_arms_function
   pub one_arm : EdgesMatch one_arm_function → ⊥
   -- a table serves one instruction
-  pub table_twice : verdict_on table_twice_script ≡ Misuse 9
+  pub served_twice : verdict_on served_twice ≡ Misuse 10
   -- a jump to a sealed block
   pub sealed : verdict_on (CreateBlock ∷ SwitchToBlock (block 0) ∷ SealBlock (block 0) ∷ jump (plain (block 0)) ∷ []) ≡ Misuse 3

@@ -190,14 +190,10 @@ module _ (calls : List AnsweredCall) (call : AnsweredCall) where
       operands_there table instruction is made =
           all_mapped (IsValue calls) (IsValue after) (value_stays calls call) instruction.operands
           (all_values (ledger_of calls) instruction.operands
-          (second_of_five (is_open (ledger_of calls) (ledger_of calls).current) (list_all (has_value (ledger_of calls)) instruction.operands)
+          (second_of_five (may_serve (ledger_of calls) table && is_open (ledger_of calls) (ledger_of calls).current) (list_all (has_value (ledger_of calls)) instruction.operands)
           (list_all (can_lead (ledger_of calls)) instruction.edges) (can_operate instruction.operation instruction.controlling)
           (list_all (has_entry (ledger_of calls).tables) (operation_entries instruction.operation))
-          (and_parts (may_serve (ledger_of calls) table)
-          (is_open (ledger_of calls) (ledger_of calls).current && list_all (has_value (ledger_of calls)) instruction.operands
-          && list_all (can_lead (ledger_of calls)) instruction.edges && can_operate instruction.operation instruction.controlling
-          && list_all (has_entry (ledger_of calls).tables) (operation_entries instruction.operation))
-          (subst (λ (request : Request). IsTrue (allows (ledger_of calls) request)) is (allowed made))).1))
+          (subst (λ (request : Request). IsTrue (allows (ledger_of calls) request)) is (allowed made))))
 
       by : (request : Request) → call.request ≡ request → EachItem P (extended before request)
       by (DefVar variable value) is = with_one P before before.current (Assign variable value) all tt

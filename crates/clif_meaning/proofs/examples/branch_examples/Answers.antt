@@ -19,6 +19,6 @@ returns c = record {
   accepted = refl;
   edges_match = BranchRow.edges_match;
   one_arm = BranchRow.one_arm;
-  table_twice = refl;
+  served_twice = refl;
   sealed = refl;
 }

@@ -1,0 +1,5 @@
+//! Branches by jump tables, made by the builder's calls.
+#![tactic(auto)]
+
+#[cfg(test)]
+mod tables;
