@@ -229,6 +229,18 @@ switch_to_block-requires-4-clause-unfilled c =
     (unfilled_ended c.in_ok-jump-2.ensures.built (c.builder-34-1.given.1 (sym c.ins-7.ensures.same)) c.in_ok-body.body (in_body body) (not_below (body_exit entry))
     (unfilled_kept (body_kept body) (unfilled_moved c.in_ok-body.body c.switch_to_block-3.ensures.builder sealed)))).unfilled
 
+pub switch_to_block-requires-4-clause-exists : goal.switch_to_block-requires-4-clause-exists
+switch_to_block-requires-4-clause-exists c =
+    let at = goal.at.switch_to_block-requires-4-clause-exists c in
+    let blocks : FunctionBuilder → ℕ = λ (b : FunctionBuilder). length b.func.now.blocks in
+    let before =
+    open_ended c.in_ok-brif.ensures.built (c.builder-19-1.given.1 (sym c.ins-3.ensures.same)) (open_in_header at.After-ins-3 c.in_ok-exit.exit (exit_open at.After-ins-2)) in
+    let entered = ap blocks c.switch_to_block-3.ensures.builder in
+    let came = ap blocks (c.builder-34-1.given.1 (sym c.ins-7.ensures.same)) in
+    let body = body_kept at.After-ins-7 in
+    omega (arith, before.exists, c.in_ok-seal_block-2.ensures.grows.2, c.in_ok-seal_block-3.ensures.grows.2, entered, body.grows.2, c.in_ok-jump-2.ensures.built.grows.2, came,
+    c.in_ok-seal_block-4.ensures.grows.2)
+
 pub switch_to_block-requires-4-clause-free : goal.switch_to_block-requires-4-clause-free
 switch_to_block-requires-4-clause-free c =
     c.in_ok-seal_block-4.ensures.call.free (left_ended c.in_ok-jump-2.ensures.built refl (c.builder-34-1.given.1 (sym c.ins-7.ensures.same)))
