@@ -3,7 +3,7 @@ use clif_calls::{Call, Edge, Name, Plan};
 use clif_opcodes::PooledConstOpcode;
 use clif_operations::Operation;
 use clif_operations::arithmetic::bits_of_bytes;
-use clif_types::Type;
+use clif_types::{JumpTable, Type};
 use std::slice;
 
 /// An instruction of a script: what it does, the type that is given with it, and its operands.
@@ -98,6 +98,26 @@ pub fn instruction_of<'p>(plan: &'p Plan<'_>) -> Instruction<'p> {
         operation,
         given,
         operands,
+    }
+}
+
+/// Where the edges of an instruction are: nowhere if it has none.
+#[derive(Clone, Copy)]
+pub enum Edges<'p, 'a> {
+    /// It has none.
+    None,
+    /// In the instruction itself.
+    Own(&'p Plan<'a>),
+    /// In this jump table.
+    Table(JumpTable),
+}
+
+/// The branch by a jump table with so many edges, the default included.
+pub fn branch_by_table(edges: usize, index: &Name) -> Instruction<'_> {
+    Instruction {
+        operation: Operation::BrTable(edges.saturating_sub(1)),
+        given: Type::Invalid,
+        operands: slice::from_ref(index),
     }
 }
 

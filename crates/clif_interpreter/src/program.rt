@@ -1,7 +1,7 @@
 //! The variable program of a script: for each block the calls that run in it, in order, and the caller's parameters.
 use crate::instruction::result_count;
-use clif_calls::{Call, Name};
-use clif_types::{AbiParam, Signature, Type};
+use clif_calls::{Call, Edge, Name};
+use clif_types::{AbiParam, EntityRef, JumpTable, Signature, Type};
 use std::alloc::{AllocError, Global};
 
 /// A block of a variable program.
@@ -30,6 +30,8 @@ pub(crate) struct Program {
     pub(crate) variables: Vec<Type>,
     /// The size of each stack slot, and the shift of its alignment.
     pub(crate) slots: Vec<(u32, u8)>,
+    // for each jump table the places of the calls that answered its edges, the default first
+    tables: Vec<Vec<usize>>,
     /// For each call how many answers it has. What is no value is never given.
     pub(crate) answers: Vec<usize>,
 }
@@ -49,6 +51,7 @@ impl Program {
             entry: None,
             variables: Vec::new(alloc),
             slots: Vec::new(alloc),
+            tables: Vec::new(alloc),
             answers: Vec::new(alloc),
         };
         for (place, call) in calls.iter().enumerate() {
@@ -73,6 +76,28 @@ impl Program {
     /// The item of a block at an index.
     pub(crate) fn item(&self, number: usize, index: usize) -> Option<usize> {
         self.block(number)?.items.get(index).copied()
+    }
+
+    /// How many edges a jump table has, the default included; none if it wasn't made.
+    pub(crate) fn table_len(&self, table: JumpTable) -> usize {
+        match self.tables.get(table.index()) {
+            Some(places) => places.len(),
+            None => 0,
+        }
+    }
+
+    /// The edge of a jump table with this number, the default first, in the calls of the script.
+    pub(crate) fn table_edge<'c>(
+        &self,
+        calls: &'c [Call],
+        table: JumpTable,
+        number: usize,
+    ) -> Option<&'c Edge> {
+        let place = self.tables.get(table.index())?.get(number)?;
+        match calls.get(*place)? {
+            Call::BlockCall { edge } => Some(edge),
+            _ => None,
+        }
     }
 
     // Adds the call at this place.
@@ -112,14 +137,22 @@ impl Program {
                 self.put_into_layout();
                 self.add_item(place, false)
             }
-            Call::Jump { .. } | Call::Brif { .. } | Call::Return { .. } | Call::Trap { .. } => {
+            Call::CreateJumpTable { default, entries } => {
+                self.add_table(*default, entries.as_slice())
+            }
+            Call::Jump { .. }
+            | Call::Brif { .. }
+            | Call::BrTable { .. }
+            | Call::Return { .. }
+            | Call::Trap { .. } => {
                 self.put_into_layout();
                 self.add_item(place, true)
             }
             Call::SealBlock { .. }
             | Call::SealAllBlocks
             | Call::InsertBlockAfter { .. }
-            | Call::SetColdBlock { .. } => Ok(()),
+            | Call::SetColdBlock { .. }
+            | Call::BlockCall { .. } => Ok(()),
         }
     }
 
@@ -138,6 +171,17 @@ impl Program {
             is_filled: false,
         };
         self.blocks.push(block)?;
+        Ok(())
+    }
+
+    // Adds a jump table of the edges with these names.
+    fn add_table(&mut self, default: Name, entries: &[Name]) -> Result<(), AllocError> {
+        let mut places = Vec::new(self.alloc);
+        places.push(default.place)?;
+        for entry in entries {
+            places.push(entry.place)?;
+        }
+        self.tables.push(places)?;
         Ok(())
     }
 

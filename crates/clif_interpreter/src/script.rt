@@ -1,12 +1,14 @@
 //! The interpreter of scripts, written from the script machine: it runs the variable program of a script. It has
 //! variables and names of answers, and no aliases and no parameters of variables.
 use crate::error::{Cause, Operand, Place, RunError};
-use crate::instruction::{Instruction, constant_of, edge_count, edge_of, instruction_of, plan_of};
+use crate::instruction::{
+    Edges, Instruction, branch_by_table, constant_of, edge_count, edge_of, instruction_of, plan_of,
+};
 use crate::program::{Program, ProgramBlock};
 use crate::run::{End, Ending, World};
 use clif_calls::{Call, Edge, Name, Plan};
 use clif_operations::{Fault, Operation, Outcome, Store, Typed, bits_of, carry_out, kept};
-use clif_types::{AbiParam, EntityRef, Signature, Type};
+use clif_types::{AbiParam, EntityRef, JumpTable, Signature, Type};
 use std::alloc::{AllocError, Global};
 
 /// What comes behind an item.
@@ -26,6 +28,7 @@ struct State<'s, 'p> {
     alloc: Global,
     signature: &'s Signature,
     program: &'p Program,
+    calls: &'p [Call],
     variables: Vec<Typed>,
     // for each call its answers that were given
     names: Vec<Vec<Option<Typed>>>,
@@ -135,12 +138,12 @@ impl State<'_, '_> {
         Ok(())
     }
 
-    // Makes an instruction of the call at a place; the plan has its edges.
+    // Makes an instruction of the call at a place.
     fn instruct(
         &mut self,
         place: usize,
         instruction: &Instruction<'_>,
-        plan: Option<&Plan<'_>>,
+        edges: Edges<'_, '_>,
     ) -> Result<Next, Cause> {
         let operands = self.values(instruction.operands)?;
         let operands = operands.as_slice();
@@ -154,22 +157,30 @@ impl State<'_, '_> {
                 self.give_results(place, operation, ty, bits.as_slice())?;
                 Ok(Next::Item)
             }
-            (_, Outcome::Went(number)) => match plan {
-                Some(plan) => self.follow(edge_of(plan, number)),
-                None => Err(Cause::NoTarget),
+            (_, Outcome::Went(number)) => match edges {
+                Edges::None => Err(Cause::NoTarget),
+                Edges::Own(plan) => self.follow(edge_of(plan, number)),
+                Edges::Table(table) => {
+                    let program = self.program;
+                    self.follow(program.table_edge(self.calls, table, number))
+                }
             },
             (_, Outcome::Returned) => Ok(Next::Ended(End::Returned(bits_of(alloc, operands)?))),
             (_, Outcome::Trapped(code)) => Ok(Next::Ended(End::Trapped(code))),
         }
     }
 
-    // Makes the pooled constant or the other instruction of a call, if it makes one.
+    // Makes the pooled constant, the branch by a table or the other instruction of a call, if it makes one.
     fn call(&mut self, place: usize, call: &Call) -> Result<Next, Cause> {
         if let Some(constant) = constant_of(call) {
-            return self.instruct(place, &constant, None);
+            return self.instruct(place, &constant, Edges::None);
+        }
+        if let Call::BrTable { index, table } = call {
+            let branch = branch_by_table(self.program.table_len(*table), index);
+            return self.instruct(place, &branch, Edges::Table(*table));
         }
         match plan_of(call) {
-            Some(plan) => self.instruct(place, &instruction_of(&plan), Some(&plan)),
+            Some(plan) => self.instruct(place, &instruction_of(&plan), Edges::Own(&plan)),
             None => Ok(Next::Item),
         }
     }
@@ -192,13 +203,14 @@ impl State<'_, '_> {
     }
 
     // Runs the items of a block, and of the blocks that control goes to.
-    fn steps(&mut self, calls: &[Call], entry: usize, bound: u64) -> Result<End, RunError> {
+    fn steps(&mut self, entry: usize, bound: u64) -> Result<End, RunError> {
         let mut block = entry;
         let mut index = 0usize;
         for _ in 0..bound {
             let Some(place) = self.program.item(block, index) else {
                 return Ok(End::Stuck);
             };
+            let calls = self.calls;
             let Some(call) = calls.get(place) else {
                 return Ok(End::Stuck);
             };
@@ -286,8 +298,25 @@ fn bad_target(program: &Program, edge: &Edge) -> Option<Cause> {
     }
 }
 
+// The same of the edges of a jump table.
+fn bad_table(program: &Program, calls: &[Call], table: JumpTable) -> Option<Cause> {
+    for number in 0..program.table_len(table) {
+        let Some(edge) = program.table_edge(calls, table, number) else {
+            return Some(Cause::NoTarget);
+        };
+        let bad = bad_target(program, edge);
+        if bad.is_some() {
+            return bad;
+        }
+    }
+    None
+}
+
 // The same of the edges of a call.
-fn bad_branch(program: &Program, call: &Call) -> Option<Cause> {
+fn bad_branch(program: &Program, calls: &[Call], call: &Call) -> Option<Cause> {
+    if let Call::BrTable { table, .. } = call {
+        return bad_table(program, calls, *table);
+    }
     let Some(plan) = plan_of(call) else {
         return None;
     };
@@ -305,7 +334,7 @@ fn bad_branch(program: &Program, call: &Call) -> Option<Cause> {
 // Looks at each edge of a script, also at those that no run takes: the theorem asks it of all of them.
 fn check_targets(program: &Program, calls: &[Call]) -> Result<(), RunError> {
     for (place, call) in calls.iter().enumerate() {
-        if let Some(cause) = bad_branch(program, call) {
+        if let Some(cause) = bad_branch(program, calls, call) {
             return Err(cause.at(Place::Call(place)));
         }
     }
@@ -332,7 +361,7 @@ pub fn run(
     };
     check_targets(&program, calls)?;
     let entry = program.entry;
-    let mut state = match begin(alloc, signature, &program, world) {
+    let mut state = match begin(alloc, signature, &program, calls, world) {
         Ok(state) => state,
         Err(cause) => return Err(cause.at(Place::Start)),
     };
@@ -341,7 +370,7 @@ pub fn run(
         if let Err(cause) = state.start(entry, world) {
             return Err(cause.at(Place::Start));
         }
-        end = state.steps(calls, entry, bound)?;
+        end = state.steps(entry, bound)?;
     }
     let State { store, .. } = state;
     Ok(Ending {
@@ -355,6 +384,7 @@ fn begin<'s, 'p>(
     alloc: Global,
     signature: &'s Signature,
     program: &'p Program,
+    calls: &'p [Call],
     world: &World<'_>,
 ) -> Result<State<'s, 'p>, Cause> {
     let mut store = world.store(alloc)?;
@@ -365,6 +395,7 @@ fn begin<'s, 'p>(
         alloc,
         signature,
         program,
+        calls,
         variables: zeros(alloc, program)?,
         names: no_answers(alloc, program)?,
         store,

@@ -39,7 +39,7 @@ use Rattle.clif_calls.specs.declared.call.Edge.{Edge}
 use Rattle.clif_calls.specs.declared.call.Name.{Name}
 use Rattle.clif_replay.specs.declared.script.Answer.{Answer}
 use Rattle.clif_replay.specs.Requests.{edge_of, name_of}
-use Rattle.clif_replay.specs.Ready.{IsReady, IsFound, all_values, argument_of, block_of, can_append, can_append_function_params, can_define, can_seal, can_switch, can_use, is_open, is_open_at, is_target, may_lead, value_of}
+use Rattle.clif_replay.specs.Ready.{IsEdge, IsReady, IsFound, all_values, argument_of, block_of, can_append, can_append_function_params, can_define, can_seal, can_switch, can_use, is_open, is_open_at, is_target, may_lead, value_of}
 use Rattle.clif_replay.proofs.Options.{get-below, map-some, name-of-none, name-of-some, some-is}
 use Rattle.clif_replay.proofs.ReadyLaws.{block-found, block-missing, block-there, read, value-exists, value-found, value-missing}
 
@@ -55,7 +55,7 @@ pristine-same calls b answers ready name block named =
     let s = (read calls b answers ready).state block name named in
     ap (state_has (λ (state : BlockState). state.is_pristine)) s.found ∙ s.agrees.is_pristine
 
-sealed-same : {declared : SignatureShape} (calls : List AnsweredCall) (b : FunctionBuilder) (answers : List Answer) → IsReady declared calls b answers
+pub sealed-same : {declared : SignatureShape} (calls : List AnsweredCall) (b : FunctionBuilder) (answers : List Answer) → IsReady declared calls b answers
     → (name : meaning.Name) (block : ℕ) → block_name (ledger_of calls) block ≡ Some name → is_sealed (ledger_of calls) name ≡ is_yes (sealed_of b.ctx.now.ssa block)
 sealed-same calls b answers ready name block named =
     let s = (read calls b answers ready).state block name named in
@@ -494,7 +494,7 @@ define-typed calls b answers ready variable name value here found typed =
 
 -- EDGES -----------------------------------------------------------------------------------------------------------
 
-arguments-same : (ledger : Ledger) (names : List Name) → list_all (has_argument ledger) (map (λ name. Known (name_of name)) names) ≡ list_all (has_value ledger) (map name_of names)
+pub arguments-same : (ledger : Ledger) (names : List Name) → list_all (has_argument ledger) (map (λ name. Known (name_of name)) names) ≡ list_all (has_value ledger) (map name_of names)
 arguments-same ledger [] = refl
 arguments-same ledger (name ∷ names) = ap (λ (rest : Bool). has_value ledger (name_of name) && rest) (arguments-same ledger names)
 
@@ -515,7 +515,7 @@ lead-same calls b answers ready edge =
     (arguments-same (ledger_of calls) edge.args.items ∙ values-same calls b answers ready edge.args.items)
 
 -- what names pass is what they lead to
-passed-values : (f : Body) (answers : List Answer) (names : List Name) (args : List BlockArg) → map (argument_of f answers) names ≡ map Some args
+pub passed-values : (f : Body) (answers : List Answer) (names : List Name) (args : List BlockArg) → map (argument_of f answers) names ≡ map Some args
     → (values : List ℕ) × (map (value_of f answers) names ≡ map Some values) × (args ≡ map arg.Value values)
 passed-values f answers [] [] found = ([], refl, refl)
 passed-values f answers [] (a ∷ args) found = let no_way : ⊥ = cc in absurd no_way
@@ -549,15 +549,19 @@ passed-named calls b answers ready (name ∷ names) (value ∷ values) found =
     let rest : map (value_of b.func.now answers) names ≡ map Some values = cc in
     (value-found calls b answers ready name value here, passed-named calls b answers ready names values rest)
 
-pub found-names : {declared : SignatureShape} (calls : List AnsweredCall) (b : FunctionBuilder) (answers : List Answer) → IsReady declared calls b answers
-    → (edge : Edge) (call : BlockCall) → IsFound b answers edge call → NamesEdge calls (edge_of edge) call
-found-names calls b answers ready edge call found =
+pub edge-names : {declared : SignatureShape} (calls : List AnsweredCall) (b : FunctionBuilder) (answers : List Answer) → IsReady declared calls b answers
+    → (edge : Edge) (call : BlockCall) → IsEdge b answers edge call → NamesEdge calls (edge_of edge) call
+edge-names calls b answers ready edge call found =
     let passed = passed-values b.func.now answers edge.args.items call.args found.passed in
     record {
       target = block-found calls b answers ready edge.block call.block found.target;
       arguments = subst (λ (xs : List BlockArg). NamesArguments calls (map (λ name. Known (name_of name)) edge.args.items) xs) (sym passed.2)
           (passed-named calls b answers ready edge.args.items passed.0 passed.1);
     }
+
+pub found-names : {declared : SignatureShape} (calls : List AnsweredCall) (b : FunctionBuilder) (answers : List Answer) → IsReady declared calls b answers
+    → (edge : Edge) (call : BlockCall) → IsFound b answers edge call → NamesEdge calls (edge_of edge) call
+found-names calls b answers ready edge call found = edge-names calls b answers ready edge call (record { target = found.target; passed = found.passed })
 
 -- and exists
 passed-exist : (f : Body) (values : List ℕ) → ((k : ℕ) → k < length values → slice_index values k < length f.values) → All (PassedExists f) (map arg.Value values)

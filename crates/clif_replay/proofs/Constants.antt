@@ -1,5 +1,5 @@
 -- An instruction of a pooled constant, by numbers.
-use Rattle.std.proofs.Common.{◌≡◌, ◌≤◌, ℕ, List, [], refl, ap, sym, ◌∙◌, arith}
+use Rattle.std.proofs.Common.{◌≡◌, ◌≤◌, ℕ, List, [], refl, ap, sym, ◌∙◌, arith, subst}
 use Rattle.std.specs.Prelude.{Option, Some, true, slice_get}
 use Rattle.std.proofs.lemmas.Bool.{and_from}
 use Rattle.std.proofs.lemmas.Option.{get_or_from_slice_get}
@@ -16,9 +16,9 @@ use Rattle.clif_meaning.specs.Instruction.{Compute, PooledConst}
 use Rattle.clif_meaning.specs.Request.{AnsweredCall}
 use Rattle.clif_meaning.specs.View.{made_at}
 use Rattle.cranelift_frontend.specs.declared.builder.FunctionBuilder.{FunctionBuilder}
-use Rattle.cranelift_frontend.specs.Ledger.{HasShape}
+use Rattle.cranelift_frontend.specs.Ledger.{HasShape, ledger_of}
 use Rattle.cranelift_frontend.specs.StandsFor.{StandsFor}
-use Rattle.clif_replay.specs.Ready.{IsReady, is_open, is_open_at}
+use Rattle.clif_replay.specs.Ready.{IsReady, TablesAgree, is_open, is_open_at}
 use Rattle.clif_replay.specs.declared.script.Answer.{Answer}
 use Rattle.clif_replay.proofs.Conditions.{pooled-same}
 use Rattle.clif_replay.proofs.Making.{Judges}
@@ -54,8 +54,15 @@ constant-allowed b answers opcode ty bytes opens fits declared calls ready =
 
 -- a builder that pooled a constant stands for the same calls, and its block is open where it was
 pub pooled-ready : {declared : SignatureShape} (calls : List AnsweredCall) (old new : FunctionBuilder) (answers : List Answer) → StandsFor declared calls new
-    → IsReady declared calls old answers → IsReady declared calls new answers
-pooled-ready calls old new answers stands ready = record { reads = ready.reads; stands = stands; count = ready.count; answered = ready.answered }
+    → new.func.now.tables.jump_tables ≡ old.func.now.tables.jump_tables → IsReady declared calls old answers → IsReady declared calls new answers
+pooled-ready calls old new answers stands tables ready = record {
+  reads = ready.reads;
+  stands = stands;
+  count = ready.count;
+  answered = ready.answered;
+  edges = ready.edges;
+  tables = subst (TablesAgree calls (ledger_of calls).jump_tables) (sym tables) ready.tables;
+}
 
 pub pooled-open : (old new : FunctionBuilder) → new.position ≡ old.position → new.ctx.now ≡ old.ctx.now → is_open old ≡ true → is_open new ≡ true
 pooled-open old new position context opens =

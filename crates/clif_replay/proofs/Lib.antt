@@ -1,4 +1,5 @@
 pub mod Options
+pub mod Lasting
 pub mod ReadyLaws
 pub mod Parameters
 pub mod Conditions
@@ -7,4 +8,5 @@ pub mod Verdicts
 pub mod Placements
 pub mod Constants
 pub mod Making
+pub mod JumpTables
 pub mod Replays

@@ -152,10 +152,10 @@ made-refused old new answers told e y r was is gives loans sound failed judges f
     made-failed old new answers told e y r was is gives loans sound failed (λ same. judges) full
 
 -- what it names isn't there, or memory was refused
-pub made-misused : {X : Type 0} {Found : X → Type 0} {there : Bool} {asks : SignatureShape → Ledger → Request} {Meets : Type 0} {types : List «Type»} (b : FunctionBuilder) (answers : List Answer)
-    (v : Result X CallError) (r : Result Answer CallError) (e : CallError) → v ≡ Err e → r ≡ Err e → Finds Found there v → (there ≡ false → Judges asks b answers false)
-    → Makes asks false Meets types b b answers r
-made-misused {asks = asks} {Meets = Meets} {types = types} b answers v r e was is finds judges =
+pub made-missed : {X : Type 0} {asks : SignatureShape → Ledger → Request} {Meets : Type 0} {types : List «Type»} (b : FunctionBuilder) (answers : List Answer)
+    (v : Result X CallError) (r : Result Answer CallError) (e : CallError) → v ≡ Err e → r ≡ Err e → (v ≡ Err error.Misuse → Judges asks b answers false) → v ≢ Err error.Refused
+    → v ≢ Err error.Full → Makes asks false Meets types b b answers r
+made-missed {asks = asks} {Meets = Meets} {types = types} b answers v r e was is judges never_refused never_full =
     subst (λ (x : Result Answer CallError). Makes asks false Meets types b b answers x) (sym is) (by e was)
   where
     no-full : ◌≡◌ {A = Result Answer CallError} (Err error.Memory) (Err error.Full) → ⊥
@@ -165,9 +165,9 @@ made-misused {asks = asks} {Meets = Meets} {types = types} b answers v r e was i
     no-refusal same = cc
 
     by : (e : CallError) → v ≡ Err e → Makes asks false Meets types b b answers (Err e)
-    by error.Misuse was = made-misuse b answers (judges (finds.misuse was))
-    by error.Refused was = absurd (finds.never_refused was)
-    by error.Full was = absurd (finds.never_full was)
+    by error.Misuse was = made-misuse b answers (judges was)
+    by error.Refused was = absurd (never_refused was)
+    by error.Full was = absurd (never_full was)
     by error.Memory was = record {
       loans = loans-stay b;
       name = tt;
@@ -178,6 +178,11 @@ made-misused {asks = asks} {Meets = Meets} {types = types} b answers v r e was i
       full = λ same. absurd (no-full same);
       variables = tt;
     }
+
+pub made-misused : {X : Type 0} {Found : X → Type 0} {there : Bool} {asks : SignatureShape → Ledger → Request} {Meets : Type 0} {types : List «Type»} (b : FunctionBuilder) (answers : List Answer)
+    (v : Result X CallError) (r : Result Answer CallError) (e : CallError) → v ≡ Err e → r ≡ Err e → Finds Found there v → (there ≡ false → Judges asks b answers false)
+    → Makes asks false Meets types b b answers r
+made-misused b answers v r e was is finds judges = made-missed b answers v r e was is (λ misuse. judges (finds.misuse misuse)) finds.never_refused finds.never_full
 
 -- one of the tables is full
 pub full-either : (f : Body) → (length f.insts ≡ 2 ^ 32 - 1) ⊎ (length f.values ≡ 2 ^ 32 - 1) → IsFull f

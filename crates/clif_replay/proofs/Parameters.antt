@@ -18,6 +18,7 @@ use Rattle.cranelift_frontend.specs.Ledger.{ledger_of}
 use Rattle.cranelift_frontend.specs.StandsFor.{StandsFor}
 use Rattle.clif_replay.specs.declared.script.Answer.{Answer}
 use Rattle.clif_replay.specs.Ready.{AnswerIs, IsReady, IsReadyAfter, last_params, values_from}
+use Rattle.clif_replay.proofs.Lasting.{LeavesTables}
 use Rattle.clif_replay.proofs.ReadyLaws.{ready-more}
 
 -- the new parameter is the last one of its block
@@ -80,12 +81,13 @@ are-answers n (ty ∷ types) count same = (ty ∷ types, refl, refl, same)
 
 -- one more call was answered, which appended parameters
 pub params-ready : {declared : SignatureShape} (calls : List AnsweredCall) (old new : FunctionBuilder) (answers : List Answer) (request : Request) (b : ℕ) (params : List AbiParam) (count : ℕ) (a : Answer)
-    → IsReady declared calls old answers → b < length old.func.now.blocks → new.func.now ≡ with_params old.func.now b (types_of params)
+    → IsReady declared calls old answers → LeavesTables request → new.func.now.tables.jump_tables ≡ old.func.now.tables.jump_tables
+    → b < length old.func.now.blocks → new.func.now ≡ with_params old.func.now b (types_of params)
     → StandsFor declared (calls ++ record { request = request; numbers = numbers_from (length old.func.now.values) (types_of params) } ∷ []) new
     → answers_to (ledger_of calls) request ≡ map AValue (types_of params) → count ≡ length params → a ≡ last_params (block_at new.func.now b).params count
     → IsReadyAfter declared calls request new answers a
-params-ready calls old new answers request b params count a ready there function stands given many is =
-    (numbers, ready-more calls (record { request = request; numbers = numbers }) old new answers a ready stands answer)
+params-ready calls old new answers request b params count a ready leaves tables there function stands given many is =
+    (numbers, ready-more calls (record { request = request; numbers = numbers }) old new answers a ready leaves tables stands answer)
   where
     types : List «Type»
     types = types_of params

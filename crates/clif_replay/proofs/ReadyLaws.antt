@@ -11,28 +11,26 @@ use Rattle.clif_ir.specs.declared.function.InstNode.{InstNode}
 use Rattle.clif_ir.specs.declared.function.ValueNode.{ValueNode}
 use Rattle.clif_ir.specs.Body.{inst_at, no_inst}
 use Rattle.clif_meaning.specs.Request.{AnsweredCall, number_of, script_of}
-use Rattle.clif_meaning.specs.Ledger.{Answered, ABlock, AVariable, AValue, AnInstruction, AnEntry, AnEdge, AJumpTable, Ledger, answer_at, answers_to, empty_ledger, has_block, ledger_with, has_value, type_of, value_answer_type}
+use Rattle.clif_meaning.specs.Ledger.{Answered, ABlock, AVariable, AValue, AnInstruction, AnEntry, AnEdge, AJumpTable, Ledger, answer_at, answered_edge, answers_to, edge_named, has_block, ledger_with, has_value, type_of, value_answer_type}
 use Rattle.clif_simulation.specs.Carries.{numbers_from}
 use Rattle.cranelift_frontend.specs.declared.builder.FunctionBuilder.{FunctionBuilder}
 use Rattle.cranelift_frontend.specs.StandsFor.{StandsFor}
-use Rattle.cranelift_frontend.specs.Ledger.{AnswersAgree, ResultsFollow, NamesBlock, NamesValue, block_name, value_type, ledger_of}
+use Rattle.cranelift_frontend.specs.Ledger.{AnswersAgree, ResultsFollow, NamesBlock, NamesEdge, NamesValue, block_name, value_type, ledger_of}
 use Rattle.cranelift_frontend.specs.LedgerLaws.{IsReadByNumber}
 use Rattle.clif_calls.specs.declared.call.Name.{Name}
 use Rattle.clif_replay.specs.declared.script.Answer.{Answer}
 use Rattle.clif_replay.specs.declared.script.Answer.TheVariants as answer
+use Rattle.clif_instructions.specs.declared.block_call.BlockCall.{BlockCall}
+use Rattle.clif_meaning.specs.Instruction as meaning
+use Rattle.clif_meaning.specs.Name as named
 use Rattle.clif_replay.specs.Requests.{name_of}
-use Rattle.clif_replay.specs.Ready.{AnswerIs, AnswerExists, IsReady, block_in, block_of, value_in, value_of}
+use Rattle.clif_replay.specs.Ready.{AnswerIs, AnswerExists, IsReady, TablesAgree, edge_at, edge_in, block_in, block_of, value_in, value_of}
+use Rattle.clif_replay.proofs.Lasting.{LeavesTables, answer-stays, edge-stays, ledger-more, no-edge, tables-kept, tables-stay}
 use Rattle.clif_replay.proofs.Options.{get-push, get-below, map-some, some-is, if-no, name-of-some}
 
 -- what the ledger says of a name, the builder says of its number
 pub read : {declared : SignatureShape} (calls : List AnsweredCall) (b : FunctionBuilder) (answers : List Answer) → IsReady declared calls b answers → IsReadByNumber calls b.func.now b.ctx.now
 read calls b answers ready = ready.reads calls b.func.now b.ctx.now b.position ready.stands.ledger
-
--- the ledger with one more call
-pub ledger-more : (calls : List AnsweredCall) (call : AnsweredCall) → ledger_of (calls ++ call ∷ []) ≡ ledger_with (ledger_of calls) call.request
-ledger-more calls call =
-    ap (fold ledger_with empty_ledger) (map_push (λ (c : AnsweredCall). c.request) calls call)
-    ∙ fold-append ledger_with empty_ledger (script_of calls) (call.request ∷ [])
 
 -- a number that isn't 0
 past : {X : Type 0} (k : ℕ) (x y : X) → (if suc k == 0 then x else y) ≡ y
@@ -133,6 +131,8 @@ block-found calls b answers ready name block found = by (slice_get answers name.
     by (Some answer.Nothing) at found = absurd (none-some block found)
     by (Some (answer.Variable v)) at found = absurd (none-some block found)
     by (Some answer.Entry) at found = absurd (none-some block found)
+    by (Some (answer.Edge edge)) at found = absurd (none-some block found)
+    by (Some answer.Table) at found = absurd (none-some block found)
     by (Some (answer.Values first count)) at found = absurd (none-some block found)
     by (Some (answer.Inst i)) at found = absurd (none-some block found)
     by (Some (answer.Block x)) at found = by_block x at name.answer refl found
@@ -163,6 +163,16 @@ block-missing calls b answers ready name missing =
         let e = entry calls b answers ready name.place answer.Entry at in
         let one = one-answer e.given (AnEntry e.is.0 e.is.1) name.answer ABlock e.is.2 (sym (answer-at calls b name.place name.answer answer.Entry e) ∙ answered) in
         let wrong : AnEntry e.is.0 e.is.1 ≡ ABlock = one.1 in
+        cc
+    by (Some (answer.Edge edge)) at missing answered =
+        let e = entry calls b answers ready name.place (answer.Edge edge) at in
+        let one = one-answer e.given (AnEdge e.is.0) name.answer ABlock e.is.1 (sym (answer-at calls b name.place name.answer (answer.Edge edge) e) ∙ answered) in
+        let wrong : AnEdge e.is.0 ≡ ABlock = one.1 in
+        cc
+    by (Some answer.Table) at missing answered =
+        let e = entry calls b answers ready name.place answer.Table at in
+        let one = one-answer e.given (AJumpTable e.is.0) name.answer ABlock e.is.1 (sym (answer-at calls b name.place name.answer answer.Table e) ∙ answered) in
+        let wrong : AJumpTable e.is.0 ≡ ABlock = one.1 in
         cc
     by (Some (answer.Values first count)) at missing answered =
         let e = entry calls b answers ready name.place (answer.Values first count) at in
@@ -261,6 +271,8 @@ value-found calls b answers ready name value found = by (slice_get answers name.
     by (Some answer.Nothing) at found = absurd (none-some value found)
     by (Some (answer.Variable v)) at found = absurd (none-some value found)
     by (Some answer.Entry) at found = absurd (none-some value found)
+    by (Some (answer.Edge edge)) at found = absurd (none-some value found)
+    by (Some answer.Table) at found = absurd (none-some value found)
     by (Some (answer.Block x)) at found = absurd (none-some value found)
     by (Some (answer.Values first count)) at found = by_values first count at (nat_lt name.answer count) refl found
     by (Some (answer.Inst i)) at found = by_inst i at name.answer refl found
@@ -302,6 +314,16 @@ value-missing calls b answers ready name missing =
         let one = one-answer e.given (AnEntry e.is.0 e.is.1) name.answer (AValue ty) e.is.2 (sym (answer-at calls b name.place name.answer answer.Entry e) ∙ answered) in
         let wrong : AnEntry e.is.0 e.is.1 ≡ AValue ty = one.1 in
         cc
+    by ty (Some (answer.Edge edge)) at missing answered =
+        let e = entry calls b answers ready name.place (answer.Edge edge) at in
+        let one = one-answer e.given (AnEdge e.is.0) name.answer (AValue ty) e.is.1 (sym (answer-at calls b name.place name.answer (answer.Edge edge) e) ∙ answered) in
+        let wrong : AnEdge e.is.0 ≡ AValue ty = one.1 in
+        cc
+    by ty (Some answer.Table) at missing answered =
+        let e = entry calls b answers ready name.place answer.Table at in
+        let one = one-answer e.given (AJumpTable e.is.0) name.answer (AValue ty) e.is.1 (sym (answer-at calls b name.place name.answer answer.Table e) ∙ answered) in
+        let wrong : AJumpTable e.is.0 ≡ AValue ty = one.1 in
+        cc
     by ty (Some (answer.Block x)) at missing answered =
         let e = entry calls b answers ready name.place (answer.Block x) at in
         let one = one-answer e.given ABlock name.answer (AValue ty) e.is.0 (sym (answer-at calls b name.place name.answer (answer.Block x) e) ∙ answered) in
@@ -342,6 +364,8 @@ answers-exist calls b answers ready k inside =
     by (answer.Block x) at = tt
     by (answer.Variable v) at = tt
     by answer.Entry at = tt
+    by (answer.Edge edge) at = tt
+    by answer.Table at = tt
     by (answer.Values first count) at = λ j below.
         let e = entry calls b answers ready k (answer.Values first count) at in
         let there : j < length e.is.0 = omega (arith, below, e.is.3) in
@@ -380,16 +404,40 @@ current-exists calls b answers ready = by b.position refl
         let current = name-of-some (block_name (ledger_of calls)) (ledger_of calls).current block (ready.stands.ledger.current ∙ ap (option_map (block_name (ledger_of calls))) at) in
         (read calls b answers ready).exists block current.0 current.2
 
+-- the answer that an edge is
+pub edge-is : (o : Option Answered) (edge : meaning.Edge named.Name named.Name) → answered_edge o ≡ Some edge → o ≡ Some (AnEdge edge)
+edge-is None edge is = absurd (none-some edge is)
+edge-is (Some ABlock) edge is = absurd (none-some edge is)
+edge-is (Some (AVariable variable)) edge is = absurd (none-some edge is)
+edge-is (Some (AValue ty)) edge is = absurd (none-some edge is)
+edge-is (Some AnInstruction) edge is = absurd (none-some edge is)
+edge-is (Some (AnEntry entry place)) edge is = absurd (none-some edge is)
+edge-is (Some (AnEdge other)) edge is = ap (λ (e : meaning.Edge named.Name named.Name). Some (AnEdge e)) (same_Some other edge is)
+edge-is (Some (AJumpTable place)) edge is = absurd (none-some edge is)
+
 -- one more call was answered
-pub ready-more : {declared : SignatureShape} (calls : List AnsweredCall) (call : AnsweredCall) (old new : FunctionBuilder) (answers : List Answer) (a : Answer)
+pub ready-answered : {declared : SignatureShape} (calls : List AnsweredCall) (call : AnsweredCall) (old new : FunctionBuilder) (answers : List Answer) (a : Answer)
     → IsReady declared calls old answers → StandsFor declared (calls ++ call ∷ []) new → AnswerIs a (answers_to (ledger_of calls) call.request) call.numbers
+    → ((made : BlockCall) → a ≡ answer.Edge made
+    → (edge : meaning.Edge named.Name named.Name) × (edge_named (ledger_of (calls ++ call ∷ [])) (named.answer_of (length answers) 0) ≡ Some edge) × NamesEdge (calls ++ call ∷ []) edge made)
+    → TablesAgree (calls ++ call ∷ []) (ledger_of (calls ++ call ∷ [])).jump_tables new.func.now.tables.jump_tables
     → IsReady declared (calls ++ call ∷ []) new (answers ++ a ∷ [])
-ready-more calls call old new answers a ready stands is =
+ready-answered calls call old new answers a ready stands is edge_there tables =
     record {
       reads = ready.reads;
       stands = stands;
       count = length-append answers (a ∷ []) ∙ ap (λ (n : ℕ). n + 1) ready.count ∙ sym (length-append calls (call ∷ []));
       answered = answered;
+      edges = λ place made at. elim (get-push answers a place (answer.Edge made) at) [
+        | inl earlier ↦
+            let there = ready.edges place made earlier in
+            let still = answer-stays ready.reads calls call old new ready.stands stands (named.answer_of place 0) (AnEdge there.0) (edge-is _ there.0 there.1) in
+            (there.0, ap answered_edge still, edge-stays ready.reads calls call old new ready.stands stands there.0 made there.2)
+        | inr last ↦
+            let there = edge_there made last.1 in
+            (there.0, ap (λ (k : ℕ). edge_named (ledger_of (calls ++ call ∷ [])) (named.answer_of k 0)) last.0 ∙ there.1, there.2)
+      ];
+      tables = tables;
     }
   where
     more : (ledger_of (calls ++ call ∷ [])).answers ≡ (ledger_of calls).answers ++ answers_to (ledger_of calls) call.request ∷ []
@@ -425,3 +473,98 @@ ready-more calls call old new answers a ready stands is =
                     ]
               ]
         ]
+
+-- one that makes no edge, and makes and serves no jump table
+pub ready-more : {declared : SignatureShape} (calls : List AnsweredCall) (call : AnsweredCall) (old new : FunctionBuilder) (answers : List Answer) (a : Answer)
+    → IsReady declared calls old answers → LeavesTables call.request → new.func.now.tables.jump_tables ≡ old.func.now.tables.jump_tables
+    → StandsFor declared (calls ++ call ∷ []) new → AnswerIs a (answers_to (ledger_of calls) call.request) call.numbers
+    → IsReady declared (calls ++ call ∷ []) new (answers ++ a ∷ [])
+ready-more calls call old new answers a ready leaves tables stands is =
+    ready-answered calls call old new answers a ready stands is
+    (λ made same.
+    let answered = subst (λ (x : Answer). AnswerIs x (answers_to (ledger_of calls) call.request) call.numbers) same is in
+    absurd (no-edge (ledger_of calls) call.request leaves answered.0 answered.1))
+    (subst (TablesAgree (calls ++ call ∷ []) (ledger_of (calls ++ call ∷ [])).jump_tables) (sym tables)
+    (subst (λ (entries : List (Option (List (meaning.Edge named.Name named.Name)))). TablesAgree (calls ++ call ∷ []) entries old.func.now.tables.jump_tables)
+    (sym (ap (λ (l : Ledger). l.jump_tables) (ledger-more calls call) ∙ tables-kept (ledger_of calls) call.request leaves))
+    (tables-stay ready.reads calls call old new ready.stands stands (ledger_of calls).jump_tables old.func.now.tables.jump_tables ready.tables)))
+
+-- EDGES -----------------------------------------------------------------------------------------------------------------
+
+-- a name that leads to an edge names one
+pub edge-found : {declared : SignatureShape} (calls : List AnsweredCall) (b : FunctionBuilder) (answers : List Answer) → IsReady declared calls b answers
+    → (name : Name) (made : BlockCall) → edge_at answers name ≡ Some made
+    → (edge : meaning.Edge named.Name named.Name) × (edge_named (ledger_of calls) (name_of name) ≡ Some edge) × NamesEdge calls edge made
+edge-found calls b answers ready name made found = by (slice_get answers name.place) refl found
+  where
+    by_edge : (other : BlockCall) → slice_get answers name.place ≡ Some (answer.Edge other) → (index : ℕ) → name.answer ≡ index → (if index == 0 then Some other else None) ≡ Some made
+        → (edge : meaning.Edge named.Name named.Name) × (edge_named (ledger_of calls) (name_of name) ≡ Some edge) × NamesEdge calls edge made
+    by_edge other at zero is found =
+        let there = ready.edges name.place other at in
+        let same : other ≡ made = same_Some other made found in (
+          there.0,
+          ap (λ (k : ℕ). edge_named (ledger_of calls) (named.answer_of name.place k)) is ∙ there.1,
+          subst (NamesEdge calls there.0) same there.2,
+        )
+    by_edge other at (suc k) is found = absurd (none-some made (sym (past k (Some other) None) ∙ found))
+
+    by : (o : Option Answer) → slice_get answers name.place ≡ o → edge_in name.answer o ≡ Some made
+        → (edge : meaning.Edge named.Name named.Name) × (edge_named (ledger_of calls) (name_of name) ≡ Some edge) × NamesEdge calls edge made
+    by None at found = absurd (none-some made found)
+    by (Some answer.Nothing) at found = absurd (none-some made found)
+    by (Some (answer.Variable v)) at found = absurd (none-some made found)
+    by (Some answer.Entry) at found = absurd (none-some made found)
+    by (Some answer.Table) at found = absurd (none-some made found)
+    by (Some (answer.Values first count)) at found = absurd (none-some made found)
+    by (Some (answer.Inst i)) at found = absurd (none-some made found)
+    by (Some (answer.Block x)) at found = absurd (none-some made found)
+    by (Some (answer.Edge other)) at found = by_edge other at name.answer refl found
+
+-- a name that leads to no edge names none
+pub edge-missing : {declared : SignatureShape} (calls : List AnsweredCall) (b : FunctionBuilder) (answers : List Answer) → IsReady declared calls b answers
+    → (name : Name) → edge_at answers name ≡ None → is_some (edge_named (ledger_of calls) (name_of name)) ≡ false
+edge-missing calls b answers ready name missing =
+    false_from_ne_true (is_some (edge_named (ledger_of calls) (name_of name))) (λ there.
+    let edge = some-is (edge_named (ledger_of calls) (name_of name)) there in
+    by edge.0 (slice_get answers name.place) refl missing (edge-is _ edge.0 edge.1))
+  where
+    by_edge : (made : BlockCall) (index : ℕ) → index ≡ 0 → (if index == 0 then Some made else None) ≡ None → ⊥
+    by_edge made zero is missing = none-some made (sym missing)
+    by_edge made (suc k) is missing = omega (arith, is)
+
+    by : (edge : meaning.Edge named.Name named.Name) (o : Option Answer) → slice_get answers name.place ≡ o → edge_in name.answer o ≡ None
+        → answer_at (ledger_of calls) (name_of name) ≡ Some (AnEdge edge) → ⊥
+    by edge None at missing answered = none-some (AnEdge edge) (sym (answer-past calls b answers ready name.place name.answer at) ∙ answered)
+    by edge (Some answer.Nothing) at missing answered =
+        let e = entry calls b answers ready name.place answer.Nothing at in
+        no-answer e.given name.answer (AnEdge edge) e.is.0 (sym (answer-at calls b name.place name.answer answer.Nothing e) ∙ answered)
+    by edge (Some (answer.Block x)) at missing answered =
+        let e = entry calls b answers ready name.place (answer.Block x) at in
+        let wrong : ABlock ≡ AnEdge edge = (one-answer e.given ABlock name.answer (AnEdge edge) e.is.0 (sym (answer-at calls b name.place name.answer (answer.Block x) e) ∙ answered)).1 in
+        cc
+    by edge (Some (answer.Variable v)) at missing answered =
+        let e = entry calls b answers ready name.place (answer.Variable v) at in
+        let wrong : AVariable v ≡ AnEdge edge = (one-answer e.given (AVariable v) name.answer (AnEdge edge) e.is.0 (sym (answer-at calls b name.place name.answer (answer.Variable v) e) ∙ answered)).1 in
+        cc
+    by edge (Some (answer.Values first count)) at missing answered =
+        let e = entry calls b answers ready name.place (answer.Values first count) at in
+        let value = values-answer e.given e.is.0 name.answer (AnEdge edge) e.is.1 (sym (answer-at calls b name.place name.answer (answer.Values first count) e) ∙ answered) in
+        let wrong : AValue value.0 ≡ AnEdge edge = value.1 in
+        cc
+    by edge (Some (answer.Inst i)) at missing answered =
+        let e = entry calls b answers ready name.place (answer.Inst i) at in
+        elim (instruction-answer e.given e.is.0 name.answer (AnEdge edge) e.is.2 (sym (answer-at calls b name.place name.answer (answer.Inst i) e) ∙ answered)) [
+          | inl first ↦ let wrong : AnInstruction ≡ AnEdge edge = first.1 in cc
+          | inr later ↦ let wrong : AValue later.2 ≡ AnEdge edge = later.3 in cc
+        ]
+    by edge (Some answer.Entry) at missing answered =
+        let e = entry calls b answers ready name.place answer.Entry at in
+        let wrong : AnEntry e.is.0 e.is.1 ≡ AnEdge edge = (one-answer e.given (AnEntry e.is.0 e.is.1) name.answer (AnEdge edge) e.is.2 (sym (answer-at calls b name.place name.answer answer.Entry e) ∙ answered)).1 in
+        cc
+    by edge (Some answer.Table) at missing answered =
+        let e = entry calls b answers ready name.place answer.Table at in
+        let wrong : AJumpTable e.is.0 ≡ AnEdge edge = (one-answer e.given (AJumpTable e.is.0) name.answer (AnEdge edge) e.is.1 (sym (answer-at calls b name.place name.answer answer.Table e) ∙ answered)).1 in
+        cc
+    by edge (Some (answer.Edge made)) at missing answered =
+        let e = entry calls b answers ready name.place (answer.Edge made) at in
+        by_edge made name.answer (one-answer e.given (AnEdge e.is.0) name.answer (AnEdge edge) e.is.1 (sym (answer-at calls b name.place name.answer (answer.Edge made) e) ∙ answered)).0 missing

@@ -24,7 +24,7 @@ use Rattle.clif_replay.specs.Errors.{replay_error_at}
 use Rattle.clif_replay.specs.Ready.{IsJudged}
 use Rattle.clif_replay.specs.Requests.{IsReplayed, attempt_of, attempts_from, attempts_of, is_tried, request_of, requests_from, requests_of}
 use Rattle.clif_replay.proofs.Options.{if-no}
-use Rattle.clif_replay.proofs.ReadyLaws.{ledger-more}
+use Rattle.clif_replay.proofs.Lasting.{ledger-more}
 
 -- no call of a list is `finalize`
 no-refusal : (declared : SignatureShape) (ledger : Ledger) (c : Call) → refusal_of ledger (request_of declared ledger c) ≡ None

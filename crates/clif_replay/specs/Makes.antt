@@ -1,5 +1,5 @@
 -- What the functions that make calls do. Own.
-use Rattle.std.specs.Prelude.{◌≡◌, ◌≢◌, ◌<◌, ℕ, ◌&&◌, length, List, [], ◌∷◌, map, Bool, true, false, Some, Option, None, OnOk, IfOk, Result, Err}
+use Rattle.std.specs.Prelude.{◌≡◌, ◌≢◌, ◌<◌, ◌-◌, ◌^◌, ℕ, ◌&&◌, length, List, [], ◌∷◌, map, Bool, true, false, Some, Option, None, OnOk, IfOk, Result, Err}
 use Rattle.std.specs.List.{list_all}
 use Rattle.clif_types.specs.Signature.{SignatureShape}
 use Rattle.clif_types.specs.declared.types.«Type».{«Type»}
@@ -12,7 +12,7 @@ use Rattle.clif_instructions.specs.declared.instructions.InstructionData.{Instru
 use Rattle.clif_meaning.specs.Acceptance.{allows, blames_variable, can_operate, has_entry, pooled_const}
 use Rattle.clif_meaning.specs.Instruction.{operation_entries}
 use Rattle.clif_meaning.specs.Ledger.{Ledger}
-use Rattle.clif_meaning.specs.Request.{AnsweredCall, Request}
+use Rattle.clif_meaning.specs.Request.{AnsweredCall, MakeJumpTable, Request}
 use Rattle.clif_meaning.specs.View.{made_at, operation_of}
 use Rattle.cranelift_frontend.specs.declared.builder.FunctionBuilder.{FunctionBuilder}
 use Rattle.cranelift_frontend.specs.Builder.{SameLoans}
@@ -28,7 +28,7 @@ use Rattle.clif_replay.specs.declared.script.CallError.{CallError}
 use Rattle.clif_replay.specs.declared.script.CallError.TheVariants as error
 use Rattle.clif_replay.specs.Limits.{ConstantMeetsFullTable, MeetsFullTable, PlanMeetsFullTable}
 use Rattle.clif_replay.specs.Ready.{IsFound, IsJudged, IsReady, IsReadyAfter, all_values, is_open, may_lead, types_after, value_of}
-use Rattle.clif_replay.specs.Requests.{controlling_in, is_tried, operation_in, request_in, request_of}
+use Rattle.clif_replay.specs.Requests.{controlling_in, is_tried, name_of, operation_in, request_in, request_of}
 
 -- A call was made, which asked this, or wasn't. It is refused only if it is only tried. `Full` is told only where `Meets`
 -- holds, and variables have these types afterwards.
@@ -58,6 +58,12 @@ MakesPlan plan old new answers result =
 abbrev pub MakesConstant : PooledConstOpcode → «Type» → List ℕ → FunctionBuilder → FunctionBuilder → List Answer → Result Answer CallError → Type 0
 MakesConstant opcode ty bytes old new answers result =
     Makes (λ declared ledger. pooled_const opcode ty bytes) false (ConstantMeetsFullTable bytes old.func.now) old.ctx.now.variables old new answers result
+
+-- for a jump table of the edges with these names
+abbrev pub MakesTable : Name → List Name → FunctionBuilder → FunctionBuilder → List Answer → Result Answer CallError → Type 0
+MakesTable default entries old new answers result =
+    Makes (λ declared ledger. MakeJumpTable (name_of default) (map name_of entries)) false (length old.func.now.tables.jump_tables ≡ 2 ^ 32 - 1)
+    old.ctx.now.variables old new answers result
 
 -- What is asked is found, where it is there; or memory is refused.
 pub record Finds {X : Type 0} (Found : X → Type 0) (there : Bool) (result : Result X CallError) : Type 0 where

@@ -11,7 +11,9 @@ use Rattle.clif_instructions.specs.declared.block_call.BlockCall.{BlockCall}
 use Rattle.clif_tables.specs.Entries.{TableEntry}
 use Rattle.clif_meaning.specs.SameType.{same_type}
 use Rattle.clif_meaning.specs.Request.{AnsweredCall, Request}
-use Rattle.clif_meaning.specs.Ledger.{Answered, ABlock, AVariable, AValue, AnInstruction, AnEntry}
+use Rattle.clif_meaning.specs.Ledger.{Answered, ABlock, AVariable, AValue, AnInstruction, AnEntry, AnEdge, AJumpTable, edge_named}
+use Rattle.clif_meaning.specs.Instruction as meaning
+use Rattle.clif_meaning.specs.Name as name
 use Rattle.clif_simulation.specs.Carries.{numbers_from}
 use Rattle.clif_records.specs.Tables.{is_yes}
 use Rattle.clif_ssa.specs.Ssa.{predecessors_of, sealed_of}
@@ -19,7 +21,8 @@ use Rattle.cranelift_frontend.specs.declared.builder.FunctionBuilder.{FunctionBu
 use Rattle.cranelift_frontend.specs.Context.{ContextState, status_of}
 use Rattle.cranelift_frontend.specs.Builder.{is_empty_status, is_filled_status, is_free, is_nothing}
 use Rattle.clif_types.specs.Signature.{SignatureShape}
-use Rattle.cranelift_frontend.specs.Ledger.{ledger_of}
+use Rattle.cranelift_frontend.specs.Entries.{table_edges}
+use Rattle.cranelift_frontend.specs.Ledger.{NamesEdge, NamesEdges, ledger_of}
 use Rattle.cranelift_frontend.specs.StandsFor.{StandsFor}
 use Rattle.cranelift_frontend.specs.LedgerLaws.{LedgerIsReadByNumber}
 use Rattle.clif_calls.specs.declared.call.Edge.{Edge}
@@ -40,7 +43,20 @@ AnswerIs (answer.Values first count) answered numbers =
     (types : List «Type») × (answered ≡ map AValue types) × (numbers ≡ numbers_from first types) × (count ≡ length types)
 AnswerIs (answer.Inst i) answered numbers =
     (types : List «Type») × (results : List ℕ) × (answered ≡ AnInstruction ∷ map AValue types) × (numbers ≡ i ∷ results)
+AnswerIs (answer.Edge made) answered numbers = (edge : meaning.Edge name.Name name.Name) × (answered ≡ AnEdge edge ∷ []) × (numbers ≡ 0 ∷ [])
+AnswerIs answer.Table answered numbers = (number : ℕ) × (answered ≡ AJumpTable number ∷ []) × (numbers ≡ number ∷ [])
 AnswerIs answer.Entry answered numbers = (entry : TableEntry) × (number : ℕ) × (answered ≡ AnEntry entry number ∷ []) × (numbers ≡ number ∷ [])
+
+-- a jump table of the function has the edges of the ledger's, or both serve an instruction
+abbrev pub TableAgrees : List AnsweredCall → Option (List (meaning.Edge name.Name name.Name)) → Option (List BlockCall) → Type 0
+TableAgrees calls None None = Unit {0}
+TableAgrees calls (Some edges) (Some made) = NamesEdges calls edges made
+TableAgrees calls _ _ = ⊥
+
+abbrev pub TablesAgree : List AnsweredCall → List (Option (List (meaning.Edge name.Name name.Name))) → List (Option (List BlockCall)) → Type 0
+TablesAgree calls [] [] = Unit {0}
+TablesAgree calls (table ∷ tables) (made ∷ others) = TableAgrees calls table made × TablesAgree calls tables others
+TablesAgree calls _ _ = ⊥
 
 -- the builder stands for these calls, on a function of this signature, and these are their answers; and it is known how a
 -- ledger is read
@@ -51,6 +67,10 @@ pub record IsReady (declared : SignatureShape) (calls : List AnsweredCall) (b : 
   pub answered : (place : ℕ) (answer : Answer) (call : AnsweredCall) (answered : List Answered)
       → slice_get answers place ≡ Some answer → slice_get calls place ≡ Some call → slice_get (ledger_of calls).answers place ≡ Some answered
       → AnswerIs answer answered call.numbers
+  -- an edge that was answered is that of the ledger, and so are those of the jump tables
+  pub edges : (place : ℕ) (made : BlockCall) → slice_get answers place ≡ Some (answer.Edge made)
+      → (edge : meaning.Edge name.Name name.Name) × (edge_named (ledger_of calls) (name.answer_of place 0) ≡ Some edge) × NamesEdge calls edge made
+  pub tables : TablesAgree calls (ledger_of calls).jump_tables b.func.now.tables.jump_tables
 
 -- it stands for some calls, and hasn't failed
 pub record IsSound (b : FunctionBuilder) (answers : List Answer) : Type 0 where
@@ -80,6 +100,8 @@ block_in index (Some (answer.Variable v)) = None
 block_in index (Some (answer.Values first count)) = None
 block_in index (Some (answer.Inst i)) = None
 block_in index (Some answer.Entry) = None
+block_in index (Some (answer.Edge edge)) = None
+block_in index (Some answer.Table) = None
 block_in index None = None
 
 abbrev pub block_of : List Answer → Name → Option ℕ
@@ -93,6 +115,8 @@ value_in f index (Some answer.Nothing) = None
 value_in f index (Some (answer.Block b)) = None
 value_in f index (Some (answer.Variable v)) = None
 value_in f index (Some answer.Entry) = None
+value_in f index (Some (answer.Edge edge)) = None
+value_in f index (Some answer.Table) = None
 value_in f index None = None
 
 abbrev pub value_of : Body → List Answer → Name → Option ℕ
@@ -105,6 +129,8 @@ AnswerExists f answer.Nothing = Unit {0}
 AnswerExists f (answer.Block b) = Unit {0}
 AnswerExists f (answer.Variable v) = Unit {0}
 AnswerExists f answer.Entry = Unit {0}
+AnswerExists f (answer.Edge edge) = Unit {0}
+AnswerExists f answer.Table = Unit {0}
 AnswerExists f (answer.Values first count) = (k : ℕ) → k < count → first + k < length f.values
 
 -- what each answer names exists
@@ -178,6 +204,31 @@ pub record IsFound (b : FunctionBuilder) (answers : List Answer) (edge : Edge) (
   pub target : block_of answers edge.block ≡ Some call.block
   pub unsealed : can_seal b call.block ≡ true
   pub passed : map (argument_of b.func.now answers) edge.args.items ≡ map Some call.args
+
+-- the edge that a name leads to
+abbrev pub edge_in : ℕ → Option Answer → Option BlockCall
+edge_in index (Some (answer.Edge made)) = if index == 0 then Some made else None
+edge_in index _ = None
+
+abbrev pub edge_at : List Answer → Name → Option BlockCall
+edge_at answers name = edge_in name.answer (slice_get answers name.place)
+
+-- an edge is there: its target, and what it passes
+abbrev pub has_edge : FunctionBuilder → List Answer → Edge → Bool
+has_edge b answers edge = is_some (block_of answers edge.block) && all_values b.func.now answers edge.args.items
+
+-- the edge to which the names of such an edge lead, whether its target is sealed or not
+pub record IsEdge (b : FunctionBuilder) (answers : List Answer) (edge : Edge) (call : BlockCall) : Type 0 where
+  pub target : block_of answers edge.block ≡ Some call.block
+  pub passed : map (argument_of b.func.now answers) edge.args.items ≡ map Some call.args
+
+-- there is such a jump table, it serves no instruction so far, and no target of its edges is sealed
+abbrev pub serves_at : FunctionBuilder → Option (List BlockCall) → Bool
+serves_at b None = false
+serves_at b (Some edges) = list_all (λ edge. can_seal b edge.block) edges
+
+abbrev pub serves : FunctionBuilder → ℕ → Bool
+serves b table = serves_at b (table_edges b table)
 
 -- the types of the variables after a call that succeeded
 abbrev pub types_after : Call → List «Type» → List «Type»

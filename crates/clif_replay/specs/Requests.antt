@@ -4,9 +4,9 @@ use Rattle.clif_ir.specs.Body.{Body}
 use Rattle.clif_meaning.specs.Event.{types_of}
 use Rattle.clif_meaning.specs.Name.{Name}
 use Rattle.clif_meaning.specs.Instruction.{Binary, Brif, Compare, Compute, Concat, CondTrap, Convert, Edge, FloatConst, Iconst, Jump, Known, Load, Operation, Return, Select, Split, Stack, StackStore, Store, Trap, Unary}
-use Rattle.clif_meaning.specs.Request.{Request, CreateBlock, SwitchToBlock, SealBlock, SealAllBlocks, InsertBlockAfter, SetColdBlock, EnsureInsertedBlock, AppendBlockParams, AppendFunctionParams, DeclareVar, DefVar, UseVar, MakeEntry, Build, Finalize, Script, AnsweredCall, script_of, Attempt, outright}
+use Rattle.clif_meaning.specs.Request.{Request, CreateBlock, SwitchToBlock, SealBlock, SealAllBlocks, InsertBlockAfter, SetColdBlock, EnsureInsertedBlock, AppendBlockParams, AppendFunctionParams, DeclareVar, DefVar, UseVar, MakeEntry, MakeEdge, MakeJumpTable, Build, Finalize, Script, AnsweredCall, script_of, Attempt, outright}
 use Rattle.clif_meaning.specs.Ledger.{Ledger, empty_ledger, ledger_after, ledger_with, or_invalid, type_of}
-use Rattle.clif_meaning.specs.Acceptance.{Verdict, Accepted, Misuse, Refused, pooled_const, jump, brif, return_, trap, allows, verdict_from, verdict_on_attempts}
+use Rattle.clif_meaning.specs.Acceptance.{Verdict, Accepted, Misuse, Refused, pooled_const, jump, brif, br_table, return_, trap, allows, verdict_from, verdict_on_attempts}
 use Rattle.clif_opcodes.specs.declared.opcodes.PooledConstOpcode.TheVariants.{F128const, Vconst}
 use Rattle.clif_types.specs.declared.types.«Type».{«Type»}
 use Rattle.clif_types.specs.declared.types.«Type».TheVariants.{Invalid}
@@ -97,6 +97,8 @@ request_of signature ledger (call.AppendBlockParam block ty) = AppendBlockParams
 request_of signature ledger (call.AppendBlockParamsForFunctionParams block) = AppendFunctionParams (name_of block) (types_of signature.params)
 request_of signature ledger (call.AppendBlockParamsForFunctionReturns block) = AppendBlockParams (name_of block) (types_of signature.returns)
 request_of signature ledger (call.CreateSizedStackSlot size align_shift) = MakeEntry (AStackSlot (record { size = size; align_shift = align_shift }))
+request_of signature ledger (call.BlockCall edge) = MakeEdge (edge_of edge)
+request_of signature ledger (call.CreateJumpTable default entries) = MakeJumpTable (name_of default) (map name_of entries.items)
 request_of signature ledger (call.DeclareVar ty) = DeclareVar ty
 request_of signature ledger (call.DefVar variable value) = DefVar variable (name_of value)
 request_of signature ledger (call.UseVar variable) = UseVar variable
@@ -107,6 +109,7 @@ request_of signature ledger (call.F128const bytes) = pooled_const F128const Inva
 request_of signature ledger (call.Vconst ty bytes) = pooled_const Vconst ty bytes.items
 request_of signature ledger (call.Jump destination) = jump (edge_of destination)
 request_of signature ledger (call.Brif condition block_then block_else) = brif ledger (name_of condition) (edge_of block_then) (edge_of block_else)
+request_of signature ledger (call.BrTable index table) = br_table ledger (name_of index) table
 request_of signature ledger (call.Return values) = return_ (map name_of values.items)
 request_of signature ledger (call.Trap code) = trap code
 

@@ -7,6 +7,7 @@ mod make_constants;
 mod make_entities;
 mod make_instructions;
 mod make_parameters;
+mod make_tables;
 mod names;
 mod script;
 

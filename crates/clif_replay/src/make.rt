@@ -14,6 +14,7 @@ use crate::make_parameters::{
     append_block_param, append_block_params_for_function_params,
     append_block_params_for_function_returns,
 };
+use crate::make_tables::{block_call, br_table, create_jump_table};
 use crate::names::value_named;
 use crate::script::{Answer, CallError};
 use clif_calls::{Call, Name, Plan};
@@ -53,6 +54,10 @@ pub(crate) fn make_call(
         Call::CreateSizedStackSlot { size, align_shift } => {
             create_sized_stack_slot(builder, answers, *size, *align_shift)
         }
+        Call::BlockCall { edge } => block_call(builder, answers, edge),
+        Call::CreateJumpTable { default, entries } => {
+            create_jump_table(builder, answers, *default, entries.as_slice())
+        }
         Call::DeclareVar { ty } => declare_var(builder, answers, *ty),
         Call::DefVar { variable, value } => def_var(builder, answers, types, *variable, *value),
         Call::UseVar { variable } => use_var(builder, answers, types, *variable),
@@ -83,6 +88,7 @@ pub(crate) fn make_call(
             };
             make_instruction(builder, answers, &plan)
         }
+        Call::BrTable { index, table } => br_table(builder, answers, *index, *table),
         Call::Return { values } => {
             let args = values.as_slice();
             make_instruction(builder, answers, &Plan::MultiAry { args })

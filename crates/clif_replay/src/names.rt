@@ -1,8 +1,8 @@
 //! What the names of a script lead to.
-ghost use Rattle.std.specs.Prelude.{◌≡◌, ◌≢◌, ◌<◌, ◌+◌, ◌-◌, ◌∷◌, [], ℕ, map, length, Some, None, nat_lt, if◌then◌else◌, IfOk, Err, false};
+ghost use Rattle.std.specs.Prelude.{◌≡◌, ◌≢◌, option_copied, ◌<◌, ◌+◌, ◌-◌, ◌∷◌, [], ℕ, map, length, Some, None, nat_lt, if◌then◌else◌, IfOk, Err, false};
 ghost use Rattle.std.specs.List.{list_all};
 ghost use Rattle.clif_replay.specs.Makes.{AreFound, Finds};
-ghost use Rattle.clif_replay.specs.Ready.{IsFound, AnswerExists, AnswersExist, all_values, argument_of, block_of, may_lead, value_in, value_of};
+ghost use Rattle.clif_replay.specs.Ready.{IsFound, AnswerExists, AnswersExist, all_values, argument_of, block_of, edge_at, may_lead, value_in, value_of};
 
 use crate::make_blocks::may_seal;
 use crate::script::{Answer, CallError};
@@ -21,6 +21,16 @@ pub(crate) fn block_named(answers: &[Answer], name: Name) -> Option<Block>
     }
 }
 
+// The edge that a name leads to.
+pub(crate) fn edge_answered(answers: &[Answer], name: Name) -> Option<&BlockCall>
+    ensures { option_copied result ≡ edge_at answers.now name }
+{
+    match answers.get(name.place) {
+        Some(Answer::Edge(edge)) if name.answer == 0 => Some(edge),
+        _ => None,
+    }
+}
+
 // One of so many values whose numbers follow one another.
 fn value_among(func: &Function, first: Value, count: usize, place: usize) -> Option<Value>
     requires { (k : ℕ) → k < count → first + k < length func.now.values }
@@ -34,18 +44,20 @@ fn value_among(func: &Function, first: Value, count: usize, place: usize) -> Opt
 }
 
 // The value at a place among what one call answered.
-fn value_in(func: &Function, answer: Answer, place: usize) -> Option<Value>
-    requires { AnswerExists func.now answer }
-    ensures { result ≡ value_in func.now place (Some answer) }
+fn value_in(func: &Function, answer: &Answer, place: usize) -> Option<Value>
+    requires { AnswerExists func.now answer.now }
+    ensures { result ≡ value_in func.now place (Some answer.now) }
 {
     match answer {
-        Answer::Values { first, count } => value_among(func, first, count, place),
-        Answer::Inst(inst) if place > 0 => func.inst_results(inst).get(place - 1).copied(),
+        Answer::Values { first, count } => value_among(func, *first, *count, place),
+        Answer::Inst(inst) if place > 0 => func.inst_results(*inst).get(place - 1).copied(),
         Answer::Inst(_)
         | Answer::Nothing
         | Answer::Block(_)
         | Answer::Variable(_)
-        | Answer::Entry => None,
+        | Answer::Entry
+        | Answer::Edge(_)
+        | Answer::Table => None,
     }
 }
 
@@ -55,7 +67,7 @@ pub(crate) fn value_named(func: &Function, answers: &[Answer], name: Name) -> Op
     ensures { result ≡ value_of func.now answers.now name }
 {
     match answers.get(name.place) {
-        Some(answer) => value_in(func, *answer, name.answer),
+        Some(answer) => value_in(func, answer, name.answer),
         None => None,
     }
 }
@@ -82,7 +94,7 @@ pub(crate) fn values_named(
 }
 
 // What names pass along an edge: the values that they lead to.
-fn arguments_named(
+pub(crate) fn arguments_named(
     func: &Function,
     answers: &[Answer],
     names: &[Name],

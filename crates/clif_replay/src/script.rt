@@ -17,7 +17,7 @@ ghost use Rattle.clif_replay.specs.Errors.{call_error_of, replay_error_at, call_
 
 use crate::make::make_call;
 use clif_calls::Call;
-use clif_ir::Function;
+use clif_ir::{BlockCall, Function};
 use clif_records::Variable;
 use clif_types::{
     Block, BuildError, Inst, Signature, TargetFrontendConfig, Type, UserFuncName, Value,
@@ -63,7 +63,7 @@ impl Error for ReplayError {}
 
 // What a call answered: its values have numbers that follow one another, and the results of an
 // instruction are asked of the function.
-#[derive(Clone, Copy, Debug, PartialEq, Eq)]
+#[derive(Drop)]
 pub(crate) enum Answer {
     Nothing,
     Block(Block),
@@ -72,6 +72,10 @@ pub(crate) enum Answer {
     Inst(Inst),
     // an entry of a table, which calls name by its number
     Entry,
+    // an edge, of which jump tables get copies
+    Edge(BlockCall),
+    // a jump table, which calls name by its number
+    Table,
 }
 
 // Why one call didn't succeed.
@@ -193,6 +197,7 @@ fn make_calls(
 ) -> Result<(), ReplayError>
     requires ready { StandsFor builder.old.func.now.signature [] builder.old }
     requires types { builder.old.ctx.now.variables ≡ [] }
+    requires tables { builder.old.func.now.tables.jump_tables ≡ [] }
     requires sound { builder.old.failed ≡ false }
     ensures loans { SameLoans builder.old builder.new }
     ensures name { OnOk result (builder.new.func.now.name ≡ builder.old.func.now.name) }

@@ -14,6 +14,7 @@ use Rattle.clif_text.specs.Grammar.{Names}
 abbrev pub numbered_kind : Call → Option Kind
 numbered_kind (call.DeclareVar ty) = Some kind.Variable
 numbered_kind (call.CreateSizedStackSlot size align_shift) = Some kind.StackSlot
+numbered_kind (call.CreateJumpTable default entries) = Some kind.JumpTable
 numbered_kind _ = None
 
 -- whether the call makes an instruction
@@ -23,30 +24,34 @@ is_instruction (call.F128const bytes) = true
 is_instruction (call.Vconst ty bytes) = true
 is_instruction (call.Jump edge) = true
 is_instruction (call.Brif condition first second) = true
+is_instruction (call.BrTable index table) = true
 is_instruction (call.Return values) = true
 is_instruction (call.Trap code) = true
 is_instruction _ = false
 
 -- how many there are of each kind at first
 abbrev pub no_totals : Totals
-no_totals = record { variables = 0; stack_slots = 0 }
+no_totals = record { variables = 0; stack_slots = 0; jump_tables = 0 }
 
 -- how many there are of this kind
 abbrev pub total_of : Kind → Totals → ℕ
 total_of kind.Variable totals = totals.variables
 total_of kind.StackSlot totals = totals.stack_slots
+total_of kind.JumpTable totals = totals.jump_tables
 
 -- how many there are of each kind behind a call that answers one of this kind, or none
 abbrev pub totals_behind : Option Kind → Totals → Totals
 totals_behind None totals = totals
 totals_behind (Some kind.Variable) totals = record totals { variables = totals.variables + 1 }
 totals_behind (Some kind.StackSlot) totals = record totals { stack_slots = totals.stack_slots + 1 }
+totals_behind (Some kind.JumpTable) totals = record totals { jump_tables = totals.jump_tables + 1 }
 
 -- what such a call answers by number
 abbrev pub next_of : Option Kind → Totals → Numbered
 next_of None totals = numbered.Nothing
 next_of (Some kind.Variable) totals = numbered.Variable totals.variables
 next_of (Some kind.StackSlot) totals = numbered.StackSlot totals.stack_slots
+next_of (Some kind.JumpTable) totals = numbered.JumpTable totals.jump_tables
 
 -- how many there are of each kind behind these calls, where there were so many before them
 abbrev pub totals_from : Totals → List Call → Totals
@@ -62,6 +67,7 @@ numbered_from totals (call ∷ calls) = next_of (numbered_kind call) totals ∷ 
 abbrev pub number_as : Kind → Numbered → Option ℕ
 number_as kind.Variable (numbered.Variable number) = Some number
 number_as kind.StackSlot (numbered.StackSlot number) = Some number
+number_as kind.JumpTable (numbered.JumpTable number) = Some number
 number_as _ _ = None
 
 -- the number of the one of this kind that a call answers, or else this number
@@ -75,7 +81,12 @@ number_in kind answered totals name = if name.answer == 0 then number_or (total_
 
 -- what names stand for, where calls answered so by number, and names were given so
 abbrev pub names_with : List Numbered → Totals → (List ℕ → Option Name) → Names
-names_with answered totals given = record { given = given; variable = number_in kind.Variable answered totals; slot = number_in kind.StackSlot answered totals }
+names_with answered totals given = record {
+  given = given;
+  variable = number_in kind.Variable answered totals;
+  slot = number_in kind.StackSlot answered totals;
+  jump_table = number_in kind.JumpTable answered totals;
+}
 
 -- what names stand for behind these calls, where names were given so
 abbrev pub names_behind : List Call → (List ℕ → Option Name) → Names

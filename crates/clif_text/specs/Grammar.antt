@@ -11,12 +11,13 @@ use Rattle.clif_calls.specs.Plan.{plan_of}
 use Rattle.clif_calls.specs.declared.plan.Plan.{Plan}
 use Rattle.clif_calls.specs.declared.plan.Plan.TheVariants as plan
 
--- what names stand for: the answer that a given name stands for, and the number of the variable, or of the stack slot, that
--- an answer is
+-- what names stand for: the answer that a given name stands for, and the number of the variable, of the stack slot, or of the
+-- jump table that an answer is
 pub record Names : Type 0 where
   pub given : List ℕ → Option Name
   pub variable : Name → ℕ
   pub slot : Name → ℕ
+  pub jump_table : Name → ℕ
 
 -- `$P.K`, with the place and the answer in decimal digits
 abbrev pub IsPlaceName : List ℕ → Name → Type 0
@@ -38,6 +39,10 @@ IsVariable names = IsNumbered (codes "var") names.variable names
 -- the stack slot of this number: as the answer of the call that made it, or as `ssN`
 abbrev pub IsSlot : Names → List ℕ → ℕ → Type 0
 IsSlot names = IsNumbered (codes "ss") names.slot names
+
+-- the jump table of this number: as the answer of the call that made it, or as `jtN`
+abbrev pub IsJumpTable : Names → List ℕ → ℕ → Type 0
+IsJumpTable names = IsNumbered (codes "jt") names.jump_table names
 
 -- the words stand for the answers, one for one
 abbrev pub AreAnswers : Names → List (List ℕ) → List Name → Type 0
@@ -104,6 +109,9 @@ IsCall names words (call.AppendBlockParam block ty) = (b t : List ℕ) × (words
 IsCall names words (call.AppendBlockParamsForFunctionParams block) = (b : List ℕ) × (words ≡ codes "append_block_params_for_function_params" ∷ b ∷ []) × IsAnswer names b block
 IsCall names words (call.AppendBlockParamsForFunctionReturns block) = (b : List ℕ) × (words ≡ codes "append_block_params_for_function_returns" ∷ b ∷ []) × IsAnswer names b block
 IsCall names words (call.CreateSizedStackSlot size align_shift) = (a b : List ℕ) × (words ≡ codes "create_sized_stack_slot" ∷ a ∷ b ∷ []) × IsMagnitude a size × IsMagnitude b align_shift
+IsCall names words (call.BlockCall edge) = (e : List (List ℕ)) × (words ≡ codes "block_call" ∷ e) × IsLastEdge names e edge
+IsCall names words (call.CreateJumpTable default entries) =
+    (d : List ℕ) × (e : List (List ℕ)) × (words ≡ codes "create_jump_table" ∷ d ∷ e) × IsAnswer names d default × AreAnswers names e entries.items
 IsCall names words (call.DeclareVar ty) = (t : List ℕ) × (words ≡ codes "declare_var" ∷ t ∷ []) × IsTypeWord t ty
 IsCall names words (call.DefVar variable value) = (a b : List ℕ) × (words ≡ codes "def_var" ∷ a ∷ b ∷ []) × IsVariable names a variable × IsAnswer names b value
 IsCall names words (call.UseVar variable) = (a : List ℕ) × (words ≡ codes "use_var" ∷ a ∷ []) × IsVariable names a variable
@@ -114,5 +122,6 @@ IsCall names words (call.F128const bytes) = (n : List ℕ) × (words ≡ codes "
 IsCall names words (call.Vconst ty bytes) = (t n : List ℕ) × (words ≡ (codes "vconst." ++ t) ∷ n ∷ []) × IsTypeWord t ty × IsBytes n bytes.items
 IsCall names words (call.Jump edge) = (e : List (List ℕ)) × (words ≡ codes "jump" ∷ e) × IsLastEdge names e edge
 IsCall names words (call.Brif condition first second) = (a : List ℕ) × (e f : List (List ℕ)) × (words ≡ codes "brif" ∷ a ∷ (e ++ f)) × IsAnswer names a condition × IsEdge names e first × IsLastEdge names f second
+IsCall names words (call.BrTable index table) = (a t : List ℕ) × (words ≡ codes "br_table" ∷ a ∷ t ∷ []) × IsAnswer names a index × IsJumpTable names t table
 IsCall names words (call.Return values) = (v : List (List ℕ)) × (words ≡ codes "return" ∷ v) × AreLast names v values.items
 IsCall names words (call.Trap code) = (reason : List ℕ) × (words ≡ codes "trap" ∷ reason ∷ []) × IsTrapCode reason code

@@ -72,6 +72,8 @@ call_text (call.AppendBlockParam block ty) = codes "append_block_param " ++ (ans
 call_text (call.AppendBlockParamsForFunctionParams block) = codes "append_block_params_for_function_params " ++ answer_text block
 call_text (call.AppendBlockParamsForFunctionReturns block) = codes "append_block_params_for_function_returns " ++ answer_text block
 call_text (call.CreateSizedStackSlot size align_shift) = codes "create_sized_stack_slot " ++ (decimal size ++ (codes " " ++ decimal align_shift))
+call_text (call.BlockCall edge) = codes "block_call " ++ edge_text edge
+call_text (call.CreateJumpTable default entries) = codes "create_jump_table " ++ (answer_text default ++ answers_text entries.items)
 call_text (call.DeclareVar ty) = codes "declare_var " ++ type_text ty
 call_text (call.DefVar variable value) = codes "def_var " ++ (variable_text variable ++ (codes " " ++ answer_text value))
 call_text (call.UseVar variable) = codes "use_var " ++ variable_text variable
@@ -82,6 +84,7 @@ call_text (call.F128const bytes) = codes "f128const " ++ bytes_text bytes.items
 call_text (call.Vconst ty bytes) = codes "vconst." ++ (type_text ty ++ (codes " " ++ bytes_text bytes.items))
 call_text (call.Jump edge) = codes "jump " ++ edge_text edge
 call_text (call.Brif condition first second) = codes "brif " ++ (answer_text condition ++ (codes " " ++ (edge_text first ++ (codes " " ++ edge_text second))))
+call_text (call.BrTable index table) = codes "br_table " ++ (answer_text index ++ (codes " jt" ++ decimal table))
 call_text (call.Return values) = codes "return" ++ answers_text values.items
 call_text (call.Trap code) = codes "trap " ++ trap_code_text code
 

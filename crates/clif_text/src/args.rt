@@ -5,7 +5,7 @@ ghost use Rattle.clif_words.specs.Spelling.{IsDecimal};
 use crate::scope::{Kind, Scope, is_name};
 use clif_calls::{Edge, Name};
 use clif_records::Variable;
-use clif_types::{EntityRef, IntCC, MemFlagsData, StackSlot, TrapCode, Type};
+use clif_types::{EntityRef, IntCC, JumpTable, MemFlagsData, StackSlot, TrapCode, Type};
 use clif_words::bytes::bytes;
 use clif_words::cursor::Cursor;
 use clif_words::error::{Expected, Fault, LineError};
@@ -28,7 +28,7 @@ impl<'w, 'a> Args<'w, 'a> {
     ghost use Rattle.clif_types.specs.Texts.{int_cc_text};
     ghost use Rattle.clif_words.specs.Cursor.{TakesFlags, texts, words_left};
     ghost use Rattle.clif_words.specs.Spelling.{IsBytes, IsMagnitude, IsNumber, IsTrapCode, IsTypeWord};
-    ghost use Rattle.clif_text.specs.Grammar.{AreAnswers, AreLast, IsEdge, IsLastEdge, IsLastOffset, IsNumbered, IsSlot, IsVariable};
+    ghost use Rattle.clif_text.specs.Grammar.{AreAnswers, AreLast, IsEdge, IsJumpTable, IsLastEdge, IsLastOffset, IsNumbered, IsSlot, IsVariable};
     ghost use Rattle.clif_text.specs.Reading.{TakesAnswer, TakesAnswers, TakesWord, TakesWords, names_in, numbers_in};
 
     pub(crate) fn new(words: &'w [&'a str], scope: &'w Scope<'a>) -> Args<'w, 'a>
@@ -124,6 +124,33 @@ impl<'w, 'a> Args<'w, 'a> {
     {
         let number = self.numbered("ss", Kind::StackSlot, Expected::StackSlot)?;
         Ok(StackSlot::new(number))
+    }
+
+    /// A jump table: the one that a name or `$P.K` stands for, or `jtN`, which is table N unless that name was
+    /// given.
+    pub(crate) fn jump_table(&mut self) -> Result<JumpTable, LineError<'a>>
+        ensures scope { self.new.scope ≡ self.old.scope }
+        ensures ok { IfOk result (TakesWord self.old self.new (IsJumpTable (names_in self.old))) }
+    {
+        let number = self.numbered("jt", Kind::JumpTable, Expected::JumpTable)?;
+        Ok(JumpTable::new(number))
+    }
+
+    /// An edge that `block_call` answered.
+    pub(crate) fn edge_name(&mut self) -> Result<Name, LineError<'a>>
+        ensures scope { self.new.scope ≡ self.old.scope }
+        ensures ok { IfOk result (TakesAnswer self.old self.new) }
+    {
+        self.answer(Expected::Edge)
+    }
+
+    /// Edges that `block_call` answered, up to the end of the line.
+    pub(crate) fn last_edge_names(&mut self, alloc: Global) -> Result<Vec<Name>, LineError<'a>>
+        ensures scope { self.new.scope ≡ self.old.scope }
+        ensures ok { IfOk result (λ names. (words_left self.new.words ≡ []) ×
+            AreAnswers (names_in self.old) (words_left self.old.words) names.items) }
+    {
+        self.answers_to_end(alloc, Expected::Edge)
     }
 
     /// A type.
@@ -251,16 +278,20 @@ impl<'w, 'a> Args<'w, 'a> {
         Ok(values)
     }
 
-    // Values up to the end of the line.
+    // Answers up to the end of the line.
     #[tactic(auto, using(crate::proofs::Taking::taking_rules))]
-    fn values_to_end(&mut self, alloc: Global) -> Result<Vec<Name>, LineError<'a>>
+    fn answers_to_end(
+        &mut self,
+        alloc: Global,
+        expected: Expected,
+    ) -> Result<Vec<Name>, LineError<'a>>
         ensures scope { self.new.scope ≡ self.old.scope }
         ensures ok { IfOk result (λ values. (words_left self.new.words ≡ []) ×
             AreAnswers (names_in self.old) (words_left self.old.words) values.items) }
     {
         let mut values = Vec::new(alloc);
         while !self.words.is_empty() {
-            values.push(self.answer(Expected::Value)?)?;
+            values.push(self.answer(expected)?)?;
         }
         Ok(values)
     }
@@ -274,7 +305,7 @@ impl<'w, 'a> Args<'w, 'a> {
         if self.words.skips("(") {
             self.values_to_close(alloc)
         } else {
-            self.values_to_end(alloc)
+            self.answers_to_end(alloc, Expected::Value)
         }
     }
 

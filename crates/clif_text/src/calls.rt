@@ -21,15 +21,13 @@ use clif_words::types::type_named;
 use std::alloc::Global;
 
 // The calls of the format that aren't understood so far, without the type that may follow their name.
-const NOT_SUPPORTED: [&str; 29] = [
+const NOT_SUPPORTED: [&str; 26] = [
     "declare_var_needs_stack_map",
     "declare_value_needs_stack_map",
     "import_signature",
     "import_function",
     "create_dynamic_stack_slot",
     "create_global_value",
-    "block_call",
-    "create_jump_table",
     "create_exception_table",
     "change_jump_destination",
     "set_srcloc",
@@ -48,7 +46,6 @@ const NOT_SUPPORTED: [&str; 29] = [
     "cursor",
     "call",
     "call_indirect",
-    "br_table",
     "try_call",
     "try_call_indirect",
 ];
@@ -65,6 +62,13 @@ fn read_call<'a>(
         "create_sized_stack_slot" => Ok(Call::CreateSizedStackSlot {
             size: args.slot_size()?,
             align_shift: args.align_shift()?,
+        }),
+        "block_call" => Ok(Call::BlockCall {
+            edge: args.last_edge(alloc)?,
+        }),
+        "create_jump_table" => Ok(Call::CreateJumpTable {
+            default: args.edge_name()?,
+            entries: args.last_edge_names(alloc)?,
         }),
         "declare_var" => Ok(Call::DeclareVar { ty: args.ty()? }),
         "def_var" => Ok(Call::DefVar {
@@ -88,6 +92,10 @@ fn read_call<'a>(
             condition: args.value()?,
             block_then: args.edge(alloc)?,
             block_else: args.last_edge(alloc)?,
+        }),
+        "br_table" => Ok(Call::BrTable {
+            index: args.value()?,
+            table: args.jump_table()?,
         }),
         "return" => Ok(Call::Return {
             values: args.last_values(alloc)?,
@@ -279,6 +287,8 @@ pub(crate) fn answers_of(call: &Call) -> Answers
         Call::CreateBlock
         | Call::AppendBlockParam { .. }
         | Call::CreateSizedStackSlot { .. }
+        | Call::BlockCall { .. }
+        | Call::CreateJumpTable { .. }
         | Call::DeclareVar { .. }
         | Call::UseVar { .. }
         | Call::TryUseVar { .. } => (false, 1),
@@ -300,6 +310,7 @@ pub(crate) fn answers_of(call: &Call) -> Answers
         )
         | Call::Jump { .. }
         | Call::Brif { .. }
+        | Call::BrTable { .. }
         | Call::Return { .. }
         | Call::Trap { .. } => (true, 0),
         Call::Plain(PlainInstruction::Isplit { .. }) => (true, 2),

@@ -125,6 +125,7 @@ fn kind_answered(call: &Call) -> Option<Kind>
     match call {
         Call::DeclareVar { .. } => Some(Kind::Variable),
         Call::CreateSizedStackSlot { .. } => Some(Kind::StackSlot),
+        Call::CreateJumpTable { .. } => Some(Kind::JumpTable),
         _ => None,
     }
 }

@@ -15,6 +15,8 @@ pub(crate) enum Kind {
     Variable,
     /// A stack slot.
     StackSlot,
+    /// A jump table.
+    JumpTable,
 }
 
 // What a call answers by number.
@@ -22,6 +24,7 @@ pub(crate) enum Kind {
 enum Numbered {
     Variable(usize),
     StackSlot(usize),
+    JumpTable(usize),
     Nothing,
 }
 
@@ -30,6 +33,7 @@ enum Numbered {
 struct Totals {
     variables: usize,
     stack_slots: usize,
+    jump_tables: usize,
 }
 
 /// The names that the lines so far gave, and what their calls answered by number.
@@ -41,6 +45,7 @@ pub(crate) struct Scope<'a> {
     totals: Totals,
     ghost variables_counted: { totals.variables ≤ vec_len numbered },
     ghost slots_counted: { totals.stack_slots ≤ vec_len numbered },
+    ghost tables_counted: { totals.jump_tables ≤ vec_len numbered },
 }
 
 impl Numbered {
@@ -50,7 +55,8 @@ impl Numbered {
     {
         match (self, kind) {
             (Numbered::Variable(number), Kind::Variable)
-            | (Numbered::StackSlot(number), Kind::StackSlot) => Some(number),
+            | (Numbered::StackSlot(number), Kind::StackSlot)
+            | (Numbered::JumpTable(number), Kind::JumpTable) => Some(number),
             _ => None,
         }
     }
@@ -64,6 +70,7 @@ impl Totals {
         match kind {
             Kind::Variable => self.variables,
             Kind::StackSlot => self.stack_slots,
+            Kind::JumpTable => self.jump_tables,
         }
     }
 }
@@ -109,6 +116,7 @@ impl<'a> Scope<'a> {
             totals: Totals {
                 variables: 0,
                 stack_slots: 0,
+                jump_tables: 0,
             },
         }
     }
@@ -158,6 +166,11 @@ impl<'a> Scope<'a> {
                 let number = self.totals.stack_slots;
                 self.numbered.push(Numbered::StackSlot(number))?;
                 self.totals.stack_slots += 1;
+            }
+            Some(Kind::JumpTable) => {
+                let number = self.totals.jump_tables;
+                self.numbered.push(Numbered::JumpTable(number))?;
+                self.totals.jump_tables += 1;
             }
             None => self.numbered.push(Numbered::Nothing)?,
         }

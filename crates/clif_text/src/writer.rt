@@ -5,7 +5,7 @@ ghost use Rattle.clif_text.specs.Operands.{operands_text};
 
 use clif_calls::{Call, Edge, Name, Plan};
 use clif_records::Variable;
-use clif_types::{HexBytes, PointerWidth, Signature, TargetFrontendConfig, Type, UserFuncName};
+use clif_types::{HexBytes, JumpTable, PointerWidth, Signature, TargetFrontendConfig, Type, UserFuncName};
 use std::alloc::{AllocError, Global};
 use std::fmt;
 
@@ -150,6 +150,9 @@ enum Operands<'a> {
     Variable(Variable),
     Bytes(&'a [u8]),
     TypedBytes(Type, &'a [u8]),
+    Edge(&'a Edge),
+    Table(Name, &'a [Name]),
+    Branch(Name, JumpTable),
     Instruction(Plan<'a>),
 }
 
@@ -168,6 +171,11 @@ impl fmt::Display for Operands<'_> {
             Operands::Variable(variable) => write!(f, " {variable}"),
             Operands::Bytes(bytes) => write!(f, " {}", HexBytes(bytes)),
             Operands::TypedBytes(ty, bytes) => write!(f, ".{ty} {}", HexBytes(bytes)),
+            Operands::Edge(edge) => write!(f, " {}", EdgeText(edge)),
+            Operands::Table(default, entries) => {
+                write!(f, " {}{}", AnswerText(*default), AnswersText(entries))
+            }
+            Operands::Branch(index, table) => write!(f, " {} {table}", AnswerText(*index)),
             Operands::Instruction(plan) => write!(f, "{}", PlanText(plan)),
         }
     }
@@ -203,6 +211,11 @@ fn parts(call: &Call) -> (&'static str, Operands<'_>)
             "create_sized_stack_slot",
             Operands::Slot(*size, *align_shift),
         ),
+        Call::BlockCall { edge } => ("block_call", Operands::Edge(edge)),
+        Call::CreateJumpTable { default, entries } => (
+            "create_jump_table",
+            Operands::Table(*default, entries.as_slice()),
+        ),
         Call::DeclareVar { ty } => ("declare_var", Operands::Type(*ty)),
         Call::DefVar { variable, value } => ("def_var", Operands::Definition(*variable, *value)),
         Call::UseVar { variable } => ("use_var", Operands::Variable(*variable)),
@@ -228,6 +241,7 @@ fn parts(call: &Call) -> (&'static str, Operands<'_>)
             };
             ("", Operands::Instruction(plan))
         }
+        Call::BrTable { index, table } => ("br_table", Operands::Branch(*index, *table)),
         Call::Return { values } => {
             let args = values.as_slice();
             ("", Operands::Instruction(Plan::MultiAry { args }))
@@ -237,7 +251,7 @@ fn parts(call: &Call) -> (&'static str, Operands<'_>)
 }
 
 /// A call as a line of a script, without the line's end. It is printed with `$P.K` for each answer, `varN` for
-/// each variable and `ssN` for each stack slot, so it needs no names. The region of a load or a store is written
+/// each variable, `ssN` for each stack slot and `jtN` for each jump table, so it needs no names. The region of a load or a store is written
 /// as it is printed, though no script can name it.
 #[derive(Clone, Copy)]
 pub struct CallText<'a>(pub &'a Call);

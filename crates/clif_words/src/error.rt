@@ -24,6 +24,10 @@ pub enum Expected {
     Variable,
     /// A stack slot.
     StackSlot,
+    /// An edge that `block_call` answered.
+    Edge,
+    /// A jump table.
+    JumpTable,
     /// The size of a stack slot, in 32 bits.
     SlotSize,
     /// The shift that makes the alignment of a stack slot, in 8 bits.
@@ -78,6 +82,8 @@ impl fmt::Display for Expected {
             Expected::Value => "a value",
             Expected::Variable => "a variable",
             Expected::StackSlot => "a stack slot",
+            Expected::Edge => "a block call",
+            Expected::JumpTable => "a jump table",
             Expected::SlotSize => "a size of 32 bits",
             Expected::AlignShift => "a shift of 8 bits",
             Expected::Type => "a type",

@@ -7,7 +7,7 @@ use Rattle.clif_meaning.specs.Acceptance.{return_}
 use Rattle.clif_calls.specs.declared.call.Name.{Name}
 use Rattle.clif_calls.specs.declared.plan.Plan.{Plan}
 use Rattle.clif_calls.specs.declared.call.Call.{Call}
-use Rattle.clif_replay.specs.Makes.{Makes, MakesCall, MakesConstant, MakesPlan}
+use Rattle.clif_replay.specs.Makes.{Makes, MakesCall, MakesConstant, MakesTable, MakesPlan}
 use Rattle.clif_replay.specs.Requests.{name_of}
 use Rattle.clif_replay.proofs.make.make_call.Goals as goal
 
@@ -44,6 +44,13 @@ returns-in-AppendBlockParamsForFunctionReturns c = subst (λ (x : Call). MakesCa
 pub returns-in-CreateSizedStackSlot : goal.returns-in-CreateSizedStackSlot
 returns-in-CreateSizedStackSlot c = subst (λ (x : Call). MakesCall x c.args.builder.now c.create_sized_stack_slot.new.builder c.args.answers.now c.create_sized_stack_slot.result) (sym c.in-CreateSizedStackSlot.is) c.create_sized_stack_slot.ensures
 
+pub returns-in-CreateJumpTable : goal.returns-in-CreateJumpTable
+returns-in-CreateJumpTable c =
+    let new = c.create_jump_table.new.builder in
+    subst (λ (x : Call). MakesCall x c.args.builder.now new c.args.answers.now c.create_jump_table.result) (sym c.in-CreateJumpTable.is)
+    (subst (λ (names : List Name). MakesTable c.in-CreateJumpTable.default names c.args.builder.now new c.args.answers.now c.create_jump_table.result) c.as_slice.ensures.value
+    c.create_jump_table.ensures)
+
 pub returns-in-DeclareVar : goal.returns-in-DeclareVar
 returns-in-DeclareVar c = subst (λ (x : Call). MakesCall x c.args.builder.now c.declare_var.new.builder c.args.answers.now c.declare_var.result) (sym c.in-DeclareVar.is) c.declare_var.ensures
 
@@ -69,7 +76,7 @@ pub returns-in-F128const : goal.returns-in-F128const
 returns-in-F128const c =
     let new = c.make_constant.new.builder in
     subst (λ (x : Call). MakesCall x c.args.builder.now new c.args.answers.now c.make_constant.result) (sym c.in-F128const.is)
-    (subst (λ (bytes : List ℕ). MakesConstant F128const Invalid bytes c.args.builder.now new c.args.answers.now c.make_constant.result) c.as_slice.ensures.value c.make_constant.ensures)
+    (subst (λ (bytes : List ℕ). MakesConstant F128const Invalid bytes c.args.builder.now new c.args.answers.now c.make_constant.result) c.as_slice-in-F128const.ensures.value c.make_constant.ensures)
 
 pub returns-in-Vconst : goal.returns-in-Vconst
 returns-in-Vconst c =

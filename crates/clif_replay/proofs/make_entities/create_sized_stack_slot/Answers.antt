@@ -36,6 +36,6 @@ returns c =
     (λ declared calls ready. lt-ltb c.args.align_shift 32 (omega (arith, c.if-align_shift-ge-ALIGN_SHIFTS.false)))
     (λ declared calls ready. (
       _,
-      ready-more calls _ c.args.builder.now c.create_sized_stack_slot.new.self _ answer.Entry ready (made.told.stands declared calls ready.stands tt)
+      ready-more calls _ c.args.builder.now c.create_sized_stack_slot.new.self _ answer.Entry ready tt made.grows.6 (made.told.stands declared calls ready.stands tt)
           (_, _, refl, ap (λ (n : ℕ). n ∷ []) (made.number ∙ ap (λ (tables : TableLists). length tables.stack_slots) (sym ready.stands.ledger.tables))),
     ))

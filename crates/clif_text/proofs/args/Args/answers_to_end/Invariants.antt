@@ -2,7 +2,7 @@
 use Rattle.std.proofs.Common.{length}
 use Rattle.clif_words.specs.Cursor.{words_left}
 use Rattle.clif_text.proofs.Taking.{TakesAnswers}
-use Rattle.clif_text.proofs.args.Args.values_to_end.Given as goal
+use Rattle.clif_text.proofs.args.Args.answers_to_end.Given as goal
 
 abbrev pub invariant-loop-values : goal.invariant-loop-values
 invariant-loop-values l = TakesAnswers l.fn.self l.self l.values.items

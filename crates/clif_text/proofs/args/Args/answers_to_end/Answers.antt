@@ -1,6 +1,6 @@
 use Rattle.std.proofs.Common.{sym, subst}
 use Rattle.clif_text.proofs.Taking.{TakesAnswers, takes_more}
-use Rattle.clif_text.proofs.args.Args.values_to_end.Goals as goal
+use Rattle.clif_text.proofs.args.Args.answers_to_end.Goals as goal
 
 pub loop-values-preserved : goal.loop-values-preserved
 loop-values-preserved c =

@@ -1,0 +1,383 @@
+-- Edges, jump tables and branches by them: when they are allowed, and what a builder stands for afterwards.
+use Rattle.std.proofs.Common.{◌≡◌, ℕ, zero, suc, ◌<◌, List, [], ◌∷◌, ◌++◌, length, refl, ap, arith, sym, ◌∙◌, subst, ◌⊎◌, inl, inr}
+use Rattle.std.specs.Prelude.{◌↔◌, IfOk, IsTrue, map, slice_get, slice_set, Option, Some, None, is_some, option_and_then, Bool, true, false, not, ◌&&◌, Result, Ok, Err}
+use Rattle.std.specs.List.{All, cons_option, list_all}
+use Rattle.std.proofs.lemmas.Bool.{and_from, and_parts, and_right, not-true}
+use Rattle.std.proofs.lemmas.Option.{slice_get_within}
+use Rattle.clif_types.specs.declared.error.BuildError.{BuildError}
+use Rattle.clif_types.specs.declared.error.BuildError.TheVariants.{Failed, Full}
+use Rattle.clif_types.specs.declared.types.«Type».TheVariants.{Invalid}
+use Rattle.clif_types.specs.Signature.{SignatureShape}
+use Rattle.clif_instructions.specs.declared.block_call.BlockArg.{BlockArg}
+use Rattle.clif_instructions.specs.declared.block_call.BlockArg.TheVariants as arg
+use Rattle.clif_instructions.specs.declared.block_call.BlockCall.{BlockCall}
+use Rattle.clif_tables.specs.Lists.{unserved, with_jump_table}
+use Rattle.clif_ir.specs.declared.function.ValueNode.{ValueNode}
+use Rattle.clif_ir.specs.Body.{Body, inst_at}
+use Rattle.clif_ir.specs.Consistent.{EdgeExists, PassedExists}
+use Rattle.clif_inst_builder.specs.Shapes.{TakesThenBuilds, branch_table}
+use Rattle.clif_meaning.specs.Acceptance.{allows, br_table, can_lead, has_argument}
+use Rattle.clif_meaning.specs.Instruction.{Argument, CallPayload, CallResult, Known}
+use Rattle.clif_meaning.specs.Instruction as meaning
+use Rattle.clif_meaning.specs.Ledger.{AJumpTable, AnEdge, Answered, Ledger, answered_edge, edge_named, edges_named, has_block, ledger_with, unserved_edges}
+use Rattle.clif_meaning.specs.Name as named
+use Rattle.clif_meaning.specs.Request.{AnsweredCall, MakeEdge, MakeJumpTable, Request}
+use Rattle.clif_ssa.specs.Limits.{IsFull}
+use Rattle.cranelift_frontend.specs.declared.builder.FunctionBuilder.{FunctionBuilder}
+use Rattle.cranelift_frontend.specs.Builder.{CanLead, SameLoans}
+use Rattle.cranelift_frontend.specs.Built.{Builds, after_build, numbers_of}
+use Rattle.cranelift_frontend.specs.Entries.{CreatesJumpTable, MakesEdge, MayServe, TakesJumpTable, table_edges}
+use Rattle.cranelift_frontend.specs.Ledger.{NamesArgument, NamesArguments, NamesEdge, NamesEdges, ledger_of}
+use Rattle.cranelift_frontend.specs.LedgerLaws.{RequestsAskForTheirShapes, TableCallsAddNothing}
+use Rattle.cranelift_frontend.specs.StandsFor.{StandsFor}
+use Rattle.clif_calls.specs.declared.call.Edge.{Edge}
+use Rattle.clif_calls.specs.declared.call.Name.{Name}
+use Rattle.clif_replay.specs.declared.script.Answer.{Answer}
+use Rattle.clif_replay.specs.declared.script.Answer.TheVariants as answer
+use Rattle.clif_replay.specs.Requests.{edge_of, name_of}
+use Rattle.clif_replay.specs.Ready.{IsEdge, IsReady, IsReadyAfter, TableAgrees, TablesAgree, all_values, block_of, can_seal, edge_at, has_edge, is_open, serves, serves_at, value_of}
+use Rattle.clif_replay.proofs.Conditions.{all-found, arguments-same, edge-names, open-same, passed-values, sealed-same, values-same}
+use Rattle.clif_replay.proofs.Lasting.{as-many, edge-stays, edges-stay, ledger-more, one-table-more, table-serves, tables-stay}
+use Rattle.clif_replay.proofs.Making.{full-either}
+use Rattle.clif_replay.proofs.Options.{get-last, map-some}
+use Rattle.clif_replay.proofs.ReadyLaws.{block-found, block-missing, edge-found, edge-missing, read, ready-answered, value-found}
+
+-- EDGES -----------------------------------------------------------------------------------------------------------------
+
+block-same : {declared : SignatureShape} (calls : List AnsweredCall) (b : FunctionBuilder) (answers : List Answer) → IsReady declared calls b answers
+    → (name : Name) → has_block (ledger_of calls) (name_of name) ≡ is_some (block_of answers name)
+block-same calls b answers ready name = by (block_of answers name) refl
+  where
+    by : (o : Option ℕ) → block_of answers name ≡ o → has_block (ledger_of calls) (name_of name) ≡ is_some (block_of answers name)
+    by None at = block-missing calls b answers ready name at ∙ ap is_some (sym at)
+    by (Some block) at = (block-found calls b answers ready name block at).is_block ∙ ap is_some (sym at)
+
+-- an edge is there in the ledger where it is here
+pub edge-same : {declared : SignatureShape} (calls : List AnsweredCall) (b : FunctionBuilder) (answers : List Answer) → IsReady declared calls b answers
+    → (edge : Edge) → allows (ledger_of calls) (MakeEdge (edge_of edge)) ≡ has_edge b answers edge
+edge-same calls b answers ready edge =
+    ap (λ (test : Bool). test && list_all (has_argument (ledger_of calls)) (map (λ name. Known (name_of name)) edge.args.items)) (block-same calls b answers ready edge.block)
+    ∙ ap (λ (all : Bool). is_some (block_of answers edge.block) && all)
+    (arguments-same (ledger_of calls) edge.args.items ∙ values-same calls b answers ready edge.args.items)
+
+-- one that was found is there
+pub edge-there : (b : FunctionBuilder) (answers : List Answer) (edge : Edge) (call : BlockCall) → IsEdge b answers edge call → has_edge b answers edge ≡ true
+edge-there b answers edge call is =
+    let passed = passed-values b.func.now answers edge.args.items call.args is.passed in
+    and_from (is_some (block_of answers edge.block)) (all_values b.func.now answers edge.args.items) (ap is_some is.target)
+    (all-found b.func.now answers edge.args.items passed.0 passed.1)
+
+-- names lead to edges where they name edges
+pub edges-same : {declared : SignatureShape} (calls : List AnsweredCall) (b : FunctionBuilder) (answers : List Answer) → IsReady declared calls b answers
+    → (names : List Name) → list_all (λ name. is_some (edge_named (ledger_of calls) name)) (map name_of names) ≡ list_all (λ name. is_some (edge_at answers name)) names
+edges-same calls b answers ready [] = refl
+edges-same calls b answers ready (name ∷ names) =
+    ap (λ (test : Bool). test && list_all (λ name. is_some (edge_named (ledger_of calls) name)) (map name_of names)) (by (edge_at answers name) refl)
+    ∙ ap (λ (rest : Bool). is_some (edge_at answers name) && rest) (edges-same calls b answers ready names)
+  where
+    by : (o : Option BlockCall) → edge_at answers name ≡ o → is_some (edge_named (ledger_of calls) (name_of name)) ≡ is_some (edge_at answers name)
+    by None at = edge-missing calls b answers ready name at ∙ ap is_some (sym at)
+    by (Some made) at = ap is_some (edge-found calls b answers ready name made at).1 ∙ ap is_some (sym at)
+
+pub edges-names : {declared : SignatureShape} (calls : List AnsweredCall) (b : FunctionBuilder) (answers : List Answer) → IsReady declared calls b answers
+    → (names : List Name) (made : List BlockCall) → map (edge_at answers) names ≡ map Some made → NamesEdges calls (edges_named (ledger_of calls) (map name_of names)) made
+edges-names calls b answers ready [] [] found = tt
+edges-names calls b answers ready [] (other ∷ made) found = let no_way : ⊥ = cc in absurd no_way
+edges-names calls b answers ready (name ∷ names) [] found = let no_way : ⊥ = cc in absurd no_way
+edges-names calls b answers ready (name ∷ names) (other ∷ made) found =
+    let here : edge_at answers name ≡ Some other = cc in
+    let rest : map (edge_at answers) names ≡ map Some made = cc in
+    let edge = edge-found calls b answers ready name other here in
+    subst (λ (o : Option (meaning.Edge named.Name named.Name)). NamesEdges calls (cons_option o (edges_named (ledger_of calls) (map name_of names))) (other ∷ made)) (sym edge.1)
+    (edge.2, edges-names calls b answers ready names made rest)
+
+pub all-there : (answers : List Answer) (names : List Name) (made : List BlockCall) → map (edge_at answers) names ≡ map Some made → list_all (λ name. is_some (edge_at answers name)) names ≡ true
+all-there answers [] made found = refl
+all-there answers (name ∷ names) [] found = let no_way : ⊥ = cc in absurd no_way
+all-there answers (name ∷ names) (other ∷ made) found =
+    let here : edge_at answers name ≡ Some other = cc in
+    let rest : map (edge_at answers) names ≡ map Some made = cc in
+    rw here (all-there answers names made rest)
+
+-- TABLES ----------------------------------------------------------------------------------------------------------------
+
+-- a table of the ledger and the function's table of the same number agree
+table-at : (calls : List AnsweredCall) (tables : List (Option (List (meaning.Edge named.Name named.Name)))) (made : List (Option (List BlockCall))) (table : ℕ)
+    → TablesAgree calls tables made → TableAgrees calls (option_and_then (λ edges. edges) (slice_get tables table)) (unserved (slice_get made table))
+table-at calls [] [] table agrees = tt
+table-at calls [] (other ∷ made) table agrees = absurd agrees
+table-at calls (t ∷ tables) [] table agrees = absurd agrees
+table-at calls (t ∷ tables) (other ∷ made) zero agrees = agrees.0
+table-at calls (t ∷ tables) (other ∷ made) (suc table) agrees = table-at calls tables made table agrees.1
+
+-- the edges of a table that serves nothing so far
+pub table-named : {declared : SignatureShape} (calls : List AnsweredCall) (b : FunctionBuilder) (answers : List Answer) → IsReady declared calls b answers
+    → (table : ℕ) (made : List BlockCall) → table_edges b table ≡ Some made
+    → (edges : List (meaning.Edge named.Name named.Name)) × (unserved_edges (ledger_of calls) table ≡ Some edges) × NamesEdges calls edges made
+table-named calls b answers ready table made found =
+    by (unserved_edges (ledger_of calls) table) refl
+    (subst (TableAgrees calls (unserved_edges (ledger_of calls) table)) found (table-at calls (ledger_of calls).jump_tables b.func.now.tables.jump_tables table ready.tables))
+  where
+    by : (o : Option (List (meaning.Edge named.Name named.Name))) → unserved_edges (ledger_of calls) table ≡ o → TableAgrees calls (unserved_edges (ledger_of calls) table) (Some made)
+        → (edges : List (meaning.Edge named.Name named.Name)) × (unserved_edges (ledger_of calls) table ≡ Some edges) × NamesEdges calls edges made
+    by None is agrees = absurd (subst (λ o. TableAgrees calls o (Some made)) is agrees)
+    by (Some edges) is agrees = (edges, is, subst (λ o. TableAgrees calls o (Some made)) is agrees)
+
+table-missing : {declared : SignatureShape} (calls : List AnsweredCall) (b : FunctionBuilder) (answers : List Answer) → IsReady declared calls b answers
+    → (table : ℕ) → table_edges b table ≡ None → unserved_edges (ledger_of calls) table ≡ None
+table-missing calls b answers ready table missing =
+    by (unserved_edges (ledger_of calls) table) refl
+    (subst (TableAgrees calls (unserved_edges (ledger_of calls) table)) missing (table-at calls (ledger_of calls).jump_tables b.func.now.tables.jump_tables table ready.tables))
+  where
+    by : (o : Option (List (meaning.Edge named.Name named.Name))) → unserved_edges (ledger_of calls) table ≡ o → TableAgrees calls (unserved_edges (ledger_of calls) table) None
+        → unserved_edges (ledger_of calls) table ≡ None
+    by None is agrees = is
+    by (Some edges) is agrees = absurd (subst (λ o. TableAgrees calls o None) is agrees)
+
+-- what edges pass is there
+passed-there : (calls : List AnsweredCall) (arguments : List (Argument named.Name)) (args : List BlockArg) → NamesArguments calls arguments args
+    → list_all (has_argument (ledger_of calls)) arguments ≡ true
+passed-there calls [] [] names = refl
+passed-there calls [] (a ∷ args) names = absurd names
+passed-there calls (argument ∷ arguments) [] names = absurd names
+passed-there calls (argument ∷ arguments) (a ∷ args) names =
+    and_from (has_argument (ledger_of calls) argument) (list_all (has_argument (ledger_of calls)) arguments) (by argument a names.0) (passed-there calls arguments args names.1)
+  where
+    by : (one : Argument named.Name) (made : BlockArg) → NamesArgument calls one made → has_argument (ledger_of calls) one ≡ true
+    by (Known name) (arg.Value value) is = is.is_value
+    by (Known name) (arg.TryCallRet place) is = absurd is
+    by (Known name) (arg.TryCallExn place) is = absurd is
+    by (CallResult index) made is = refl
+    by (CallPayload index) made is = refl
+
+-- an edge may be made where its target isn't sealed
+leads-same : {declared : SignatureShape} (calls : List AnsweredCall) (b : FunctionBuilder) (answers : List Answer) → IsReady declared calls b answers
+    → (edges : List (meaning.Edge named.Name named.Name)) (made : List BlockCall) → NamesEdges calls edges made
+    → list_all (can_lead (ledger_of calls)) edges ≡ list_all (λ edge. can_seal b edge.block) made
+leads-same calls b answers ready [] [] names = refl
+leads-same calls b answers ready [] (other ∷ made) names = absurd names
+leads-same calls b answers ready (edge ∷ edges) [] names = absurd names
+leads-same calls b answers ready (edge ∷ edges) (other ∷ made) (names, more) =
+    ap (λ (test : Bool). test && list_all (can_lead (ledger_of calls)) edges) here ∙ ap (λ (rest : Bool). can_seal b other.block && rest) (leads-same calls b answers ready edges made more)
+  where
+    by : (test : Bool) → ((true && test) && true) ≡ test
+    by true = refl
+    by false = refl
+
+    here : can_lead (ledger_of calls) edge ≡ can_seal b other.block
+    here =
+        let there = names.target.is_block in
+        let sealed = sealed-same calls b answers ready edge.target other.block ((read calls b answers ready).named edge.target other.block names.target) in
+        let passed = passed-there calls edge.arguments other.args names.arguments in
+        rw (there, sealed, passed) (by (can_seal b other.block))
+
+-- THE BRANCH ------------------------------------------------------------------------------------------------------------
+
+-- a branch by a table is allowed where the block is open, the index is there and the table serves
+pub branch-same : {declared : SignatureShape} (calls : List AnsweredCall) (b : FunctionBuilder) (answers : List Answer) → IsReady declared calls b answers
+    → (index : Name) (table : ℕ) → allows (ledger_of calls) (br_table (ledger_of calls) (name_of index) table) ≡ ((is_open b && is_some (value_of b.func.now answers index)) && serves b table)
+branch-same calls b answers ready index table = by (table_edges b table) refl
+  where
+    closed : (opens value : Bool) → ((((((false && opens) && value) && true) && true) && true) ≡ false)
+    closed opens value = refl
+
+    all : (opens value edges : Bool) → (((((true && opens) && (value && true)) && edges) && true) && true) ≡ ((opens && value) && edges)
+    all true true true = refl
+    all true true false = refl
+    all true false edges = refl
+    all false value edges = refl
+
+    by : (u : Option (List BlockCall)) → table_edges b table ≡ u
+        → allows (ledger_of calls) (br_table (ledger_of calls) (name_of index) table) ≡ ((is_open b && is_some (value_of b.func.now answers index)) && serves b table)
+    by None found =
+        let missing = table-missing calls b answers ready table found in
+        let right = and_right (is_open b && is_some (value_of b.func.now answers index)) (serves b table) (ap (serves_at b) found) in
+        rw missing (sym right)
+    by (Some made) found =
+        let named = table-named calls b answers ready table made found in
+        let there = named.1 in
+        let opens = open-same calls b answers ready in
+        let values = values-same calls b answers ready (index ∷ []) in
+        let edges = leads-same calls b answers ready named.0 made named.2 in
+        let right = ap (λ (test : Bool). (is_open b && is_some (value_of b.func.now answers index)) && test) (ap (serves_at b) found) in
+        rw (there, opens, values, edges) (all (is_open b) (is_some (value_of b.func.now answers index)) (list_all (λ edge. can_seal b edge.block) made) ∙ sym right)
+
+-- it isn't, where one of these fails
+pub branch-closed : (b : FunctionBuilder) (value : Bool) (table : ℕ) → is_open b ≡ false → ((is_open b && value) && serves b table) ≡ false
+branch-closed b value table closed = ap (λ (test : Bool). (test && value) && serves b table) closed
+
+pub branch-missing : (b : FunctionBuilder) (o : Option ℕ) (table : ℕ) → o ≡ None → ((is_open b && is_some o) && serves b table) ≡ false
+branch-missing b o table none =
+    ap (λ (test : Bool). test && serves b table) (and_right (is_open b) (is_some o) (ap is_some none))
+
+-- the edges of a table that serves may be made
+argument-exists : {declared : SignatureShape} (calls : List AnsweredCall) (b : FunctionBuilder) (answers : List Answer) → IsReady declared calls b answers
+    → (argument : Argument named.Name) (made : BlockArg) → NamesArgument calls argument made → PassedExists b.func.now made
+argument-exists calls b answers ready (Known name) (arg.Value value) is =
+    let typed = (read calls b answers ready).value name value is in
+    let node = map-some (λ (n : ValueNode). n.ty) (slice_get b.func.now.values value) typed.0 typed.2 in
+    slice_get_within b.func.now.values value node.0 node.1
+argument-exists calls b answers ready argument (arg.TryCallRet place) is = tt
+argument-exists calls b answers ready argument (arg.TryCallExn place) is = tt
+argument-exists calls b answers ready (CallResult index) (arg.Value value) is = absurd is
+argument-exists calls b answers ready (CallPayload index) (arg.Value value) is = absurd is
+
+arguments-exist : {declared : SignatureShape} (calls : List AnsweredCall) (b : FunctionBuilder) (answers : List Answer) → IsReady declared calls b answers
+    → (arguments : List (Argument named.Name)) (made : List BlockArg) → NamesArguments calls arguments made → All (PassedExists b.func.now) made
+arguments-exist calls b answers ready arguments [] names k d below = absurd (omega (arith, below))
+arguments-exist calls b answers ready [] (a ∷ made) names k d below = absurd names
+arguments-exist calls b answers ready (argument ∷ arguments) (a ∷ made) names zero d below = argument-exists calls b answers ready argument a names.0
+arguments-exist calls b answers ready (argument ∷ arguments) (a ∷ made) names (suc k) d below =
+    arguments-exist calls b answers ready arguments made names.1 k d (omega (arith, below))
+
+edges-lead : {declared : SignatureShape} (calls : List AnsweredCall) (b : FunctionBuilder) (answers : List Answer) → IsReady declared calls b answers
+    → (edges : List (meaning.Edge named.Name named.Name)) (made : List BlockCall) → NamesEdges calls edges made → list_all (λ edge. can_seal b edge.block) made ≡ true → All (CanLead b) made
+edges-lead calls b answers ready edges [] names opens k d below = absurd (omega (arith, below))
+edges-lead calls b answers ready [] (other ∷ made) names opens k d below = absurd names
+edges-lead calls b answers ready (edge ∷ edges) (other ∷ made) names opens zero d below =
+    let r = read calls b answers ready in
+    let opened = and_parts (can_seal b other.block) (list_all (λ edge. can_seal b edge.block) made) opens in (
+      (r.exists other.block edge.target (r.named edge.target other.block names.0.target), arguments-exist calls b answers ready edge.arguments other.args names.0.arguments),
+      not-true _ opened.0,
+    )
+edges-lead calls b answers ready (edge ∷ edges) (other ∷ made) names opens (suc k) d below =
+    edges-lead calls b answers ready edges made names.1 (and_parts (can_seal b other.block) (list_all (λ edge. can_seal b edge.block) made) opens).1 k d (omega (arith, below))
+
+pub serving : {declared : SignatureShape} (calls : List AnsweredCall) (b : FunctionBuilder) (answers : List Answer) → IsReady declared calls b answers
+    → (table : ℕ) → serves b table ≡ true → MayServe b table
+serving calls b answers ready table is = by (table_edges b table) refl
+  where
+    by : (u : Option (List BlockCall)) → table_edges b table ≡ u → MayServe b table
+    by None found = let no_way : false ≡ true = sym (ap (serves_at b) found) ∙ is in let impossible : ⊥ = cc in absurd impossible
+    by (Some made) found =
+        let named = table-named calls b answers ready table made found in
+        (made, found, edges-lead calls b answers ready named.0 made named.2 (sym (ap (serves_at b) found) ∙ is))
+
+-- what a branch by a table makes of a builder that hasn't failed
+pub record Branched (old new : FunctionBuilder) (index table : ℕ) (answer : Result ℕ BuildError) : Type 0 where
+  pub loans : SameLoans old new
+  pub failed : (answer ≡ Err Failed) ↔ IsTrue old.failed
+  pub full : answer ≡ Err Full → IsFull old.func.now
+  pub between : FunctionBuilder
+  pub edges : List BlockCall
+  pub takes : TakesJumpTable old between table (Ok edges)
+  pub builds : Builds between new (branch_table index edges) Invalid answer
+
+pub branched : (old new : FunctionBuilder) (index table : ℕ) (answer : Result ℕ BuildError) → old.failed ≡ false
+    → TakesThenBuilds TakesJumpTable Builds old new (branch_table index) table Invalid answer → Branched old new index table answer
+branched old new index table answer sound (inl (between, edges, takes, builds)) =
+    record {
+      loans = record { func = builds.loans.func ∙ takes.sets.call.loans.func; ctx = builds.loans.ctx ∙ takes.sets.call.loans.ctx };
+      failed = (
+        λ is. let between_failed : between.failed ≡ true = builds.failed.0 is in let fine : between.failed ≡ false = takes.sets.call.fails in let no_way : ⊥ = cc in absurd no_way,
+        λ failed. let no_way : ⊥ = cc in absurd no_way,
+      );
+      full = λ is. subst IsFull takes.sets.function (full-either between.func.now (builds.full_table (omega arith) is));
+      between = between;
+      edges = edges;
+      takes = takes;
+      builds = builds;
+    }
+branched old new index table answer sound (inr (error, takes, is)) =
+    let failed : old.failed ≡ true = takes.sets.call.failed.0 takes.only_failed in let no_way : ⊥ = cc in absurd no_way
+
+-- AFTER THE CALLS ---------------------------------------------------------------------------------------------------------
+
+-- an edge was made
+pub edge-ready : TableCallsAddNothing → {declared : SignatureShape} (calls : List AnsweredCall) (old new : FunctionBuilder) (answers : List Answer) (edge : Edge) (found made : BlockCall)
+    → IsReady declared calls old answers → IsEdge old answers edge found → made ≡ found → MakesEdge found.block found.args old new (Ok made)
+    → IsReadyAfter declared calls (MakeEdge (edge_of edge)) new answers (answer.Edge made)
+edge-ready law {declared} calls old new answers edge found made ready is same makes =
+    (0 ∷ [], ready-answered calls call old new answers (answer.Edge made) ready stands (edge_of edge, refl, refl) there tables)
+  where
+    call : AnsweredCall
+    call = record { request = MakeEdge (edge_of edge); numbers = 0 ∷ [] }
+
+    stands : StandsFor declared (calls ++ call ∷ []) new
+    stands = law.edge declared calls new (edge_of edge) 0 (makes.sets.stands declared calls ready.stands)
+
+    there : (other : BlockCall) → ◌≡◌ {A = Answer} (answer.Edge made) (answer.Edge other)
+        → (e : meaning.Edge named.Name named.Name) × (edge_named (ledger_of (calls ++ call ∷ [])) (named.answer_of (length answers) 0) ≡ Some e) × NamesEdge (calls ++ call ∷ []) e other
+    there other is_other =
+        let one : made ≡ other = cc in (
+          edge_of edge,
+          new_edge,
+          subst (NamesEdge (calls ++ call ∷ []) (edge_of edge)) (sym same ∙ one)
+              (edge-stays ready.reads calls call old new ready.stands stands (edge_of edge) found (edge-names calls old answers ready edge found is)),
+        )
+      where
+        new_edge : edge_named (ledger_of (calls ++ call ∷ [])) (named.answer_of (length answers) 0) ≡ Some (edge_of edge)
+        new_edge =
+            ap (λ (l : Ledger). edge_named l (named.answer_of (length answers) 0)) (ledger-more calls call)
+            ∙ ap (λ (k : ℕ). edge_named (ledger_with (ledger_of calls) (MakeEdge (edge_of edge))) (named.answer_of k 0)) (ready.count ∙ sym ready.stands.ledger.places)
+            ∙ ap (λ (o : Option (List Answered)). answered_edge (option_and_then (λ (xs : List Answered). slice_get xs 0) o))
+            (get-last (ledger_of calls).answers (AnEdge (edge_of edge) ∷ []))
+
+    tables : TablesAgree (calls ++ call ∷ []) (ledger_of (calls ++ call ∷ [])).jump_tables new.func.now.tables.jump_tables
+    tables =
+        subst (TablesAgree (calls ++ call ∷ []) (ledger_of (calls ++ call ∷ [])).jump_tables) (sym makes.grows.6)
+        (subst (λ (entries : List (Option (List (meaning.Edge named.Name named.Name)))). TablesAgree (calls ++ call ∷ []) entries old.func.now.tables.jump_tables)
+        (sym (ap (λ (l : Ledger). l.jump_tables) (ledger-more calls call)))
+        (tables-stay ready.reads calls call old new ready.stands stands (ledger_of calls).jump_tables old.func.now.tables.jump_tables ready.tables))
+
+-- a table was made
+pub table-ready : TableCallsAddNothing → {declared : SignatureShape} (calls : List AnsweredCall) (old new : FunctionBuilder) (answers : List Answer) (default : Name) (entries : List Name)
+    (edges : List BlockCall) (number : ℕ) → IsReady declared calls old answers → map (edge_at answers) (default ∷ entries) ≡ map Some edges → CreatesJumpTable edges old new (Ok number)
+    → IsReadyAfter declared calls (MakeJumpTable (name_of default) (map name_of entries)) new answers answer.Table
+table-ready law {declared} calls old new answers default entries edges number ready found creates =
+    (number ∷ [], ready-answered calls call old new answers answer.Table ready stands (number, ap (λ (n : ℕ). AJumpTable n ∷ []) (sym counts), refl)
+    (λ made same. let no_way : ⊥ = cc in absurd no_way) tables)
+  where
+    call : AnsweredCall
+    call = record { request = MakeJumpTable (name_of default) (map name_of entries); numbers = number ∷ [] }
+
+    counts : number ≡ length (ledger_of calls).jump_tables
+    counts = creates.number ∙ sym (as-many calls (ledger_of calls).jump_tables old.func.now.tables.jump_tables ready.tables)
+
+    stands : StandsFor declared (calls ++ call ∷ []) new
+    stands = law.table declared calls new (name_of default) (map name_of entries) number counts (creates.sets.stands declared calls ready.stands)
+
+    tables : TablesAgree (calls ++ call ∷ []) (ledger_of (calls ++ call ∷ [])).jump_tables new.func.now.tables.jump_tables
+    tables =
+        subst (TablesAgree (calls ++ call ∷ []) (ledger_of (calls ++ call ∷ [])).jump_tables) (sym (ap (λ (f : Body). f.tables.jump_tables) creates.sets.function))
+        (subst (λ (lists : List (Option (List (meaning.Edge named.Name named.Name)))). TablesAgree (calls ++ call ∷ []) lists (with_jump_table old.func.now.tables edges).jump_tables)
+        (sym (ap (λ (l : Ledger). l.jump_tables) (ledger-more calls call)))
+        (one-table-more (calls ++ call ∷ []) (ledger_of calls).jump_tables old.func.now.tables.jump_tables (edges_named (ledger_of calls) (map name_of (default ∷ entries))) edges
+        (tables-stay ready.reads calls call old new ready.stands stands (ledger_of calls).jump_tables old.func.now.tables.jump_tables ready.tables)
+        (edges-stay ready.reads calls call old new ready.stands stands (edges_named (ledger_of calls) (map name_of (default ∷ entries))) edges
+        (edges-names calls old answers ready (default ∷ entries) edges found))))
+
+-- a table served a branch
+pub branch-ready : RequestsAskForTheirShapes → {declared : SignatureShape} (calls : List AnsweredCall) (old new : FunctionBuilder) (answers : List Answer) (index : Name) (value table inst : ℕ)
+    → IsReady declared calls old answers → value_of old.func.now answers index ≡ Some value → Branched old new value table (Ok inst)
+    → IsReadyAfter declared calls (br_table (ledger_of calls) (name_of index) table) new answers (answer.Inst inst)
+branch-ready shapes {declared} calls old new answers index value table inst ready found branch =
+    (numbers_of new inst, ready-answered calls call old new answers (answer.Inst inst) ready stands ([], (inst_at new.func.now inst).results, refl, refl) (λ made same. let no_way : ⊥ = cc in absurd no_way) tables)
+  where
+    call : AnsweredCall
+    call = record { request = br_table (ledger_of calls) (name_of index) table; numbers = numbers_of new inst }
+
+    between : FunctionBuilder
+    between = branch.between
+
+    taken : StandsFor declared calls between
+    taken = branch.takes.sets.stands declared calls ready.stands
+
+    edges : (edges : List (meaning.Edge named.Name named.Name)) × (unserved_edges (ledger_of calls) table ≡ Some edges) × NamesEdges calls edges branch.edges
+    edges = table-named calls old answers ready table branch.edges branch.takes.edges
+
+    stands : StandsFor declared (calls ++ call ∷ []) new
+    stands =
+        let asked = (shapes calls between.func.now between.ctx.now between.position taken.ledger).br_table (name_of index) value table edges.0 branch.edges
+        (value-found calls old answers ready index value found) edges.1 edges.2 in
+        subst (λ (r : Request). StandsFor declared (calls ++ record { request = r; numbers = numbers_of new inst } ∷ []) new) (sym asked.2)
+        (branch.builds.stands declared calls asked.0 asked.1 taken asked.3)
+
+    tables : TablesAgree (calls ++ call ∷ []) (ledger_of (calls ++ call ∷ [])).jump_tables new.func.now.tables.jump_tables
+    tables =
+        subst (TablesAgree (calls ++ call ∷ []) (ledger_of (calls ++ call ∷ [])).jump_tables)
+        (sym (branch.builds.grows.6 ∙ ap (λ (f : Body). f.tables.jump_tables) branch.takes.sets.function))
+        (subst (λ (lists : List (Option (List (meaning.Edge named.Name named.Name)))). TablesAgree (calls ++ call ∷ []) lists (slice_set old.func.now.tables.jump_tables table None))
+        (sym (ap (λ (l : Ledger). l.jump_tables) (ledger-more calls call)))
+        (table-serves (calls ++ call ∷ []) (ledger_of calls).jump_tables old.func.now.tables.jump_tables table
+        (tables-stay ready.reads calls call old new ready.stands stands (ledger_of calls).jump_tables old.func.now.tables.jump_tables ready.tables)))

@@ -1,0 +1,179 @@
+-- What names lead to goes on being what they lead to as calls follow; and what calls do to edges and jump tables.
+use Rattle.std.proofs.Common.{◌≡◌, ℕ, zero, suc, List, [], ◌∷◌, ◌++◌, length, refl, ap, sym, ◌∙◌, subst}
+use Rattle.std.specs.Prelude.{fold, map, slice_get, slice_set, Option, Some, None, option_and_then, is_some, Bool, true, false, if◌then◌else◌}
+use Rattle.std.proofs.lemmas.Option.{none-some}
+use Rattle.std.proofs.lemmas.List.{map_push}
+use Rattle.std.proofs.lemmas.List.Sums.{fold-append}
+use Rattle.clif_types.specs.declared.types.«Type».{«Type»}
+use Rattle.clif_types.specs.Signature.{SignatureShape}
+use Rattle.clif_instructions.specs.declared.block_call.BlockArg.{BlockArg}
+use Rattle.clif_instructions.specs.declared.block_call.BlockArg.TheVariants as arg
+use Rattle.clif_instructions.specs.declared.block_call.BlockCall.{BlockCall}
+use Rattle.clif_meaning.specs.Instruction.{Argument, CallPayload, CallResult, Edge, Known}
+use Rattle.clif_meaning.specs.Name.{Name}
+use Rattle.clif_meaning.specs.Request.{AnsweredCall, AppendBlockParams, AppendFunctionParams, Build, CreateBlock, DeclareVar, DefVar, EnsureInsertedBlock, Finalize, InsertBlockAfter, MakeEdge, MakeEntry, MakeJumpTable, Request, SealAllBlocks, SealBlock, SetColdBlock, SwitchToBlock, UseVar, number_of, script_of}
+use Rattle.clif_meaning.specs.Ledger.{ABlock, AnEdge, AValue, Answered, Ledger, answer_at, answers_to, empty_ledger, is_inserted, ledger_with, with_begun_at, with_layout, with_state}
+use Rattle.clif_meaning.proofs.CallLists as earlier
+use Rattle.clif_simulation.proofs.LedgerValues.{value_stays}
+use Rattle.cranelift_frontend.specs.declared.builder.FunctionBuilder.{FunctionBuilder}
+use Rattle.cranelift_frontend.specs.Ledger.{NamesArgument, NamesArguments, NamesBlock, NamesEdge, NamesEdges, NamesValue, block_name, ledger_of}
+use Rattle.cranelift_frontend.specs.LedgerLaws.{LedgerIsReadByNumber}
+use Rattle.cranelift_frontend.specs.StandsFor.{StandsFor}
+use Rattle.cranelift_frontend.proofs.LedgerLists.{and-then-some, get-front}
+use Rattle.clif_replay.specs.Ready.{TableAgrees, TablesAgree}
+
+-- the ledger with one more call
+pub ledger-more : (calls : List AnsweredCall) (call : AnsweredCall) → ledger_of (calls ++ call ∷ []) ≡ ledger_with (ledger_of calls) call.request
+ledger-more calls call =
+    ap (fold ledger_with empty_ledger) (map_push (λ (c : AnsweredCall). c.request) calls call)
+    ∙ fold-append ledger_with empty_ledger (script_of calls) (call.request ∷ [])
+
+-- THE LEDGER'S TABLES ---------------------------------------------------------------------------------------------------
+
+-- the request makes no edge and no jump table, and lets none serve
+abbrev pub LeavesTables : Request → Type 0
+LeavesTables (MakeEdge edge) = ⊥
+LeavesTables (MakeJumpTable default entries) = ⊥
+LeavesTables (Build (Some table) instruction) = ⊥
+LeavesTables _ = Unit {0}
+
+begun-tables : (ledger : Ledger) (o : Option Name) → (with_begun_at ledger o).jump_tables ≡ ledger.jump_tables
+begun-tables ledger None = refl
+begun-tables ledger (Some block) = by (is_inserted ledger block)
+  where
+    by : (inserted : Bool) → (if inserted then ledger else record ledger { layout = ledger.layout ++ block ∷ [] }).jump_tables ≡ ledger.jump_tables
+    by true = refl
+    by false = refl
+
+pub tables-kept : (ledger : Ledger) (request : Request) → LeavesTables request → (ledger_with ledger request).jump_tables ≡ ledger.jump_tables
+tables-kept ledger CreateBlock leaves = refl
+tables-kept ledger (SwitchToBlock block) leaves = refl
+tables-kept ledger (SealBlock block) leaves = refl
+tables-kept ledger SealAllBlocks leaves = refl
+tables-kept ledger (InsertBlockAfter block after) leaves = refl
+tables-kept ledger (SetColdBlock block) leaves = refl
+tables-kept ledger EnsureInsertedBlock leaves = begun-tables ledger ledger.current
+tables-kept ledger (AppendBlockParams block types) leaves = refl
+tables-kept ledger (AppendFunctionParams block types) leaves = refl
+tables-kept ledger (DeclareVar ty) leaves = refl
+tables-kept ledger (DefVar variable value) leaves = refl
+tables-kept ledger (UseVar variable) leaves = begun-tables ledger ledger.current
+tables-kept ledger (MakeEntry entry) leaves = refl
+tables-kept ledger (MakeEdge edge) leaves = absurd leaves
+tables-kept ledger (MakeJumpTable default entries) leaves = absurd leaves
+tables-kept ledger (Build None instruction) leaves = refl
+tables-kept ledger (Build (Some table) instruction) leaves = absurd leaves
+tables-kept ledger Finalize leaves = refl
+
+values-no-edge : (types : List «Type») (edge : Edge Name Name) → map AValue types ≡ AnEdge edge ∷ [] → ⊥
+values-no-edge [] edge is = cc
+values-no-edge (ty ∷ types) edge is = cc
+
+-- such a call answers no edge
+pub no-edge : (ledger : Ledger) (request : Request) → LeavesTables request → (edge : Edge Name Name) → answers_to ledger request ≡ AnEdge edge ∷ [] → ⊥
+no-edge ledger CreateBlock leaves edge is = cc
+no-edge ledger (SwitchToBlock block) leaves edge is = cc
+no-edge ledger (SealBlock block) leaves edge is = cc
+no-edge ledger SealAllBlocks leaves edge is = cc
+no-edge ledger (InsertBlockAfter block after) leaves edge is = cc
+no-edge ledger (SetColdBlock block) leaves edge is = cc
+no-edge ledger EnsureInsertedBlock leaves edge is = cc
+no-edge ledger (AppendBlockParams block types) leaves edge is = values-no-edge types edge is
+no-edge ledger (AppendFunctionParams block types) leaves edge is = values-no-edge types edge is
+no-edge ledger (DeclareVar ty) leaves edge is = cc
+no-edge ledger (DefVar variable value) leaves edge is = cc
+no-edge ledger (UseVar variable) leaves edge is = cc
+no-edge ledger (MakeEntry entry) leaves edge is = cc
+no-edge ledger (MakeEdge other) leaves edge is = leaves
+no-edge ledger (MakeJumpTable default entries) leaves edge is = leaves
+no-edge ledger (Build None instruction) leaves edge is = cc
+no-edge ledger (Build (Some table) instruction) leaves edge is = leaves
+no-edge ledger Finalize leaves edge is = cc
+
+-- NAMES -------------------------------------------------------------------------------------------------------------------
+
+module _ (reads : LedgerIsReadByNumber) {declared : SignatureShape} (calls : List AnsweredCall) (call : AnsweredCall) (old new : FunctionBuilder)
+    (stands : StandsFor declared calls old) (after : StandsFor declared (calls ++ call ∷ []) new) where
+  pub answer-stays : (name : Name) (a : Answered) → answer_at (ledger_of calls) name ≡ Some a → answer_at (ledger_of (calls ++ call ∷ [])) name ≡ Some a
+  answer-stays name a there =
+      let given = and-then-some (λ (answers : List Answered). slice_get answers name.index) (slice_get (ledger_of calls).answers name.place) a there in
+      ap (λ (ledger : Ledger). answer_at ledger name) (ledger-more calls call)
+      ∙ ap (option_and_then (λ (answers : List Answered). slice_get answers name.index)) (get-front (ledger_of calls).answers (answers_to (ledger_of calls) call.request ∷ []) name.place given.0 given.1)
+      ∙ given.2
+
+  block-stays : (name : Name) (block : ℕ) → NamesBlock calls name block → NamesBlock (calls ++ call ∷ []) name block
+  block-stays name block names =
+      let read = reads calls old.func.now old.ctx.now old.position stands.ledger in
+      let answered = answer-stays name ABlock (stands.ledger.block_answers block name (read.named name block names)) in
+      let number = earlier.kept calls call name block names.number in
+      let given = and-then-some (λ (answers : List Answered). slice_get answers name.index) (slice_get (ledger_of (calls ++ call ∷ [])).answers name.place) ABlock answered in
+      let at = and-then-some (λ (one : AnsweredCall). slice_get one.numbers name.index) (slice_get (calls ++ call ∷ []) name.place) block number in
+      let named : block_name (ledger_of (calls ++ call ∷ [])) block ≡ Some name =
+      (after.ledger.answers name.place at.0 given.0 at.1 given.1).each name.index ABlock block given.2 at.2 in
+      record { number = number; is_block = ap is_some ((reads (calls ++ call ∷ []) new.func.now new.ctx.now new.position after.ledger).state block name named).found }
+
+  value-stays : (name : Name) (value : ℕ) → NamesValue calls name value → NamesValue (calls ++ call ∷ []) name value
+  value-stays name value names = record { number = earlier.kept calls call name value names.number; is_value = value_stays calls call name names.is_value }
+
+  argument-stays : (argument : Argument Name) (made : BlockArg) → NamesArgument calls argument made → NamesArgument (calls ++ call ∷ []) argument made
+  argument-stays (Known name) (arg.Value value) names = value-stays name value names
+  argument-stays (Known name) (arg.TryCallRet place) names = names
+  argument-stays (Known name) (arg.TryCallExn place) names = names
+  argument-stays (CallResult index) (arg.Value value) names = names
+  argument-stays (CallResult index) (arg.TryCallRet place) names = names
+  argument-stays (CallResult index) (arg.TryCallExn place) names = names
+  argument-stays (CallPayload index) (arg.Value value) names = names
+  argument-stays (CallPayload index) (arg.TryCallRet place) names = names
+  argument-stays (CallPayload index) (arg.TryCallExn place) names = names
+
+  arguments-stay : (arguments : List (Argument Name)) (made : List BlockArg) → NamesArguments calls arguments made → NamesArguments (calls ++ call ∷ []) arguments made
+  arguments-stay [] [] names = tt
+  arguments-stay [] (a ∷ made) names = names
+  arguments-stay (argument ∷ arguments) [] names = names
+  arguments-stay (argument ∷ arguments) (a ∷ made) names = (argument-stays argument a names.0, arguments-stay arguments made names.1)
+
+  pub edge-stays : (edge : Edge Name Name) (made : BlockCall) → NamesEdge calls edge made → NamesEdge (calls ++ call ∷ []) edge made
+  edge-stays edge made names = record { target = block-stays edge.target made.block names.target; arguments = arguments-stay edge.arguments made.args names.arguments }
+
+  pub edges-stay : (edges : List (Edge Name Name)) (made : List BlockCall) → NamesEdges calls edges made → NamesEdges (calls ++ call ∷ []) edges made
+  edges-stay [] [] names = tt
+  edges-stay [] (other ∷ made) names = names
+  edges-stay (edge ∷ edges) [] names = names
+  edges-stay (edge ∷ edges) (other ∷ made) names = (edge-stays edge other names.0, edges-stay edges made names.1)
+
+  table-stays : (table : Option (List (Edge Name Name))) (made : Option (List BlockCall)) → TableAgrees calls table made → TableAgrees (calls ++ call ∷ []) table made
+  table-stays None None agrees = tt
+  table-stays None (Some made) agrees = agrees
+  table-stays (Some edges) None agrees = agrees
+  table-stays (Some edges) (Some made) agrees = edges-stay edges made agrees
+
+  pub tables-stay : (tables : List (Option (List (Edge Name Name)))) (made : List (Option (List BlockCall))) → TablesAgree calls tables made → TablesAgree (calls ++ call ∷ []) tables made
+  tables-stay [] [] agrees = tt
+  tables-stay [] (other ∷ made) agrees = agrees
+  tables-stay (table ∷ tables) [] agrees = agrees
+  tables-stay (table ∷ tables) (other ∷ made) agrees = (table-stays table other agrees.0, tables-stay tables made agrees.1)
+
+-- THE TABLES OF BOTH ------------------------------------------------------------------------------------------------------
+
+pub as-many : (calls : List AnsweredCall) (tables : List (Option (List (Edge Name Name)))) (made : List (Option (List BlockCall))) → TablesAgree calls tables made → length tables ≡ length made
+as-many calls [] [] agrees = refl
+as-many calls [] (other ∷ made) agrees = absurd agrees
+as-many calls (table ∷ tables) [] agrees = absurd agrees
+as-many calls (table ∷ tables) (other ∷ made) agrees = ap suc (as-many calls tables made agrees.1)
+
+-- one more
+pub one-table-more : (calls : List AnsweredCall) (tables : List (Option (List (Edge Name Name)))) (made : List (Option (List BlockCall))) (edges : List (Edge Name Name)) (others : List BlockCall)
+    → TablesAgree calls tables made → NamesEdges calls edges others → TablesAgree calls (tables ++ Some edges ∷ []) (made ++ Some others ∷ [])
+one-table-more calls [] [] edges others agrees names = (names, tt)
+one-table-more calls [] (other ∷ made) edges others agrees names = absurd agrees
+one-table-more calls (table ∷ tables) [] edges others agrees names = absurd agrees
+one-table-more calls (table ∷ tables) (other ∷ made) edges others agrees names = (agrees.0, one-table-more calls tables made edges others agrees.1 names)
+
+-- one serves an instruction
+pub table-serves : (calls : List AnsweredCall) (tables : List (Option (List (Edge Name Name)))) (made : List (Option (List BlockCall))) (table : ℕ)
+    → TablesAgree calls tables made → TablesAgree calls (slice_set tables table None) (slice_set made table None)
+table-serves calls [] [] table agrees = tt
+table-serves calls [] (other ∷ made) table agrees = absurd agrees
+table-serves calls (t ∷ tables) [] table agrees = absurd agrees
+table-serves calls (t ∷ tables) (other ∷ made) zero agrees = (tt, agrees.1)
+table-serves calls (t ∷ tables) (other ∷ made) (suc table) agrees = (agrees.0, table-serves calls tables made table agrees.1)

@@ -1,0 +1,84 @@
+use Rattle.std.proofs.Common.{◌≡◌, ap, sym, ◌∙◌, subst, refl}
+use Rattle.std.specs.Prelude.{Bool, Err, Ok, Option, Some, ◌&&◌, is_some, slice_index_or, true}
+use Rattle.std.proofs.lemmas.Bool.{and_from, and_right}
+use Rattle.std.proofs.lemmas.Result.{err_from_is_err_and}
+use Rattle.clif_ir.specs.Body.{Body}
+use Rattle.cranelift_frontend.specs.Context.{ContextState}
+use Rattle.clif_replay.specs.declared.script.Answer.TheVariants as answer
+use Rattle.clif_replay.specs.Ready.{AnswerExists, is_open, serves, value_of}
+use Rattle.clif_replay.proofs.Conditions.{has-current}
+use Rattle.clif_replay.proofs.JumpTables.{Branched, branch-closed, branch-missing, branch-ready, branch-same, branched, serving}
+use Rattle.clif_replay.proofs.Making.{Judges, answered-sound, made-answer, made-misuse, made-refused}
+use Rattle.clif_replay.proofs.ReadyLaws.{answers-exist, value-exists}
+use Rattle.clif_replay.proofs.make_tables.br_table.Goals as goal
+
+pub returns-then-not-has_current : goal.returns-then-not-has_current
+returns-then-not-has_current c =
+    made-misuse c.args.builder.now c.args.answers.now (λ declared calls ready.
+    branch-same calls c.args.builder.now c.args.answers.now ready c.args.index c.args.table
+    ∙ branch-closed c.args.builder.now _ c.args.table (sym c.has_current.ensures ∙ c.if-not-has_current.true))
+
+pub value_named-requires : goal.value_named-requires
+value_named-requires c = λ i inside.
+    subst (λ (f : Body). AnswerExists f (slice_index_or c.args.answers.now i answer.Nothing)) (sym c.func.ensures)
+    (answers-exist c.requires.calls c.args.builder.now c.args.answers.now c.requires.ready i inside)
+
+pub returns-in_default : goal.returns-in_default
+returns-in_default c =
+    let none = ap (λ (f : Body). value_of f c.args.answers.now c.args.index) (sym c.func.ensures) ∙ sym c.value_named.ensures ∙ c.in_default.is in
+    made-misuse c.args.builder.now c.args.answers.now (λ declared calls ready.
+    branch-same calls c.args.builder.now c.args.answers.now ready c.args.index c.args.table ∙ branch-missing c.args.builder.now _ c.args.table none)
+
+pub returns-then-not-may_serve : goal.returns-then-not-may_serve
+returns-then-not-may_serve c =
+    made-misuse c.args.builder.now c.args.answers.now (λ declared calls ready.
+    branch-same calls c.args.builder.now c.args.answers.now ready c.args.index c.args.table
+    ∙ and_right _ (serves c.args.builder.now c.args.table) (sym c.may_serve.ensures ∙ c.if-not-may_serve.true))
+
+pub branch-builder-requires-clause-current : goal.branch-builder-requires-clause-current
+branch-builder-requires-clause-current c =
+    has-current c.requires.calls c.args.builder.now c.args.answers.now c.requires.ready (sym c.has_current.ensures ∙ c.if-not-has_current.false)
+
+pub branch-builder-requires-clause-index_exists : goal.branch-builder-requires-clause-index_exists
+branch-builder-requires-clause-index_exists c =
+    value-exists c.requires.calls c.args.builder.now c.args.answers.now c.requires.ready c.args.index c.in-Some.value
+    (ap (λ (f : Body). value_of f c.args.answers.now c.args.index) (sym c.func.ensures) ∙ sym c.value_named.ensures ∙ c.in-Some.is)
+
+pub branch-builder-requires-clause-serves : goal.branch-builder-requires-clause-serves
+branch-builder-requires-clause-serves c =
+    serving c.requires.calls c.args.builder.now c.args.answers.now c.requires.ready c.args.table (sym c.may_serve.ensures ∙ c.if-not-may_serve.false)
+
+pub returns-in_err-inst : goal.returns-in_err-inst
+returns-in_err-inst c =
+    let b = c.args.builder.now in
+    let answers = c.args.answers.now in
+    let found = ap (λ (f : Body). value_of f answers c.args.index) (sym c.func.ensures) ∙ sym c.value_named.ensures ∙ c.in-Some.is in
+    let p = err_from_is_err_and c.from_residual.result c.from_residual.ensures.1 in
+    let done = branched b c.branch-builder.new.builder c.in-Some.value c.args.table c.branch-builder.result c.requires.sound c.branch-builder.ensures in
+    made-refused b c.branch-builder.new.builder answers c.branch-builder.result c.in_err-inst.field-0.0 p.0 c.from_residual.result c.in_err-inst.was p.1 p.2
+    done.loans c.requires.sound done.failed
+    (λ declared calls ready.
+    branch-same calls b answers ready c.args.index c.args.table
+    ∙ and_from _ (serves b c.args.table)
+    (and_from (is_open b) (is_some (value_of b.func.now answers c.args.index)) (sym c.has_current.ensures ∙ c.if-not-has_current.false) (ap is_some found))
+    (sym c.may_serve.ensures ∙ c.if-not-may_serve.false))
+    done.full
+
+pub returns : goal.returns
+returns c =
+    let b = c.args.builder.now in
+    let new = c.branch-builder.new.builder in
+    let answers = c.args.answers.now in
+    let found = ap (λ (f : Body). value_of f answers c.args.index) (sym c.func.ensures) ∙ sym c.value_named.ensures ∙ c.in-Some.is in
+    let done : Branched b new c.in-Some.value c.args.table (Ok c.in_ok-inst.inst) =
+    branched b new c.in-Some.value c.args.table (Ok c.in_ok-inst.inst) c.requires.sound c.in_ok-inst.ensures in
+    let fails = (branched b new c.in-Some.value c.args.table c.branch-builder.result c.requires.sound c.branch-builder.ensures).builds.fails in
+    made-answer b new answers (answer.Inst c.in_ok-inst.inst) done.loans (done.builds.grows.3 ∙ done.takes.sets.grows.3)
+    (answered-sound _ c.branch-builder.result _ fails c.in_ok-inst.was) (done.builds.variables ∙ ap (λ (x : ContextState). x.variables) done.takes.sets.context)
+    (λ declared calls ready.
+    branch-same calls b answers ready c.args.index c.args.table
+    ∙ and_from _ (serves b c.args.table)
+    (and_from (is_open b) (is_some (value_of b.func.now answers c.args.index)) (sym c.has_current.ensures ∙ c.if-not-has_current.false) (ap is_some found))
+    (sym c.may_serve.ensures ∙ c.if-not-may_serve.false))
+    (λ declared calls ready.
+    branch-ready c.requests_ask_for_their_shapes.ensures calls b new answers c.args.index c.in-Some.value c.args.table c.in_ok-inst.inst ready found done)

@@ -1,0 +1,66 @@
+use Rattle.std.proofs.Common.{◌≡◌, List, ◌∷◌, ap, sym, ◌∙◌, subst, refl}
+use Rattle.std.specs.Prelude.{Bool, Err, Ok, Option, Some, map, ◌&&◌, is_some}
+use Rattle.std.specs.List.{list_all}
+use Rattle.std.proofs.lemmas.Bool.{and_right}
+use Rattle.std.proofs.lemmas.Result.{err_from_is_err_and}
+use Rattle.clif_instructions.specs.declared.block_call.BlockCall.{BlockCall}
+use Rattle.cranelift_frontend.specs.Context.{ContextState}
+use Rattle.cranelift_frontend.specs.Entries.{CreatesJumpTable}
+use Rattle.clif_calls.specs.declared.call.Name.{Name}
+use Rattle.clif_replay.specs.Ready.{edge_at}
+use Rattle.clif_replay.specs.declared.script.Answer.TheVariants as answer
+use Rattle.clif_replay.proofs.JumpTables.{all-there, edges-same, table-ready}
+use Rattle.clif_replay.proofs.Making.{answered-sound, made-answer, made-misused, made-missed, made-refused}
+use Rattle.clif_replay.proofs.make_tables.create_jump_table.Goals as goal
+
+pub returns-in_err-default : goal.returns-in_err-default
+returns-in_err-default c =
+    let p = err_from_is_err_and c.from_residual.result c.from_residual.ensures.1 in
+    let b = c.args.builder.now in
+    made-misused b c.args.answers.now c.edge_copied.result c.from_residual.result c.in_err-default.field-0.0 c.in_err-default.was (p.1 ∙ ap Err p.2) c.edge_copied.ensures
+    (λ none declared calls ready.
+    edges-same calls b c.args.answers.now ready (c.args.default ∷ c.args.entries.now)
+    ∙ ap (λ (test : Bool). test && list_all (λ name. is_some (edge_at c.args.answers.now name)) c.args.entries.now) none)
+
+pub returns-in_err-entries : goal.returns-in_err-entries
+returns-in_err-entries c =
+    let p = err_from_is_err_and c.from_residual-in_err-entries.result c.from_residual-in_err-entries.ensures.1 in
+    let b = c.args.builder.now in
+    let done = c.edges_copied.ensures in
+    made-missed b c.args.answers.now c.edges_copied.result c.from_residual-in_err-entries.result c.in_err-entries.field-0.0 c.in_err-entries.was (p.1 ∙ ap Err p.2)
+    (λ misuse declared calls ready.
+    edges-same calls b c.args.answers.now ready (c.args.default ∷ c.args.entries.now)
+    ∙ and_right (is_some (edge_at c.args.answers.now c.args.default)) _ (done.misuse misuse))
+    done.never_refused done.never_full
+
+pub returns-in_err-create_jump_table : goal.returns-in_err-create_jump_table
+returns-in_err-create_jump_table c =
+    let b = c.args.builder.now in
+    let answers = c.args.answers.now in
+    let names : List Name = c.args.default ∷ c.args.entries.now in
+    let edges : List BlockCall = c.in_ok-default.default ∷ c.in_ok-entries.entries.items in
+    let found : map (edge_at answers) names ≡ map Some edges =
+    ap (λ (o : Option BlockCall). o ∷ map (edge_at answers) c.args.entries.now) c.in_ok-default.ensures.found
+    ∙ ap (λ (rest : List (Option BlockCall)). Some c.in_ok-default.default ∷ rest) c.in_ok-entries.ensures.edges in
+    let done = c.create_jump_table.ensures in
+    let p = err_from_is_err_and c.from_residual-in_err-create_jump_table.result c.from_residual-in_err-create_jump_table.ensures.1 in
+    made-refused b c.create_jump_table.new.self answers c.create_jump_table.result c.in_err-create_jump_table.field-0.0 p.0 c.from_residual-in_err-create_jump_table.result
+    c.in_err-create_jump_table.was p.1 p.2 done.sets.call.loans c.requires.sound done.sets.call.failed
+    (λ declared calls ready. edges-same calls b answers ready names ∙ all-there answers names edges found) (λ full. (done.full.0 full).1)
+
+pub returns : goal.returns
+returns c =
+    let b = c.args.builder.now in
+    let new = c.create_jump_table.new.self in
+    let answers = c.args.answers.now in
+    let names : List Name = c.args.default ∷ c.args.entries.now in
+    let edges : List BlockCall = c.in_ok-default.default ∷ c.in_ok-entries.entries.items in
+    let found : map (edge_at answers) names ≡ map Some edges =
+    ap (λ (o : Option BlockCall). o ∷ map (edge_at answers) c.args.entries.now) c.in_ok-default.ensures.found
+    ∙ ap (λ (rest : List (Option BlockCall)). Some c.in_ok-default.default ∷ rest) c.in_ok-entries.ensures.edges in
+    let done = c.create_jump_table.ensures in
+    let creates = subst (λ (table : List BlockCall). CreatesJumpTable table b new (Ok c.in_ok-create_jump_table.field-0)) c.in_ok-table.ensures.ok c.in_ok-create_jump_table.ensures in
+    made-answer b new answers answer.Table done.sets.call.loans creates.sets.grows.3 (answered-sound _ c.create_jump_table.result _ done.sets.call.fails c.in_ok-create_jump_table.was)
+    (ap (λ (x : ContextState). x.variables) done.sets.context)
+    (λ declared calls ready. edges-same calls b answers ready names ∙ all-there answers names edges found)
+    (λ declared calls ready. table-ready c.table_calls_add_nothing.ensures calls b new answers c.args.default c.args.entries.now edges c.in_ok-create_jump_table.field-0 ready found creates)
