@@ -4,7 +4,7 @@ use clif_interpreter::instruction::{edge_count, edge_of, instruction_of, plan_of
 use clif_opcodes::{Control, Demand, Opcode, PooledConstOpcode};
 use clif_operations::Operation;
 use clif_types::types::F128;
-use clif_types::{AbiParam, EntityRef, Signature, StackSlot, Type};
+use clif_types::{AbiParam, EntityRef, JumpTable, Signature, StackSlot, Type};
 use std::alloc::{AllocError, Global};
 use std::fmt;
 
@@ -15,10 +15,16 @@ pub enum Condition {
     NoBlock(Name),
     /// The name leads to no value.
     NoValue(Name),
+    /// The name leads to no edge.
+    NoEdge(Name),
     /// The variable isn't declared.
     NoVariable(usize),
     /// The stack slot isn't there.
     NoSlot(usize),
+    /// The jump table isn't there.
+    NoTable(usize),
+    /// The jump table serves another instruction.
+    Served(usize),
     /// No block is current.
     NoCurrent,
     /// The block has a terminator.
@@ -52,8 +58,11 @@ impl fmt::Display for Condition {
         match self {
             Condition::NoBlock(name) => write_name(f, *name, "block"),
             Condition::NoValue(name) => write_name(f, *name, "value"),
+            Condition::NoEdge(name) => write_name(f, *name, "block call"),
             Condition::NoVariable(number) => write!(f, "var{number} isn't declared"),
             Condition::NoSlot(number) => write!(f, "ss{number} isn't there"),
+            Condition::NoTable(number) => write!(f, "jt{number} isn't there"),
+            Condition::Served(number) => write!(f, "jt{number} serves another instruction"),
             Condition::NoCurrent => f.write_str("no block is current"),
             Condition::Filled(number) => write_block(f, *number, "is filled"),
             Condition::Unfilled(number) => write_block(f, *number, "isn't filled yet"),
@@ -90,6 +99,7 @@ fn write_block<W: fmt::Write>(f: &mut fmt::Formatter<W>, number: usize, is: &str
 enum Answer {
     Block(usize),
     Value(Type),
+    Edge,
     Other,
 }
 
@@ -125,18 +135,21 @@ const NEW_BLOCK: BlockState = BlockState {
 #[derive(Drop)]
 struct Ledger<'a> {
     alloc: Global,
+    calls: &'a [Call],
     signature: &'a Signature,
     answers: Vec<Vec<Answer>>,
     blocks: Vec<BlockState>,
     variables: Vec<Type>,
     slots: usize,
+    // for each jump table the places of the calls that answered its edges, until it serves an instruction
+    tables: Vec<Option<Vec<usize>>>,
     current: Option<usize>,
     entry: Option<usize>,
 }
 
 // TESTS: each answers the first condition that doesn't hold.
 
-impl Ledger<'_> {
+impl<'a> Ledger<'a> {
     fn answer(&self, name: Name) -> Answer {
         match self.answers.get(name.place) {
             Some(answers) => answers.get(name.answer).copied().unwrap_or(Answer::Other),
@@ -147,14 +160,30 @@ impl Ledger<'_> {
     fn block(&self, name: Name) -> Result<usize, Condition> {
         match self.answer(name) {
             Answer::Block(number) => Ok(number),
-            Answer::Value(_) | Answer::Other => Err(Condition::NoBlock(name)),
+            Answer::Value(_) | Answer::Edge | Answer::Other => Err(Condition::NoBlock(name)),
         }
     }
 
     fn value(&self, name: Name) -> Result<Type, Condition> {
         match self.answer(name) {
             Answer::Value(ty) => Ok(ty),
-            Answer::Block(_) | Answer::Other => Err(Condition::NoValue(name)),
+            Answer::Block(_) | Answer::Edge | Answer::Other => Err(Condition::NoValue(name)),
+        }
+    }
+
+    fn edge(&self, name: Name) -> Result<&'a Edge, Condition> {
+        match (self.answer(name), self.calls.get(name.place)) {
+            (Answer::Edge, Some(Call::BlockCall { edge })) => Ok(edge),
+            _ => Err(Condition::NoEdge(name)),
+        }
+    }
+
+    // The edges of a jump table that serves no instruction so far, by the places of the calls that answered them.
+    fn table(&self, table: JumpTable) -> Result<&[usize], Condition> {
+        match self.tables.get(table.index()) {
+            Some(Some(places)) => Ok(places.as_slice()),
+            Some(None) => Err(Condition::Served(table.index())),
+            None => Err(Condition::NoTable(table.index())),
         }
     }
 
@@ -227,6 +256,35 @@ impl Ledger<'_> {
         }
         for name in edge.args.iter() {
             self.value(*name)?;
+        }
+        Ok(())
+    }
+
+    fn has_edge(&self, edge: &Edge) -> Result<(), Condition> {
+        self.block(edge.block)?;
+        for name in edge.args.iter() {
+            self.value(*name)?;
+        }
+        Ok(())
+    }
+
+    fn have_edges(&self, default: Name, entries: &[Name]) -> Result<(), Condition> {
+        self.edge(default)?;
+        for entry in entries {
+            self.edge(*entry)?;
+        }
+        Ok(())
+    }
+
+    fn can_branch(&self, index: Name, table: JumpTable) -> Result<(), Condition> {
+        self.is_open()?;
+        self.value(index)?;
+        for place in self.table(table)? {
+            let edge = self.edge(Name {
+                place: *place,
+                answer: 0,
+            })?;
+            self.can_lead(edge)?;
         }
         Ok(())
     }
@@ -308,6 +366,11 @@ impl Ledger<'_> {
                 }
                 Ok(())
             }
+            Call::BlockCall { edge } => self.has_edge(edge),
+            Call::CreateJumpTable { default, entries } => {
+                self.have_edges(*default, entries.as_slice())
+            }
+            Call::BrTable { index, table } => self.can_branch(*index, *table),
             Call::DeclareVar { ty } => can_declare(*ty),
             Call::DefVar { variable, value } => self.can_define(variable.index(), *value),
             Call::UseVar { variable } => {
@@ -391,14 +454,16 @@ fn slot_of(operation: &Operation) -> Option<usize> {
 // CHANGES: what each call that may be made changes.
 
 impl<'a> Ledger<'a> {
-    fn new(alloc: Global, signature: &'a Signature) -> Ledger<'a> {
+    fn new(alloc: Global, calls: &'a [Call], signature: &'a Signature) -> Ledger<'a> {
         Ledger {
             alloc,
+            calls,
             signature,
             answers: Vec::new(alloc),
             blocks: Vec::new(alloc),
             variables: Vec::new(alloc),
             slots: 0,
+            tables: Vec::new(alloc),
             current: None,
             entry: None,
         }
@@ -488,6 +553,41 @@ impl<'a> Ledger<'a> {
         Ok(())
     }
 
+    // A jump table of these edges is made.
+    fn add_table(&mut self, default: Name, entries: &[Name]) -> Result<(), AllocError> {
+        let mut places = Vec::new(self.alloc);
+        places.push(default.place)?;
+        for entry in entries {
+            places.push(entry.place)?;
+        }
+        self.tables.push(Some(places))?;
+        self.push(Answer::Other)
+    }
+
+    // A branch by a jump table is made, which serves it from now on.
+    fn branch(&mut self, table: JumpTable) -> Result<(), AllocError> {
+        self.begin();
+        let served = match self.tables.get_mut(table.index()) {
+            Some(places) => places.take(),
+            None => None,
+        };
+        if let Some(places) = served {
+            for place in places.iter() {
+                let name = Name {
+                    place: *place,
+                    answer: 0,
+                };
+                if let Ok(edge) = self.edge(name) {
+                    self.mark_named(edge.block, Mark::Reached);
+                }
+            }
+        }
+        if let Some(number) = self.current {
+            self.mark(number, Mark::Filled);
+        }
+        self.push(Answer::Other)
+    }
+
     // A call is made: a row for each.
     fn change(&mut self, call: &Call) -> Result<(), AllocError> {
         let signature = self.signature;
@@ -505,6 +605,11 @@ impl<'a> Ledger<'a> {
                 self.slots = self.slots.saturating_add(1);
                 self.push(Answer::Other)
             }
+            Call::BlockCall { .. } => self.push(Answer::Edge),
+            Call::CreateJumpTable { default, entries } => {
+                self.add_table(*default, entries.as_slice())
+            }
+            Call::BrTable { table, .. } => self.branch(*table),
             Call::UseVar { variable } | Call::TryUseVar { variable } => {
                 self.begin();
                 let ty = self.variable(variable.index()).unwrap_or(Type::Invalid);
@@ -559,7 +664,7 @@ pub fn broken_condition(
     signature: &Signature,
     place: usize,
 ) -> Result<Option<Condition>, AllocError> {
-    let mut ledger = Ledger::new(alloc, signature);
+    let mut ledger = Ledger::new(alloc, calls, signature);
     for (at, call) in calls.iter().enumerate() {
         if at == place {
             return Ok(ledger.test(call).err());

@@ -5,7 +5,9 @@ ghost use Rattle.clif_text.specs.Operands.{operands_text};
 
 use clif_calls::{Call, Edge, Name, Plan};
 use clif_records::Variable;
-use clif_types::{HexBytes, JumpTable, PointerWidth, Signature, TargetFrontendConfig, Type, UserFuncName};
+use clif_types::{
+    HexBytes, JumpTable, PointerWidth, Signature, TargetFrontendConfig, Type, UserFuncName,
+};
 use std::alloc::{AllocError, Global};
 use std::fmt;
 
