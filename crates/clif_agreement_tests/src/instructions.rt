@@ -296,3 +296,40 @@ fn guards(rt: HostRuntime) -> Result<(), Fail> {
     let out_of_bounds = End::Trapped(TrapCode::HeapOutOfBounds);
     guard_ends(&rt, alloc, "trap heap_oob", 0, out_of_bounds)
 }
+
+/// A branch by a table of three entries, of which two go to one block with different arguments.
+const BY_TABLE: &str = "\
+function %by_table (i32) -> i32 system_v
+entry = create_block
+first = create_block
+shared = create_block
+other = create_block
+index = append_block_params_for_function_params entry
+passed = append_block_param shared i32
+switch_to_block entry
+ten = iconst.i32 10
+to_first = block_call first
+to_shared = block_call shared(ten)
+again = block_call shared(index)
+to_other = block_call other
+table = create_jump_table to_other to_first to_shared again
+br_table index table
+switch_to_block first
+seven = iconst.i32 7
+return seven
+switch_to_block shared
+return passed
+switch_to_block other
+many = iconst.i32 99
+return many
+seal_all_blocks
+";
+
+/// Each entry of the table, and the default for 3 and for -1.
+#[test]
+fn by_table(rt: HostRuntime) -> Result<(), Fail> {
+    text_answers(&rt, rt.alloc(), BY_TABLE, &[&[0]], 7)?;
+    text_answers(&rt, rt.alloc(), BY_TABLE, &[&[1]], 10)?;
+    text_answers(&rt, rt.alloc(), BY_TABLE, &[&[2]], 2)?;
+    text_answers(&rt, rt.alloc(), BY_TABLE, &[&[3], &[0xffff_ffff]], 99)
+}

@@ -484,3 +484,53 @@ block1:
     jump block2
 }
 ";
+
+pub const TABLE: &str = "\
+function %jump_table (i32) -> i32 system_v
+entry = create_block
+zero = create_block
+one = create_block
+other = create_block
+index = append_block_params_for_function_params entry
+passed = append_block_param one i32
+to_zero = block_call zero
+to_one = block_call one(index)
+to_other = block_call other
+table = create_jump_table to_other to_zero to_one
+
+switch_to_block entry
+seal_block entry
+br_table index table
+seal_block zero
+seal_block one
+seal_block other
+
+switch_to_block zero
+ten = iconst.i32 10
+return ten
+
+switch_to_block one
+return passed
+
+switch_to_block other
+many = iconst.i32 99
+return many
+";
+
+pub const TABLE_TEXT: &str = "\
+function %jump_table(i32) -> i32 system_v {
+block0(v0: i32):
+    br_table v0, block3, [block1, block2(v0)]
+
+block1:
+    v2 = iconst.i32 10
+    return v2  ; v2 = 10
+
+block2(v1: i32):
+    return v1
+
+block3:
+    v3 = iconst.i32 99
+    return v3  ; v3 = 99
+}
+";

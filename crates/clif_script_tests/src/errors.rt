@@ -60,7 +60,7 @@ fn of_calls(rt: HostRuntime) -> Result<(), Fail> {
     faults(&rt, rt.alloc(), &CALLS)
 }
 
-const INSTRUCTIONS: [(&str, &str); 46] = [
+const INSTRUCTIONS: [(&str, &str); 52] = [
     ("f16const", "expected the bits of an f16"),
     ("f16const 65536", "expected the bits of an f16"),
     ("f32const 4294967296", "expected the bits of an f32"),
@@ -113,6 +113,12 @@ const INSTRUCTIONS: [(&str, &str); 46] = [
     ("trap", "expected a trap code"),
     ("trap stk_ovf", "expected a trap code"),
     ("trap user7 $0.0", "expected the end of the line"),
+    ("block_call", "expected a block"),
+    ("create_jump_table", "expected a block call"),
+    ("create_jump_table $0.0 e", "unknown name: e"),
+    ("br_table", "expected a value"),
+    ("br_table $0.0", "expected a jump table"),
+    ("br_table $0.0 jt4294967295", "expected a jump table"),
 ];
 
 #[test]

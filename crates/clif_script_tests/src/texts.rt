@@ -8,7 +8,7 @@ use std::alloc::Global;
 use std::process::Abort;
 use std::test::Fail;
 
-const EXAMPLES: [(&str, &str); 8] = [
+const EXAMPLES: [(&str, &str); 9] = [
     (data::DIAMOND, data::DIAMOND_TEXT),
     (data::NESTED_LOOPS, data::NESTED_LOOPS_TEXT),
     (data::SUM_OF_BYTES, data::SUM_OF_BYTES_TEXT),
@@ -16,6 +16,7 @@ const EXAMPLES: [(&str, &str); 8] = [
     (data::FORMS, data::FORMS_TEXT),
     (data::SLOTS, data::SLOTS_TEXT),
     (data::PLACED, data::PLACED_TEXT),
+    (data::TABLE, data::TABLE_TEXT),
     ("\n# nothing is called\n \t\r\n,", data::EMPTY_TEXT),
 ];
 
@@ -146,7 +147,12 @@ trapz $1.0 user7
 trapnz $1.0, int_divz
 trap heap_oob
 trap user255
-trap int_ovf";
+trap int_ovf
+e = block_call $1.0, $2.0
+t = create_jump_table e
+t = create_jump_table $1.0, $2.0
+br_table $1.0 t
+br_table $1.0, jt7";
     let written = "\
 function u0:0 () fast
 pointer 64
@@ -180,6 +186,11 @@ trapnz $1.0 int_divz
 trap heap_oob
 trap user255
 trap int_ovf
+block_call $1.0( $2.0)
+create_jump_table $30.0
+create_jump_table $1.0 $2.0
+br_table $1.0 jt1
+br_table $1.0 jt7
 ";
     is_written(&rt, rt.alloc(), script, written)?;
     is_written(&rt, rt.alloc(), written, written)
@@ -262,7 +273,7 @@ block0:
     Ok(())
 }
 
-const MISUSES: [(&str, &str); 22] = [
+const MISUSES: [(&str, &str); 27] = [
     (data::MISUSE, data::MISUSE_TEXT),
     // an answer that isn't there, and one of another kind
     (
@@ -284,6 +295,28 @@ const MISUSES: [(&str, &str); 22] = [
     (
         "b = create_block\nx, y = append_block_params_for_function_returns b\nswitch_to_block b\nreturn y\nfunction %f () -> i8 fast",
         "misuse at call 3\nline 4: return y: $1.1 is no value\n",
+    ),
+    // a jump table that serves another branch, and one that isn't there
+    (
+        "b = create_block\nc = create_block\ne = block_call c\nt = create_jump_table e\nswitch_to_block b\nx = iconst.i32 0\nbr_table x t\nd = create_block\nswitch_to_block d\ny = iconst.i32 0\nbr_table y t",
+        "misuse at call 10\nline 11: br_table y t: jt0 serves another instruction\n",
+    ),
+    (
+        "b = create_block\nswitch_to_block b\nx = iconst.i8 0\nbr_table x jt0",
+        "misuse at call 3\nline 4: br_table x jt0: jt0 isn't there\n",
+    ),
+    // a table of what is no edge, an edge that passes what is no value, and one whose target is sealed before the branch
+    (
+        "b = create_block\nt = create_jump_table b",
+        "misuse at call 1\nline 2: t = create_jump_table b: $0.0 is no block call\n",
+    ),
+    (
+        "b = create_block\ne = block_call b(b)",
+        "misuse at call 1\nline 2: e = block_call b(b): $0.0 is no value\n",
+    ),
+    (
+        "b = create_block\nc = create_block\ne = block_call c\nt = create_jump_table e\nseal_block c\nswitch_to_block b\nx = iconst.i8 0\nbr_table x t",
+        "misuse at call 7\nline 8: br_table x t: block1 is sealed\n",
     ),
     // constants of another length than their type, and a type that is no vector
     (
