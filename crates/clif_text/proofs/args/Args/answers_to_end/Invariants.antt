@@ -4,8 +4,8 @@ use Rattle.clif_words.specs.Cursor.{words_left}
 use Rattle.clif_text.proofs.Taking.{TakesAnswers}
 use Rattle.clif_text.proofs.args.Args.answers_to_end.Given as goal
 
-abbrev pub invariant-loop-values : goal.invariant-loop-values
-invariant-loop-values l = TakesAnswers l.fn.self l.self l.values.items
+abbrev pub invariant-loop-expected : goal.invariant-loop-expected
+invariant-loop-expected l = TakesAnswers l.fn.self l.self l.values.items
 
-abbrev pub decreases-loop-values : goal.decreases-loop-values
-decreases-loop-values l = length (words_left l.self.words)
+abbrev pub decreases-loop-expected : goal.decreases-loop-expected
+decreases-loop-expected l = length (words_left l.self.words)
