@@ -253,8 +253,8 @@ fn parts(call: &Call) -> (&'static str, Operands<'_>)
 }
 
 /// A call as a line of a script, without the line's end. It is printed with `$P.K` for each answer, `varN` for
-/// each variable, `ssN` for each stack slot and `jtN` for each jump table, so it needs no names. The region of a load or a store is written
-/// as it is printed, though no script can name it.
+/// each variable, `ssN` for each stack slot and `jtN` for each jump table, so it needs no names. The region of a
+/// load or a store is written as it is printed, though no script can name it.
 #[derive(Clone, Copy)]
 pub struct CallText<'a>(pub &'a Call);
 

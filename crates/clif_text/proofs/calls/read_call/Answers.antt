@@ -1,8 +1,8 @@
 -- Each call's words are its name and what its operands took.
 use Rattle.std.proofs.Common.{List, ℕ, ◌∷◌, ◌++◌, [], ap, sym, subst, ◌∙◌}
-use Rattle.std.proofs.lemmas.List.{append-nil, append_assoc}
-use Rattle.clif_text.specs.Grammar.{AreAnswers, IsAnswer, IsEdge, IsJumpTable, IsLastEdge}
+use Rattle.std.proofs.lemmas.List.{append_assoc, append-nil}
 use Rattle.clif_words.specs.Cursor.{words_left}
+use Rattle.clif_text.specs.Grammar.{AreAnswers, IsAnswer, IsEdge, IsJumpTable, IsLastEdge}
 use Rattle.clif_text.specs.Scope.{names_of}
 use Rattle.clif_text.proofs.calls.read_call.Goals as goal
 
@@ -48,27 +48,6 @@ returns-in_ok-last_edge-in-brif c =
       (condition.0, first.0, second.0, ap (λ (head : List ℕ). head ∷ condition.0 ∷ (first.0 ++ second.0)) c.in-brif.is, condition.2, one, two),
     )
 
-pub returns-in_ok-last_edge_names-in-create_jump_table : goal.returns-in_ok-last_edge_names-in-create_jump_table
-returns-in_ok-last_edge_names-in-create_jump_table c =
-    let default = c.in_ok-edge_name-in-create_jump_table.ensures.ok in
-    let entries = c.in_ok-last_edge_names-in-create_jump_table.ensures.ok in
-    let words = words_left c.edge_name.new.self.words in
-    let stand = subst (λ scope. AreAnswers (names_of scope.now) words c.in_ok-last_edge_names-in-create_jump_table.field-0.items)
-    c.in_ok-edge_name-in-create_jump_table.ensures.scope entries.1 in
-    let taken = sym (append-nil words) ∙ ap (λ (rest : List (List ℕ)). words ++ rest) (sym entries.0) in (
-      default.0 ∷ words,
-      default.1 ∙ ap (λ rest. default.0 ∷ rest) taken,
-      (default.0, words, ap (λ (head : List ℕ). head ∷ default.0 ∷ words) c.in-create_jump_table.is, default.2, stand),
-    )
-
-pub returns-in_ok-jump_table-in-br_table : goal.returns-in_ok-jump_table-in-br_table
-returns-in_ok-jump_table-in-br_table c =
-    let index = c.in_ok-value-in-br_table.ensures.ok in
-    let table = c.in_ok-jump_table-in-br_table.ensures.ok in
-    let stands = subst (λ scope. IsJumpTable (names_of scope.now) table.0 c.in_ok-jump_table-in-br_table.field-0) c.in_ok-value-in-br_table.ensures.scope table.2 in
-    let words = index.0 ∷ table.0 ∷ [] in
-    (words, index.1 ∙ ap (λ rest. index.0 ∷ rest) table.1, (index.0, table.0, ap (λ (head : List ℕ). head ∷ words) c.in-br_table.is, index.2, stands))
-
 pub returns-in_ok-trap_code-in-trap : goal.returns-in_ok-trap_code-in-trap
 returns-in_ok-trap_code-in-trap c =
     let reason = c.in_ok-trap_code-in-trap.ensures.ok in
@@ -80,3 +59,23 @@ returns-in_ok-align_shift-in-create_sized_stack_slot c =
     let shift = c.in_ok-align_shift-in-create_sized_stack_slot.ensures.ok in
     let words = size.0 ∷ shift.0 ∷ [] in
     (words, size.1 ∙ ap (λ rest. size.0 ∷ rest) shift.1, (size.0, shift.0, ap (λ (head : List ℕ). head ∷ words) c.in-create_sized_stack_slot.is, size.2, shift.2))
+
+pub returns-in_ok-last_edge_names-in-create_jump_table : goal.returns-in_ok-last_edge_names-in-create_jump_table
+returns-in_ok-last_edge_names-in-create_jump_table c =
+    let default = c.in_ok-edge_name-in-create_jump_table.ensures.ok in
+    let entries = c.in_ok-last_edge_names-in-create_jump_table.ensures.ok in
+    let scope = c.in_ok-edge_name-in-create_jump_table.ensures.scope in
+    let left = words_left c.edge_name.new.self.words in
+    let all = ap (λ rest. left ++ rest) entries.0 ∙ append-nil left in
+    let stand = subst (λ at. AreAnswers (names_of at.now) left c.in_ok-last_edge_names-in-create_jump_table.field-0.items) scope entries.1 in (
+      default.0 ∷ left,
+      default.1 ∙ ap (λ rest. default.0 ∷ rest) (sym all),
+      (default.0, left, ap (λ (head : List ℕ). head ∷ default.0 ∷ left) c.in-create_jump_table.is, default.2, stand),
+    )
+
+pub returns-in_ok-jump_table-in-br_table : goal.returns-in_ok-jump_table-in-br_table
+returns-in_ok-jump_table-in-br_table c =
+    let index = c.in_ok-value-in-br_table.ensures.ok in
+    let table = c.in_ok-jump_table-in-br_table.ensures.ok in
+    let stands = subst (λ scope. IsJumpTable (names_of scope.now) table.0 c.in_ok-jump_table-in-br_table.field-0) c.in_ok-value-in-br_table.ensures.scope table.2 in
+    (index.0 ∷ table.0 ∷ [], index.1 ∙ ap (λ rest. index.0 ∷ rest) table.1, (index.0, table.0, ap (λ (head : List ℕ). head ∷ index.0 ∷ table.0 ∷ []) c.in-br_table.is, index.2, stands))
