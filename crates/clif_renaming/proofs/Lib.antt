@@ -1,0 +1,2 @@
+pub mod RenamedNames
+pub mod LockStep
