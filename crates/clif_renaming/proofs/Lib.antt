@@ -1,2 +1,6 @@
 pub mod RenamedNames
 pub mod LockStep
+pub mod Places
+pub mod Programs
+pub mod Ledgers
+pub mod TrackedNames
