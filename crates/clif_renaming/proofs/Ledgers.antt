@@ -1,19 +1,15 @@
 -- What a script declares and answers it declares and answers without its calls that seal.
 use Rattle.std.proofs.Common.{◌≡◌, ◌+◌, ◌≤◌, ℕ, zero, suc, Bool, true, false, cond, not, List, [], ◌∷◌, ◌++◌, length, map, refl, sym, ◌∙◌, ap, ap₂, subst, arith, Option, Some, None, append_assoc, append-nil}
-use Rattle.std.specs.Prelude.{fold, slice_get, option_and_then, option_map, if◌then◌else◌, ◌||◌}
-use Rattle.std.specs.List.{list_any}
-use Rattle.std.proofs.lemmas.List.{map-append}
+use Rattle.std.specs.Prelude.{fold, slice_get, option_and_then, option_map, if◌then◌else◌}
 use Rattle.clif_tables.specs.Entries.{count_for, with_entry}
 use Rattle.clif_tables.specs.Lists.{TableLists}
 use Rattle.clif_meaning.specs.Instruction.{Edge, Operation}
-use Rattle.clif_meaning.specs.Ledger.{Answered, AVariable, AValue, AnEntry, BlockState, or_invalid, Ledger, VariableState, answer_at, answers_to, changed_by, empty_ledger, is_inserted, is_marked, is_terminator, ledger_after, ledger_with, new_variable, touched_at, type_of, value_answer_type, with_begun, with_begun_at, with_filled_at, with_predecessor, with_terminator}
-use Rattle.clif_meaning.specs.Name.{Name, answer_of, same_name}
+use Rattle.clif_meaning.specs.Ledger.{Answered, AVariable, AValue, AnEntry, or_invalid, Ledger, VariableState, answer_at, answers_to, changed_by, empty_ledger, is_inserted, is_terminator, ledger_after, ledger_with, new_variable, touched_at, with_begun, with_begun_at, with_filled_at, with_predecessor, with_terminator}
+use Rattle.clif_meaning.specs.Name.{Name}
 use Rattle.clif_meaning.specs.Request.{Request, CreateBlock, SwitchToBlock, SealBlock, SealAllBlocks, InsertBlockAfter, SetColdBlock, EnsureInsertedBlock, AppendBlockParams, AppendFunctionParams, DeclareVar, DefVar, UseVar, MakeEntry, Build, Finalize, Script}
-use Rattle.clif_meaning.specs.Tracked.{is_tracked, tracked_by, tracked_from, tracked_names}
-use Rattle.clif_renaming.specs.Renaming.{KeepsApart, renamed_edge}
-use Rattle.clif_renaming.specs.Sealing.{is_left, is_sealing, name_left, renamed_request, unsealed, without_seals}
-use Rattle.clif_renaming.proofs.Places.{Follows, follows_at_first, follows_call, follows_here, follows_seal, left_at, names_apart, place_of_left, place_of_sealing, rank, rank_next}
-use Rattle.clif_renaming.proofs.RenamedNames.{same_renamed}
+use Rattle.clif_renaming.specs.Renaming.{renamed_edge}
+use Rattle.clif_renaming.specs.Sealing.{is_sealing, name_left, renamed_request, unsealed, without_seals}
+use Rattle.clif_renaming.proofs.Places.{left_at, place_of_left, place_of_sealing, rank, rank_next}
 
 -- VARIABLES AND TABLES --------------------------------------------------------------------------------------------------
 

@@ -4,3 +4,5 @@ pub mod Places
 pub mod Programs
 pub mod Ledgers
 pub mod TrackedNames
+pub mod Sealing
+pub mod RenamingRow

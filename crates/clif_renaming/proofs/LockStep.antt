@@ -1,24 +1,23 @@
 -- A run and the same run with its names renamed go in lock step.
-use Rattle.std.proofs.Common.{◌≡◌, ℕ, zero, suc, Bool, true, false, List, [], ◌∷◌, map, refl, sym, ◌∙◌, ap, ap₂, subst, Option, Some, None}
+use Rattle.std.proofs.Common.{◌≡◌, ℕ, zero, suc, Bool, List, [], ◌∷◌, map, refl, sym, ◌∙◌, ap, ap₂, subst, Option, Some, None}
 use Rattle.std.specs.Prelude.{if◌then◌else◌, slice_get, option_map}
-use Rattle.std.specs.List.{AllZip}
 use Rattle.std.proofs.Math.Path.{fun_ext}
 use Rattle.clif_types.specs.declared.trapcode.TrapCode.{TrapCode}
 use Rattle.clif_types.specs.declared.types.«Type».{«Type»}
 use Rattle.clif_meaning.specs.Bits.{Bits}
 use Rattle.clif_meaning.specs.Event.{Callee, CallShape, Event, Answer, Results, Exception}
 use Rattle.clif_meaning.specs.Instruction.{Edge, Instruction}
-use Rattle.clif_meaning.specs.Machine.{Control, At, HasReturned, HasTrapped, IsStuck, Observation, Ending, ending_of, state_after, observed}
+use Rattle.clif_meaning.specs.Machine.{Control, At, HasReturned, HasTrapped, IsStuck, Ending, ending_of, state_after, observed}
 use Rattle.clif_meaning.specs.Memory.{Memory}
 use Rattle.clif_meaning.specs.Name.{Name, same_name}
 use Rattle.clif_meaning.specs.Outcome.{Outcome, Gives, Goes, Returns, Traps, Calls, NoStep, outcome_of}
 use Rattle.clif_meaning.specs.Program.{Program, Item, Instruct, Use, Assign}
-use Rattle.clif_meaning.specs.SameMeaning.{Behaviour, SameMeaning}
+use Rattle.clif_meaning.specs.SameMeaning.{Behaviour}
 use Rattle.clif_meaning.specs.ScriptMachine.{ScriptRun, ScriptState, blank_state, call_outside, carry_out, enter_block, follow_edge, run_item, same_variable, script_machine, script_shown, start_at, step_at, take_answer}
 use Rattle.clif_meaning.specs.Store.{assigned, memory_beside, shown_memory}
 use Rattle.clif_meaning.specs.World.{World}
 use Rattle.clif_renaming.specs.Laws.{NamesAreFree, ShowTheSame}
-use Rattle.clif_renaming.specs.Renaming.{AreRenamedItems, IsRenamedItem, IsRenamedProgram, IsRenamedRun, KeepsApart, renamed_edge, renamed_instruction}
+use Rattle.clif_renaming.specs.Renaming.{AreRenamedItems, IsRenamedItem, IsRenamedProgram, KeepsApart, renamed_edge, renamed_instruction}
 use Rattle.clif_renaming.proofs.RenamedNames.{arguments_renamed, assigned_renamed, each_renamed}
 
 -- the same place of the two programs

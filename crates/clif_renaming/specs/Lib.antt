@@ -1,3 +1,4 @@
 pub mod Renaming
 pub mod Sealing
 pub mod Laws
+pub mod Examples

@@ -1,7 +1,7 @@
 -- Scripts that differ only in when blocks are sealed: without the calls that seal they are the same list of calls, in which
 -- each answer is named by its call's place. That sealing is no part of what a script means is from the documentation of
 -- Cranelift's `FunctionBuilder`; the definition is own.
-use Rattle.std.specs.Prelude.{◌≡◌, ◌+◌, ℕ, Bool, true, false, not, if◌then◌else◌, List, length, map, filter, take, Option, Some, None, slice_get}
+use Rattle.std.specs.Prelude.{◌≡◌, ◌+◌, ℕ, Bool, true, false, not, if◌then◌else◌, length, map, filter, take, Option, Some, None, slice_get}
 use Rattle.clif_meaning.specs.Name.{Name, answer_of}
 use Rattle.clif_meaning.specs.Request.{Request, CreateBlock, SwitchToBlock, SealBlock, SealAllBlocks, InsertBlockAfter, SetColdBlock, EnsureInsertedBlock, AppendBlockParams, AppendFunctionParams, DeclareVar, DefVar, UseVar, MakeEntry, Build, Finalize, Script}
 use Rattle.clif_renaming.specs.Renaming.{renamed_instruction}
