@@ -1,0 +1,266 @@
+-- What a script declares and answers it declares and answers without its calls that seal.
+use Rattle.std.proofs.Common.{◌≡◌, ◌+◌, ◌≤◌, ℕ, zero, suc, Bool, true, false, cond, not, List, [], ◌∷◌, ◌++◌, length, map, refl, sym, ◌∙◌, ap, ap₂, subst, arith, Option, Some, None, append_assoc, append-nil}
+use Rattle.std.specs.Prelude.{fold, slice_get, option_and_then, option_map, if◌then◌else◌}
+use Rattle.clif_tables.specs.Entries.{count_for, with_entry}
+use Rattle.clif_tables.specs.Lists.{TableLists}
+use Rattle.clif_meaning.specs.Instruction.{Edge, Operation}
+use Rattle.clif_meaning.specs.Ledger.{Answered, AVariable, AValue, AnEntry, or_invalid, Ledger, VariableState, answer_at, answers_to, changed_by, empty_ledger, is_inserted, is_terminator, ledger_after, ledger_with, new_variable, touched_at, with_begun, with_begun_at, with_filled_at, with_predecessor, with_terminator}
+use Rattle.clif_meaning.specs.Name.{Name}
+use Rattle.clif_meaning.specs.Request.{Request, CreateBlock, SwitchToBlock, SealBlock, SealAllBlocks, InsertBlockAfter, SetColdBlock, EnsureInsertedBlock, AppendBlockParams, AppendFunctionParams, DeclareVar, DefVar, UseVar, MakeEntry, Build, Finalize, Script}
+use Rattle.clif_renaming.specs.Renaming.{renamed_edge}
+use Rattle.clif_renaming.specs.Sealing.{is_sealing, name_left, renamed_request, unsealed, without_seals}
+use Rattle.clif_renaming.proofs.Places.{left_at, place_of_left, place_of_sealing, rank, rank_next}
+
+-- VARIABLES AND TABLES --------------------------------------------------------------------------------------------------
+
+-- variables and tables are the same
+pub record SameTables (ledger other : Ledger) : Type 0 where
+  pub variables : other.variables ≡ ledger.variables
+  pub tables : other.tables ≡ ledger.tables
+
+begun : (ledger : Ledger) (o : Option Name) → SameTables ledger (with_begun_at ledger o)
+begun ledger None = record { variables = refl; tables = refl }
+begun ledger (Some block) = record { variables = (by (is_inserted ledger block)).variables; tables = (by (is_inserted ledger block)).tables }
+  where
+    by : (c : Bool) → SameTables ledger (if c then ledger else record ledger { layout = ledger.layout ++ block ∷ [] })
+    by true = record { variables = refl; tables = refl }
+    by false = record { variables = refl; tables = refl }
+
+ended : (ledger : Ledger) (operation : Operation) → SameTables ledger (with_terminator ledger operation)
+ended ledger operation = by (is_terminator operation) ledger.current
+  where
+    by : (c : Bool) (o : Option Name) → SameTables ledger (if c then with_filled_at ledger o else ledger)
+    by true None = record { variables = refl; tables = refl }
+    by true (Some block) = record { variables = refl; tables = refl }
+    by false o = record { variables = refl; tables = refl }
+
+led : (branch : Name) (ledger : Ledger) (edges : List (Edge Name Name)) → SameTables ledger (fold (with_predecessor branch) ledger edges)
+led branch ledger [] = record { variables = refl; tables = refl }
+led branch ledger (edge ∷ edges) =
+    let more = led branch (with_predecessor branch ledger edge) edges in
+    record { variables = more.variables; tables = more.tables }
+
+built : (branch : Name) (ledger : Ledger) (operation : Operation) (edges : List (Edge Name Name))
+    → SameTables ledger (fold (with_predecessor branch) (with_terminator (with_begun ledger) operation) edges)
+built branch ledger operation edges =
+    let first = begun ledger ledger.current in
+    let second = ended (with_begun ledger) operation in
+    let third = led branch (with_terminator (with_begun ledger) operation) edges in
+    record { variables = third.variables ∙ second.variables ∙ first.variables; tables = third.tables ∙ second.tables ∙ first.tables }
+
+-- two ledgers that change neither
+both_kept : (l l' m m' : Ledger) → SameTables l l' → SameTables l m → SameTables l' m' → SameTables m m'
+both_kept l l' m m' same kept kept' = record {
+  variables = kept'.variables ∙ same.variables ∙ sym kept.variables;
+  tables = kept'.tables ∙ same.tables ∙ sym kept.tables;
+}
+
+-- a call that seals changes neither
+sealing_keeps : (ledger : Ledger) (request : Request) → is_sealing request ≡ true → SameTables ledger (ledger_with ledger request)
+sealing_keeps ledger (SealBlock block) is = record { variables = refl; tables = refl }
+sealing_keeps ledger SealAllBlocks is = record { variables = refl; tables = refl }
+sealing_keeps ledger CreateBlock is = let none : ⊥ = cc in absurd none
+sealing_keeps ledger (SwitchToBlock block) is = let none : ⊥ = cc in absurd none
+sealing_keeps ledger (InsertBlockAfter block after) is = let none : ⊥ = cc in absurd none
+sealing_keeps ledger (SetColdBlock block) is = let none : ⊥ = cc in absurd none
+sealing_keeps ledger EnsureInsertedBlock is = let none : ⊥ = cc in absurd none
+sealing_keeps ledger (AppendBlockParams block types) is = let none : ⊥ = cc in absurd none
+sealing_keeps ledger (AppendFunctionParams block types) is = let none : ⊥ = cc in absurd none
+sealing_keeps ledger (DeclareVar ty) is = let none : ⊥ = cc in absurd none
+sealing_keeps ledger (DefVar variable value) is = let none : ⊥ = cc in absurd none
+sealing_keeps ledger (UseVar variable) is = let none : ⊥ = cc in absurd none
+sealing_keeps ledger (MakeEntry entry) is = let none : ⊥ = cc in absurd none
+sealing_keeps ledger (Build instruction) is = let none : ⊥ = cc in absurd none
+sealing_keeps ledger Finalize is = let none : ⊥ = cc in absurd none
+
+module _ (rename : Name → Name) (l l' : Ledger) (same : SameTables l l') where
+  -- a call and the same call renamed change both alike
+  both_changed : (request : Request) → SameTables (changed_by l request) (changed_by l' (renamed_request rename request))
+  both_changed CreateBlock = record { variables = same.variables; tables = same.tables }
+  both_changed (SwitchToBlock block) = record { variables = same.variables; tables = same.tables }
+  both_changed (SealBlock block) = record { variables = same.variables; tables = same.tables }
+  both_changed SealAllBlocks = record { variables = same.variables; tables = same.tables }
+  both_changed (InsertBlockAfter block after) = record { variables = same.variables; tables = same.tables }
+  both_changed (SetColdBlock block) = record { variables = same.variables; tables = same.tables }
+  both_changed EnsureInsertedBlock = both_kept l l' _ _ same (begun l l.current) (begun l' l'.current)
+  both_changed (AppendBlockParams block types) = record { variables = same.variables; tables = same.tables }
+  both_changed (AppendFunctionParams block types) = record { variables = same.variables; tables = same.tables }
+  both_changed (DeclareVar ty) = record { variables = ap (λ (states : List VariableState). states ++ new_variable ty ∷ []) same.variables; tables = same.tables }
+  both_changed (DefVar variable value) = record { variables = ap (touched_at variable) same.variables; tables = same.tables }
+  both_changed (UseVar variable) =
+      let both = both_kept l l' (with_begun l) (with_begun l') same (begun l l.current) (begun l' l'.current) in
+      record { variables = ap (touched_at variable) both.variables; tables = both.tables }
+  both_changed (MakeEntry entry) = record { variables = same.variables; tables = ap (λ (tables : TableLists). with_entry tables entry) same.tables }
+  both_changed (Build instruction) =
+      both_kept l l' _ _ same (built _ l instruction.operation instruction.edges) (built _ l' instruction.operation (map (renamed_edge rename) instruction.edges))
+  both_changed Finalize = record { variables = same.variables; tables = same.tables }
+
+  both_after : (request : Request) → SameTables (ledger_with l request) (ledger_with l' (renamed_request rename request))
+  both_after request = let both = both_changed request in record { variables = both.variables; tables = both.tables }
+
+  -- and have the same answers
+  answered_alike : (request : Request) → answers_to l' (renamed_request rename request) ≡ answers_to l request
+  answered_alike CreateBlock = refl
+  answered_alike (SwitchToBlock block) = refl
+  answered_alike (SealBlock block) = refl
+  answered_alike SealAllBlocks = refl
+  answered_alike (InsertBlockAfter block after) = refl
+  answered_alike (SetColdBlock block) = refl
+  answered_alike EnsureInsertedBlock = refl
+  answered_alike (AppendBlockParams block types) = refl
+  answered_alike (AppendFunctionParams block types) = refl
+  answered_alike (DeclareVar ty) = ap (λ (states : List VariableState). AVariable (length states) ∷ []) same.variables
+  answered_alike (DefVar variable value) = refl
+  answered_alike (UseVar variable) = ap (λ (states : List VariableState). AValue (or_invalid (option_map (λ (state : VariableState). state.ty) (slice_get states variable))) ∷ []) same.variables
+  answered_alike (MakeEntry entry) = ap (λ (tables : TableLists). AnEntry entry (count_for tables entry) ∷ []) same.tables
+  answered_alike (Build instruction) = refl
+  answered_alike Finalize = refl
+
+-- ANSWERS ---------------------------------------------------------------------------------------------------------------
+
+-- the answers to the calls of a script, from a ledger on
+abbrev answers_along : Ledger → Script → List (List Answered)
+answers_along ledger [] = []
+answers_along ledger (request ∷ script) = answers_to ledger request ∷ answers_along (ledger_with ledger request) script
+
+answers_after : (ledger : Ledger) (script : Script) → (fold ledger_with ledger script).answers ≡ ledger.answers ++ answers_along ledger script
+answers_after ledger [] = sym (append-nil ledger.answers)
+answers_after ledger (request ∷ script) =
+    answers_after (ledger_with ledger request) script ∙ append_assoc ledger.answers (answers_to ledger request ∷ []) (answers_along (ledger_with ledger request) script)
+
+-- of a list with an element for each call, those of the calls that are left
+abbrev picked : {X : Type 0} → Script → List X → List X
+picked [] xs = []
+picked (request ∷ script) [] = []
+picked (request ∷ script) (x ∷ xs) = cond (not (is_sealing request)) (x ∷ picked script xs) (picked script xs)
+
+picked_at : {X : Type 0} (script : Script) (xs : List X) (place : ℕ) → left_at script place ≡ true → slice_get (picked script xs) (rank script place) ≡ slice_get xs place
+picked_at [] xs place left = let none : ⊥ = cc in absurd none
+picked_at (request ∷ script) [] place left = refl
+picked_at (request ∷ script) (x ∷ xs) zero left =
+    ap (λ (c : Bool). slice_get (cond c (x ∷ picked script xs) (picked script xs)) zero) left
+picked_at {X} (request ∷ script) (x ∷ xs) (suc place) left = by (is_sealing request) refl (picked_at script xs place left)
+  where
+    by : (c : Bool) → is_sealing request ≡ c → slice_get (picked script xs) (rank script place) ≡ slice_get xs place
+        → slice_get (cond (not (is_sealing request)) (x ∷ picked script xs) (picked script xs)) (rank (request ∷ script) (suc place)) ≡ slice_get xs place
+    by true is later =
+        ap₂ (λ (c : Bool) (n : ℕ). slice_get (cond (not c) (x ∷ picked script xs) (picked script xs)) n) is (rank_next request script place true is) ∙ later
+    by false is later =
+        ap₂ (λ (c : Bool) (n : ℕ). slice_get (cond (not c) (x ∷ picked script xs) (picked script xs)) n) is (rank_next request script place false is) ∙ later
+
+none_behind : {X : Type 0} (script : Script) (xs : List X) (place : ℕ) → length script ≤ place → slice_get (picked script xs) place ≡ None
+none_behind [] xs place behind = refl
+none_behind (request ∷ script) [] place behind = refl
+none_behind (request ∷ script) (x ∷ xs) zero behind = absurd (omega (arith, behind))
+none_behind (request ∷ script) (x ∷ xs) (suc place) behind =
+    by (not (is_sealing request)) (none_behind script xs place (omega (arith, behind))) (none_behind script xs (suc place) (omega (arith, behind)))
+  where
+    by : (c : Bool) → slice_get (picked script xs) place ≡ None → slice_get (picked script xs) (suc place) ≡ None
+        → slice_get (cond c (x ∷ picked script xs) (picked script xs)) (suc place) ≡ None
+    by true here further = here
+    by false here further = further
+
+-- the answers to a call that isn't left: there are none
+no_answer : (script : Script) (ledger : Ledger) (place index : ℕ) → left_at script place ≡ false
+    → option_and_then (λ (answers : List Answered). slice_get answers index) (slice_get (answers_along ledger script) place) ≡ None
+no_answer [] ledger place index sealing = refl
+no_answer (request ∷ script) ledger zero index sealing = by request sealing
+  where
+    by : (request : Request) → not (is_sealing request) ≡ false → slice_get (answers_to ledger request) index ≡ None
+    by (SealBlock block) is = refl
+    by SealAllBlocks is = refl
+    by CreateBlock is = let none : ⊥ = cc in absurd none
+    by (SwitchToBlock block) is = let none : ⊥ = cc in absurd none
+    by (InsertBlockAfter block after) is = let none : ⊥ = cc in absurd none
+    by (SetColdBlock block) is = let none : ⊥ = cc in absurd none
+    by EnsureInsertedBlock is = let none : ⊥ = cc in absurd none
+    by (AppendBlockParams block types) is = let none : ⊥ = cc in absurd none
+    by (AppendFunctionParams block types) is = let none : ⊥ = cc in absurd none
+    by (DeclareVar ty) is = let none : ⊥ = cc in absurd none
+    by (DefVar variable value) is = let none : ⊥ = cc in absurd none
+    by (UseVar variable) is = let none : ⊥ = cc in absurd none
+    by (MakeEntry entry) is = let none : ⊥ = cc in absurd none
+    by (Build instruction) is = let none : ⊥ = cc in absurd none
+    by Finalize is = let none : ⊥ = cc in absurd none
+no_answer (request ∷ script) ledger (suc place) index sealing = no_answer script (ledger_with ledger request) place index sealing
+
+-- The renamed calls that are left have their answers, and variables and tables become the same.
+module _ (rename : Name → Name) where
+  abbrev left_calls : Script → Script
+  left_calls script = map (renamed_request rename) (without_seals script)
+
+  abbrev left_with : Request → Script → Bool → Script
+  left_with request script seals = map (renamed_request rename) (cond (not seals) (request ∷ without_seals script) (without_seals script))
+
+  -- a ledger after a call that seals
+  behind_seal : (l l' : Ledger) (request : Request) → is_sealing request ≡ true → SameTables l l' → SameTables (ledger_with l request) l'
+  behind_seal l l' request seals same =
+      let kept = sealing_keeps l request seals in
+      record { variables = same.variables ∙ sym kept.variables; tables = same.tables ∙ sym kept.tables }
+
+  abbrev GivesPicked : Script → Type 0
+  GivesPicked script = (l l' : Ledger) → SameTables l l' → answers_along l' (left_calls script) ≡ picked script (answers_along l script)
+
+  answers_picked : (script : Script) → GivesPicked script
+  answers_picked [] l l' same = refl
+  answers_picked (request ∷ script) l l' same = by (answers_picked script) (is_sealing request) refl
+    where
+      by : GivesPicked script → (c : Bool) → is_sealing request ≡ c
+          → answers_along l' (left_with request script (is_sealing request))
+          ≡ cond (not (is_sealing request)) (answers_to l request ∷ picked script (answers_along (ledger_with l request) script)) (picked script (answers_along (ledger_with l request) script))
+      by later true seals =
+          ap (λ (c : Bool). answers_along l' (left_with request script c)) seals
+          ∙ later (ledger_with l request) l' (behind_seal l l' request seals same)
+          ∙ ap (λ (c : Bool). cond (not c) (answers_to l request ∷ picked script (answers_along (ledger_with l request) script)) (picked script (answers_along (ledger_with l request) script))) (sym seals)
+      by later false stays =
+          ap (λ (c : Bool). answers_along l' (left_with request script c)) stays
+          ∙ ap₂ (λ (answers : List Answered) (rest : List (List Answered)). answers ∷ rest) (answered_alike rename l l' same request)
+          (later (ledger_with l request) (ledger_with l' (renamed_request rename request)) (both_after rename l l' same request))
+          ∙ ap (λ (c : Bool). cond (not c) (answers_to l request ∷ picked script (answers_along (ledger_with l request) script)) (picked script (answers_along (ledger_with l request) script))) (sym stays)
+
+  abbrev KeepsTables : Script → Type 0
+  KeepsTables script = (l l' : Ledger) → SameTables l l' → SameTables (fold ledger_with l script) (fold ledger_with l' (left_calls script))
+
+  tables_along : (script : Script) → KeepsTables script
+  tables_along [] l l' same = same
+  tables_along (request ∷ script) l l' same = by (tables_along script) (is_sealing request) refl
+    where
+      by : KeepsTables script → (c : Bool) → is_sealing request ≡ c
+          → SameTables (fold ledger_with (ledger_with l request) script) (fold ledger_with l' (left_with request script (is_sealing request)))
+      by later true seals =
+          subst (λ (c : Bool). SameTables (fold ledger_with (ledger_with l request) script) (fold ledger_with l' (left_with request script c))) (sym seals)
+          (later (ledger_with l request) l' (behind_seal l l' request seals same))
+      by later false stays =
+          subst (λ (c : Bool). SameTables (fold ledger_with (ledger_with l request) script) (fold ledger_with l' (left_with request script c))) (sym stays)
+          (later (ledger_with l request) (ledger_with l' (renamed_request rename request)) (both_after rename l l' same request))
+
+-- a script has the same variables and tables without its calls that seal,
+pub unsealed_tables : (script : Script) → SameTables (ledger_after script) (ledger_after (unsealed script))
+unsealed_tables script = tables_along (name_left script) script empty_ledger empty_ledger (record { variables = refl; tables = refl })
+
+-- and the same answers under their names
+pub unsealed_answers : (script : Script) (name : Name) → answer_at (ledger_after (unsealed script)) (name_left script name) ≡ answer_at (ledger_after script) name
+unsealed_answers script name = by (left_at script name.place) refl
+  where
+    answer_in : List (List Answered) → ℕ → Option Answered
+    answer_in answers place = option_and_then (λ (given : List Answered). slice_get given name.index) (slice_get answers place)
+
+    before : (ledger_after script).answers ≡ answers_along empty_ledger script
+    before = answers_after empty_ledger script
+
+    after : (ledger_after (unsealed script)).answers ≡ picked script (answers_along empty_ledger script)
+    after = answers_after empty_ledger (unsealed script)
+        ∙ answers_picked (name_left script) script empty_ledger empty_ledger (record { variables = refl; tables = refl })
+
+    by : (c : Bool) → left_at script name.place ≡ c → answer_at (ledger_after (unsealed script)) (name_left script name) ≡ answer_at (ledger_after script) name
+    by true left =
+        ap₂ answer_in after (place_of_left script name.place left)
+        ∙ ap (λ (answers : Option (List Answered)). option_and_then (λ (given : List Answered). slice_get given name.index) answers)
+        (picked_at script (answers_along empty_ledger script) name.place left)
+        ∙ ap (λ (answers : List (List Answered)). answer_in answers name.place) (sym before)
+    by false sealing =
+        ap₂ answer_in after (place_of_sealing script name.place sealing)
+        ∙ ap (λ (answers : Option (List Answered)). option_and_then (λ (given : List Answered). slice_get given name.index) answers)
+        (none_behind script (answers_along empty_ledger script) (length script + name.place) (omega arith))
+        ∙ sym (no_answer script empty_ledger name.place name.index sealing)
+        ∙ ap (λ (answers : List (List Answered)). answer_in answers name.place) (sym before)

@@ -1,0 +1,174 @@
+-- The program of a script without its calls that seal is that of the script, renamed.
+use Rattle.std.proofs.Common.{◌≡◌, ℕ, suc, Bool, true, false, cond, not, List, [], ◌∷◌, ◌++◌, map, refl, sym, ◌∙◌, ap, ap₂, subst, Option, Some, None}
+use Rattle.std.specs.Prelude.{fold, if◌then◌else◌, option_map}
+use Rattle.std.proofs.lemmas.List.{map-append}
+use Rattle.clif_types.specs.declared.types.«Type».{«Type»}
+use Rattle.clif_meaning.specs.Name.{Name, answer_of, same_name}
+use Rattle.clif_meaning.specs.Program.{Program, Item, answers_from, empty_program, extended, first_block, program_of, result_types, with_call, with_inserted, with_item, with_item_at, with_parameters}
+use Rattle.clif_meaning.specs.Request.{Request, CreateBlock, SwitchToBlock, SealBlock, SealAllBlocks, InsertBlockAfter, SetColdBlock, EnsureInsertedBlock, AppendBlockParams, AppendFunctionParams, DeclareVar, DefVar, UseVar, MakeEntry, Build, Finalize, Script}
+use Rattle.clif_renaming.specs.Renaming.{AreRenamedItems, IsRenamedItem, IsRenamedProgram, KeepsApart}
+use Rattle.clif_renaming.specs.Sealing.{is_sealing, name_left, renamed_request, unsealed, without_seals}
+use Rattle.clif_renaming.proofs.Places.{Follows, follows_at_first, follows_call, follows_here, follows_seal, names_apart}
+use Rattle.clif_renaming.proofs.RenamedNames.{same_renamed}
+
+-- the second program is the first one renamed, also its current block
+pub record IsRenamedSoFar (rename : Name → Name) (p p' : Program) : Type 0 where
+  pub current : p'.current ≡ option_map rename p.current
+  pub program : IsRenamedProgram rename p p'
+
+-- one more item on both sides
+one_more : (rename : Name → Name) (items items' : List Item) (item item' : Item) → AreRenamedItems rename items items' → IsRenamedItem rename item item'
+    → AreRenamedItems rename (items ++ item ∷ []) (items' ++ item' ∷ [])
+one_more rename [] [] item item' are is = (is, tt)
+one_more rename [] (x' ∷ items') item item' are is = absurd are
+one_more rename (x ∷ items) [] item item' are is = absurd are
+one_more rename (x ∷ items) (x' ∷ items') item item' are is = (are.0, one_more rename items items' item item' are.1 is)
+
+module _ (rename : Name → Name) (apart : KeepsApart rename) where
+  -- a block's items with one more in some block
+  item_there : (block other : Name) (items items' : List Item) (item item' : Item) → AreRenamedItems rename items items' → IsRenamedItem rename item item'
+      → AreRenamedItems rename (if same_name other block then items ++ item ∷ [] else items) (if same_name (rename other) (rename block) then items' ++ item' ∷ [] else items')
+  item_there block other items items' item item' are is =
+      subst (λ (test : Bool). AreRenamedItems rename (if same_name other block then items ++ item ∷ [] else items) (if test then items' ++ item' ∷ [] else items'))
+      (sym (same_renamed rename apart other block)) (by (same_name other block))
+    where
+      by : (c : Bool) → AreRenamedItems rename (if c then items ++ item ∷ [] else items) (if c then items' ++ item' ∷ [] else items')
+      by true = one_more rename items items' item item' are is
+      by false = are
+
+  item_at : (p p' : Program) (current : Option Name) (item item' : Item) → IsRenamedSoFar rename p p' → IsRenamedItem rename item item'
+      → IsRenamedSoFar rename (with_item_at p current item) (with_item_at p' (option_map rename current) item')
+  item_at p p' None item item' is same = is
+  item_at p p' (Some block) item item' is same = record {
+    current = is.current;
+    program = record {
+      entry = is.program.entry;
+      parameters = is.program.parameters;
+      items = λ other. item_there block other (p.items other) (p'.items (rename other)) item item' (is.program.items other) same;
+    };
+  }
+
+  item_more : (p p' : Program) (item item' : Item) → IsRenamedSoFar rename p p' → IsRenamedItem rename item item' → IsRenamedSoFar rename (with_item p item) (with_item p' item')
+  item_more p p' item item' is same =
+      subst (λ (current : Option Name). IsRenamedSoFar rename (with_item p item) (with_item_at p' current item')) (sym is.current)
+      (item_at p p' p.current item item' is same)
+
+  inserted : (p p' : Program) → IsRenamedSoFar rename p p' → IsRenamedSoFar rename (with_inserted p) (with_inserted p')
+  inserted p p' is = record {
+    current = is.current;
+    program = record {
+      entry = ap₂ first_block is.program.entry is.current ∙ first p.entry p.current;
+      parameters = is.program.parameters;
+      items = is.program.items;
+    };
+  }
+    where
+      first : (entry current : Option Name) → first_block (option_map rename entry) (option_map rename current) ≡ option_map rename (first_block entry current)
+      first None current = refl
+      first (Some entry) current = refl
+
+  parameters_more : (p p' : Program) (block : Name) (names names' : List Name) → IsRenamedSoFar rename p p' → names' ≡ map rename names
+      → IsRenamedSoFar rename (with_parameters p block names) (with_parameters p' (rename block) names')
+  parameters_more p p' block names names' is same = record {
+    current = is.current;
+    program = record {
+      entry = is.program.entry;
+      parameters = λ other.
+          ap (λ (test : Bool). if test then p'.parameters (rename other) ++ names' else p'.parameters (rename other)) (same_renamed rename apart other block)
+          ∙ by other (same_name other block);
+      items = is.program.items;
+    };
+  }
+    where
+      by : (other : Name) (c : Bool) → (if c then p'.parameters (rename other) ++ names' else p'.parameters (rename other)) ≡ map rename (if c then p.parameters other ++ names else p.parameters other)
+      by other true = ap₂ (λ (xs ys : List Name). xs ++ ys) (is.program.parameters other) same ∙ sym (map-append rename (p.parameters other) names)
+      by other false = is.program.parameters other
+
+  -- the answers of a call whose place is renamed
+  answers_renamed : (place place' : ℕ) → ((index : ℕ) → rename (answer_of place index) ≡ answer_of place' index) → (index : ℕ) (types : List «Type»)
+      → answers_from place' index types ≡ map rename (answers_from place index types)
+  answers_renamed place place' at index [] = refl
+  answers_renamed place place' at index (ty ∷ types) =
+      ap₂ (λ (name : Name) (names : List Name). name ∷ names) (sym (at index)) (answers_renamed place place' at (suc index) types)
+
+  -- what one more call adds, that doesn't seal
+  extended_both : (p p' : Program) (request : Request) → IsRenamedSoFar rename p p' → ((index : ℕ) → rename (answer_of p.place index) ≡ answer_of p'.place index)
+      → IsRenamedSoFar rename (extended p request) (extended p' (renamed_request rename request))
+  extended_both p p' CreateBlock is at = is
+  extended_both p p' (SwitchToBlock block) is at = record {
+    current = refl;
+    program = record { entry = is.program.entry; parameters = is.program.parameters; items = is.program.items };
+  }
+  extended_both p p' (SealBlock block) is at = is
+  extended_both p p' SealAllBlocks is at = is
+  extended_both p p' (InsertBlockAfter block after) is at = is
+  extended_both p p' (SetColdBlock block) is at = is
+  extended_both p p' EnsureInsertedBlock is at = inserted p p' is
+  extended_both p p' (AppendBlockParams block types) is at = parameters_more p p' block _ _ is (answers_renamed p.place p'.place at 0 types)
+  extended_both p p' (AppendFunctionParams block types) is at = parameters_more p p' block _ _ is (answers_renamed p.place p'.place at 0 types)
+  extended_both p p' (DeclareVar ty) is at = is
+  extended_both p p' (DefVar variable value) is at = item_more p p' _ _ is (refl, refl)
+  extended_both p p' (UseVar variable) is at = item_more (with_inserted p) (with_inserted p') _ _ (inserted p p' is) (refl, sym (at 0))
+  extended_both p p' (MakeEntry entry) is at = is
+  extended_both p p' (Build instruction) is at =
+      item_more (with_inserted p) (with_inserted p') _ _ (inserted p p' is)
+      (refl, answers_renamed p.place p'.place at 1 (result_types instruction.operation instruction.controlling))
+  extended_both p p' Finalize is at = is
+
+  -- a call that seals adds nothing
+  sealing_adds_nothing : (p : Program) (request : Request) → is_sealing request ≡ true → extended p request ≡ p
+  sealing_adds_nothing p (SealBlock block) is = refl
+  sealing_adds_nothing p SealAllBlocks is = refl
+  sealing_adds_nothing p CreateBlock is = let none : ⊥ = cc in absurd none
+  sealing_adds_nothing p (SwitchToBlock block) is = let none : ⊥ = cc in absurd none
+  sealing_adds_nothing p (InsertBlockAfter block after) is = let none : ⊥ = cc in absurd none
+  sealing_adds_nothing p (SetColdBlock block) is = let none : ⊥ = cc in absurd none
+  sealing_adds_nothing p EnsureInsertedBlock is = let none : ⊥ = cc in absurd none
+  sealing_adds_nothing p (AppendBlockParams block types) is = let none : ⊥ = cc in absurd none
+  sealing_adds_nothing p (AppendFunctionParams block types) is = let none : ⊥ = cc in absurd none
+  sealing_adds_nothing p (DeclareVar ty) is = let none : ⊥ = cc in absurd none
+  sealing_adds_nothing p (DefVar variable value) is = let none : ⊥ = cc in absurd none
+  sealing_adds_nothing p (UseVar variable) is = let none : ⊥ = cc in absurd none
+  sealing_adds_nothing p (MakeEntry entry) is = let none : ⊥ = cc in absurd none
+  sealing_adds_nothing p (Build instruction) is = let none : ⊥ = cc in absurd none
+  sealing_adds_nothing p Finalize is = let none : ⊥ = cc in absurd none
+
+  -- the place aside
+  placed : (p p' : Program) (n n' : ℕ) → IsRenamedSoFar rename p p' → IsRenamedSoFar rename (record p { place = n }) (record p' { place = n' })
+  placed p p' n n' is = record { current = is.current; program = record { entry = is.program.entry; parameters = is.program.parameters; items = is.program.items } }
+
+  abbrev GoesAlong : Script → Type 0
+  GoesAlong script = (p p' : Program) → IsRenamedSoFar rename p p' → Follows rename script p.place p'.place
+      → IsRenamedSoFar rename (fold with_call p script) (fold with_call p' (map (renamed_request rename) (without_seals script)))
+
+  -- the same after one more call, of which is told whether it seals
+  abbrev BothAfter : Request → Script → Program → Program → Bool → Type 0
+  BothAfter request script p p' seals = IsRenamedSoFar rename (fold with_call (with_call p request) script)
+      (fold with_call p' (map (renamed_request rename) (cond (not seals) (request ∷ without_seals script) (without_seals script))))
+
+  along_one : (request : Request) (script : Script) → GoesAlong script → GoesAlong (request ∷ script)
+  along_one request script later p p' is follows =
+      by (is_sealing request) refl
+    where
+      by : (c : Bool) → is_sealing request ≡ c → BothAfter request script p p' (is_sealing request)
+      by true seals =
+          subst (BothAfter request script p p') (sym seals)
+          (later (with_call p request) p'
+          (subst (λ (q : Program). IsRenamedSoFar rename (record q { place = suc p.place }) p') (sym (sealing_adds_nothing p request seals)) (placed p p' (suc p.place) p'.place is))
+          (follows_seal rename request script p.place p'.place follows seals))
+      by false stays =
+          subst (BothAfter request script p p') (sym stays)
+          (later (with_call p request) (with_call p' (renamed_request rename request))
+          (placed (extended p request) (extended p' (renamed_request rename request)) (suc p.place) (suc p'.place)
+          (extended_both p p' request is (follows_here rename request script p.place p'.place follows stays)))
+          (follows_call rename request script p.place p'.place follows stays))
+
+  along : (script : Script) → GoesAlong script
+  along [] p p' is follows = is
+  along (request ∷ script) p p' is follows = along_one request script (along script) p p' is follows
+
+pub unsealed_program : (script : Script) → IsRenamedProgram (name_left script) (program_of script) (program_of (unsealed script))
+unsealed_program script =
+    (along (name_left script) (names_apart script) script empty_program empty_program
+    (record { current = refl; program = record { entry = refl; parameters = λ block. refl; items = λ block. tt } })
+    (follows_at_first script)).program

@@ -1,0 +1,4 @@
+pub mod Renaming
+pub mod Sealing
+pub mod Laws
+pub mod Examples
