@@ -13,3 +13,5 @@ mod memory;
 mod refusals;
 #[cfg(test)]
 mod support;
+#[cfg(test)]
+mod tables;

@@ -69,7 +69,7 @@ const HEAD: &str =
     "b = create_block\nn = append_block_param b i8\nswitch_to_block b\nseal_block b\n";
 
 /// What is told of scripts that begin so, and of their functions. Lines are calls from 4 on.
-const WRONG: [(&str, &str, &str); 9] = [
+const WRONG: [(&str, &str, &str); 11] = [
     (
         "x = iconst.i16 1\ny = iadd n x\nreturn n",
         "iadd isn't defined at such types at call 5",
@@ -114,6 +114,17 @@ const WRONG: [(&str, &str, &str); 9] = [
         "c = create_block\nm = append_block_param c i16\njump c n\nswitch_to_block c\nseal_block c\nreturn n",
         "the arguments of an edge don't fit its target's parameters at call 6",
         "the arguments of an edge don't fit its target's parameters at inst0",
+    ),
+    // an index of another type than i32, and an edge of a table that passes a value of another type
+    (
+        "c = create_block\ne = block_call c\nt = create_jump_table e\nbr_table n t\nswitch_to_block c\nseal_block c\nreturn n",
+        "br_table isn't defined at such types at call 7",
+        "br_table isn't defined at such types at inst0",
+    ),
+    (
+        "c = create_block\nm = append_block_param c i16\ne = block_call c(n)\nt = create_jump_table e\nx = iconst.i32 0\nbr_table x t\nswitch_to_block c\nseal_block c\nreturn n",
+        "the arguments of an edge don't fit its target's parameters at call 9",
+        "the arguments of an edge don't fit its target's parameters at inst1",
     ),
 ];
 
@@ -160,7 +171,7 @@ fn given_on_one_arm(rt: HostRuntime) -> Result<(), Fail> {
 }
 
 /// Scripts that no builder takes, or that the theorem doesn't cover though their functions run.
-const SCRIPTS: [(&str, &str); 8] = [
+const SCRIPTS: [(&str, &str); 11] = [
     ("return $9.9", "$9.9 leads to no value at call 4"),
     ("return b", "$0.0 leads to no value at call 4"),
     ("return $1.1", "$1.1 leads to no value at call 4"),
@@ -178,6 +189,19 @@ const SCRIPTS: [(&str, &str); 8] = [
         "a branch leads to the entry block at call 7",
     ),
     ("ensure_inserted_block", "stuck"),
+    (
+        "x = iconst.i32 0\nbr_table x jt0",
+        "a branch leads to no block at call 5",
+    ),
+    (
+        "t = create_jump_table n\nx = iconst.i32 0\nbr_table x t",
+        "a branch leads to no block at call 6",
+    ),
+    // by an entry that the run doesn't take
+    (
+        "e = block_call b(n)\nc = create_block\nd = block_call c\nt = create_jump_table d e\nx = iconst.i32 7\nbr_table x t\nswitch_to_block c\nreturn n",
+        "a branch leads to the entry block at call 9",
+    ),
 ];
 
 /// Names that lead nowhere, and other calls that no builder takes.

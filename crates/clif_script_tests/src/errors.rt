@@ -60,7 +60,7 @@ fn of_calls(rt: HostRuntime) -> Result<(), Fail> {
     faults(&rt, rt.alloc(), &CALLS)
 }
 
-const INSTRUCTIONS: [(&str, &str); 52] = [
+const INSTRUCTIONS: [(&str, &str); 56] = [
     ("f16const", "expected the bits of an f16"),
     ("f16const 65536", "expected the bits of an f16"),
     ("f32const 4294967296", "expected the bits of an f32"),
@@ -118,7 +118,11 @@ const INSTRUCTIONS: [(&str, &str); 52] = [
     ("create_jump_table $0.0 e", "unknown name: e"),
     ("br_table", "expected a value"),
     ("br_table $0.0", "expected a jump table"),
+    ("create_jump_table ($0.0)", "expected a block call"),
     ("br_table $0.0 jt4294967295", "expected a jump table"),
+    ("br_table $0.0 t", "unknown name: t"),
+    ("br_table $0.0 jt0 jt1", "expected the end of the line"),
+    ("br_table.i32 $0.0 jt0", "unknown call: br_table.i32"),
 ];
 
 #[test]
@@ -126,7 +130,7 @@ fn of_instructions(rt: HostRuntime) -> Result<(), Fail> {
     faults(&rt, rt.alloc(), &INSTRUCTIONS)
 }
 
-const NAMES: [(&str, &str); 11] = [
+const NAMES: [(&str, &str); 14] = [
     ("1 = create_block", "expected a name"),
     (".a = create_block", "expected a name"),
     ("@a = create_block", "expected a name"),
@@ -138,6 +142,9 @@ const NAMES: [(&str, &str); 11] = [
     ("@a, b = trap user1", "expected no names"),
     ("@a, b = trapz $0.0 user1", "expected no names"),
     ("b = store $0.0 $0.0", "expected no names"),
+    ("a, c = block_call b", "expected at most 1 name"),
+    ("a, c = create_jump_table $0.0", "expected at most 1 name"),
+    ("@a, c = br_table $0.0 jt0", "expected no names"),
 ];
 
 #[test]

@@ -8,7 +8,8 @@ use clif_ir::Function;
 use clif_records::Variable;
 use clif_script::{Call, Edge, Name, PlainInstruction, ReplayError, broken_condition, replay};
 use clif_types::{
-    AbiParam, CallConv, LaneType, PointerWidth, Signature, TargetFrontendConfig, Type, UserFuncName,
+    AbiParam, CallConv, EntityRef, JumpTable, LaneType, PointerWidth, Signature,
+    TargetFrontendConfig, Type, UserFuncName,
 };
 use cranelift_frontend::FunctionBuilderContext;
 use std::alloc::{AllocError, Global};
@@ -21,7 +22,7 @@ pub const I64: Type = Type::Lane(LaneType::I64);
 
 pub const F32: Type = Type::Lane(LaneType::F32);
 
-/// A call, where (place, answer) is a name; each constant is 1.
+/// A call, where (place, answer) is a name; each constant is 1. A jump table is made of its default and one entry.
 #[derive(Clone, Copy)]
 pub enum Step {
     Create,
@@ -45,6 +46,10 @@ pub enum Step {
     Jump(usize, usize),
     JumpWith((usize, usize), (usize, usize)),
     Brif((usize, usize), (usize, usize), (usize, usize)),
+    EdgeTo(usize, usize),
+    EdgeWith((usize, usize), (usize, usize)),
+    Table((usize, usize), (usize, usize)),
+    BranchBy((usize, usize), u8),
     ReturnNone,
     Return(usize, usize),
 }
@@ -113,16 +118,34 @@ pub fn call_of(alloc: Global, step: Step) -> Result<Call, AllocError> {
         Step::Jump(place, answer) => Call::Jump {
             destination: edge(alloc, (place, answer)),
         },
-        Step::JumpWith(block, value) => jump_with(alloc, block, value)?,
+        Step::JumpWith(block, value) => Call::Jump {
+            destination: edge_with(alloc, block, value)?,
+        },
         Step::Brif(condition, block_then, block_else) => Call::Brif {
             condition: name(condition.0, condition.1),
             block_then: edge(alloc, block_then),
             block_else: edge(alloc, block_else),
         },
+        Step::EdgeTo(place, answer) => Call::BlockCall {
+            edge: edge(alloc, (place, answer)),
+        },
+        Step::EdgeWith(block, value) => Call::BlockCall {
+            edge: edge_with(alloc, block, value)?,
+        },
+        Step::Table(default, entry) => Call::CreateJumpTable {
+            default: name(default.0, default.1),
+            entries: one(alloc, entry)?,
+        },
+        Step::BranchBy(index, table) => Call::BrTable {
+            index: name(index.0, index.1),
+            table: JumpTable::new(usize::from(table)),
+        },
         Step::ReturnNone => Call::Return {
             values: Vec::new(alloc),
         },
-        Step::Return(place, answer) => return_one(alloc, name(place, answer))?,
+        Step::Return(place, answer) => Call::Return {
+            values: one(alloc, (place, answer))?,
+        },
     })
 }
 
@@ -134,20 +157,22 @@ fn edge(alloc: Global, block: (usize, usize)) -> Edge {
     }
 }
 
-fn jump_with(
+// An edge that passes this value.
+fn edge_with(
     alloc: Global,
     block: (usize, usize),
     value: (usize, usize),
-) -> Result<Call, AllocError> {
-    let mut destination = edge(alloc, block);
-    destination.args.push(name(value.0, value.1))?;
-    Ok(Call::Jump { destination })
+) -> Result<Edge, AllocError> {
+    let mut passing = edge(alloc, block);
+    passing.args.push(name(value.0, value.1))?;
+    Ok(passing)
 }
 
-fn return_one(alloc: Global, value: Name) -> Result<Call, AllocError> {
-    let mut values = Vec::new(alloc);
-    values.push(value)?;
-    Ok(Call::Return { values })
+// One name.
+fn one(alloc: Global, only: (usize, usize)) -> Result<Vec<Name>, AllocError> {
+    let mut names = Vec::new(alloc);
+    names.push(name(only.0, only.1))?;
+    Ok(names)
 }
 
 /// The calls of the steps.

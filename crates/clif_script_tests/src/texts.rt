@@ -187,7 +187,7 @@ trap heap_oob
 trap user255
 trap int_ovf
 block_call $1.0( $2.0)
-create_jump_table $30.0
+create_jump_table $29.0
 create_jump_table $1.0 $2.0
 br_table $1.0 jt1
 br_table $1.0 jt7
@@ -273,7 +273,7 @@ block0:
     Ok(())
 }
 
-const MISUSES: [(&str, &str); 27] = [
+const MISUSES: [(&str, &str); 29] = [
     (data::MISUSE, data::MISUSE_TEXT),
     // an answer that isn't there, and one of another kind
     (
@@ -304,6 +304,15 @@ const MISUSES: [(&str, &str); 27] = [
     (
         "b = create_block\nswitch_to_block b\nx = iconst.i8 0\nbr_table x jt0",
         "misuse at call 3\nline 4: br_table x jt0: jt0 isn't there\n",
+    ),
+    // what isn't a table stands for the next one
+    (
+        "b = create_block\nx = append_block_param b i32\nswitch_to_block b\nbr_table x x",
+        "misuse at call 3\nline 4: br_table x x: jt0 isn't there\n",
+    ),
+    (
+        "b = create_block\ne = block_call b\nt = create_jump_table e\nx = append_block_param b i32\nswitch_to_block b\nbr_table x e",
+        "misuse at call 5\nline 6: br_table x e: jt1 isn't there\n",
     ),
     // a table of what is no edge, an edge that passes what is no value, and one whose target is sealed before the branch
     (
