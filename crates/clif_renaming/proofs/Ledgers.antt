@@ -1,14 +1,16 @@
 -- What a script declares and answers it declares and answers without its calls that seal.
 use Rattle.std.proofs.Common.{◌≡◌, ◌+◌, ◌≤◌, ℕ, zero, suc, Bool, true, false, cond, not, List, [], ◌∷◌, ◌++◌, length, map, refl, sym, ◌∙◌, ap, ap₂, subst, arith, Option, Some, None, append_assoc, append-nil}
 use Rattle.std.specs.Prelude.{fold, slice_get, option_and_then, option_map, if◌then◌else◌}
-use Rattle.clif_tables.specs.Entries.{count_for, with_entry}
+use Rattle.std.proofs.lemmas.List.{map-append}
+use Rattle.clif_types.specs.declared.types.«Type».{«Type»}
+use Rattle.clif_tables.specs.Entries.{with_entry}
 use Rattle.clif_tables.specs.Lists.{TableLists}
 use Rattle.clif_meaning.specs.Instruction.{Edge, Operation}
-use Rattle.clif_meaning.specs.Ledger.{Answered, AVariable, AValue, AnEntry, or_invalid, Ledger, VariableState, answer_at, answers_to, changed_by, empty_ledger, is_inserted, is_terminator, ledger_after, ledger_with, new_variable, touched_at, with_begun, with_begun_at, with_filled_at, with_predecessor, with_terminator}
+use Rattle.clif_meaning.specs.Ledger.{Answered, or_invalid, Ledger, VariableState, answer_at, answers_to, changed_by, empty_ledger, is_inserted, is_terminator, ledger_after, ledger_with, new_variable, next_answer, touched_at, with_begun, with_begun_at, with_filled_at, with_predecessor, with_terminator, value_answer_type}
 use Rattle.clif_meaning.specs.Name.{Name}
-use Rattle.clif_meaning.specs.Request.{Request, CreateBlock, SwitchToBlock, SealBlock, SealAllBlocks, InsertBlockAfter, SetColdBlock, EnsureInsertedBlock, AppendBlockParams, AppendFunctionParams, DeclareVar, DefVar, UseVar, MakeEntry, Build, Finalize, Script}
+use Rattle.clif_meaning.specs.Request.{Request, CreateBlock, SwitchToBlock, SealBlock, SealAllBlocks, InsertBlockAfter, SetColdBlock, EnsureInsertedBlock, AppendBlockParams, AppendFunctionParams, DeclareVar, DefVar, UseVar, MakeEntry, MakeEdge, MakeJumpTable, Build, Finalize, Script}
 use Rattle.clif_renaming.specs.Renaming.{renamed_edge}
-use Rattle.clif_renaming.specs.Sealing.{is_sealing, name_left, renamed_request, unsealed, without_seals}
+use Rattle.clif_renaming.specs.Sealing.{is_sealing, name_left, place_left, renamed_request, unsealed, without_seals}
 use Rattle.clif_renaming.proofs.Places.{left_at, place_of_left, place_of_sealing, rank, rank_next}
 
 -- VARIABLES AND TABLES --------------------------------------------------------------------------------------------------
@@ -70,8 +72,14 @@ sealing_keeps ledger (DeclareVar ty) is = let none : ⊥ = cc in absurd none
 sealing_keeps ledger (DefVar variable value) is = let none : ⊥ = cc in absurd none
 sealing_keeps ledger (UseVar variable) is = let none : ⊥ = cc in absurd none
 sealing_keeps ledger (MakeEntry entry) is = let none : ⊥ = cc in absurd none
-sealing_keeps ledger (Build instruction) is = let none : ⊥ = cc in absurd none
+sealing_keeps ledger (MakeEdge edge) is = let none : ⊥ = cc in absurd none
+sealing_keeps ledger (MakeJumpTable default entries) is = let none : ⊥ = cc in absurd none
+sealing_keeps ledger (Build table instruction) is = let none : ⊥ = cc in absurd none
 sealing_keeps ledger Finalize is = let none : ⊥ = cc in absurd none
+
+-- the types of answers: an answer that is no value has none
+abbrev types_of : List Answered → List (Option «Type»)
+types_of answers = map (λ answer. value_answer_type (Some answer)) answers
 
 module _ (rename : Name → Name) (l l' : Ledger) (same : SameTables l l') where
   -- a call and the same call renamed change both alike
@@ -91,15 +99,19 @@ module _ (rename : Name → Name) (l l' : Ledger) (same : SameTables l l') where
       let both = both_kept l l' (with_begun l) (with_begun l') same (begun l l.current) (begun l' l'.current) in
       record { variables = ap (touched_at variable) both.variables; tables = both.tables }
   both_changed (MakeEntry entry) = record { variables = same.variables; tables = ap (λ (tables : TableLists). with_entry tables entry) same.tables }
-  both_changed (Build instruction) =
-      both_kept l l' _ _ same (built _ l instruction.operation instruction.edges) (built _ l' instruction.operation (map (renamed_edge rename) instruction.edges))
+  both_changed (MakeEdge edge) = record { variables = same.variables; tables = same.tables }
+  both_changed (MakeJumpTable default entries) = record { variables = same.variables; tables = same.tables }
+  both_changed (Build table instruction) =
+      let both = both_kept l l' _ _ same (built (next_answer l) l instruction.operation instruction.edges)
+      (built (next_answer l') l' instruction.operation (map (renamed_edge rename) instruction.edges)) in
+      record { variables = both.variables; tables = both.tables }
   both_changed Finalize = record { variables = same.variables; tables = same.tables }
 
   both_after : (request : Request) → SameTables (ledger_with l request) (ledger_with l' (renamed_request rename request))
   both_after request = let both = both_changed request in record { variables = both.variables; tables = both.tables }
 
-  -- and have the same answers
-  answered_alike : (request : Request) → answers_to l' (renamed_request rename request) ≡ answers_to l request
+  -- and have answers of the same types
+  answered_alike : (request : Request) → types_of (answers_to l' (renamed_request rename request)) ≡ types_of (answers_to l request)
   answered_alike CreateBlock = refl
   answered_alike (SwitchToBlock block) = refl
   answered_alike (SealBlock block) = refl
@@ -109,24 +121,46 @@ module _ (rename : Name → Name) (l l' : Ledger) (same : SameTables l l') where
   answered_alike EnsureInsertedBlock = refl
   answered_alike (AppendBlockParams block types) = refl
   answered_alike (AppendFunctionParams block types) = refl
-  answered_alike (DeclareVar ty) = ap (λ (states : List VariableState). AVariable (length states) ∷ []) same.variables
+  answered_alike (DeclareVar ty) = refl
   answered_alike (DefVar variable value) = refl
-  answered_alike (UseVar variable) = ap (λ (states : List VariableState). AValue (or_invalid (option_map (λ (state : VariableState). state.ty) (slice_get states variable))) ∷ []) same.variables
-  answered_alike (MakeEntry entry) = ap (λ (tables : TableLists). AnEntry entry (count_for tables entry) ∷ []) same.tables
-  answered_alike (Build instruction) = refl
+  answered_alike (UseVar variable) = ap (λ (states : List VariableState). Some (or_invalid (option_map (λ (state : VariableState). state.ty) (slice_get states variable))) ∷ []) same.variables
+  answered_alike (MakeEntry entry) = refl
+  answered_alike (MakeEdge edge) = refl
+  answered_alike (MakeJumpTable default entries) = refl
+  answered_alike (Build table instruction) = refl
   answered_alike Finalize = refl
 
 -- ANSWERS ---------------------------------------------------------------------------------------------------------------
 
--- the answers to the calls of a script, from a ledger on
-abbrev answers_along : Ledger → Script → List (List Answered)
+-- the types of the answers to the calls of a script, from a ledger on
+abbrev answers_along : Ledger → Script → List (List (Option «Type»))
 answers_along ledger [] = []
-answers_along ledger (request ∷ script) = answers_to ledger request ∷ answers_along (ledger_with ledger request) script
+answers_along ledger (request ∷ script) = types_of (answers_to ledger request) ∷ answers_along (ledger_with ledger request) script
 
-answers_after : (ledger : Ledger) (script : Script) → (fold ledger_with ledger script).answers ≡ ledger.answers ++ answers_along ledger script
-answers_after ledger [] = sym (append-nil ledger.answers)
+answers_after : (ledger : Ledger) (script : Script) → map types_of (fold ledger_with ledger script).answers ≡ map types_of ledger.answers ++ answers_along ledger script
+answers_after ledger [] = sym (append-nil (map types_of ledger.answers))
 answers_after ledger (request ∷ script) =
-    answers_after (ledger_with ledger request) script ∙ append_assoc ledger.answers (answers_to ledger request ∷ []) (answers_along (ledger_with ledger request) script)
+    answers_after (ledger_with ledger request) script
+    ∙ ap (λ (types : List (List (Option «Type»))). types ++ answers_along (ledger_with ledger request) script) (map-append types_of ledger.answers (answers_to ledger request ∷ []))
+    ∙ append_assoc (map types_of ledger.answers) (types_of (answers_to ledger request) ∷ []) (answers_along (ledger_with ledger request) script)
+
+-- the type of an answer is that which is told of it
+flat : Option (Option «Type») → Option «Type»
+flat None = None
+flat (Some ty) = ty
+
+typed_in : (answers : List Answered) (index : ℕ) → value_answer_type (slice_get answers index) ≡ flat (slice_get (types_of answers) index)
+unfolding flat
+typed_in [] index = refl
+typed_in (answer ∷ answers) zero = refl
+typed_in (answer ∷ answers) (suc index) = typed_in answers index
+
+typed_at : (answers : List (List Answered)) (place index : ℕ) → value_answer_type (option_and_then (λ (given : List Answered). slice_get given index) (slice_get answers place))
+    ≡ flat (option_and_then (λ (given : List (Option «Type»)). slice_get given index) (slice_get (map types_of answers) place))
+unfolding flat
+typed_at [] place index = refl
+typed_at (given ∷ answers) zero index = typed_in given index
+typed_at (given ∷ answers) (suc place) index = typed_at answers place index
 
 -- of a list with an element for each call, those of the calls that are left
 abbrev picked : {X : Type 0} → Script → List X → List X
@@ -162,11 +196,11 @@ none_behind (request ∷ script) (x ∷ xs) (suc place) behind =
 
 -- the answers to a call that isn't left: there are none
 no_answer : (script : Script) (ledger : Ledger) (place index : ℕ) → left_at script place ≡ false
-    → option_and_then (λ (answers : List Answered). slice_get answers index) (slice_get (answers_along ledger script) place) ≡ None
+    → option_and_then (λ (types : List (Option «Type»)). slice_get types index) (slice_get (answers_along ledger script) place) ≡ None
 no_answer [] ledger place index sealing = refl
 no_answer (request ∷ script) ledger zero index sealing = by request sealing
   where
-    by : (request : Request) → not (is_sealing request) ≡ false → slice_get (answers_to ledger request) index ≡ None
+    by : (request : Request) → not (is_sealing request) ≡ false → slice_get (types_of (answers_to ledger request)) index ≡ None
     by (SealBlock block) is = refl
     by SealAllBlocks is = refl
     by CreateBlock is = let none : ⊥ = cc in absurd none
@@ -180,7 +214,9 @@ no_answer (request ∷ script) ledger zero index sealing = by request sealing
     by (DefVar variable value) is = let none : ⊥ = cc in absurd none
     by (UseVar variable) is = let none : ⊥ = cc in absurd none
     by (MakeEntry entry) is = let none : ⊥ = cc in absurd none
-    by (Build instruction) is = let none : ⊥ = cc in absurd none
+    by (MakeEdge edge) is = let none : ⊥ = cc in absurd none
+    by (MakeJumpTable default entries) is = let none : ⊥ = cc in absurd none
+    by (Build table instruction) is = let none : ⊥ = cc in absurd none
     by Finalize is = let none : ⊥ = cc in absurd none
 no_answer (request ∷ script) ledger (suc place) index sealing = no_answer script (ledger_with ledger request) place index sealing
 
@@ -207,16 +243,16 @@ module _ (rename : Name → Name) where
     where
       by : GivesPicked script → (c : Bool) → is_sealing request ≡ c
           → answers_along l' (left_with request script (is_sealing request))
-          ≡ cond (not (is_sealing request)) (answers_to l request ∷ picked script (answers_along (ledger_with l request) script)) (picked script (answers_along (ledger_with l request) script))
+          ≡ cond (not (is_sealing request)) (types_of (answers_to l request) ∷ picked script (answers_along (ledger_with l request) script)) (picked script (answers_along (ledger_with l request) script))
       by later true seals =
           ap (λ (c : Bool). answers_along l' (left_with request script c)) seals
           ∙ later (ledger_with l request) l' (behind_seal l l' request seals same)
-          ∙ ap (λ (c : Bool). cond (not c) (answers_to l request ∷ picked script (answers_along (ledger_with l request) script)) (picked script (answers_along (ledger_with l request) script))) (sym seals)
+          ∙ ap (λ (c : Bool). cond (not c) (types_of (answers_to l request) ∷ picked script (answers_along (ledger_with l request) script)) (picked script (answers_along (ledger_with l request) script))) (sym seals)
       by later false stays =
           ap (λ (c : Bool). answers_along l' (left_with request script c)) stays
-          ∙ ap₂ (λ (answers : List Answered) (rest : List (List Answered)). answers ∷ rest) (answered_alike rename l l' same request)
+          ∙ ap₂ (λ (types : List (Option «Type»)) (rest : List (List (Option «Type»))). types ∷ rest) (answered_alike rename l l' same request)
           (later (ledger_with l request) (ledger_with l' (renamed_request rename request)) (both_after rename l l' same request))
-          ∙ ap (λ (c : Bool). cond (not c) (answers_to l request ∷ picked script (answers_along (ledger_with l request) script)) (picked script (answers_along (ledger_with l request) script))) (sym stays)
+          ∙ ap (λ (c : Bool). cond (not c) (types_of (answers_to l request) ∷ picked script (answers_along (ledger_with l request) script)) (picked script (answers_along (ledger_with l request) script))) (sym stays)
 
   abbrev KeepsTables : Script → Type 0
   KeepsTables script = (l l' : Ledger) → SameTables l l' → SameTables (fold ledger_with l script) (fold ledger_with l' (left_calls script))
@@ -238,29 +274,34 @@ module _ (rename : Name → Name) where
 pub unsealed_tables : (script : Script) → SameTables (ledger_after script) (ledger_after (unsealed script))
 unsealed_tables script = tables_along (name_left script) script empty_ledger empty_ledger (record { variables = refl; tables = refl })
 
--- and the same answers under their names
-pub unsealed_answers : (script : Script) (name : Name) → answer_at (ledger_after (unsealed script)) (name_left script name) ≡ answer_at (ledger_after script) name
-unsealed_answers script name = by (left_at script name.place) refl
+-- and its answers have the same types under their names
+pub unsealed_types : (script : Script) (name : Name)
+    → value_answer_type (answer_at (ledger_after (unsealed script)) (name_left script name)) ≡ value_answer_type (answer_at (ledger_after script) name)
+unsealed_types script name =
+    typed_at (ledger_after (unsealed script)).answers (place_left script name.place) name.index
+    ∙ ap flat (by (left_at script name.place) refl)
+    ∙ sym (typed_at (ledger_after script).answers name.place name.index)
   where
-    answer_in : List (List Answered) → ℕ → Option Answered
-    answer_in answers place = option_and_then (λ (given : List Answered). slice_get given name.index) (slice_get answers place)
+    type_in : List (List (Option «Type»)) → ℕ → Option (Option «Type»)
+    type_in types place = option_and_then (λ (given : List (Option «Type»)). slice_get given name.index) (slice_get types place)
 
-    before : (ledger_after script).answers ≡ answers_along empty_ledger script
+    before : map types_of (ledger_after script).answers ≡ answers_along empty_ledger script
     before = answers_after empty_ledger script
 
-    after : (ledger_after (unsealed script)).answers ≡ picked script (answers_along empty_ledger script)
+    after : map types_of (ledger_after (unsealed script)).answers ≡ picked script (answers_along empty_ledger script)
     after = answers_after empty_ledger (unsealed script)
         ∙ answers_picked (name_left script) script empty_ledger empty_ledger (record { variables = refl; tables = refl })
 
-    by : (c : Bool) → left_at script name.place ≡ c → answer_at (ledger_after (unsealed script)) (name_left script name) ≡ answer_at (ledger_after script) name
+    by : (c : Bool) → left_at script name.place ≡ c
+        → type_in (map types_of (ledger_after (unsealed script)).answers) (place_left script name.place) ≡ type_in (map types_of (ledger_after script).answers) name.place
     by true left =
-        ap₂ answer_in after (place_of_left script name.place left)
-        ∙ ap (λ (answers : Option (List Answered)). option_and_then (λ (given : List Answered). slice_get given name.index) answers)
+        ap₂ type_in after (place_of_left script name.place left)
+        ∙ ap (λ (types : Option (List (Option «Type»))). option_and_then (λ (given : List (Option «Type»)). slice_get given name.index) types)
         (picked_at script (answers_along empty_ledger script) name.place left)
-        ∙ ap (λ (answers : List (List Answered)). answer_in answers name.place) (sym before)
+        ∙ ap (λ (types : List (List (Option «Type»))). type_in types name.place) (sym before)
     by false sealing =
-        ap₂ answer_in after (place_of_sealing script name.place sealing)
-        ∙ ap (λ (answers : Option (List Answered)). option_and_then (λ (given : List Answered). slice_get given name.index) answers)
+        ap₂ type_in after (place_of_sealing script name.place sealing)
+        ∙ ap (λ (types : Option (List (Option «Type»))). option_and_then (λ (given : List (Option «Type»)). slice_get given name.index) types)
         (none_behind script (answers_along empty_ledger script) (length script + name.place) (omega arith))
         ∙ sym (no_answer script empty_ledger name.place name.index sealing)
-        ∙ ap (λ (answers : List (List Answered)). answer_in answers name.place) (sym before)
+        ∙ ap (λ (types : List (List (Option «Type»))). type_in types name.place) (sym before)

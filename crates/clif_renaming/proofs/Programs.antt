@@ -5,7 +5,7 @@ use Rattle.std.proofs.lemmas.List.{map-append}
 use Rattle.clif_types.specs.declared.types.«Type».{«Type»}
 use Rattle.clif_meaning.specs.Name.{Name, answer_of, same_name}
 use Rattle.clif_meaning.specs.Program.{Program, Item, answers_from, empty_program, extended, first_block, program_of, result_types, with_call, with_inserted, with_item, with_item_at, with_parameters}
-use Rattle.clif_meaning.specs.Request.{Request, CreateBlock, SwitchToBlock, SealBlock, SealAllBlocks, InsertBlockAfter, SetColdBlock, EnsureInsertedBlock, AppendBlockParams, AppendFunctionParams, DeclareVar, DefVar, UseVar, MakeEntry, Build, Finalize, Script}
+use Rattle.clif_meaning.specs.Request.{Request, CreateBlock, SwitchToBlock, SealBlock, SealAllBlocks, InsertBlockAfter, SetColdBlock, EnsureInsertedBlock, AppendBlockParams, AppendFunctionParams, DeclareVar, DefVar, UseVar, MakeEntry, MakeEdge, MakeJumpTable, Build, Finalize, Script}
 use Rattle.clif_renaming.specs.Renaming.{AreRenamedItems, IsRenamedItem, IsRenamedProgram, KeepsApart}
 use Rattle.clif_renaming.specs.Sealing.{is_sealing, name_left, renamed_request, unsealed, without_seals}
 use Rattle.clif_renaming.proofs.Places.{Follows, follows_at_first, follows_call, follows_here, follows_seal, names_apart}
@@ -110,7 +110,9 @@ module _ (rename : Name → Name) (apart : KeepsApart rename) where
   extended_both p p' (DefVar variable value) is at = item_more p p' _ _ is (refl, refl)
   extended_both p p' (UseVar variable) is at = item_more (with_inserted p) (with_inserted p') _ _ (inserted p p' is) (refl, sym (at 0))
   extended_both p p' (MakeEntry entry) is at = is
-  extended_both p p' (Build instruction) is at =
+  extended_both p p' (MakeEdge edge) is at = is
+  extended_both p p' (MakeJumpTable default entries) is at = is
+  extended_both p p' (Build table instruction) is at =
       item_more (with_inserted p) (with_inserted p') _ _ (inserted p p' is)
       (refl, answers_renamed p.place p'.place at 1 (result_types instruction.operation instruction.controlling))
   extended_both p p' Finalize is at = is
@@ -130,7 +132,9 @@ module _ (rename : Name → Name) (apart : KeepsApart rename) where
   sealing_adds_nothing p (DefVar variable value) is = let none : ⊥ = cc in absurd none
   sealing_adds_nothing p (UseVar variable) is = let none : ⊥ = cc in absurd none
   sealing_adds_nothing p (MakeEntry entry) is = let none : ⊥ = cc in absurd none
-  sealing_adds_nothing p (Build instruction) is = let none : ⊥ = cc in absurd none
+  sealing_adds_nothing p (MakeEdge edge) is = let none : ⊥ = cc in absurd none
+  sealing_adds_nothing p (MakeJumpTable default entries) is = let none : ⊥ = cc in absurd none
+  sealing_adds_nothing p (Build table instruction) is = let none : ⊥ = cc in absurd none
   sealing_adds_nothing p Finalize is = let none : ⊥ = cc in absurd none
 
   -- the place aside

@@ -17,7 +17,7 @@ use Rattle.clif_meaning.proofs.Simulation.{symmetric, transitive}
 use Rattle.clif_renaming.specs.Laws.{FunctionsMeanTheSame, SealingIsFree, ShowTheSame}
 use Rattle.clif_renaming.specs.Renaming.{IsRenamedRun}
 use Rattle.clif_renaming.specs.Sealing.{DifferInSealing, name_left, unsealed}
-use Rattle.clif_renaming.proofs.Ledgers.{unsealed_answers, unsealed_tables}
+use Rattle.clif_renaming.proofs.Ledgers.{unsealed_tables, unsealed_types}
 use Rattle.clif_renaming.proofs.LockStep.{names_are_free, show_the_same}
 use Rattle.clif_renaming.proofs.Places.{names_apart}
 use Rattle.clif_renaming.proofs.Programs.{unsealed_program}
@@ -28,7 +28,7 @@ pub unsealed_run : (script : Script) (function : FunctionView) (world : World)
 unsealed_run script function world = record {
   program = unsealed_program script;
   variable_type = λ variable. ap (λ (states : List VariableState). or_invalid (option_map (λ (state : VariableState). state.ty) (slice_get states variable))) (unsealed_tables script).variables;
-  name_type = λ name. ap (λ (answer : Option Answered). or_invalid (value_answer_type answer)) (unsealed_answers script name);
+  name_type = λ name. ap or_invalid (unsealed_types script name);
   is_marked = unsealed_marked script;
   is_tracked = unsealed_tracked script;
   hidden = λ address. ap (λ (tables : TableLists). in_slots_from world (length tables.stack_slots) (drop (length tables.stack_slots) function.slots) address) (unsealed_tables script).tables;
