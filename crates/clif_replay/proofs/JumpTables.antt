@@ -324,9 +324,11 @@ edge-ready law {declared} calls old new answers edge found made ready is same ma
 pub table-ready : TableCallsAddNothing → {declared : SignatureShape} (calls : List AnsweredCall) (old new : FunctionBuilder) (answers : List Answer) (default : Name) (entries : List Name)
     (edges : List BlockCall) (number : ℕ) → IsReady declared calls old answers → map (edge_at answers) (default ∷ entries) ≡ map Some edges → CreatesJumpTable edges old new (Ok number)
     → IsReadyAfter declared calls (MakeJumpTable (name_of default) (map name_of entries)) new answers answer.Table
-table-ready law {declared} calls old new answers default entries edges number ready found creates =
-    (number ∷ [], ready-answered calls call old new answers answer.Table ready stands (number, ap (λ (n : ℕ). AJumpTable n ∷ []) (sym counts), refl)
-    (λ made same. let no_way : ⊥ = cc in absurd no_way) tables)
+table-ready law {declared} calls old new answers default entries edges number ready found creates = (
+  number ∷ [],
+  ready-answered calls call old new answers answer.Table ready stands (number, ap (λ (n : ℕ). AJumpTable n ∷ []) (sym counts), refl)
+      (λ made same. let no_way : ⊥ = cc in absurd no_way) tables,
+)
   where
     call : AnsweredCall
     call = record { request = MakeJumpTable (name_of default) (map name_of entries); numbers = number ∷ [] }

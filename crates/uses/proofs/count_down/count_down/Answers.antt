@@ -238,8 +238,17 @@ switch_to_block-requires-4-clause-exists c =
     let entered = ap blocks c.switch_to_block-3.ensures.builder in
     let came = ap blocks (c.builder-34-1.given.1 (sym c.ins-7.ensures.same)) in
     let body = body_kept at.After-ins-7 in
-    omega (arith, before.exists, c.in_ok-seal_block-2.ensures.grows.2, c.in_ok-seal_block-3.ensures.grows.2, entered, body.grows.2, c.in_ok-jump-2.ensures.built.grows.2, came,
-    c.in_ok-seal_block-4.ensures.grows.2)
+    omega (
+      arith,
+      before.exists,
+      c.in_ok-seal_block-2.ensures.grows.2,
+      c.in_ok-seal_block-3.ensures.grows.2,
+      entered,
+      body.grows.2,
+      c.in_ok-jump-2.ensures.built.grows.2,
+      came,
+      c.in_ok-seal_block-4.ensures.grows.2,
+    )
 
 pub switch_to_block-requires-4-clause-free : goal.switch_to_block-requires-4-clause-free
 switch_to_block-requires-4-clause-free c =
