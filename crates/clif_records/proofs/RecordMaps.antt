@@ -3,15 +3,13 @@ use Rattle.std.proofs.Common.{◌≡◌, ◌≢◌, ℕ, zero, suc, ◌+◌, inl
 use Rattle.std.specs.Prelude.{if◌then◌else◌, ◌==◌, ◌&&◌, is_some}
 use Rattle.std.specs.declared.cmp.Ordering.{Ordering}
 use Rattle.std.specs.declared.cmp.Ordering.TheVariants.{Less, Equal, Greater}
-use Rattle.std.specs.Ordering.{nat_cmp, ordering_then, match_ordering, is_eq, eq_by_cmp}
+use Rattle.std.specs.Ordering.{nat_cmp, ordering_then, is_eq, eq_by_cmp}
 use Rattle.std.specs.Option.{unwrap_or}
 use Rattle.std.specs.FinMap as map
 use Rattle.std.specs.FinMap.{nat_cmp-IsAntisymmetric, get-insert, get-empty, get-from_entries, same_map, len-empty, len-insert}
-use Rattle.std.specs.FinMap.Entries.{put, by_order, find-put}
-use Rattle.std.specs.BTreeMap.{BTreeMap, get_by, is_at, insert_entry, IsOrdered, btree_map_len}
+use Rattle.std.specs.HashMap.{HashMap, get, hash_map_len, IsUnique}
 use Rattle.std.specs.Map.{lookup, keys_of}
-use Rattle.std.specs.List.{AllByRecursion}
-use Rattle.std.specs.List.Sorted.{IsStrictlySortedBy}
+use Rattle.std.specs.List.{AllByRecursion, IsDistinct}
 use Rattle.std.specs.Cmp.{IsTotalOrder, on_total, then_total, tied_itself, nat_cmp_total}
 use Rattle.std.proofs.lemmas.Grind.{common_steps}
 use Rattle.std.proofs.lemmas.Bool.{cases_eq}
@@ -157,77 +155,72 @@ record_at-entries (e ∷ es) x b =
 
 -- THE ENTRIES OF A MAP --------------------------------------------------------------------------------------------
 
--- a look-up among the entries is one in the records
-lookup_found : (es : List ((ℕ × ℕ) × Recorded)) (p : ℕ × ℕ) → lookup (is_at (variable_then_block p)) es ≡ map.find variable_then_block p es
-lookup_found [] p = refl
-lookup_found (e ∷ es) p = ap (cond (eq_by_cmp variable_then_block p e.0) (Some e.1)) (lookup_found es p)
+-- two keys are equal where both numbers are
+abbrev pub same_key : ℕ × ℕ → ℕ × ℕ → Bool
+same_key p q = p.0 == q.0 && p.1 == q.1
 
-get-records_in : (kept : BTreeMap (ℕ × ℕ) Recorded) (p : ℕ × ℕ) → map.get (records_in kept) p ≡ get_by (variable_then_block p) kept
+-- a look-up among the entries is one in the records
+lookup_found : (es : List ((ℕ × ℕ) × Recorded)) (p : ℕ × ℕ) → lookup (same_key p) es ≡ map.find variable_then_block p es
+lookup_found [] p = refl
+lookup_found (e ∷ es) p = λ i. cond (sym (key_test p.0 p.1 e.0.0 e.0.1) i) (Some e.1) (lookup_found es p i)
+
+get-records_in : {S : Type 0} (kept : HashMap (ℕ × ℕ) Recorded S) (p : ℕ × ℕ) → map.get (records_in kept) p ≡ get same_key kept p
 get-records_in kept p = get-from_entries in_order kept.entries p ∙ sym (lookup_found kept.entries p)
 
-pub recorded_at-found : (kept : BTreeMap (ℕ × ℕ) Recorded) (x b : ℕ) (found : Option Recorded) → found ≡ get_by (variable_then_block (x, b)) kept
+pub recorded_at-found : {S : Type 0} (kept : HashMap (ℕ × ℕ) Recorded S) (x b : ℕ) (found : Option Recorded) → found ≡ get same_key kept (x, b)
     → recorded_at (records_in kept) x b ≡ unwrap_or found nothing_recorded
 recorded_at-found kept x b found is = ap (λ e. unwrap_or e nothing_recorded) (get-records_in kept (x, b) ∙ sym is)
 
-put_there : (es : List ((ℕ × ℕ) × Recorded)) (p : ℕ × ℕ) (r : Recorded) (q : ℕ × ℕ)
-    → map.find variable_then_block q (insert_entry variable_then_block es p r) ≡ cond (eq_by_cmp variable_then_block q p) (Some r) (map.find variable_then_block q es)
-put_there es p r q = ap (map.find variable_then_block q) (same es) ∙ find-put variable_then_block in_order q p r es
-  where
-    by : (o : Ordering) (less equal greater : List ((ℕ × ℕ) × Recorded)) → match_ordering o less equal greater ≡ by_order o less equal greater
-    by Less less equal greater = refl
-    by Equal less equal greater = refl
-    by Greater less equal greater = refl
-
-    same : (es : List ((ℕ × ℕ) × Recorded)) → insert_entry variable_then_block es p r ≡ put variable_then_block p r es
-    same [] = refl
-    same (e ∷ es) =
-        ap (λ rest. match_ordering (variable_then_block p e.0) ((p, r) ∷ e ∷ es) ((e.0, r) ∷ es) (e ∷ rest)) (same es)
-        ∙ by (variable_then_block p e.0) ((p, r) ∷ e ∷ es) ((e.0, r) ∷ es) (e ∷ put variable_then_block p r es)
-
--- an entry was put
-inserted : (es : List ((ℕ × ℕ) × Recorded)) (p : ℕ × ℕ) (r : Recorded)
-    → ◌≡◌ {A = RecordMap} (map.from_entries (insert_entry variable_then_block es p r)) (map.insert (map.from_entries es) p r)
-inserted es p r =
-    same_map in_order same_place _ _ (λ q.
-    get-from_entries in_order (insert_entry variable_then_block es p r) q ∙ put_there es p r q
-    ∙ sym (get-insert in_order (map.from_entries es) p r q ∙ ap (cond (eq_by_cmp variable_then_block q p) (Some r)) (get-from_entries in_order es q)))
-
 -- what was found for a key, or nothing, was changed and put
-pub entry_changed : (old : BTreeMap (ℕ × ℕ) Recorded) (new : List ((ℕ × ℕ) × Recorded)) (x b : ℕ) (change : Recorded → Recorded)
-    → new ≡ insert_entry variable_then_block old.entries (x, b) (change (unwrap_or (get_by (variable_then_block (x, b)) old) nothing_recorded))
+pub entry_changed : {S : Type 0} (old : HashMap (ℕ × ℕ) Recorded S) (updated new : List ((ℕ × ℕ) × Recorded)) (x b : ℕ) (change : Recorded → Recorded)
+    → ((q : ℕ × ℕ) → lookup (same_key q) updated ≡ cond (same_key (x, b) q) (Some (change (unwrap_or (get same_key old (x, b)) nothing_recorded))) (get same_key old q))
+    → new ≡ updated
     → HasEntry (records_in old) (map.from_entries new) x b change
-entry_changed old new x b change put =
-    ap map.from_entries put ∙ inserted old.entries (x, b) _
-    ∙ ap (λ (found : Option Recorded). map.insert (records_in old) (x, b) (change (unwrap_or found nothing_recorded))) (sym (get-records_in old (x, b)))
-
-not_among : (es : List ((ℕ × ℕ) × Recorded)) (p : ℕ × ℕ) → AllByRecursion (λ q. variable_then_block p q ≡ Less) (keys_of es) → map.find variable_then_block p es ≡ None
-not_among [] p below = refl
-not_among (e ∷ es) p below =
-    ap (λ r. cond (is_eq r) (Some e.1) (map.find variable_then_block p es)) below.0 ∙ not_among es p below.1
-
--- where the keys rise, there are as many records as entries
-pub len-records_in : (kept : BTreeMap (ℕ × ℕ) Recorded) → IsOrdered variable_then_block kept → map.len (records_in kept) ≡ btree_map_len kept
-unfolding IsStrictlySortedBy
-len-records_in kept rising = by kept.entries rising
+entry_changed old updated new x b change found same =
+    ap map.from_entries same
+    ∙ same_map in_order same_place _ _ (λ q.
+    get-from_entries in_order updated q ∙ sym (lookup_found updated q) ∙ found q
+    ∙ (λ i. cond (turned q i) (Some (change (unwrap_or (sym (get-records_in old (x, b)) i) nothing_recorded))) (sym (get-records_in old q) i))
+    ∙ sym (get-insert in_order (records_in old) (x, b) (change (recorded_at (records_in old) x b)) q))
   where
-    by : (es : List ((ℕ × ℕ) × Recorded)) → IsStrictlySortedBy variable_then_block (keys_of es) → map.len (map.from_entries {R = variable_then_block} es) ≡ length es
-    by [] rising = len-empty variable_then_block Recorded
-    by (e ∷ es) rising =
-        let absent : map.get (map.from_entries {R = variable_then_block} es) e.0 ≡ None = get-from_entries in_order es e.0 ∙ not_among es e.0 rising.0 in
-        let rest : map.len (map.from_entries {R = variable_then_block} es) ≡ length es = by es rising.1 in
+    swapped : (m n : ℕ) → (m == n) ≡ (n == m)
+    swapped m n = elim (cases_eq m n) [ inl is ↦ grind (arith, common_steps, is) | inr other ↦ grind (arith, common_steps, other) ]
+
+    turned : (q : ℕ × ℕ) → same_key (x, b) q ≡ eq_by_cmp variable_then_block q (x, b)
+    turned q = (λ i. swapped x q.0 i && swapped b q.1 i) ∙ sym (key_test q.0 q.1 x b)
+
+-- what was left alone is as it was
+pub entries_kept : {S : Type 0} (old new : HashMap (ℕ × ℕ) Recorded S) → new.entries ≡ old.entries → records_in new ≡ records_in old
+entries_kept old new same = ap map.from_entries same
+
+not_among : (es : List ((ℕ × ℕ) × Recorded)) (p : ℕ × ℕ) → AllByRecursion (λ q. same_key p q ≡ false) (keys_of es) → map.find variable_then_block p es ≡ None
+not_among [] p apart = refl
+not_among (e ∷ es) p apart =
+    ap (λ t. cond t (Some e.1) (map.find variable_then_block p es)) (key_test p.0 p.1 e.0.0 e.0.1 ∙ apart.0) ∙ not_among es p apart.1
+
+-- where no key stands twice, there are as many records as entries
+pub len-records_in : {S : Type 0} (kept : HashMap (ℕ × ℕ) Recorded S) → IsUnique same_key kept → map.len (records_in kept) ≡ hash_map_len kept
+unfolding IsDistinct
+len-records_in kept unique = by kept.entries unique
+  where
+    by : (es : List ((ℕ × ℕ) × Recorded)) → IsDistinct same_key (keys_of es) → map.len (map.from_entries {R = variable_then_block} es) ≡ length es
+    by [] unique = len-empty variable_then_block Recorded
+    by (e ∷ es) unique =
+        let absent : map.get (map.from_entries {R = variable_then_block} es) e.0 ≡ None = get-from_entries in_order es e.0 ∙ not_among es e.0 unique.0 in
+        let rest : map.len (map.from_entries {R = variable_then_block} es) ≡ length es = by es unique.1 in
         len-insert in_order (map.from_entries es) e.0 e.1
         ∙ ap (λ (f : Option Recorded). cond (is_some f) (map.len (map.from_entries {R = variable_then_block} es)) (map.len (map.from_entries {R = variable_then_block} es) + 1)) absent
         ∙ ap (λ n. n + 1) rest ∙ omega arith
 
 -- nothing is recorded where there is no entry, and only there
-pub empty_of_none : (kept : BTreeMap (ℕ × ℕ) Recorded) → btree_map_len kept ≡ 0 → records_in kept ≡ map.empty
+pub empty_of_none : {S : Type 0} (kept : HashMap (ℕ × ℕ) Recorded S) → hash_map_len kept ≡ 0 → records_in kept ≡ map.empty
 empty_of_none kept none = by kept.entries none
   where
     by : (es : List ((ℕ × ℕ) × Recorded)) → length es ≡ 0 → ◌≡◌ {A = RecordMap} (map.from_entries es) map.empty
     by [] none = refl
     by (e ∷ es) none = absurd (omega (arith, none))
 
-pub none_of_empty : (kept : BTreeMap (ℕ × ℕ) Recorded) → records_in kept ≡ map.empty → btree_map_len kept ≡ 0
+pub none_of_empty : {S : Type 0} (kept : HashMap (ℕ × ℕ) Recorded S) → records_in kept ≡ map.empty → hash_map_len kept ≡ 0
 none_of_empty kept empty = by kept.entries empty
   where
     some_none : {r : Recorded} → ◌≡◌ {A = Option Recorded} (Some r) None → ⊥

@@ -1,6 +1,6 @@
 //! What the construction of SSA form keeps: variables, their records, predecessors, and the stacks of a look-up.
 //!
-//! Each table is seen by contracts as plain data: the records as a finite map (`specs/Tables`), which one ordered map
+//! Each table is seen by contracts as plain data: the records as a finite map (`specs/Tables`), which one hash map
 //! keeps (`specs/Records`); the blocks as a list of what is known of each; the blocks that a walk passes as a list
 //! (`specs/Passed`); and a look-up that is under way as its stacks, the top of each first (`specs/Stacks`). Nothing here
 //! knows a function: `clif_ssa` above does.

@@ -10,7 +10,7 @@ use crate::variable::Variable;
 use clif_types::{Block, BuildError, EntityRef, Inst, Value};
 use smallvec::SmallVec;
 use std::alloc::Global;
-use std::collections::BTreeMap;
+use std::collections::HashMap;
 use std::marker::Model;
 use std::mem;
 
@@ -79,12 +79,12 @@ impl PendingList {
     }
 }
 
-/// The records of all variables: one map, with an entry for each variable and block of which something
-/// is known.
+/// The records of all variables: one hash map, with an entry for each variable and block of which
+/// something is known. So its memory is that of the records, and each question and each change costs
+/// one search, however many records there are.
 #[derive(Debug, Drop)]
 pub struct VariableTable {
-    // By the variable and then by the block, so that the records of a variable are one range of keys.
-    records: BTreeMap<(Variable, Block), Recorded>,
+    records: HashMap<(Variable, Block), Recorded>,
 }
 
 impl Model for VariableTable {
@@ -104,11 +104,11 @@ impl VariableTable {
         ensures { result ≡ map.empty }
     {
         VariableTable {
-            records: BTreeMap::new(alloc),
+            records: HashMap::new(alloc),
         }
     }
 
-    /// Forgets all records, and gives their memory back.
+    /// Forgets all records, and keeps the memory.
     pub fn clear(&mut self)
         ensures { self.new ≡ map.empty }
     {
