@@ -63,7 +63,7 @@ appended-left (Ok inst) old new block shape ty at position ends appends = record
 -- an instruction was appended to the current block, or that was refused
 module _ (old new : FunctionBuilder) (shape : InstructionData) (ty : «Type») (block : ℕ) (r : Result ℕ BuildError)
     (sound : old.failed ≡ false) (current : HasCurrent old) (at : old.position ≡ Some block) (consistent : IsConsistent old.func.now)
-    (operands_exist : All (λ value. value < length old.func.now.values) (operands shape)) (edges : All (CanLead old) (destinations shape)) (loans : SameLoans old new) (position : new.position ≡ old.position)
+    (operands_exist : All (λ value. value < length old.func.now.values) (operands shape)) (edges : All (CanLead old) (destinations shape)) (loans : SameLoans old new) (position : new.position ≡ old.position) (srcloc : new.srcloc ≡ old.srcloc)
     (fails : new.failed ≡ is_err r) (appends : IfOk r (Appends old new block shape ty))
     (declares : IfOk r (λ inst. IsDeclared old.ctx.now.ssa inst (targets (destinations shape)) new.ctx.now.ssa))
     (ssa : is_branch shape ≡ false → new.ctx.now.ssa ≡ old.ctx.now.ssa) (variables : new.ctx.now.variables ≡ old.ctx.now.variables)
@@ -80,7 +80,7 @@ module _ (old new : FunctionBuilder) (shape : InstructionData) (ty : «Type») (
   agrees_after : (calls : List AnsweredCall) (table : Option ℕ) (instruction : Instruction Name Name) → AgreesWithLedger calls old
       → HasShape calls old.func.now instruction shape ty → Agrees calls table instruction old.position
   agrees_after calls table instruction agrees has =
-      ledger-shaped calls old.func.now new.func.now old.ctx.now new.ctx.now old.position block table instruction shape ty r agrees at
+      ledger-shaped _ calls old.func.now new.func.now old.ctx.now new.ctx.now old.position block table instruction shape ty r agrees at
       (current-is old current block at) consistent has edges appends declares ssa variables
 
   pub builds_appended : Builds old new shape ty r
@@ -92,6 +92,7 @@ module _ (old new : FunctionBuilder) (shape : InstructionData) (ty : «Type») (
         ssa = ssa;
         variables = variables;
         position = position;
+        srcloc = srcloc;
         full = full;
         full_table = λ few is. no_room_few old.func.now (result_count shape) consistent.values_fit few (full is);
         failed = (λ is. absurd (never_failed is), λ failed. let no_way : ⊥ = cc in absurd no_way);
@@ -103,15 +104,15 @@ module _ (old new : FunctionBuilder) (shape : InstructionData) (ty : «Type») (
         stands = λ signature calls table instruction stands has.
             subst (λ (o : Option ℕ). IfOk r (λ inst. StandsIn signature (after_build calls table instruction (numbers_of new inst)) new.func.now new.ctx.now o))
             (sym position)
-            (stands_shaped signature calls old.func.now new.func.now old.ctx.now new.ctx.now old.position table instruction shape ty r block
+            (stands_shaped _ signature calls old.func.now new.func.now old.ctx.now new.ctx.now old.position table instruction shape ty r block
             stands consistent has (λ k below. operands_exist k 0 below) at (current_exists old current block at) (current_open old current block at) appends edges declares ssa
             (agrees_after calls table instruction stands.ledger has));
-        exists = append_exists r old.func.now old.ctx.now new.func.now new.ctx.now block shape ty appends;
-        grows = append_grows r old.func.now old.ctx.now new.func.now new.ctx.now block shape ty appends;
+        exists = append_exists _ r old.func.now old.ctx.now new.func.now new.ctx.now block shape ty appends;
+        grows = append_grows _ r old.func.now old.ctx.now new.func.now new.ctx.now block shape ty appends;
         remembers = λ v b.
-            remembers_appended r v b old.func.now new.func.now old.ctx.now new.ctx.now block shape ty consistent appends declares;
+            remembers_appended _ r v b old.func.now new.func.now old.ctx.now new.ctx.now block shape ty consistent appends declares;
         current = λ goes_on. current_appended r old new shape ty current position appends_at goes_on;
-        types = appended-types r old.func.now old.ctx.now new.func.now new.ctx.now block shape ty appends;
+        types = appended-types _ r old.func.now old.ctx.now new.func.now new.ctx.now block shape ty appends;
         seals = declared-seals r old.ctx.now.ssa new.ctx.now.ssa (targets (destinations shape)) declares;
         fills = appended-fills r old new block shape ty at appends;
         left = λ ends. appended-left r old new block shape ty at position ends appends;
@@ -133,6 +134,7 @@ builds_value_refused old new shape ty e no_branch one built =
       ssa = built.ssa no_branch;
       variables = built.variables;
       position = built.position;
+      srcloc = built.srcloc;
       full = built.full_table few;
       failed = built.failed;
       unchanged = built.unchanged;
@@ -158,6 +160,7 @@ builds_pair_refused old new shape ty e no_branch two built =
       ssa = built.ssa no_branch;
       variables = built.variables;
       position = built.position;
+      srcloc = built.srcloc;
       full = λ is. subst (HasNoRoom old.func.now) two (built.full (ap (λ (x : BuildError). Err x) (error_is e Full is)));
       failed = (λ is. built.failed.0 (ap (λ (x : BuildError). Err x) (error_is e Failed is)), λ failed. ap (λ (x : BuildError). Err x) (number_error e Failed (built.failed.1 failed)));
       unchanged = built.unchanged;
@@ -200,6 +203,7 @@ module _ (old new : FunctionBuilder) (shape : InstructionData) (ty : «Type») (
     ssa = built.ssa no_branch;
     variables = built.variables;
     position = built.position;
+    srcloc = built.srcloc;
     full = λ full. let no_way : ⊥ = cc in absurd no_way;
     failed = (
       λ failed. let no_way : ⊥ = cc in absurd no_way,
@@ -217,7 +221,7 @@ module _ (old new : FunctionBuilder) (shape : InstructionData) (ty : «Type») (
     remembers = built.remembers;
     current = built.current goes_on;
     types = built.types;
-    typed = appended-typed old.func.now old.ctx.now new.func.now new.ctx.now current.0 shape ty (result_type_of shape ty) inst value
+    typed = appended-typed _ old.func.now old.ctx.now new.func.now new.ctx.now current.0 shape ty (result_type_of shape ty) inst value
         (at_current old (λ block. Appends old new block shape ty inst) current built.appends) one is;
     fills = fills_none_begun old.ctx.now new.ctx.now current.0 (λ b.
         (at_current old (λ block. Appends old new block shape ty inst) current built.appends).status b
@@ -240,7 +244,7 @@ pub pair_count : (old new : FunctionBuilder) (shape : InstructionData) (ty : «T
     → length (inst_at new.func.now inst).results ≡ 2
 pair_count old new shape ty inst current built two =
     ap (λ (xs : List ℕ). length xs)
-    (appended_range old.func.now old.ctx.now new.func.now new.ctx.now current.0 shape ty inst (at_current old (λ block. Appends old new block shape ty inst) current built.appends))
+    (appended_range _ old.func.now old.ctx.now new.func.now new.ctx.now current.0 shape ty inst (at_current old (λ block. Appends old new block shape ty inst) current built.appends))
     ∙ range_count (length (inserted_in old.func.now current.0).values) (length (result_types shape ty)) ∙ length-result_types shape ty ∙ two
 
 -- its two results are answered
@@ -258,7 +262,7 @@ module _ (old new : FunctionBuilder) (shape : InstructionData) (ty : «Type») (
   -- they are the next values
   next : pair.0 ∷ pair.1 ∷ [] ≡ length old.func.now.values ∷ (length old.func.now.values + 1) ∷ []
   next =
-      sym are ∙ appended_range old.func.now old.ctx.now new.func.now new.ctx.now current.0 shape ty inst appended
+      sym are ∙ appended_range _ old.func.now old.ctx.now new.func.now new.ctx.now current.0 shape ty inst appended
       ∙ ap₂ range_with_len (values-inserted old.func.now current.0) (length-result_types shape ty ∙ two)
 
   first : pair.0 ≡ length old.func.now.values
@@ -280,6 +284,7 @@ module _ (old new : FunctionBuilder) (shape : InstructionData) (ty : «Type») (
     ssa = built.ssa no_branch;
     variables = built.variables;
     position = built.position;
+    srcloc = built.srcloc;
     full = λ full. let no_way : ⊥ = cc in absurd no_way;
     failed = (
       λ failed. let no_way : ⊥ = cc in absurd no_way,
@@ -299,7 +304,7 @@ module _ (old new : FunctionBuilder) (shape : InstructionData) (ty : «Type») (
     types = built.types;
     typed =
         ap (map (λ (value : ℕ). (value_at new.func.now value).ty)) (sym are)
-        ∙ appended-types-of old.func.now old.ctx.now new.func.now new.ctx.now current.0 shape ty inst appended;
+        ∙ appended-types-of _ old.func.now old.ctx.now new.func.now new.ctx.now current.0 shape ty inst appended;
     fills = fills_none_begun old.ctx.now new.ctx.now current.0 (λ b.
         appended.status b
         ∙ ap (λ s. if b == current.0 then s else status_of old.ctx.now b) (status_after_none shape (status_of old.ctx.now current.0) goes_on));

@@ -46,13 +46,14 @@ told_by old new answer names call ledger stands =
 
 -- a call of a builder that hasn't failed
 pub made : {A : Type 0} (old new : FunctionBuilder) (answer : Result A BuildError)
-    → SameLoans old new → new.position ≡ old.position → old.failed ≡ false → answer ≢ Err Failed → new.failed ≡ is_err answer
+    → SameLoans old new → new.position ≡ old.position → new.srcloc ≡ old.srcloc → old.failed ≡ false → answer ≢ Err Failed → new.failed ≡ is_err answer
     → (LooksOnce old.ctx.now.ssa → LooksOnce new.ctx.now.ssa) → OnOk answer (TypesStay old.func.now new.func.now) → OnOk answer (SameFilled old.ctx.now new.ctx.now)
     → IsCall old new answer
-made {A} old new answer loans position fine never_failed fails looks_once types filled =
+made {A} old new answer loans position srcloc fine never_failed fails looks_once types filled =
     record {
       loans = loans;
       position = position;
+      srcloc = srcloc;
       failed = (λ failed. absurd (never_failed failed), λ failed. let no_way : ⊥ = cc in absurd no_way);
       unchanged = λ failed. let no_way : ⊥ = cc in absurd no_way;
       fails = fails;
@@ -85,6 +86,7 @@ refused old failed =
     record {
       loans = record { func = refl; ctx = refl };
       position = refl;
+      srcloc = refl;
       failed = (λ is. failed, λ is. refl);
       unchanged = λ is. refl;
       fails = failed;
@@ -104,6 +106,7 @@ failed old new e call =
     record {
       loans = call.loans;
       position = call.position;
+      srcloc = call.srcloc;
       failed = (λ same. call.failed.0 (same_error e Failed same), λ failed. same_error e Failed (call.failed.1 failed));
       unchanged = call.unchanged;
       fails = call.fails;

@@ -190,12 +190,12 @@ current_made entry old new (Ok n) position context is current = (
 )
 
 -- a call on a builder that hasn't failed
-pub entry_made : (entry : TableEntry) (old new : FunctionBuilder) (answer : Result ℕ BuildError) → old.failed ≡ false → SameLoans old new → new.position ≡ old.position
+pub entry_made : (entry : TableEntry) (old new : FunctionBuilder) (answer : Result ℕ BuildError) → old.failed ≡ false → SameLoans old new → new.position ≡ old.position → new.srcloc ≡ old.srcloc
     → new.ctx.now ≡ old.ctx.now → new.failed ≡ is_err answer → MakesIn entry old.func.now new.func.now answer → MakesEntry entry old new answer
-entry_made entry old new answer fine loans position context fails makes =
+entry_made entry old new answer fine loans position srcloc context fails makes =
     let ssa : new.ctx.now.ssa ≡ old.ctx.now.ssa = ap (λ (c : ContextState). c.ssa) context in
     record {
-      call = calls.made old new answer loans position fine makes.never_failed fails (same_looks old.ctx.now.ssa new.ctx.now.ssa ssa)
+      call = calls.made old new answer loans position srcloc fine makes.never_failed fails (same_looks old.ctx.now.ssa new.ctx.now.ssa ssa)
           (types_made entry old.func.now new.func.now answer makes.ok) (filled-same answer old.ctx.now new.ctx.now (ap (λ (c : ContextState). c.status) context));
       function = makes.ok;
       number = makes.number;

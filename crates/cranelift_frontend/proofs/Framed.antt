@@ -101,17 +101,17 @@ param-typed (Ok value) f g b ty is number =
     ap (λ (h : Body). (value_at h value).ty) is ∙ ap (λ (v : ℕ). (value_at (with_param f b ty) v).ty) number ∙ ap (λ (node : ValueNode). node.ty) (last_value f.values _)
 
 -- an instruction is appended
-pub appended-types : {E : Type 0} (r : Result ℕ E) (f : Body) (c : ContextState) (g : Body) (d : ContextState) (block : ℕ) (shape : InstructionData) (ty : «Type»)
-    → IfOk r (AppendsIn f c g d block shape ty) → OnOk r (TypesStay f g)
-appended-types (Err e) f c g d block shape ty appends = tt
-appended-types (Ok inst) f c g d block shape ty appends =
+pub appended-types : (place : ℕ) {E : Type 0} (r : Result ℕ E) (f : Body) (c : ContextState) (g : Body) (d : ContextState) (block : ℕ) (shape : InstructionData) (ty : «Type»)
+    → IfOk r (AppendsIn place f c g d block shape ty) → OnOk r (TypesStay f g)
+appended-types place (Err e) f c g d block shape ty appends = tt
+appended-types place (Ok inst) f c g d block shape ty appends =
     types-more f g (result_nodes (length (inserted_in f block).insts) 0 (result_types shape ty))
     (ap (λ (h : Body). h.values) appends.function ∙ ap (λ (xs : List ValueNode). xs ++ result_nodes (length (inserted_in f block).insts) 0 (result_types shape ty)) (same-inserted f block))
 
 -- its one result has its type
-pub appended-typed : (f : Body) (c : ContextState) (g : Body) (d : ContextState) (block : ℕ) (shape : InstructionData) (ty result : «Type») (inst value : ℕ)
-    → AppendsIn f c g d block shape ty inst → result_types shape ty ≡ result ∷ [] → value ≡ length f.values → (value_at g value).ty ≡ result
-appended-typed f c g d block shape ty result inst value appends one number =
+pub appended-typed : (place : ℕ) (f : Body) (c : ContextState) (g : Body) (d : ContextState) (block : ℕ) (shape : InstructionData) (ty result : «Type») (inst value : ℕ)
+    → AppendsIn place f c g d block shape ty inst → result_types shape ty ≡ result ∷ [] → value ≡ length f.values → (value_at g value).ty ≡ result
+appended-typed place f c g d block shape ty result inst value appends one number =
     ap (λ (xs : List ValueNode). (slice_index_or xs value no_value).ty)
     (ap (λ (h : Body). h.values) appends.function
     ∙ ap (λ (ts : List «Type»). (inserted_in f block).values ++ result_nodes (length (inserted_in f block).insts) 0 ts) one
@@ -120,10 +120,10 @@ appended-typed f c g d block shape ty result inst value appends one number =
     ∙ ap (λ (node : ValueNode). node.ty) (last_value f.values _)
 
 -- the types of its results
-pub appended-types-of : (f : Body) (c : ContextState) (g : Body) (d : ContextState) (block : ℕ) (shape : InstructionData) (ty : «Type») (inst : ℕ)
-    → AppendsIn f c g d block shape ty inst → map (λ (value : ℕ). (value_at g value).ty) (inst_at g inst).results ≡ result_types shape ty
-appended-types-of f c g d block shape ty inst appends =
-    ap (map (λ (value : ℕ). (value_at g value).ty)) (appended_range f c g d block shape ty inst appends)
+pub appended-types-of : (place : ℕ) (f : Body) (c : ContextState) (g : Body) (d : ContextState) (block : ℕ) (shape : InstructionData) (ty : «Type») (inst : ℕ)
+    → AppendsIn place f c g d block shape ty inst → map (λ (value : ℕ). (value_at g value).ty) (inst_at g inst).results ≡ result_types shape ty
+appended-types-of place f c g d block shape ty inst appends =
+    ap (map (λ (value : ℕ). (value_at g value).ty)) (appended_range _ f c g d block shape ty inst appends)
     ∙ ap (λ (h : Body). map (λ (value : ℕ). (value_at h value).ty) (range_with_len (length (inserted_in f block).values) (length (result_types shape ty)))) appends.function
     ∙ types-from (inserted_in f block).values (length (inserted_in f block).insts) 0 (result_types shape ty)
   where

@@ -15,7 +15,6 @@ use Rattle.clif_ir.specs.Body.{Body, inst_at}
 use Rattle.clif_ir.specs.Changes.{HasNoRoom, inserted_in, with_block, with_layout, with_inst, with_param, inst_node}
 use Rattle.clif_instructions.specs.Instruction.{is_terminator, result_types}
 use Rattle.clif_instructions.specs.Members.{stands_in}
-use Rattle.clif_ssa.specs.Ssa.{no_srcloc}
 use Rattle.cranelift_frontend.specs.declared.context.BlockStatus.{BlockStatus}
 use Rattle.cranelift_frontend.specs.declared.context.BlockStatus.TheVariants.{Empty, Partial, Filled}
 use Rattle.cranelift_frontend.specs.Context.{ContextState, begun, status_of, FillsNone, SetsStatus, Begins}
@@ -69,17 +68,17 @@ insts-inserted f b = by_test (stands_in b f.layout)
     by_test false = refl
 
 -- an instruction was appended: the tables grew, and it exists
-appended_grows : (f : Body) (c : ContextState) (g : Body) (d : ContextState) (block : ℕ) (shape : InstructionData) (ty : «Type») (inst : ℕ)
-    → AppendsIn f c g d block shape ty inst → Grows f g
-appended_grows f c g d block shape ty inst appends =
-    subst (Grows f) (sym appends.function) (Grows-then f (inserted_in f block) (with_appended f block shape ty) (Grows-inserted f block) (Grows-with_inst (inserted_in f block) block Back shape (result_types shape ty) no_srcloc))
+appended_grows : (place : ℕ) (f : Body) (c : ContextState) (g : Body) (d : ContextState) (block : ℕ) (shape : InstructionData) (ty : «Type») (inst : ℕ)
+    → AppendsIn place f c g d block shape ty inst → Grows f g
+appended_grows place f c g d block shape ty inst appends =
+    subst (Grows f) (sym appends.function) (Grows-then f (inserted_in f block) (with_appended f block shape ty place) (Grows-inserted f block) (Grows-with_inst (inserted_in f block) block Back shape (result_types shape ty) place))
 
-appended_exists : (f : Body) (c : ContextState) (g : Body) (d : ContextState) (block : ℕ) (shape : InstructionData) (ty : «Type») (inst : ℕ)
-    → AppendsIn f c g d block shape ty inst → inst < length g.insts
-appended_exists f c g d block shape ty inst appends =
-    let count : length (with_appended f block shape ty).insts ≡ length (inserted_in f block).insts + 1 = grind (arith, common_steps) in
+appended_exists : (place : ℕ) (f : Body) (c : ContextState) (g : Body) (d : ContextState) (block : ℕ) (shape : InstructionData) (ty : «Type») (inst : ℕ)
+    → AppendsIn place f c g d block shape ty inst → inst < length g.insts
+appended_exists place f c g d block shape ty inst appends =
+    let count : length (with_appended f block shape ty place).insts ≡ length (inserted_in f block).insts + 1 = grind (arith, common_steps) in
     let same : length (inserted_in f block).insts ≡ length f.insts = insts-inserted f block in
-    let new_count : length g.insts ≡ length (with_appended f block shape ty).insts = ap (λ (h : Body). length h.insts) appends.function in
+    let new_count : length g.insts ≡ length (with_appended f block shape ty place).insts = ap (λ (h : Body). length h.insts) appends.function in
     omega (arith, count, same, new_count, appends.number)
 
 -- a fact that follows from what is known of an answer
@@ -102,13 +101,13 @@ used_grows r f c g d variable ty block =
     on_ok_from r _ _ (λ value used. Grows-then f (inserted_in f block) g (Grows-inserted f block) (Grows-constructs (inserted_in f block) g used.1.constructs))
 
 -- an appending answered
-pub append_grows : (r : Result ℕ BuildError) (f : Body) (c : ContextState) (g : Body) (d : ContextState) (block : ℕ) (shape : InstructionData) (ty : «Type»)
-    → IfOk r (AppendsIn f c g d block shape ty) → OnOk r (Grows f g)
-append_grows r f c g d block shape ty = on_ok_from r _ _ (λ inst appends. appended_grows f c g d block shape ty inst appends)
+pub append_grows : (place : ℕ) (r : Result ℕ BuildError) (f : Body) (c : ContextState) (g : Body) (d : ContextState) (block : ℕ) (shape : InstructionData) (ty : «Type»)
+    → IfOk r (AppendsIn place f c g d block shape ty) → OnOk r (Grows f g)
+append_grows place r f c g d block shape ty = on_ok_from r _ _ (λ inst appends. appended_grows _ f c g d block shape ty inst appends)
 
-pub append_exists : (r : Result ℕ BuildError) (f : Body) (c : ContextState) (g : Body) (d : ContextState) (block : ℕ) (shape : InstructionData) (ty : «Type»)
-    → IfOk r (AppendsIn f c g d block shape ty) → IfOk r (λ inst. inst < length g.insts)
-append_exists r f c g d block shape ty = if_ok_from r _ _ (λ inst appends. appended_exists f c g d block shape ty inst appends)
+pub append_exists : (place : ℕ) (r : Result ℕ BuildError) (f : Body) (c : ContextState) (g : Body) (d : ContextState) (block : ℕ) (shape : InstructionData) (ty : «Type»)
+    → IfOk r (AppendsIn place f c g d block shape ty) → IfOk r (λ inst. inst < length g.insts)
+append_exists place r f c g d block shape ty = if_ok_from r _ _ (λ inst appends. appended_exists _ f c g d block shape ty inst appends)
 
 -- what wasn't filled isn't filled by a beginning
 begun_unfilled : (s : BlockStatus) → begun s ≡ Filled → s ≡ Filled
@@ -157,45 +156,45 @@ pub current_appended : (r : Result ℕ BuildError) (old new : FunctionBuilder) (
     → IfSome old.position (λ block. IfOk r (Appends old new block shape ty)) → is_terminator shape ≡ false → OnOk r (HasCurrent new)
 current_appended r old new shape ty current position appends none =
     on_ok_from r _ _ (λ inst appended.
-    still_current old.position new.position old.func.now new.func.now old.ctx.now new.ctx.now position (appended_grows old.func.now old.ctx.now new.func.now new.ctx.now current.0 shape ty inst appended)
+    still_current old.position new.position old.func.now new.func.now old.ctx.now new.ctx.now position (appended_grows _ old.func.now old.ctx.now new.func.now new.ctx.now current.0 shape ty inst appended)
     (fills_none_begun old.ctx.now new.ctx.now current.0 (λ b. appended.status b ∙ ap (λ s. if b == current.0 then s else status_of old.ctx.now b) (status_after_none shape (status_of old.ctx.now current.0) none))) current)
     (at_current old (λ block. IfOk r (Appends old new block shape ty)) current appends)
 
 -- the node of an instruction that was appended
-appended_node : (f : Body) (c : ContextState) (g : Body) (d : ContextState) (block : ℕ) (shape : InstructionData) (ty : «Type») (inst : ℕ)
-    → AppendsIn f c g d block shape ty inst → inst_at g inst ≡ inst_node (inserted_in f block) block shape (result_types shape ty) no_srcloc
-appended_node f c g d block shape ty inst appends =
+appended_node : (place : ℕ) (f : Body) (c : ContextState) (g : Body) (d : ContextState) (block : ℕ) (shape : InstructionData) (ty : «Type») (inst : ℕ)
+    → AppendsIn place f c g d block shape ty inst → inst_at g inst ≡ inst_node (inserted_in f block) block shape (result_types shape ty) place
+appended_node place f c g d block shape ty inst appends =
     let at : Body = inserted_in f block in
-    let node : InstNode = inst_node at block shape (result_types shape ty) no_srcloc in
-    let made : inst_at g inst ≡ inst_at (with_appended f block shape ty) inst = ap (λ (h : Body). inst_at h inst) appends.function in
-    let place : inst ≡ length at.insts = appends.number ∙ sym (insts-inserted f block) in
-    let last : inst_at (with_appended f block shape ty) inst ≡ node = grind (arith, common_steps, place) in
+    let node : InstNode = inst_node at block shape (result_types shape ty) place in
+    let made : inst_at g inst ≡ inst_at (with_appended f block shape ty place) inst = ap (λ (h : Body). inst_at h inst) appends.function in
+    let at_end : inst ≡ length at.insts = appends.number ∙ sym (insts-inserted f block) in
+    let last : inst_at (with_appended f block shape ty place) inst ≡ node = grind (arith, common_steps, at_end) in
     made ∙ last
 
 -- its results have the next numbers of values
-pub appended_range : (f : Body) (c : ContextState) (g : Body) (d : ContextState) (block : ℕ) (shape : InstructionData) (ty : «Type») (inst : ℕ)
-    → AppendsIn f c g d block shape ty inst → (inst_at g inst).results ≡ range_with_len (length (inserted_in f block).values) (length (result_types shape ty))
-appended_range f c g d block shape ty inst appends = ap (λ (n : InstNode). n.results) (appended_node f c g d block shape ty inst appends)
+pub appended_range : (place : ℕ) (f : Body) (c : ContextState) (g : Body) (d : ContextState) (block : ℕ) (shape : InstructionData) (ty : «Type») (inst : ℕ)
+    → AppendsIn place f c g d block shape ty inst → (inst_at g inst).results ≡ range_with_len (length (inserted_in f block).values) (length (result_types shape ty))
+appended_range place f c g d block shape ty inst appends = ap (λ (n : InstNode). n.results) (appended_node _ f c g d block shape ty inst appends)
 
 -- its result
-pub appended_results : (f : Body) (c : ContextState) (g : Body) (d : ContextState) (block : ℕ) (shape : InstructionData) (ty result : «Type») (inst : ℕ)
-    → AppendsIn f c g d block shape ty inst → result_types shape ty ≡ result ∷ [] → (inst_at g inst).results ≡ length f.values ∷ []
-appended_results f c g d block shape ty result inst appends types =
+pub appended_results : (place : ℕ) (f : Body) (c : ContextState) (g : Body) (d : ContextState) (block : ℕ) (shape : InstructionData) (ty result : «Type») (inst : ℕ)
+    → AppendsIn place f c g d block shape ty inst → result_types shape ty ≡ result ∷ [] → (inst_at g inst).results ≡ length f.values ∷ []
+appended_results place f c g d block shape ty result inst appends types =
     let at : Body = inserted_in f block in
     let results : range_with_len (length at.values) (length (result_types shape ty)) ≡ length at.values ∷ [] = ap (λ (ts : List «Type»). range_with_len (length at.values) (length ts)) types in
-    ap (λ (n : InstNode). n.results) (appended_node f c g d block shape ty inst appends) ∙ results ∙ ap (λ n. n ∷ []) (values-inserted f block)
+    ap (λ (n : InstNode). n.results) (appended_node _ f c g d block shape ty inst appends) ∙ results ∙ ap (λ n. n ∷ []) (values-inserted f block)
 
 -- where it has none
-pub appended_no_results : (f : Body) (c : ContextState) (g : Body) (d : ContextState) (block : ℕ) (shape : InstructionData) (ty : «Type») (inst : ℕ)
-    → AppendsIn f c g d block shape ty inst → result_types shape ty ≡ [] → (inst_at g inst).results ≡ []
-appended_no_results f c g d block shape ty inst appends types =
-    ap (λ (n : InstNode). n.results) (appended_node f c g d block shape ty inst appends)
+pub appended_no_results : (place : ℕ) (f : Body) (c : ContextState) (g : Body) (d : ContextState) (block : ℕ) (shape : InstructionData) (ty : «Type») (inst : ℕ)
+    → AppendsIn place f c g d block shape ty inst → result_types shape ty ≡ [] → (inst_at g inst).results ≡ []
+appended_no_results place f c g d block shape ty inst appends types =
+    ap (λ (n : InstNode). n.results) (appended_node _ f c g d block shape ty inst appends)
     ∙ ap (λ (ts : List «Type»). range_with_len (length (inserted_in f block).values) (length ts)) types
 
 pub current_results : (old new : FunctionBuilder) (shape : InstructionData) (ty result : «Type») (inst : ℕ) → HasCurrent old
     → IfSome old.position (λ block. Appends old new block shape ty inst) → result_types shape ty ≡ result ∷ [] → (inst_at new.func.now inst).results ≡ length old.func.now.values ∷ []
 current_results old new shape ty result inst current appends types =
-    appended_results old.func.now old.ctx.now new.func.now new.ctx.now current.0 shape ty result inst (at_current old (λ block. Appends old new block shape ty inst) current appends) types
+    appended_results _ old.func.now old.ctx.now new.func.now new.ctx.now current.0 shape ty result inst (at_current old (λ block. Appends old new block shape ty inst) current appends) types
 
 -- it is the value that is answered
 pub appends_value : (old new : FunctionBuilder) (shape : InstructionData) (ty : «Type») (inst v : ℕ)

@@ -29,7 +29,7 @@ use Rattle.clif_records.specs.Tables.{is_yes}
 use Rattle.clif_ssa.specs.LookUp.{branch_block}
 use Rattle.clif_ssa.specs.Sound.{args_of}
 use Rattle.clif_ssa.specs.SoundLaws.{shape_passes, with_own}
-use Rattle.clif_ssa.specs.Ssa.{SsaState, no_srcloc, predecessors_of, sealed_of}
+use Rattle.clif_ssa.specs.Ssa.{SsaState, predecessors_of, sealed_of}
 use Rattle.clif_ssa.specs.Structured.{Structured, VariableTypes}
 use Rattle.clif_ssa.proofs.Bodies.{firm_from}
 use Rattle.clif_ssa.proofs.Completing.{inserted_firm, inserted_same}
@@ -54,29 +54,29 @@ use Rattle.cranelift_frontend.proofs.LedgerBranched.{agrees-led}
 use Rattle.cranelift_frontend.proofs.Placed.{in_order, branch_exists}
 
 -- what the caller made, with one more instruction
-pub appended-structured : (types : VariableTypes) (own : Own) (f : Body) (s : SsaState) (block : ℕ) (shape : InstructionData) (results : List «Type») → IsConsistent f → block < length f.blocks
+pub appended-structured : (place : ℕ) (types : VariableTypes) (own : Own) (f : Body) (s : SsaState) (block : ℕ) (shape : InstructionData) (results : List «Type») → IsConsistent f → block < length f.blocks
     → Structured types own f s []
-    → Structured types (with_own own block (length (inserted_in f block).insts) shape) (with_inst (inserted_in f block) block Back shape results no_srcloc) s []
-appended-structured types own f s block shape results consistent exists before =
+    → Structured types (with_own own block (length (inserted_in f block).insts) shape) (with_inst (inserted_in f block) block Back shape results place) s []
+appended-structured place types own f s block shape results consistent exists before =
     let below : block < length (inserted_in f block).blocks = omega (arith, exists, ap length (inserted_same f block).blocks) in
-    instruction_structured types own (inserted_in f block) s block shape results no_srcloc (inserted_firm f block (firm_from f consistent)) below
+    instruction_structured types own (inserted_in f block) s block shape results place (inserted_firm f block (firm_from f consistent)) below
     (inserted_structured types own f s block before)
 
-appended-is-structured : (f g : Body) (c d : ContextState) (block : ℕ) (shape : InstructionData) (results : List «Type») → IsConsistent f → block < length f.blocks
-    → g ≡ with_inst (inserted_in f block) block Back shape results no_srcloc → d.ssa ≡ c.ssa → d.variables ≡ c.variables → (mine : Own) → IsStructured mine f c → IsStructured (with_own mine block (length (inserted_in f block).insts) shape) g d
-appended-is-structured f g c d block shape results consistent exists function ssa variables mine before types are =
+appended-is-structured : (place : ℕ) (f g : Body) (c d : ContextState) (block : ℕ) (shape : InstructionData) (results : List «Type») → IsConsistent f → block < length f.blocks
+    → g ≡ with_inst (inserted_in f block) block Back shape results place → d.ssa ≡ c.ssa → d.variables ≡ c.variables → (mine : Own) → IsStructured mine f c → IsStructured (with_own mine block (length (inserted_in f block).insts) shape) g d
+appended-is-structured place f g c d block shape results consistent exists function ssa variables mine before types are =
     let own : Own = with_own mine block (length (inserted_in f block).insts) shape in
     subst (λ (s : SsaState). Structured types own g s []) (sym ssa)
     (subst (λ (h : Body). Structured types own h c.ssa []) (sym function)
-    (appended-structured types mine f c.ssa block shape results consistent exists (before types (subst (λ (xs : List «Type»). AreTypesOf xs types) variables are))))
+    (appended-structured _ types mine f c.ssa block shape results consistent exists (before types (subst (λ (xs : List «Type»). AreTypesOf xs types) variables are))))
 
 -- what an appended instruction makes
-pub appends-make : (f g : Body) (c d : ContextState) (block : ℕ) (shape : InstructionData) (types : List «Type») (status : BlockStatus)
+pub appends-make : (place : ℕ) (f g : Body) (c d : ContextState) (block : ℕ) (shape : InstructionData) (types : List «Type») (status : BlockStatus)
     (order : IsInOrder f c) → IsConsistent f → block < length f.blocks
-    → g ≡ with_inst (inserted_in f block) block Back shape types no_srcloc → SetsStatus c d block status → status ≢ Empty → (status_of c block ≡ Filled → status ≡ Filled)
+    → g ≡ with_inst (inserted_in f block) block Back shape types place → SetsStatus c d block status → status ≢ Empty → (status_of c block ≡ Filled → status ≡ Filled)
     → d.ssa ≡ c.ssa → d.variables ≡ c.variables → Makes order.own f c g d block
-appends-make f g c d block shape types status order consistent exists function sets some stays ssa variables =
-    let made : Continues (inserted_in f block) g = subst (Continues (inserted_in f block)) (sym function) (Continues-inst (inserted_in f block) block Back shape types no_srcloc) in
+appends-make place f g c d block shape types status order consistent exists function sets some stays ssa variables =
+    let made : Continues (inserted_in f block) g = subst (Continues (inserted_in f block)) (sym function) (Continues-inst (inserted_in f block) block Back shape types place) in
     let extends : Extends f g = Extends-then f (inserted_in f block) g (Extends-inserted f block) made.extends in
     record {
       extends = extends;
@@ -85,11 +85,11 @@ appends-make f g c d block shape types status order consistent exists function s
       predecessors = λ b. ap (λ (s : SsaState). predecessors_of s b) ssa;
       variables = variables;
       own = with_own order.own block (length (inserted_in f block).insts) shape;
-      structured = appended-is-structured f g c d block shape types consistent exists function ssa variables order.own order.structured;
+      structured = appended-is-structured _ f g c d block shape types consistent exists function ssa variables order.own order.structured;
       callers = λ b. refl;
       callers_alone = λ b.
           alone-still (with_own order.own block (length (inserted_in f block).insts) shape) order.own f g c d block status made.layout sets some b refl
-          (ap (λ (h : Body). (block_at h b).params) function ∙ inst_params (inserted_in f block) block Back shape types no_srcloc b
+          (ap (λ (h : Body). (block_at h b).params) function ∙ inst_params (inserted_in f block) block Back shape types place b
           ∙ ap (λ (blocks : List BlockNode). (block_at (record f { blocks = blocks }) b).params) (inserted_same f block).blocks)
           (order.callers_alone b);
       branches = λ b i leads.
@@ -99,18 +99,18 @@ appends-make f g c d block shape types status order consistent exists function s
     }
 
 -- the node of an appended instruction
-pub node-there : (f g : Body) (block : ℕ) (shape : InstructionData) (types : List «Type»)
-    → g ≡ with_inst (inserted_in f block) block Back shape types no_srcloc
-    → slice_get g.insts (length f.insts) ≡ Some (inst_node (inserted_in f block) block shape types no_srcloc)
-node-there f g block shape types function =
+pub node-there : (place : ℕ) (f g : Body) (block : ℕ) (shape : InstructionData) (types : List «Type»)
+    → g ≡ with_inst (inserted_in f block) block Back shape types place
+    → slice_get g.insts (length f.insts) ≡ Some (inst_node (inserted_in f block) block shape types place)
+node-there place f g block shape types function =
     ap (λ (h : Body). slice_get h.insts (length f.insts)) function
-    ∙ ap (slice_get (with_inst (inserted_in f block) block Back shape types no_srcloc).insts) (sym (inserted-insts f block))
+    ∙ ap (slice_get (with_inst (inserted_in f block) block Back shape types place).insts) (sym (inserted-insts f block))
     ∙ get-last (inserted_in f block).insts _
 
 -- the types of its results
-results-types : (f g : Body) (block : ℕ) (shape : InstructionData) (types : List «Type») → g ≡ with_inst (inserted_in f block) block Back shape types no_srcloc
+results-types : (place : ℕ) (f g : Body) (block : ℕ) (shape : InstructionData) (types : List «Type») → g ≡ with_inst (inserted_in f block) block Back shape types place
     → (k : ℕ) (ty : «Type») → slice_get types k ≡ Some ty → value_type g (length (inserted_in f block).values + k) ≡ Some ty
-results-types f g block shape types function k ty at =
+results-types place f g block shape types function k ty at =
     ap (λ (h : Body). value_type h (length (inserted_in f block).values + k)) function
     ∙ ap (option_map (λ (n : ValueNode). n.ty)) (behind (inserted_in f block).values)
     ∙ node 0 types k at
@@ -129,14 +129,14 @@ results-types f g block shape types function k ty at =
     node j (t ∷ ts) (suc m) at = node (j + 1) ts m at
 
 -- an instruction behind which its block goes on
-pub agrees-plain : (calls : List AnsweredCall) (ledger : Ledger) (f g : Body) (c d : ContextState) (p : Option ℕ) (block : ℕ) (shape : InstructionData) (table : Option ℕ)
+pub agrees-plain : (place : ℕ) (calls : List AnsweredCall) (ledger : Ledger) (f g : Body) (c d : ContextState) (p : Option ℕ) (block : ℕ) (shape : InstructionData) (table : Option ℕ)
     (operation : Operation) (controlling : «Type») (types : List «Type») (operands : List Name) (inst : ℕ) (results : List ℕ)
-    → LedgerAgrees calls ledger f c p → p ≡ Some block → IsConsistent f → block < length f.blocks → g ≡ with_inst (inserted_in f block) block Back shape types no_srcloc
+    → LedgerAgrees calls ledger f c p → p ≡ Some block → IsConsistent f → block < length f.blocks → g ≡ with_inst (inserted_in f block) block Back shape types place
     → SetsStatus c d block (begun (status_of c block)) → d.ssa ≡ c.ssa → d.variables ≡ c.variables → is_terminator operation ≡ false → program.result_types operation controlling ≡ types
     → ((new : Ledger) → AnswersAgree new g (length calls) (AnInstruction ∷ map AValue types) (inst ∷ results))
     → LedgerAgrees (calls ++ record { request = Build table (record { operation = operation; controlling = controlling; operands = operands; edges = [] }); numbers = inst ∷ results } ∷ [])
     (ledger_with ledger (Build table (record { operation = operation; controlling = controlling; operands = operands; edges = [] }))) g d p
-agrees-plain calls ledger f g c d p block shape table operation controlling types operands inst results agrees at consistent exists function sets ssa variables goes_on typed answers =
+agrees-plain place calls ledger f g c d p block shape table operation controlling types operands inst results agrees at consistent exists function sets ssa variables goes_on typed answers =
     let request : Request = Build table (record { operation = operation; controlling = controlling; operands = operands; edges = [] }) in
     let call : AnsweredCall = record { request = request; numbers = inst ∷ results } in
     let current = name-of-some (block_name ledger) ledger.current block (agrees.current ∙ ap (option_map (block_name ledger)) at) in
@@ -145,7 +145,7 @@ agrees-plain calls ledger f g c d p block shape table operation controlling type
     agrees-made calls call ledger new f g c d p block current.0 unpristine (begun (status_of c block)) (AnInstruction ∷ map AValue types) agrees current.2
     (ap (λ (ts : List «Type»). ledger.answers ++ (AnInstruction ∷ map AValue ts) ∷ []) typed) changed
     (begun-agrees (status_of c block)) sets
-    (appends-make f g c d block shape types (begun (status_of c block)) (in_order agrees) consistent exists function sets (begun-not-empty (status_of c block)) (λ filled. ap begun filled) ssa variables)
+    (appends-make _ f g c d block shape types (begun (status_of c block)) (in_order agrees) consistent exists function sets (begun-not-empty (status_of c block)) (λ filled. ap begun filled) ssa variables)
     (answers new)
   where
     begun_by : (ends : Bool) → ends ≡ false → (x : Name) → ledger.current ≡ Some x
@@ -157,20 +157,20 @@ agrees-plain calls ledger f g c d p block shape table operation controlling type
         record { blocks = begins.blocks; layout = begins.layout; current = begins.current; variables = begins.variables; tables = begins.tables }
 
 -- with its results, which have the next numbers of values
-pub agrees-built : (calls : List AnsweredCall) (ledger : Ledger) (f g : Body) (c d : ContextState) (p : Option ℕ) (block : ℕ) (shape : InstructionData) (table : Option ℕ)
+pub agrees-built : (place : ℕ) (calls : List AnsweredCall) (ledger : Ledger) (f g : Body) (c d : ContextState) (p : Option ℕ) (block : ℕ) (shape : InstructionData) (table : Option ℕ)
     (operation : Operation) (controlling : «Type») (types : List «Type») (operands : List Name) (inst : ℕ)
-    → LedgerAgrees calls ledger f c p → p ≡ Some block → IsConsistent f → block < length f.blocks → g ≡ with_inst (inserted_in f block) block Back shape types no_srcloc
+    → LedgerAgrees calls ledger f c p → p ≡ Some block → IsConsistent f → block < length f.blocks → g ≡ with_inst (inserted_in f block) block Back shape types place
     → SetsStatus c d block (begun (status_of c block)) → d.ssa ≡ c.ssa → d.variables ≡ c.variables → inst ≡ length f.insts
     → is_terminator operation ≡ false → program.result_types operation controlling ≡ types
     → LedgerAgrees
     (calls ++ record { request = Build table (record { operation = operation; controlling = controlling; operands = operands; edges = [] }); numbers = inst ∷ range_with_len (length (inserted_in f block).values) (length types) } ∷ [])
     (ledger_with ledger (Build table (record { operation = operation; controlling = controlling; operands = operands; edges = [] }))) g d p
-agrees-built calls ledger f g c d p block shape table operation controlling types operands inst agrees at consistent exists function sets ssa variables is_inst goes_on typed =
+agrees-built place calls ledger f g c d p block shape table operation controlling types operands inst agrees at consistent exists function sets ssa variables is_inst goes_on typed =
     let first : ℕ = length (inserted_in f block).values in
-    let node : InstNode = inst_node (inserted_in f block) block shape types no_srcloc in
-    let there : slice_get g.insts inst ≡ Some node = ap (slice_get g.insts) is_inst ∙ node-there f g block shape types function in
-    agrees-plain calls ledger f g c d p block shape table operation controlling types operands inst (range_with_len first (length types)) agrees at consistent exists function sets ssa variables goes_on typed
-    (λ new. answers-results new g (length calls) inst first node types there refl (results-types f g block shape types function))
+    let node : InstNode = inst_node (inserted_in f block) block shape types place in
+    let there : slice_get g.insts inst ≡ Some node = ap (slice_get g.insts) is_inst ∙ node-there _ f g block shape types function in
+    agrees-plain _ calls ledger f g c d p block shape table operation controlling types operands inst (range_with_len first (length types)) agrees at consistent exists function sets ssa variables goes_on typed
+    (λ new. answers-results new g (length calls) inst first node types there refl (results-types _ f g block shape types function))
 
 -- the state of a block that gets its terminator
 abbrev pub filled : BlockState → BlockState
@@ -221,9 +221,9 @@ unsealed-target f c (edge ∷ edges) may x there =
       | inr later ↦ unsealed-target f c edges (λ k e below. may (suc k) e (omega (arith, below))) x later
     ]
 
-module _ (calls : List AnsweredCall) (f g : Body) (c d : ContextState) (p : Option ℕ) (block : ℕ) (shape : InstructionData) (table : Option ℕ) (instruction : Instruction Name Name) (inst : ℕ)
+module _ (place : ℕ) (calls : List AnsweredCall) (f g : Body) (c d : ContextState) (p : Option ℕ) (block : ℕ) (shape : InstructionData) (table : Option ℕ) (instruction : Instruction Name Name) (inst : ℕ)
     (agrees : LedgerAgrees calls (ledger_of calls) f c p) (at : p ≡ Some block) (consistent : IsConsistent f) (exists : block < length f.blocks) (open_in : status_of c block ≢ Filled)
-    (function : g ≡ with_inst (inserted_in f block) block Back shape [] no_srcloc) (sets : SetsStatus c d block Filled) (variables : d.variables ≡ c.variables) (is_inst : inst ≡ length f.insts)
+    (function : g ≡ with_inst (inserted_in f block) block Back shape [] place) (sets : SetsStatus c d block Filled) (variables : d.variables ≡ c.variables) (is_inst : inst ≡ length f.insts)
     (names : NamesEdges calls instruction.edges (destinations shape)) (may : All (CanLeadIn f c) (destinations shape)) (declared : IsDeclared c.ssa inst (targets (destinations shape)) d.ssa) where
   abbrev ledger : Ledger
   ledger = ledger_of calls
@@ -243,10 +243,10 @@ module _ (calls : List AnsweredCall) (f g : Body) (c d : ContextState) (p : Opti
   answered = ledger.answers ++ (AnInstruction ∷ []) ∷ []
 
   abbrev node : InstNode
-  node = inst_node (inserted_in f block) block shape [] no_srcloc
+  node = inst_node (inserted_in f block) block shape [] place
 
   there : slice_get g.insts inst ≡ Some node
-  there = ap (slice_get g.insts) is_inst ∙ node-there f g block shape [] function
+  there = ap (slice_get g.insts) is_inst ∙ node-there _ f g block shape [] function
 
   node_is : inst_at g inst ≡ node
   node_is = get_or_from_slice_get g.insts inst node no_inst there
@@ -255,7 +255,7 @@ module _ (calls : List AnsweredCall) (f g : Body) (c d : ContextState) (p : Opti
   some is = cc
 
   makes : Makes agrees.own f c g undeclared block
-  makes = appends-make f g c undeclared block shape [] Filled (in_order agrees) consistent exists function sets some (λ filled. refl) refl variables
+  makes = appends-make _ f g c undeclared block shape [] Filled (in_order agrees) consistent exists function sets some (λ filled. refl) refl variables
 
   current : (x : Name) × (ledger.current ≡ Some x) × (block_name ledger block ≡ Some x)
   current = name-of-some (block_name ledger) ledger.current block (agrees.current ∙ ap (option_map (block_name ledger)) at)
@@ -309,7 +309,7 @@ module _ (calls : List AnsweredCall) (f g : Body) (c d : ContextState) (p : Opti
       (λ k. ap (λ (n : InstNode). args_of (slice_get (destinations n.shape) k)) node_is
       ∙ ap (λ passes. passes k) (sym (updated-same agrees.own.passed (length (inserted_in f block).insts) (shape_passes shape) inst same)))
       declared.along (subst (λ (h : Body). Structured types mine h c.ssa []) (sym function)
-      (appended-structured types agrees.own f c.ssa block shape [] consistent exists
+      (appended-structured _ types agrees.own f c.ssa block shape [] consistent exists
       (agrees.structured types (subst (λ (xs : List «Type»). AreTypesOf xs types) variables are))))
 
   led : LedLedger (record ended_ledger { answers = answered }) (record (fold (with_predecessor (next_answer ledger)) ended_ledger instruction.edges) { answers = answered; jump_tables = with_served ledger.jump_tables table })

@@ -1,5 +1,5 @@
 -- An instruction of any shape is built: the agreement with the ledger is kept.
-use Rattle.std.proofs.Common.{◌≡◌, ◌≢◌, ◌<◌, ℕ, suc, ◌-◌, List, [], ◌∷◌, ◌++◌, length, refl, sym, ◌∙◌, ap, subst, ◌⊎◌, inl, inr, arith}
+use Rattle.std.proofs.Common.{◌≡◌, ◌≢◌, ◌<◌, ℕ, suc, ◌-◌, List, [], ◌∷◌, ◌++◌, length, refl, sym, ◌∙◌, ap, subst, ◌⊎◌, inl, inr}
 use Rattle.std.specs.Prelude.{All, Bool, map, slice_get, true, false, if◌then◌else◌, Option, Some, IfOk, Result, Ok, Err, ℤ}
 use Rattle.std.specs.List.{range_with_len}
 use Rattle.std.proofs.lemmas.Option.{get_or_from_slice_get, same_Some}
@@ -41,7 +41,6 @@ use Rattle.clif_meaning.specs.Request.{AnsweredCall, Build, number_of}
 use Rattle.clif_meaning.specs.Ledger.{or_invalid, type_of}
 use Rattle.clif_meaning.specs.Ledger as meaning
 use Rattle.clif_meaning.specs.View.{operation_of}
-use Rattle.clif_ssa.specs.Ssa.{no_srcloc}
 use Rattle.cranelift_frontend.specs.declared.context.BlockStatus.TheVariants.{Filled}
 use Rattle.cranelift_frontend.specs.declared.builder.FunctionBuilder.{FunctionBuilder}
 use Rattle.cranelift_frontend.specs.Context.{ContextState, SetsStatus, begun, status_of}
@@ -90,17 +89,17 @@ same_end calls f instruction shape ty has =
 
 -- THE PARTS OF A BUILDER ------------------------------------------------------------------------------------------
 
-module _ (calls : List AnsweredCall) (f g : Body) (c d : ContextState) (p : Option ℕ) (block : ℕ) (table : Option ℕ) (instruction : Instruction Name Name) (shape : InstructionData) (ty : «Type») (inst : ℕ)
+module _ (place : ℕ) (calls : List AnsweredCall) (f g : Body) (c d : ContextState) (p : Option ℕ) (block : ℕ) (table : Option ℕ) (instruction : Instruction Name Name) (shape : InstructionData) (ty : «Type») (inst : ℕ)
     (agrees : LedgerAgrees calls (ledger_of calls) f c p) (at : p ≡ Some block) (exists : block < length f.blocks) (consistent : IsConsistent f)
-    (has : HasShape calls f instruction shape ty) (appends : AppendsIn f c g d block shape ty inst) (variables : d.variables ≡ c.variables) where
-  function_of : (types : List «Type») → result_types shape ty ≡ types → g ≡ with_inst (inserted_in f block) block Back shape types no_srcloc
-  function_of types is = appends.function ∙ ap (λ (ts : List «Type»). with_inst (inserted_in f block) block Back shape ts no_srcloc) is
+    (has : HasShape calls f instruction shape ty) (appends : AppendsIn place f c g d block shape ty inst) (variables : d.variables ≡ c.variables) where
+  function_of : (types : List «Type») → result_types shape ty ≡ types → g ≡ with_inst (inserted_in f block) block Back shape types place
+  function_of types is = appends.function ∙ ap (λ (ts : List «Type»). with_inst (inserted_in f block) block Back shape ts place) is
 
   results-of : (types : List «Type») → result_types shape ty ≡ types → (inst_at g inst).results ≡ range_with_len (length (inserted_in f block).values) (length types)
   results-of types is =
       ap (λ (n : InstNode). n.results)
-      (get_or_from_slice_get g.insts inst (inst_node (inserted_in f block) block shape types no_srcloc) no_inst
-      (ap (slice_get g.insts) appends.number ∙ node-there f g block shape types (function_of types is)))
+      (get_or_from_slice_get g.insts inst (inst_node (inserted_in f block) block shape types place) no_inst
+      (ap (slice_get g.insts) appends.number ∙ node-there _ f g block shape types (function_of types is)))
 
   sets_status : (ends : Bool) → is_terminator shape ≡ ends → SetsStatus c d block (if ends then Filled else begun (status_of c block))
   sets_status ends is = subst (λ t. SetsStatus c d block (if t then Filled else begun (status_of c block))) is appends.status
@@ -121,7 +120,7 @@ module _ (calls : List AnsweredCall) (f g : Body) (c d : ContextState) (p : Opti
       subst (Agrees instruction) (sym (results-of types refl))
       (subst (λ (i : Instruction Name Name). Agrees i results) (sym (same-plain known.no_edges))
       (concluded calls (built table (plain instruction.operation instruction.controlling names) (inst ∷ results)) g d p
-      (agrees-built calls (ledger_of calls) f g c d p block shape table instruction.operation instruction.controlling types names inst
+      (agrees-built _ calls (ledger_of calls) f g c d p block shape table instruction.operation instruction.controlling types names inst
       agrees at consistent exists (function_of types refl) (sets_status false known.goes_on) ssa variables appends.number
       (same_end calls f instruction shape ty has ∙ known.goes_on) (same_types calls f instruction shape ty has))))
 
@@ -131,30 +130,30 @@ module _ (calls : List AnsweredCall) (f g : Body) (c d : ContextState) (p : Opti
   ending known open_in may declared =
       subst (Agrees instruction) (sym (results-of [] known.none))
       (concluded calls (built table instruction (inst ∷ [])) g d p
-      (agrees-ended calls f g c d p block shape table instruction inst agrees at consistent exists open_in (function_of [] known.none) (sets_status true known.ends) variables appends.number has.edges may declared
+      (agrees-ended place calls f g c d p block shape table instruction inst agrees at consistent exists open_in (function_of [] known.none) (sets_status true known.ends) variables appends.number has.edges may declared
       (same_end calls f instruction shape ty has ∙ known.ends) (same_types calls f instruction shape ty has ∙ known.none)))
 
-pub shaped-ledger : (calls : List AnsweredCall) (f g : Body) (c d : ContextState) (p : Option ℕ) (block : ℕ) (table : Option ℕ) (instruction : Instruction Name Name) (shape : InstructionData) (ty : «Type») (inst : ℕ)
+pub shaped-ledger : (place : ℕ) (calls : List AnsweredCall) (f g : Body) (c d : ContextState) (p : Option ℕ) (block : ℕ) (table : Option ℕ) (instruction : Instruction Name Name) (shape : InstructionData) (ty : «Type») (inst : ℕ)
     → LedgerAgrees calls (ledger_of calls) f c p → p ≡ Some block → block < length f.blocks → status_of c block ≢ Filled → IsConsistent f
-    → HasShape calls f instruction shape ty → All (CanLeadIn f c) (destinations shape) → AppendsIn f c g d block shape ty inst
+    → HasShape calls f instruction shape ty → All (CanLeadIn f c) (destinations shape) → AppendsIn place f c g d block shape ty inst
     → IsDeclared c.ssa inst (targets (destinations shape)) d.ssa → (is_branch shape ≡ false → d.ssa ≡ c.ssa) → d.variables ≡ c.variables
     → LedgerAgrees (calls ++ built table instruction (inst ∷ (inst_at g inst).results) ∷ []) (ledger_of (calls ++ built table instruction (inst ∷ (inst_at g inst).results) ∷ [])) g d p
-shaped-ledger calls f g c d p block table instruction shape ty inst agrees at exists open_in consistent has may appends declared ssa variables = by (sort_of shape ty)
+shaped-ledger place calls f g c d p block table instruction shape ty inst agrees at exists open_in consistent has may appends declared ssa variables = by (sort_of shape ty)
   where
     by : StaysInBlock shape ⊎ EndsBlock shape ty
         → LedgerAgrees (calls ++ built table instruction (inst ∷ (inst_at g inst).results) ∷ []) (ledger_of (calls ++ built table instruction (inst ∷ (inst_at g inst).results) ∷ [])) g d p
-    by (inl known) = staying calls f g c d p block table instruction shape ty inst agrees at exists consistent has appends variables known (ssa known.no_branch)
-    by (inr known) = ending calls f g c d p block table instruction shape ty inst agrees at exists consistent has appends variables known open_in may declared
+    by (inl known) = staying _ calls f g c d p block table instruction shape ty inst agrees at exists consistent has appends variables known (ssa known.no_branch)
+    by (inr known) = ending _ calls f g c d p block table instruction shape ty inst agrees at exists consistent has appends variables known open_in may declared
 
 -- where no error is answered
-pub ledger-shaped : {E : Type 0} (calls : List AnsweredCall) (f g : Body) (c d : ContextState) (p : Option ℕ) (block : ℕ) (table : Option ℕ) (instruction : Instruction Name Name) (shape : InstructionData) (ty : «Type») (r : Result ℕ E)
+pub ledger-shaped : (place : ℕ) {E : Type 0} (calls : List AnsweredCall) (f g : Body) (c d : ContextState) (p : Option ℕ) (block : ℕ) (table : Option ℕ) (instruction : Instruction Name Name) (shape : InstructionData) (ty : «Type») (r : Result ℕ E)
     → LedgerAgrees calls (ledger_of calls) f c p → p ≡ Some block → (block < length f.blocks) × (status_of c block ≢ Filled) → IsConsistent f
-    → HasShape calls f instruction shape ty → All (CanLeadIn f c) (destinations shape) → IfOk r (λ inst. AppendsIn f c g d block shape ty inst)
+    → HasShape calls f instruction shape ty → All (CanLeadIn f c) (destinations shape) → IfOk r (λ inst. AppendsIn place f c g d block shape ty inst)
     → IfOk r (λ inst. IsDeclared c.ssa inst (targets (destinations shape)) d.ssa) → (is_branch shape ≡ false → d.ssa ≡ c.ssa) → d.variables ≡ c.variables
     → IfOk r (λ inst. LedgerAgrees (calls ++ built table instruction (inst ∷ (inst_at g inst).results) ∷ []) (ledger_of (calls ++ built table instruction (inst ∷ (inst_at g inst).results) ∷ [])) g d p)
-ledger-shaped calls f g c d p block table instruction shape ty (Err e) agrees at current consistent has may appends declared ssa variables = tt
-ledger-shaped calls f g c d p block table instruction shape ty (Ok inst) agrees at current consistent has may appends declared ssa variables =
-    shaped-ledger calls f g c d p block table instruction shape ty inst agrees at current.0 current.1 consistent has may appends declared ssa variables
+ledger-shaped place calls f g c d p block table instruction shape ty (Err e) agrees at current consistent has may appends declared ssa variables = tt
+ledger-shaped place calls f g c d p block table instruction shape ty (Ok inst) agrees at current consistent has may appends declared ssa variables =
+    shaped-ledger _ calls f g c d p block table instruction shape ty inst agrees at current.0 current.1 consistent has may appends declared ssa variables
 
 -- BUILDERS --------------------------------------------------------------------------------------------------------
 

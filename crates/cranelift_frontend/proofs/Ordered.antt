@@ -23,7 +23,7 @@ use Rattle.clif_ssa.specs.LookUp.{branch_block}
 use Rattle.clif_ssa.specs.Own.{Own, no_own}
 use Rattle.clif_ssa.specs.Sound.{args_of}
 use Rattle.clif_ssa.specs.SoundLaws.{shape_passes, with_own}
-use Rattle.clif_ssa.specs.Ssa.{Records, SameBlocks, SamePredecessors, no_srcloc, predecessors_of, sealed_of}
+use Rattle.clif_ssa.specs.Ssa.{Records, SameBlocks, SamePredecessors, predecessors_of, sealed_of}
 use Rattle.clif_ssa.specs.Structured.{HasType, Structured}
 use Rattle.clif_records.specs.Tables.{RecordMap, is_yes, predecessors_at, record_at, sealed_at}
 use Rattle.clif_ssa.proofs.Bodies.{firm_from}
@@ -314,25 +314,25 @@ order-more (Ok a) f g c b types consistent there empty is order =
     subst (λ (h : Body). IsInOrder h c) (sym is) (order-params f c b types order consistent there empty)
 
 -- an instruction that ends its block is appended, and declared along its edges
-module _ (f g : Body) (c d : ContextState) (block : ℕ) (shape : InstructionData) (types : List «Type») (inst : ℕ)
+module _ (place : ℕ) (f g : Body) (c d : ContextState) (block : ℕ) (shape : InstructionData) (types : List «Type») (inst : ℕ)
     (order : IsInOrder f c) (consistent : IsConsistent f) (exists : block < length f.blocks) (open_in : status_of c block ≢ Filled)
-    (function : g ≡ with_inst (inserted_in f block) block Back shape types no_srcloc) (sets : SetsStatus c d block Filled) (variables : d.variables ≡ c.variables) (is_inst : inst ≡ length f.insts)
+    (function : g ≡ with_inst (inserted_in f block) block Back shape types place) (sets : SetsStatus c d block Filled) (variables : d.variables ≡ c.variables) (is_inst : inst ≡ length f.insts)
     (may : All (CanLeadIn f c) (destinations shape)) (declared : IsDeclared c.ssa inst (targets (destinations shape)) d.ssa) where
   -- the context before the branch is declared
   abbrev undeclared : ContextState
   undeclared = record d { ssa = c.ssa }
 
   abbrev node : InstNode
-  node = inst_node (inserted_in f block) block shape types no_srcloc
+  node = inst_node (inserted_in f block) block shape types place
 
   node_is : inst_at g inst ≡ node
-  node_is = get_or_from_slice_get g.insts inst node no_inst (ap (slice_get g.insts) is_inst ∙ node-there f g block shape types function)
+  node_is = get_or_from_slice_get g.insts inst node no_inst (ap (slice_get g.insts) is_inst ∙ node-there _ f g block shape types function)
 
   some : Filled ≢ Empty
   some is = cc
 
   makes : Makes order.own f c g undeclared block
-  makes = appends-make f g c undeclared block shape types Filled order consistent exists function sets some (λ filled. refl) refl variables
+  makes = appends-make _ f g c undeclared block shape types Filled order consistent exists function sets some (λ filled. refl) refl variables
 
   -- the branch stands in the block
   stands : branch_block g inst ≡ block
@@ -359,7 +359,7 @@ module _ (f g : Body) (c d : ContextState) (block : ℕ) (shape : InstructionDat
       (λ k. ap (λ (n : InstNode). args_of (slice_get (destinations n.shape) k)) node_is
       ∙ ap (λ passes. passes k) (sym (updated-same order.own.passed (length (inserted_in f block).insts) (shape_passes shape) inst same)))
       declared.along (subst (λ (h : Body). Structured types mine h c.ssa []) (sym function)
-      (appended-structured types order.own f c.ssa block shape _ consistent exists
+      (appended-structured _ types order.own f c.ssa block shape _ consistent exists
       (order.structured types (subst (λ (xs : List «Type»). AreTypesOf xs types) variables are))))
 
   -- nothing leads to a block that doesn't exist
@@ -401,24 +401,24 @@ inner_plain (BranchTable arg table) goes_on = let no_way : ⊥ = cc in absurd no
 inner_plain _ goes_on = refl
 
 -- an instruction is appended
-order-appended : (f g : Body) (c d : ContextState) (block : ℕ) (shape : InstructionData) (ty : «Type») (inst : ℕ) → IsConsistent f → block < length f.blocks → status_of c block ≢ Filled
-    → AppendsIn f c g d block shape ty inst → d.variables ≡ c.variables → All (CanLeadIn f c) (destinations shape) → IsDeclared c.ssa inst (targets (destinations shape)) d.ssa
+order-appended : (place : ℕ) (f g : Body) (c d : ContextState) (block : ℕ) (shape : InstructionData) (ty : «Type») (inst : ℕ) → IsConsistent f → block < length f.blocks → status_of c block ≢ Filled
+    → AppendsIn place f c g d block shape ty inst → d.variables ≡ c.variables → All (CanLeadIn f c) (destinations shape) → IsDeclared c.ssa inst (targets (destinations shape)) d.ssa
     → (is_branch shape ≡ false → d.ssa ≡ c.ssa) → IsInOrder f c → IsInOrder g d
-order-appended f g c d block shape ty inst consistent exists open_in appends variables may declared ssa order = by (is_terminator shape) refl
+order-appended place f g c d block shape ty inst consistent exists open_in appends variables may declared ssa order = by (is_terminator shape) refl
   where
     sets : (t : Bool) → is_terminator shape ≡ t → SetsStatus c d block (if t then Filled else begun (status_of c block))
     sets t is = subst (λ (u : Bool). SetsStatus c d block (if u then Filled else begun (status_of c block))) is appends.status
 
     by : (t : Bool) → is_terminator shape ≡ t → IsInOrder g d
-    by true is = order-ended f g c d block shape (result_types shape ty) inst order consistent exists open_in appends.function (sets true is) variables appends.number may declared
+    by true is = order-ended _ f g c d block shape (result_types shape ty) inst order consistent exists open_in appends.function (sets true is) variables appends.number may declared
     by false is =
         order-made f g c d block (begun (status_of c block)) order exists (sets false is)
-        (appends-make f g c d block shape (result_types shape ty) (begun (status_of c block)) order consistent exists appends.function (sets false is) (begun-not-empty (status_of c block))
+        (appends-make _ f g c d block shape (result_types shape ty) (begun (status_of c block)) order consistent exists appends.function (sets false is) (begun-not-empty (status_of c block))
         (λ filled. ap begun filled) (ssa (inner_plain shape is)) variables)
 
-pub order-built : {E : Type 0} (r : Result ℕ E) (f g : Body) (c d : ContextState) (block : ℕ) (shape : InstructionData) (ty : «Type») → IsConsistent f → block < length f.blocks → status_of c block ≢ Filled
-    → IfOk r (AppendsIn f c g d block shape ty) → d.variables ≡ c.variables → All (CanLeadIn f c) (destinations shape) → IfOk r (λ inst. IsDeclared c.ssa inst (targets (destinations shape)) d.ssa)
+pub order-built : (place : ℕ) {E : Type 0} (r : Result ℕ E) (f g : Body) (c d : ContextState) (block : ℕ) (shape : InstructionData) (ty : «Type») → IsConsistent f → block < length f.blocks → status_of c block ≢ Filled
+    → IfOk r (AppendsIn place f c g d block shape ty) → d.variables ≡ c.variables → All (CanLeadIn f c) (destinations shape) → IfOk r (λ inst. IsDeclared c.ssa inst (targets (destinations shape)) d.ssa)
     → (is_branch shape ≡ false → d.ssa ≡ c.ssa) → IsInOrder f c → OnOk r (IsInOrder g d)
-order-built (Err e) f g c d block shape ty consistent exists open_in appends variables may declared ssa order = tt
-order-built (Ok inst) f g c d block shape ty consistent exists open_in appends variables may declared ssa order =
-    order-appended f g c d block shape ty inst consistent exists open_in appends variables may declared ssa order
+order-built place (Err e) f g c d block shape ty consistent exists open_in appends variables may declared ssa order = tt
+order-built place (Ok inst) f g c d block shape ty consistent exists open_in appends variables may declared ssa order =
+    order-appended _ f g c d block shape ty inst consistent exists open_in appends variables may declared ssa order

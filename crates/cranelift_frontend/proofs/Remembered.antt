@@ -11,7 +11,7 @@ use Rattle.clif_instructions.specs.Edges.{targets}
 use Rattle.clif_ir.specs.Changes.{with_block, with_inst, inserted_in}
 use Rattle.clif_ir.specs.Consistent.{IsConsistent}
 use Rattle.clif_records.specs.Tables.{RecordMap, record_at}
-use Rattle.clif_ssa.specs.Ssa.{no_srcloc, SsaState, record_of, Records, SameRecords}
+use Rattle.clif_ssa.specs.Ssa.{SsaState, record_of, Records, SameRecords}
 use Rattle.clif_ssa.specs.Structure.{StayAlike, HasRecordOf, Remembers}
 use Rattle.clif_ssa.proofs.Bodies.{firm_from}
 use Rattle.clif_ssa.proofs.Instructions.{inst_resolved}
@@ -95,19 +95,19 @@ has_record_used {E} r f g c d x ty b p at used = subst (λ (o : Option ℕ). IfS
     by (Ok value) used = used.1.recorded
 
 -- an instruction is appended to the current block
-appended_in : (y e : ℕ) (f g : Body) (c d : ContextState) (b : ℕ) (shape : InstructionData) (ty : «Type») (inst : ℕ) → IsConsistent f → AppendsIn f c g d b shape ty inst → SameRecords c.ssa d.ssa
+appended_in : (place : ℕ) (y e : ℕ) (f g : Body) (c d : ContextState) (b : ℕ) (shape : InstructionData) (ty : «Type») (inst : ℕ) → IsConsistent f → AppendsIn place f c g d b shape ty inst → SameRecords c.ssa d.ssa
     → Remembers y e f c.ssa g d.ssa
-appended_in y e f g c d b shape ty inst known appends same = record {
+appended_in place y e f g c d b shape ty inst known appends same = record {
   recorded = λ v is. same y e ∙ is;
-  alike = subst (λ h. StayAlike f h) (sym appends.function) (appended_alike f b shape (result_types shape ty) no_srcloc known);
+  alike = subst (λ h. StayAlike f h) (sym appends.function) (appended_alike f b shape (result_types shape ty) place known);
 }
 
-pub remembers_appended : {E : Type 0} (r : Result ℕ E) (y e : ℕ) (f g : Body) (c d : ContextState) (b : ℕ) (shape : InstructionData) (ty : «Type») → IsConsistent f
-    → IfOk r (λ inst. AppendsIn f c g d b shape ty inst) → IfOk r (λ inst. IsDeclared c.ssa inst (targets (destinations shape)) d.ssa)
+pub remembers_appended : (place : ℕ) {E : Type 0} (r : Result ℕ E) (y e : ℕ) (f g : Body) (c d : ContextState) (b : ℕ) (shape : InstructionData) (ty : «Type») → IsConsistent f
+    → IfOk r (λ inst. AppendsIn place f c g d b shape ty inst) → IfOk r (λ inst. IsDeclared c.ssa inst (targets (destinations shape)) d.ssa)
     → OnOk r (Remembers y e f c.ssa g d.ssa)
-remembers_appended (Err error) y e f g c d b shape ty known appends declares = tt
-remembers_appended (Ok inst) y e f g c d b shape ty known appends declares =
-    appended_in y e f g c d b shape ty inst known appends (declared_same c.ssa inst (targets (destinations shape)) d.ssa declares).0
+remembers_appended place (Err error) y e f g c d b shape ty known appends declares = tt
+remembers_appended place (Ok inst) y e f g c d b shape ty known appends declares =
+    appended_in _ y e f g c d b shape ty inst known appends (declared_same c.ssa inst (targets (destinations shape)) d.ssa declares).0
 
 -- THE LAW ---------------------------------------------------------------------------------------------------------
 

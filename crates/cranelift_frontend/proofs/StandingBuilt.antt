@@ -25,7 +25,6 @@ use Rattle.clif_simulation.specs.Tables.{answered, number_or_none}
 use Rattle.clif_simulation.specs.Carries.{Carries, EdgeEarlier, IsEarlier, PassesEarlier, answered_argument, answered_edge}
 use Rattle.clif_simulation.proofs.Listed.{MakesNoParameter}
 use Rattle.clif_simulation.proofs.NameLists.{MakesNoBlock}
-use Rattle.clif_ssa.specs.Ssa.{no_srcloc}
 use Rattle.clif_ssa.proofs.Completing.{inserted_same}
 use Rattle.clif_ssa.proofs.Constructed.{inserted_constructs}
 use Rattle.clif_ssa.proofs.Instructions.{inst_params}
@@ -153,15 +152,15 @@ appended_not_empty shape status = by (is_terminator shape)
     by true = filled
     by false = begun_not_empty status
 
-module _ (declared : SignatureShape) (calls : List AnsweredCall) (f g : Body) (c d : ContextState) (p : Option ℕ) (stands : StandsIn declared calls f c p)
-    (block : ℕ) (shape : InstructionData) (ty : «Type») (inst : ℕ) (appends : AppendsIn f c g d block shape ty inst) where
+module _ (place : ℕ) (declared : SignatureShape) (calls : List AnsweredCall) (f g : Body) (c d : ContextState) (p : Option ℕ) (stands : StandsIn declared calls f c p)
+    (block : ℕ) (shape : InstructionData) (ty : «Type») (inst : ℕ) (appends : AppendsIn place f c g d block shape ty inst) where
   was : (b : ℕ) → (slice_get f.layout 0 ≡ Some b) ⊎ (b ≡ block) → (status_of c b ≢ Empty) ⊎ (b ≡ block)
   was b (inl old) = inl (stands.begun b old)
   was b (inr same) = inr same
 
   -- an instruction was appended, and the function carries the call
   pub stands_built : (call : AnsweredCall) → MakesNoBlock call.request → MakesNoParameter call.request → LedgerAgrees (calls ++ call ∷ []) (ledger_of (calls ++ call ∷ [])) g d p
-      → Carries (calls ++ call ∷ []) (with_appended f block shape ty) d.ssa → StandsIn declared (calls ++ call ∷ []) g d p
+      → Carries (calls ++ call ∷ []) (with_appended f block shape ty place) d.ssa → StandsIn declared (calls ++ call ∷ []) g d p
   stands_built call no_block no_parameter ledger carries = record {
     signature = ap (λ (h : Body). h.signature) appends.function ∙ ap (λ (h : Body). h.signature) (inserted_constructs f block).same ∙ stands.signature;
     ledger = ledger;
@@ -173,7 +172,7 @@ module _ (declared : SignatureShape) (calls : List AnsweredCall) (f g : Body) (c
         alone_after calls call f g c d stands.carries.own stands.carries.holds.parameters (same_callers calls call f c.ssa stands.carries no_block no_parameter) b
         (alone-still stands.carries.own stands.carries.own f g c d block (status_after shape (status_of c block)) (ap (λ (h : Body). h.layout) appends.function) appends.status
         (appended_not_empty shape (status_of c block)) b refl
-        (ap (λ (h : Body). (block_at h b).params) appends.function ∙ inst_params (inserted_in f block) block Back shape (result_types shape ty) no_srcloc b
+        (ap (λ (h : Body). (block_at h b).params) appends.function ∙ inst_params (inserted_in f block) block Back shape (result_types shape ty) place b
         ∙ ap (λ (blocks : List BlockNode). (block_at (record f { blocks = blocks }) b).params) (inserted_same f block).blocks))
         (stands.callers_alone b);
   }

@@ -14,7 +14,7 @@ use Rattle.clif_instructions.specs.declared.inst_list.InsertAt.TheVariants.{Back
 use Rattle.clif_instructions.specs.Instruction.{destinations, is_branch, operands, result_types}
 use Rattle.clif_instructions.specs.Members.{stands_in}
 use Rattle.clif_instructions.specs.Edges.{targets}
-use Rattle.clif_ssa.specs.Ssa.{no_srcloc, predecessors_of, record_of, sealed_of, SsaState}
+use Rattle.clif_ssa.specs.Ssa.{predecessors_of, record_of, sealed_of, SsaState}
 use Rattle.clif_records.specs.Tables.{is_yes}
 use Rattle.clif_meaning.specs.Name.{Name}
 use Rattle.clif_meaning.specs.Instruction.{Instruction}
@@ -77,10 +77,10 @@ declared_nowhere s t inst same = record {
 abbrev pub built : Option ℕ → Instruction Name Name → List ℕ → AnsweredCall
 built table instruction numbers = record { request = Build table instruction; numbers = numbers }
 
-module _ (declared : SignatureShape) (calls : List AnsweredCall) (f g : Body) (c d : ContextState) (p : Option ℕ) (table : Option ℕ) (instruction : Instruction Name Name) (shape : InstructionData)
+module _ (place : ℕ) (declared : SignatureShape) (calls : List AnsweredCall) (f g : Body) (c d : ContextState) (p : Option ℕ) (table : Option ℕ) (instruction : Instruction Name Name) (shape : InstructionData)
     (ty : «Type») (inst block : ℕ) (stands : StandsIn declared calls f c p) (consistent : IsConsistent f) (has : HasShape calls f instruction shape ty)
     (operands_exist : (k : ℕ) → k < length (operands shape) → slice_index (operands shape) k < length f.values) (at : p ≡ Some block)
-    (there : block < length f.blocks) (open_block : status_of c block ≢ Filled) (appends : AppendsIn f c g d block shape ty inst)
+    (there : block < length f.blocks) (open_block : status_of c block ≢ Filled) (appends : AppendsIn place f c g d block shape ty inst)
     (kept : LedgerAgrees (calls ++ built table instruction (inst ∷ (inst_at g inst).results) ∷ []) (ledger_of (calls ++ built table instruction (inst ∷ (inst_at g inst).results) ∷ [])) g d p) where
   abbrev numbers : List ℕ
   numbers = inst ∷ (inst_at g inst).results
@@ -109,40 +109,40 @@ module _ (declared : SignatureShape) (calls : List AnsweredCall) (f g : Body) (c
     earlier = branch.earlier;
   }
 
-  finished : (types : List «Type») → result_types shape ty ≡ types → Carries (calls ++ call ∷ []) (with_inst (inserted_in f block) block Back shape types no_srcloc) d.ssa
+  finished : (types : List «Type») → result_types shape ty ≡ types → Carries (calls ++ call ∷ []) (with_inst (inserted_in f block) block Back shape types place) d.ssa
       → StandsIn declared (calls ++ call ∷ []) g d p
   finished types is carries =
-      stands_built declared calls f g c d p stands block shape ty inst appends call tt tt kept
-      (subst (λ (ts : List «Type»). Carries (calls ++ call ∷ []) (with_inst (inserted_in f block) block Back shape ts no_srcloc) d.ssa) (sym is) carries)
+      stands_built place declared calls f g c d p stands block shape ty inst appends call tt tt kept
+      (subst (λ (ts : List «Type»). Carries (calls ++ call ∷ []) (with_inst (inserted_in f block) block Back shape ts place) d.ssa) (sym is) carries)
 
   -- the types of the program's results, and the type at which the instruction is made
   program_types : program.result_types instruction.operation instruction.controlling ≡ result_types shape ty
   program_types = same_types calls f instruction shape ty has
 
   controlled_at : (types : List «Type») → result_types shape ty ≡ types
-      → controlling_of (with_inst (inserted_in f block) block Back shape types no_srcloc) shape (inst_node (inserted_in f block) block shape types no_srcloc).results ≡ instruction.controlling
+      → controlling_of (with_inst (inserted_in f block) block Back shape types place) shape (inst_node (inserted_in f block) block shape types place).results ≡ instruction.controlling
   controlled_at types is =
-      made_controlling calls f c.ssa stands.carries consistent block here.0 here.1 unfilled there shape table instruction no_srcloc numbers types ty (sym is) operands_exist ∙ sym has.controlling
+      made_controlling calls f c.ssa stands.carries consistent block here.0 here.1 unfilled there shape table instruction place numbers types ty (sym is) operands_exist ∙ sym has.controlling
 
   -- its results have the next numbers of values
   numbered : (k : ℕ) → k < length (result_types shape ty) → slice_get (inst ∷ (inst_at g inst).results) (suc k) ≡ Some (length (inserted_in f block).values + k)
   numbered k below =
-      ap (λ (rs : List ℕ). slice_get rs k) (appended_range f c g d block shape ty inst appends)
+      ap (λ (rs : List ℕ). slice_get rs k) (appended_range _ f c g d block shape ty inst appends)
       ∙ range_at (length (inserted_in f block).values) (length (result_types shape ty)) k below
 
   -- its block goes on
   stands_plain : StaysInBlock shape → d.ssa ≡ c.ssa → StandsIn declared (calls ++ call ∷ []) g d p
   stands_plain known same =
       let types : List «Type» = result_types shape ty in
-      let carries = carries_plain calls f c.ssa stands.carries consistent block here.0 here.1 unfilled there shape table instruction no_srcloc numbers (plainly known.no_edges)
+      let carries = carries_plain calls f c.ssa stands.carries consistent block here.0 here.1 unfilled there shape table instruction place numbers (plainly known.no_edges)
       types program_types (controlled_at types refl) numbered in
-      finished types refl (subst (Carries (calls ++ call ∷ []) (with_inst (inserted_in f block) block Back shape types no_srcloc)) (sym same) carries)
+      finished types refl (subst (Carries (calls ++ call ∷ []) (with_inst (inserted_in f block) block Back shape types place)) (sym same) carries)
 
   -- it ends its block
   stands_end : EndsBlock shape ty → All (CanLeadIn f c) (destinations shape) → IsDeclared c.ssa inst (targets (destinations shape)) d.ssa → StandsIn declared (calls ++ call ∷ []) g d p
   stands_end known edges declares =
       finished [] known.none
-      (carries_branch calls f c.ssa stands.carries consistent block here.0 here.1 unfilled there shape table instruction no_srcloc numbers branch [] (program_types ∙ known.none) (controlled_at [] known.none) (λ k below. absurd (omega (arith, below)))
+      (carries_branch calls f c.ssa stands.carries consistent block here.0 here.1 unfilled there shape table instruction place numbers branch [] (program_types ∙ known.none) (controlled_at [] known.none) (λ k below. absurd (omega (arith, below)))
       declares.told d.ssa (same_end calls f instruction shape ty has ∙ known.ends) declares.once
       exactly (λ x told. let to = (exactly x).0 told in target_unsealed f c (destinations shape) to.0 x edges to.1 to.2)
       (subst (λ (i : ℕ). DeclaredAlong c.ssa i declares.told d.ssa) appends.number declares.along))
@@ -155,27 +155,27 @@ module _ (declared : SignatureShape) (calls : List AnsweredCall) (f g : Body) (c
 
 -- AN INSTRUCTION OF ANY SHAPE -------------------------------------------------------------------------------------------
 
-pub shaped_stands : (declared : SignatureShape) (calls : List AnsweredCall) (f g : Body) (c d : ContextState) (p : Option ℕ) (table : Option ℕ) (instruction : Instruction Name Name) (shape : InstructionData)
+pub shaped_stands : (place : ℕ) (declared : SignatureShape) (calls : List AnsweredCall) (f g : Body) (c d : ContextState) (p : Option ℕ) (table : Option ℕ) (instruction : Instruction Name Name) (shape : InstructionData)
     (ty : «Type») (inst block : ℕ) → StandsIn declared calls f c p → IsConsistent f → HasShape calls f instruction shape ty
     → ((k : ℕ) → k < length (operands shape) → slice_index (operands shape) k < length f.values) → p ≡ Some block
-    → block < length f.blocks → status_of c block ≢ Filled → AppendsIn f c g d block shape ty inst
+    → block < length f.blocks → status_of c block ≢ Filled → AppendsIn place f c g d block shape ty inst
     → All (CanLeadIn f c) (destinations shape) → IsDeclared c.ssa inst (targets (destinations shape)) d.ssa → (is_branch shape ≡ false → d.ssa ≡ c.ssa)
     → LedgerAgrees (calls ++ built table instruction (inst ∷ (inst_at g inst).results) ∷ []) (ledger_of (calls ++ built table instruction (inst ∷ (inst_at g inst).results) ∷ [])) g d p
     → StandsIn declared (calls ++ built table instruction (inst ∷ (inst_at g inst).results) ∷ []) g d p
-shaped_stands declared calls f g c d p table instruction shape ty inst block stands consistent has exist at there open_block appends edges declares same kept = by (sort_of shape ty)
+shaped_stands place declared calls f g c d p table instruction shape ty inst block stands consistent has exist at there open_block appends edges declares same kept = by (sort_of shape ty)
   where
     by : StaysInBlock shape ⊎ EndsBlock shape ty → StandsIn declared (calls ++ built table instruction (inst ∷ (inst_at g inst).results) ∷ []) g d p
-    by (inl known) = stands_plain declared calls f g c d p table instruction shape ty inst block stands consistent has exist at there open_block appends kept known (same known.no_branch)
-    by (inr known) = stands_end declared calls f g c d p table instruction shape ty inst block stands consistent has exist at there open_block appends kept known edges declares
+    by (inl known) = stands_plain _ declared calls f g c d p table instruction shape ty inst block stands consistent has exist at there open_block appends kept known (same known.no_branch)
+    by (inr known) = stands_end _ declared calls f g c d p table instruction shape ty inst block stands consistent has exist at there open_block appends kept known edges declares
 
 -- where no error is answered
-pub stands_shaped : {E : Type 0} (declared : SignatureShape) (calls : List AnsweredCall) (f g : Body) (c d : ContextState) (p : Option ℕ) (table : Option ℕ) (instruction : Instruction Name Name) (shape : InstructionData)
+pub stands_shaped : (place : ℕ) {E : Type 0} (declared : SignatureShape) (calls : List AnsweredCall) (f g : Body) (c d : ContextState) (p : Option ℕ) (table : Option ℕ) (instruction : Instruction Name Name) (shape : InstructionData)
     (ty : «Type») (r : Result ℕ E) (block : ℕ) → StandsIn declared calls f c p → IsConsistent f → HasShape calls f instruction shape ty
     → ((k : ℕ) → k < length (operands shape) → slice_index (operands shape) k < length f.values) → p ≡ Some block
-    → block < length f.blocks → status_of c block ≢ Filled → IfOk r (λ inst. AppendsIn f c g d block shape ty inst)
+    → block < length f.blocks → status_of c block ≢ Filled → IfOk r (λ inst. AppendsIn place f c g d block shape ty inst)
     → All (CanLeadIn f c) (destinations shape) → IfOk r (λ inst. IsDeclared c.ssa inst (targets (destinations shape)) d.ssa) → (is_branch shape ≡ false → d.ssa ≡ c.ssa)
     → IfOk r (λ inst. LedgerAgrees (calls ++ built table instruction (inst ∷ (inst_at g inst).results) ∷ []) (ledger_of (calls ++ built table instruction (inst ∷ (inst_at g inst).results) ∷ [])) g d p)
     → IfOk r (λ inst. StandsIn declared (calls ++ built table instruction (inst ∷ (inst_at g inst).results) ∷ []) g d p)
-stands_shaped declared calls f g c d p table instruction shape ty (Err e) block stands consistent has exist at there open_block appends edges declares same kept = tt
-stands_shaped declared calls f g c d p table instruction shape ty (Ok inst) block stands consistent has exist at there open_block appends edges declares same kept =
-    shaped_stands declared calls f g c d p table instruction shape ty inst block stands consistent has exist at there open_block appends edges declares same kept
+stands_shaped place declared calls f g c d p table instruction shape ty (Err e) block stands consistent has exist at there open_block appends edges declares same kept = tt
+stands_shaped place declared calls f g c d p table instruction shape ty (Ok inst) block stands consistent has exist at there open_block appends edges declares same kept =
+    shaped_stands _ declared calls f g c d p table instruction shape ty inst block stands consistent has exist at there open_block appends edges declares same kept

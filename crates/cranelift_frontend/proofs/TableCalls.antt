@@ -5,17 +5,16 @@ use Rattle.clif_types.specs.Signature.{SignatureShape}
 use Rattle.clif_ir.specs.Body.{Body}
 use Rattle.clif_meaning.specs.Instruction.{Edge}
 use Rattle.clif_meaning.specs.Name.{Name}
-use Rattle.clif_meaning.specs.Request.{AnsweredCall, MakeEdge, MakeJumpTable, Request, script_of}
+use Rattle.clif_meaning.specs.Request.{AnsweredCall, MakeEdge, MakeJumpTable, script_of}
 use Rattle.clif_meaning.specs.Program.{Program, extended}
-use Rattle.clif_meaning.specs.Ledger.{AnEdge, AJumpTable, Answered, Ledger, answers_to, changed_by, ledger_after, ledger_with}
-use Rattle.clif_simulation.specs.Carries.{Carries}
+use Rattle.clif_meaning.specs.Ledger.{AnEdge, AJumpTable, Answered, Ledger, answers_to, ledger_after, ledger_with}
 use Rattle.clif_simulation.proofs.Values.{is_value_at}
 use Rattle.clif_simulation.proofs.Further.{carries_still}
 use Rattle.clif_simulation.proofs.NameLists.{MakesNoBlock}
 use Rattle.clif_simulation.proofs.Listed.{MakesNoParameter}
 use Rattle.cranelift_frontend.specs.Calls.{answered}
 use Rattle.cranelift_frontend.specs.Context.{ContextState}
-use Rattle.cranelift_frontend.specs.Ledger.{AnswersAgree, LedgerAgrees, ledger_of}
+use Rattle.cranelift_frontend.specs.Ledger.{LedgerAgrees, ledger_of}
 use Rattle.cranelift_frontend.specs.StandsFor.{StandsIn}
 use Rattle.cranelift_frontend.proofs.LedgerBlocks.{agrees-kept}
 use Rattle.cranelift_frontend.proofs.LedgerKept.{answers-one, concluded}

@@ -1,6 +1,6 @@
 -- Tables change that the calls of a list don't make: the agreement with the ledger is kept, and the builder stands for the same
 -- calls.
-use Rattle.std.proofs.Common.{◌≡◌, ◌≢◌, ◌<◌, ℕ, List, length, refl, sym, ◌∙◌, ap, subst, arith, Bool, false, inl, inr}
+use Rattle.std.proofs.Common.{◌≡◌, ◌≢◌, ◌<◌, ℕ, List, length, refl, sym, ◌∙◌, ap, subst, arith, false, inl, inr}
 use Rattle.std.specs.Prelude.{Option, Some, true, is_err, slice_get, Result, Ok, Err, IfOk, OnOk, OnErr, All}
 use Rattle.clif_types.specs.declared.error.BuildError.{BuildError}
 use Rattle.clif_types.specs.declared.error.BuildError.TheVariants.{Failed, Full, Memory}
@@ -101,9 +101,9 @@ current_aside lists old new (Ok n) position context is current = (
 
 -- a call on a builder that hasn't failed
 pub set_tables : {A : Type 0} (lists : TableLists) (old new : FunctionBuilder) (answer : Result A BuildError) → AreAside old.func.now lists → old.failed ≡ false → SameLoans old new
-    → new.position ≡ old.position → new.ctx.now ≡ old.ctx.now → new.failed ≡ is_err answer → IsConsistent old.func.now → answer ≢ Err Failed
+    → new.position ≡ old.position → new.srcloc ≡ old.srcloc → new.ctx.now ≡ old.ctx.now → new.failed ≡ is_err answer → IsConsistent old.func.now → answer ≢ Err Failed
     → OnOk answer (new.func.now ≡ with_tables old.func.now lists) → OnErr answer (new.func.now ≡ old.func.now) → SetsTables lists old new answer
-set_tables {A} lists old new answer aside fine loans position context fails consistent never_failed ok err =
+set_tables {A} lists old new answer aside fine loans position srcloc context fails consistent never_failed ok err =
     let f : Body = old.func.now in
     let g : Body = new.func.now in
     let ssa : new.ctx.now.ssa ≡ old.ctx.now.ssa = ap (λ (c : ContextState). c.ssa) context in
@@ -111,7 +111,7 @@ set_tables {A} lists old new answer aside fine loans position context fails cons
     let parts : (P : Body → ContextState → Option ℕ → Type 0) → P (with_tables f lists) old.ctx.now old.position → P (with_tables f lists) new.ctx.now new.position =
     λ P holds. subst (λ (r : Option ℕ). P (with_tables f lists) new.ctx.now r) (sym position) (subst (λ (e : ContextState). P (with_tables f lists) e old.position) (sym context) holds) in
     record {
-      call = calls.made old new answer loans position fine never_failed fails (same_looks old.ctx.now.ssa new.ctx.now.ssa ssa)
+      call = calls.made old new answer loans position srcloc fine never_failed fails (same_looks old.ctx.now.ssa new.ctx.now.ssa ssa)
           (on_ok lists f g (TypesStay f) answer ok (λ v inside. refl)) (filled-same answer old.ctx.now new.ctx.now (ap (λ (c : ContextState). c.status) context));
       function = ok;
       kept = err;
@@ -153,13 +153,13 @@ module _ (bytes : List ℕ) (f g : Body) where
       let h : Body = with_tables f (with_constant f.tables bytes) in
       ap (λ (h : Body). slice_get h.tables.constants n) is ∙ ap (slice_get h.tables.constants) number ∙ (is_pooled f.tables.constants bytes).found
 
-pub constant_pooled : (bytes : List ℕ) (old new : FunctionBuilder) (answer : Result ℕ BuildError) → old.failed ≡ false → SameLoans old new → new.position ≡ old.position
+pub constant_pooled : (bytes : List ℕ) (old new : FunctionBuilder) (answer : Result ℕ BuildError) → old.failed ≡ false → SameLoans old new → new.position ≡ old.position → new.srcloc ≡ old.srcloc
     → new.ctx.now ≡ old.ctx.now → new.failed ≡ is_err answer → IsConsistent old.func.now
     → Pools bytes old.func.now.tables.constants old.func.now new.func.now (with_tables old.func.now (with_constant old.func.now.tables bytes)) answer → PoolsConstant old new bytes answer
-constant_pooled bytes old new answer fine loans position context fails consistent pools =
+constant_pooled bytes old new answer fine loans position srcloc context fails consistent pools =
     let f : Body = old.func.now in
     record {
-      sets = set_tables (with_constant f.tables bytes) old new answer (pooled_aside f bytes) fine loans position context fails consistent pools.never_failed pools.ok pools.err;
+      sets = set_tables (with_constant f.tables bytes) old new answer (pooled_aside f bytes) fine loans position srcloc context fails consistent pools.never_failed pools.ok pools.err;
       grows = on_ok (with_constant f.tables bytes) f new.func.now (Grows f) answer pools.ok (omega arith, omega arith, omega arith, refl, refl, omega arith, refl);
       number = pools.number;
       found = found_pooled bytes f new.func.now answer pools.ok pools.number;
@@ -177,14 +177,14 @@ constant_refused bytes old failed = record {
 
 -- JUMP TABLES AND EDGES --------------------------------------------------------------------------------------------------
 
-pub table_created : (edges : List BlockCall) (old new : FunctionBuilder) (answer : Result ℕ BuildError) → old.failed ≡ false → SameLoans old new → new.position ≡ old.position
+pub table_created : (edges : List BlockCall) (old new : FunctionBuilder) (answer : Result ℕ BuildError) → old.failed ≡ false → SameLoans old new → new.position ≡ old.position → new.srcloc ≡ old.srcloc
     → new.ctx.now ≡ old.ctx.now → new.failed ≡ is_err answer → IsConsistent old.func.now
     → MakesEntry (λ number. number) (length old.func.now.tables.jump_tables) old.func.now new.func.now (with_tables old.func.now (with_jump_table old.func.now.tables edges)) answer
     → CreatesJumpTable edges old new answer
-table_created edges old new answer fine loans position context fails consistent makes =
+table_created edges old new answer fine loans position srcloc context fails consistent makes =
     let f : Body = old.func.now in
     record {
-      sets = set_tables (with_jump_table f.tables edges) old new answer (created_aside f edges) fine loans position context fails consistent makes.never_failed makes.ok makes.err;
+      sets = set_tables (with_jump_table f.tables edges) old new answer (created_aside f edges) fine loans position srcloc context fails consistent makes.never_failed makes.ok makes.err;
       number = makes.number;
       serves = created answer makes.ok makes.number;
       full = (λ is. (fine, makes.full.0 is), λ both. makes.full.1 both.1);
@@ -214,13 +214,13 @@ leads_taken table edges old new context found made (others, other, leads) =
     subst (λ (c : ContextState). All (CanLeadIn new.func.now c) edges) (sym context)
     (subst (λ (f : Body). All (CanLeadIn f old.ctx.now) edges) (sym made) (subst (All (CanLead old)) same leads))
 
-pub table_taken : (table : ℕ) (edges : List BlockCall) (old new : FunctionBuilder) → old.failed ≡ false → SameLoans old new → new.position ≡ old.position
+pub table_taken : (table : ℕ) (edges : List BlockCall) (old new : FunctionBuilder) → old.failed ≡ false → SameLoans old new → new.position ≡ old.position → new.srcloc ≡ old.srcloc
     → new.ctx.now ≡ old.ctx.now → new.failed ≡ false → IsConsistent old.func.now → table_edges old table ≡ Some edges
     → new.func.now ≡ with_tables old.func.now (with_table_served old.func.now.tables table) → TakesJumpTable old new table (Ok edges)
-table_taken table edges old new fine loans position context fails consistent found made =
+table_taken table edges old new fine loans position srcloc context fails consistent found made =
     let f : Body = old.func.now in
     record {
-      sets = set_tables (with_table_served f.tables table) old new (Ok edges) (served_aside f table) fine loans position context fails consistent (calls.by_success edges) made tt;
+      sets = set_tables (with_table_served f.tables table) old new (Ok edges) (served_aside f table) fine loans position srcloc context fails consistent (calls.by_success edges) made tt;
       edges = found;
       leads = leads_taken table edges old new context found made;
       only_failed = tt;
@@ -238,11 +238,11 @@ pub err_any : {X P : Type 0} (r : Result X BuildError) → P → OnErr r P
 err_any (Ok x) here = tt
 err_any (Err e) here = here
 
-pub edge_made : (block : ℕ) (args : List BlockArg) (old new : FunctionBuilder) (answer : Result BlockCall BuildError) → old.failed ≡ false → SameLoans old new → new.position ≡ old.position
+pub edge_made : (block : ℕ) (args : List BlockArg) (old new : FunctionBuilder) (answer : Result BlockCall BuildError) → old.failed ≡ false → SameLoans old new → new.position ≡ old.position → new.srcloc ≡ old.srcloc
     → new.ctx.now ≡ old.ctx.now → new.failed ≡ is_err answer → IsConsistent old.func.now → new.func.now ≡ old.func.now → OnErr answer (answer ≡ Err Memory)
     → IfOk answer (λ edge. (edge.block ≡ block) × (edge.args ≡ args)) → MakesEdge block args old new answer
-edge_made block args old new answer fine loans position context fails consistent same only_memory edge = record {
-  sets = set_tables old.func.now.tables old new answer (same_aside old.func.now) fine loans position context fails consistent (calls.by_memory answer only_memory) (on_any answer same) (err_any answer same);
+edge_made block args old new answer fine loans position srcloc context fails consistent same only_memory edge = record {
+  sets = set_tables old.func.now.tables old new answer (same_aside old.func.now) fine loans position srcloc context fails consistent (calls.by_memory answer only_memory) (on_any answer same) (err_any answer same);
   grows = on_any answer (subst (Grows old.func.now) (sym same) (omega arith, omega arith, omega arith, refl, refl, omega arith, refl));
   edge = parts answer edge;
   never_full = not_full answer only_memory;

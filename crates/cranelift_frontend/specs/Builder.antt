@@ -12,7 +12,7 @@ use Rattle.clif_instructions.specs.Instruction.{is_terminator, result_types}
 use Rattle.clif_ir.specs.Changes.{inserted_in, with_inst}
 use Rattle.clif_ssa.specs.Zeros.{steps_before}
 use Rattle.clif_records.specs.Tables.{is_yes}
-use Rattle.clif_ssa.specs.Ssa.{no_srcloc, record_of, sealed_of, predecessors_of, Waits, Zeroes}
+use Rattle.clif_ssa.specs.Ssa.{record_of, sealed_of, predecessors_of, Waits, Zeroes}
 use Rattle.cranelift_frontend.specs.declared.context.BlockStatus.{BlockStatus}
 use Rattle.cranelift_frontend.specs.declared.context.BlockStatus.TheVariants.{Empty, Partial, Filled}
 use Rattle.cranelift_frontend.specs.declared.builder.FunctionBuilder.{FunctionBuilder}
@@ -26,6 +26,10 @@ pub record SameLoans (old new : FunctionBuilder) : Type 0 where
 -- with another current block
 abbrev pub with_position : FunctionBuilder → ℕ → FunctionBuilder
 with_position b block = record b { position = Some block }
+
+-- with another source place for the instructions to come
+abbrev pub with_srcloc : FunctionBuilder → ℕ → FunctionBuilder
+with_srcloc b place = record b { srcloc = place }
 
 abbrev pub is_nothing : List ℕ → Bool
 is_nothing [] = true
@@ -99,22 +103,22 @@ abbrev pub CanLead : FunctionBuilder → BlockCall → Type 0
 CanLead b edge = CanLeadIn b.func.now b.ctx.now edge
 
 -- a function with an instruction at the end of a block, which is in the layout then
-abbrev pub with_appended : Body → ℕ → InstructionData → «Type» → Body
-with_appended f block shape ty = with_inst (inserted_in f block) block Back shape (result_types shape ty) no_srcloc
+abbrev pub with_appended : Body → ℕ → InstructionData → «Type» → ℕ → Body
+with_appended f block shape ty place = with_inst (inserted_in f block) block Back shape (result_types shape ty) place
 
 -- the status of a block to which an instruction was appended
 abbrev pub status_after : InstructionData → BlockStatus → BlockStatus
 status_after shape status = if is_terminator shape then Filled else begun status
 
--- an instruction was appended to a block: `inst` is its number
-pub record AppendsIn (f : Body) (c : ContextState) (g : Body) (d : ContextState) (block : ℕ) (shape : InstructionData) (ty : «Type») (inst : ℕ) : Type 0 where
-  pub function : g ≡ with_appended f block shape ty
+-- an instruction was appended to a block, with this source place: `inst` is its number
+pub record AppendsIn (place : ℕ) (f : Body) (c : ContextState) (g : Body) (d : ContextState) (block : ℕ) (shape : InstructionData) (ty : «Type») (inst : ℕ) : Type 0 where
+  pub function : g ≡ with_appended f block shape ty place
   pub number : inst ≡ length f.insts
   pub status : SetsStatus c d block (status_after shape (status_of c block))
 
 abbrev pub Appends : FunctionBuilder → FunctionBuilder → ℕ → InstructionData → «Type» → ℕ → Type 0
 Appends old new block shape ty inst =
-    AppendsIn old.func.now old.ctx.now new.func.now new.ctx.now block shape ty inst
+    AppendsIn old.srcloc old.func.now old.ctx.now new.func.now new.ctx.now block shape ty inst
 
 -- the same for an instruction with a result, which is the value `v`
 abbrev pub AppendsValue : FunctionBuilder → FunctionBuilder → ℕ → InstructionData → «Type» → ℕ → Type 0

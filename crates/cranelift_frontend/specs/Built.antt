@@ -51,6 +51,7 @@ pub record Builds (old new : FunctionBuilder) (shape : InstructionData) (ty : «
   pub ssa : is_branch shape ≡ false → new.ctx.now.ssa ≡ old.ctx.now.ssa
   pub variables : new.ctx.now.variables ≡ old.ctx.now.variables
   pub position : new.position ≡ old.position
+  pub srcloc : new.srcloc ≡ old.srcloc
   pub full : answer ≡ Err Full → HasNoRoom old.func.now (result_count shape)
   pub full_table : result_count shape ≤ 1 → answer ≡ Err Full → HasFullTable old
   pub failed : (answer ≡ Err Failed) ↔ IsTrue old.failed
@@ -81,6 +82,7 @@ pub record BuildsValue (old new : FunctionBuilder) (shape : InstructionData) (ty
   pub ssa : new.ctx.now.ssa ≡ old.ctx.now.ssa
   pub variables : new.ctx.now.variables ≡ old.ctx.now.variables
   pub position : new.position ≡ old.position
+  pub srcloc : new.srcloc ≡ old.srcloc
   pub full : answer ≡ Err Full → HasFullTable old
   pub failed : (answer ≡ Err Failed) ↔ IsTrue old.failed
   pub unchanged : IsTrue old.failed → new ≡ old
@@ -107,6 +109,7 @@ pub record BuildsPair (old new : FunctionBuilder) (shape : InstructionData) (ty 
   pub ssa : new.ctx.now.ssa ≡ old.ctx.now.ssa
   pub variables : new.ctx.now.variables ≡ old.ctx.now.variables
   pub position : new.position ≡ old.position
+  pub srcloc : new.srcloc ≡ old.srcloc
   pub full : answer ≡ Err Full → HasNoRoom old.func.now 2
   pub failed : (answer ≡ Err Failed) ↔ IsTrue old.failed
   pub unchanged : IsTrue old.failed → new ≡ old

@@ -21,13 +21,14 @@ use Rattle.cranelift_frontend.specs.StandsFor.{StandsFor}
 abbrev pub answered : Request → List ℕ → AnsweredCall
 answered request numbers = record { request = request; numbers = numbers }
 
--- A call that may fail: the builder keeps its function, its context and its current block. A builder that failed answers
+-- A call that may fail: the builder keeps its function, its context, its current block and its source place. A builder that failed answers
 -- `Failed` and stays as it is, and a call that fails leaves one that failed. Whatever it answers, at most one look-up of a
 -- variable began in the predecessors of a block, if that was so before. A call that succeeds changes no value's type and
 -- appends no terminator.
 pub record IsCall {A : Type 0} (old new : FunctionBuilder) (answer : Result A BuildError) : Type 0 where
   pub loans : SameLoans old new
   pub position : new.position ≡ old.position
+  pub srcloc : new.srcloc ≡ old.srcloc
   pub failed : (answer ≡ Err Failed) ↔ IsTrue old.failed
   pub unchanged : IsTrue old.failed → new ≡ old
   pub fails : new.failed ≡ is_err answer

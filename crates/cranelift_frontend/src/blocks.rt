@@ -67,6 +67,7 @@ impl<'a> FunctionBuilder<'a> {
         ensures function { self.new.func.now ≡ with_cold self.old.func.now block }
         ensures context { self.new.ctx.now ≡ self.old.ctx.now }
         ensures position { self.new.position ≡ self.old.position }
+        ensures srcloc { self.new.srcloc ≡ self.old.srcloc }
         ensures failed { self.new.failed ≡ self.old.failed }
         ensures ledger { (calls : List AnsweredCall) (name : Name) → AgreesWithLedger calls self.old → NamesBlock calls name block → AgreesWithLedger (calls ++ record { request = SetColdBlock name; numbers = [] } ∷ []) self.new }
         ensures stands { (signature : SignatureShape) (calls : List AnsweredCall) (name : Name) → StandsFor signature calls self.old → NamesBlock calls name block → StandsFor signature (calls ++ record { request = SetColdBlock name; numbers = [] } ∷ []) self.new }

@@ -3,7 +3,7 @@ ghost use Rattle.cranelift_frontend.specs.Order.{IsKept};
 
 use crate::context::FunctionBuilderContext;
 use clif_ir::Function;
-use clif_types::Block;
+use clif_types::{Block, SourceLoc};
 
 /// Builds one function.
 ///
@@ -13,6 +13,8 @@ pub struct FunctionBuilder<'a> {
     pub(crate) func: &'a mut Function,
     pub(crate) ctx: &'a mut FunctionBuilderContext,
     pub(crate) position: Option<Block>,
+    // The source place of the instructions that are made next.
+    pub(crate) srcloc: SourceLoc,
     pub(crate) failed: bool,
     // What the construction names exists, and unless a call failed all is in order.
     ghost named: { ∥ IsKept func.now ctx.now failed ∥₁ },

@@ -5,13 +5,13 @@ ghost use Rattle.cranelift_frontend.specs.Growth.{Grows, HasRecordIn, RemembersI
 ghost use Rattle.cranelift_frontend.specs.Construction.{IsUse, IsSealing, IsSealingAll, SealsAtMost};
 ghost use Rattle.cranelift_frontend.specs.Calls.{IsCall, IsTold, answered};
 ghost use Rattle.cranelift_frontend.specs.Order.{IsUntouched};
-ghost use Rattle.cranelift_frontend.specs.Builder.{with_position, is_unreachable, is_free, HasCurrent, Uses, UsesIn};
+ghost use Rattle.cranelift_frontend.specs.Builder.{with_position, with_srcloc, is_unreachable, is_free, HasCurrent, Uses, UsesIn};
 ghost use Rattle.clif_types.specs.Types.{is_type};
 ghost use Rattle.clif_ssa.specs.Pools.{types_of, MayPool, MayPoolAll, MayPoolWaiting, SealingIsFull, UseIsFull, WaitsWithType};
 ghost use Rattle.clif_ssa.specs.Structure.{LooksOnce};
 ghost use Rattle.clif_ssa.specs.Constructs.{OnlyConstructs};
 ghost use Rattle.clif_records.specs.Tables.{is_yes, pending_of};
-ghost use Rattle.clif_ssa.specs.Ssa.{sealed_of, predecessors_of, completed, NamesExist, Records, RecordsStay, SealedStays, SameBlocks, SamePredecessors, SameRecords, Seals};
+ghost use Rattle.clif_ssa.specs.Ssa.{no_srcloc, sealed_of, predecessors_of, completed, NamesExist, Records, RecordsStay, SealedStays, SameBlocks, SamePredecessors, SameRecords, Seals};
 ghost use Rattle.clif_ir.specs.Body.{inst_at, value_at};
 ghost use Rattle.clif_ir.specs.Changes.{with_block, inserted_in};
 ghost use Rattle.clif_meaning.specs.Name.{Name};
@@ -28,7 +28,7 @@ use crate::builder::FunctionBuilder;
 use crate::context::{BlockStatus, FunctionBuilderContext};
 use clif_ir::Function;
 use clif_ssa::Variable;
-use clif_types::{Block, BuildError, Inst, Type, Value};
+use clif_types::{Block, BuildError, Inst, SourceLoc, Type, Value};
 
 impl<'a> FunctionBuilder<'a> {
     /// Starts building `func`.
@@ -45,7 +45,7 @@ impl<'a> FunctionBuilder<'a> {
     pub fn new(func: &'a mut Function, ctx: &'a mut FunctionBuilderContext) -> Self
         requires fresh { IsFresh func.old }
         requires empty { IsClear ctx.old }
-        ensures builder { (named : _) × (result ≡ record { func = func.entry; ctx = ctx.entry; position = None; failed = false; named = named }) }
+        ensures builder { (named : _) × (result ≡ record { func = func.entry; ctx = ctx.entry; position = None; srcloc = no_srcloc; failed = false; named = named }) }
         ensures ledger { AgreesWithLedger [] result }
         ensures stands { StandsFor func.old.signature [] result }
         ensures looks_once { LooksOnce result.ctx.now.ssa }
@@ -54,6 +54,7 @@ impl<'a> FunctionBuilder<'a> {
             func,
             ctx,
             position: None,
+            srcloc: SourceLoc::new(u32::MAX),
             failed: false,
         }
     }
@@ -147,6 +148,29 @@ impl<'a> FunctionBuilder<'a> {
         ensures current { HasCurrent self.new }
     {
         self.position = Some(block);
+    }
+
+    /// Sets the source place that each instruction gets from now on, until it is set again. It says where in the source
+    /// an instruction comes from: an offset, say, or a number of a list of places; the builder keeps it as it is given.
+    /// [`Function::srcloc`] reads it back.
+    ///
+    /// The default place, `SourceLoc::new(u32::MAX)`, stands for none, as at first. Zeros that the builder makes for
+    /// variables without an assignment have none. It takes no memory and can't fail.
+    pub fn set_srcloc(&mut self, srcloc: SourceLoc)
+        ensures builder { self.new ≡ with_srcloc self.old srcloc }
+        ensures ledger { (calls : List AnsweredCall) → AgreesWithLedger calls self.old → AgreesWithLedger calls self.new }
+        ensures stands { (signature : SignatureShape) (calls : List AnsweredCall) → StandsFor signature calls self.old → StandsFor signature calls self.new }
+        ensures remembers { (x b : ℕ) → RemembersIn x b self.old self.new }
+        ensures current { HasCurrent self.old → HasCurrent self.new }
+    {
+        self.srcloc = srcloc;
+    }
+
+    /// The source place that instructions get now.
+    pub fn srcloc(&self) -> SourceLoc
+        ensures { result ≡ self.now.srcloc }
+    {
+        self.srcloc
     }
 
     /// Makes a new block. It isn't sealed, is pristine, and isn't in the layout until something is made in it.

@@ -129,7 +129,7 @@ impl<'a> InstBuilderBase for FunctionBuilder<'a> {
             unreachable!();
         };
         self.func.law_consistent();
-        let built = append(self.func, self.ctx, block, shape, ctrl_type);
+        let built = append(self.func, self.ctx, block, shape, ctrl_type, self.srcloc);
         self.failed = built.is_err();
         built
     }
@@ -175,7 +175,7 @@ fn both_values(values: &[Value]) -> (Value, Value)
     (values[0], values[1])
 }
 
-// Appends an instruction to a block, which is filled then if the instruction is a terminator; a branch becomes a
+// Appends an instruction with a source place to a block, which is filled then if the instruction is a terminator; a branch becomes a
 // predecessor of its targets.
 fn append(
     func: &mut Function,
@@ -183,13 +183,14 @@ fn append(
     block: Block,
     shape: InstructionData,
     ctrl_type: Type,
+    srcloc: SourceLoc,
 ) -> Result<Inst, BuildError>
     requires block_exists { block < length func.old.blocks }
     requires named { NamesExist func.old ctx.old.ssa }
     requires operands_exist { EachIndex (operands shape) (λ k. slice_index (operands shape) k < length func.old.values) }
     requires edges { All (CanLeadIn func.old ctx.old) (destinations shape) }
     requires entries_exist { All (EntryExists func.old.tables) (entries_of shape) }
-    ensures appends { IfOk result (AppendsIn func.old ctx.old func.new ctx.new block shape ctrl_type) }
+    ensures appends { IfOk result (AppendsIn srcloc func.old ctx.old func.new ctx.new block shape ctrl_type) }
     ensures declares { IfOk result (λ inst. IsDeclared ctx.old.ssa inst (targets (destinations shape)) ctx.new.ssa) }
     ensures ssa { is_branch shape ≡ false → ctx.new.ssa ≡ ctx.old.ssa }
     ensures names { NamesExist func.new ctx.new.ssa }
@@ -200,8 +201,7 @@ fn append(
 {
     begin_block(func, ctx, block)?;
     let ends = shape.is_terminator();
-    let no_place = SourceLoc::new(u32::MAX);
-    let inst = func.insert_inst(block, InsertAt::Back, shape, ctrl_type, no_place)?;
+    let inst = func.insert_inst(block, InsertAt::Back, shape, ctrl_type, srcloc)?;
     if ends {
         ctx.set_status(block, BlockStatus::Filled)?;
         ctx.declare_successors(inst, func.inst_data(inst).branch_destination())?;

@@ -17,6 +17,8 @@ mod generic;
 #[cfg(test)]
 mod parameters;
 #[cfg(test)]
+mod places;
+#[cfg(test)]
 mod refusals;
 #[cfg(test)]
 mod steps;

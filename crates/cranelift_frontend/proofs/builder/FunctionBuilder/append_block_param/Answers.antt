@@ -33,7 +33,7 @@ returns-clause-told c = λ name.
 
 pub returns-clause-call : goal.returns-clause-call
 returns-clause-call c =
-    made c.args.self.now _ c.append_block_param-appended.result (record { func = refl; ctx = refl }) refl c.if-self.false c.append_block_param-appended.ensures.never_failed c.is_err-self.ensures.value
+    made c.args.self.now _ c.append_block_param-appended.result (record { func = refl; ctx = refl }) refl refl c.if-self.false c.append_block_param-appended.ensures.never_failed c.is_err-self.ensures.value
     (λ once. once) (more-types c.append_block_param-appended.result c.args.self.now.func.now _ c.args.block (c.args.ty ∷ []) c.append_block_param-appended.ensures.ok)
     (filled-same c.append_block_param-appended.result c.args.self.now.ctx.now c.args.self.now.ctx.now refl)
 

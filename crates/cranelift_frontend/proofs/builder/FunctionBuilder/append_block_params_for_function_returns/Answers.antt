@@ -29,7 +29,7 @@ returns-clause-told c = λ name.
 
 pub returns-clause-call : goal.returns-clause-call
 returns-clause-call c =
-    made c.args.self.now _ c.append_function_returns-appended.result (record { func = refl; ctx = refl }) refl c.if-self.false c.append_function_returns-appended.ensures.never_failed c.is_err-self.ensures.value
+    made c.args.self.now _ c.append_function_returns-appended.result (record { func = refl; ctx = refl }) refl refl c.if-self.false c.append_function_returns-appended.ensures.never_failed c.is_err-self.ensures.value
     (λ once. once) (more-types c.append_function_returns-appended.result c.args.self.now.func.now _ c.args.block (types_of c.args.self.now.func.now.signature.returns) c.append_function_returns-appended.ensures.ok)
     (filled-same c.append_function_returns-appended.result c.args.self.now.ctx.now c.args.self.now.ctx.now refl)
 

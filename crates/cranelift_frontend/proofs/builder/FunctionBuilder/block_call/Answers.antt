@@ -8,7 +8,7 @@ returns-then-self c = edge_refused c.args.block c.args.args.now c.args.self.now 
 
 pub returns : goal.returns
 returns c =
-    edge_made c.args.block c.args.args.now c.args.self.now _ c.new-edge.result c.if-self.false (record { func = refl; ctx = refl }) refl refl
+    edge_made c.args.block c.args.args.now c.args.self.now _ c.new-edge.result c.if-self.false (record { func = refl; ctx = refl }) refl refl refl
     c.is_err-self.ensures.value c.law_consistent.ensures refl c.new-edge.ensures.only_memory c.new-edge.ensures.ok
 
 pub invariant_of-self : goal.invariant_of-self

@@ -20,7 +20,7 @@ returns-clause-told c =
 
 pub returns-clause-call : goal.returns-clause-call
 returns-clause-call c =
-    made c.args.self.now _ c.make_block-made.result (record { func = refl; ctx = refl }) refl c.if-self.false c.make_block-made.ensures.never_failed c.is_err-self.ensures.value
+    made c.args.self.now _ c.make_block-made.result (record { func = refl; ctx = refl }) refl refl c.if-self.false c.make_block-made.ensures.never_failed c.is_err-self.ensures.value
     c.make_block-made.ensures.looks_once (made-types c.make_block-made.result _ _ c.make_block-made.ensures.function)
     (filled-same c.make_block-made.result c.args.self.now.ctx.now c.make_block-made.new.ctx c.make_block-made.ensures.status)
 

@@ -8,7 +8,7 @@ returns-then-self c = table_refused c.args.table c.args.self.now c.if-self.true
 
 pub returns : goal.returns
 returns c =
-    table_created c.args.table c.args.self.now _ c.create_jump_table-made.result c.if-self.false (record { func = refl; ctx = refl }) refl refl
+    table_created c.args.table c.args.self.now _ c.create_jump_table-made.result c.if-self.false (record { func = refl; ctx = refl }) refl refl refl
     c.is_err-self.ensures.value c.law_consistent.ensures c.create_jump_table-made.ensures
 
 pub invariant_of-self : goal.invariant_of-self

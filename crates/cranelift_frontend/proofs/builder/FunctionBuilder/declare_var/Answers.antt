@@ -19,7 +19,7 @@ returns-clause-told c =
 
 pub returns-clause-call : goal.returns-clause-call
 returns-clause-call c =
-    made c.args.self.now _ c.declare_var-declared.result (record { func = refl; ctx = refl }) refl c.if-self.false c.declare_var-declared.ensures.never_failed c.is_err-self.ensures.value
+    made c.args.self.now _ c.declare_var-declared.result (record { func = refl; ctx = refl }) refl refl c.if-self.false c.declare_var-declared.ensures.never_failed c.is_err-self.ensures.value
     (same_looks _ _ c.declare_var-declared.ensures.ssa) (same-types c.declare_var-declared.result c.args.self.now.func.now)
     (filled-declared c.declare_var-declared.result c.args.self.now.ctx.now c.declare_var-declared.new.self _ c.declare_var-declared.ensures.ok)
 

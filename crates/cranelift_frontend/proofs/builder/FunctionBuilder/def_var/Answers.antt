@@ -23,7 +23,7 @@ returns-clause-told c = λ name.
 
 pub returns-clause-call : goal.returns-clause-call
 returns-clause-call c =
-    made c.args.self.now _ c.def_var-recorded.result (record { func = refl; ctx = refl }) refl c.if-self.false (by_memory _ c.def_var-recorded.ensures.only_memory) c.is_err-self.ensures.value
+    made c.args.self.now _ c.def_var-recorded.result (record { func = refl; ctx = refl }) refl refl c.if-self.false (by_memory _ c.def_var-recorded.ensures.only_memory) c.is_err-self.ensures.value
     c.def_var-recorded.ensures.looks_once (same-types c.def_var-recorded.result c.args.self.now.func.now)
     (filled-same c.def_var-recorded.result c.args.self.now.ctx.now c.def_var-recorded.new.self c.def_var-recorded.ensures.status)
 

@@ -28,6 +28,6 @@ returns-clause-told c =
 
 pub returns-clause-call : goal.returns-clause-call
 returns-clause-call c =
-    made c.args.self.now _ c.begin_block-begun.result (record { func = refl; ctx = refl }) refl c.if-self.false (by_memory _ c.begin_block-begun.ensures.only_memory) c.is_err-self.ensures.value
+    made c.args.self.now _ c.begin_block-begun.result (record { func = refl; ctx = refl }) refl refl c.if-self.false (by_memory _ c.begin_block-begun.ensures.only_memory) c.is_err-self.ensures.value
     (same_looks _ _ c.begin_block-begun.ensures.ssa) (inserted-types c.begin_block-begun.result c.args.self.now.func.now _ c.in-Some.block c.begin_block-begun.ensures.function)
     (filled-begun c.begin_block-begun.result c.args.self.now.ctx.now c.begin_block-begun.new.ctx c.in-Some.block c.begin_block-begun.ensures.status)

@@ -40,6 +40,6 @@ returns-clause-told c = λ name behind.
 
 pub returns-clause-call : goal.returns-clause-call
 returns-clause-call c =
-    made c.args.self.now _ (Ok tt) (record { func = refl; ctx = refl }) refl c.if-self.false (by_success tt) c.if-self.false
+    made c.args.self.now _ (Ok tt) (record { func = refl; ctx = refl }) refl refl c.if-self.false (by_success tt) c.if-self.false
     (λ once. once) (λ v inside. ap (λ (f : Body). (value_at f v).ty) c.insert_block_after.ensures)
     (filled-same {A = Unit {0}} {E = BuildError} (Ok tt) c.args.self.now.ctx.now c.args.self.now.ctx.now refl)

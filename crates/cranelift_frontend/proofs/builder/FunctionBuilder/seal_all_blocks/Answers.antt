@@ -27,7 +27,7 @@ returns-clause-told c =
 
 pub returns-clause-call : goal.returns-clause-call
 returns-clause-call c =
-    made c.args.self.now _ c.seal_all_blocks-sealed.result (record { func = refl; ctx = refl }) refl c.if-self.false c.seal_all_blocks-sealed.ensures.never_failed c.is_err-self.ensures.value
+    made c.args.self.now _ c.seal_all_blocks-sealed.result (record { func = refl; ctx = refl }) refl refl c.if-self.false c.seal_all_blocks-sealed.ensures.never_failed c.is_err-self.ensures.value
     c.seal_all_blocks-sealed.ensures.looks_once (sealed-types c.seal_all_blocks-sealed.result c.args.self.now.func.now c.seal_all_blocks-sealed.new.func c.args.self.now.ctx.now c.seal_all_blocks-sealed.new.self (λ b. ltb b (length c.args.self.now.func.now.blocks)) c.seal_all_blocks-sealed.ensures.is_sealing)
     (sealed-filled c.seal_all_blocks-sealed.result c.args.self.now.func.now c.seal_all_blocks-sealed.new.func c.args.self.now.ctx.now c.seal_all_blocks-sealed.new.self (λ b. ltb b (length c.args.self.now.func.now.blocks)) c.seal_all_blocks-sealed.ensures.is_sealing)
 

@@ -26,7 +26,7 @@ returns-clause-told c = λ name.
 
 pub returns-clause-call : goal.returns-clause-call
 returns-clause-call c =
-    made c.args.self.now _ c.seal_block-sealed.result (record { func = refl; ctx = refl }) refl c.if-self.false c.seal_block-sealed.ensures.never_failed c.is_err-self.ensures.value
+    made c.args.self.now _ c.seal_block-sealed.result (record { func = refl; ctx = refl }) refl refl c.if-self.false c.seal_block-sealed.ensures.never_failed c.is_err-self.ensures.value
     c.seal_block-sealed.ensures.looks_once (sealed-types c.seal_block-sealed.result c.args.self.now.func.now c.seal_block-sealed.new.func c.args.self.now.ctx.now c.seal_block-sealed.new.self (λ b. b == c.args.block) c.seal_block-sealed.ensures.is_sealing)
     (sealed-filled c.seal_block-sealed.result c.args.self.now.func.now c.seal_block-sealed.new.func c.args.self.now.ctx.now c.seal_block-sealed.new.self (λ b. b == c.args.block) c.seal_block-sealed.ensures.is_sealing)
 

@@ -30,7 +30,7 @@ returns-clause-told c =
 
 pub returns-clause-call : goal.returns-clause-call
 returns-clause-call c =
-    made c.args.self.now _ c.use_variable-used.result (record { func = refl; ctx = refl }) refl c.if-self.false c.use_variable-used.ensures.never_failed c.is_err-self.ensures.value
+    made c.args.self.now _ c.use_variable-used.result (record { func = refl; ctx = refl }) refl refl c.if-self.false c.use_variable-used.ensures.never_failed c.is_err-self.ensures.value
     c.use_variable-used.ensures.looks_once (used-types c.use_variable-used.result c.args.self.now.func.now c.args.self.now.ctx.now c.use_variable-used.new.func c.use_variable-used.new.ctx c.args.variable c.in-Some-var_type.ty c.in-Some.block c.use_variable-used.ensures.is_use)
     (used-filled c.use_variable-used.result c.args.self.now.func.now c.args.self.now.ctx.now c.use_variable-used.new.func c.use_variable-used.new.ctx c.args.variable c.in-Some-var_type.ty c.in-Some.block c.use_variable-used.ensures.is_use)
 

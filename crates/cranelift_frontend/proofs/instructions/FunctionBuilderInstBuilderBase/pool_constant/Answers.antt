@@ -9,7 +9,7 @@ returns-then-self c = record { pooled = constant_refused c.args.bytes.now c.args
 pub returns : goal.returns
 returns c = record {
   pooled =
-      constant_pooled c.args.bytes.now c.args.self.now _ c.pool_constant-pooled.result c.if-self.false (record { func = refl; ctx = refl }) refl refl
+      constant_pooled c.args.bytes.now c.args.self.now _ c.pool_constant-pooled.result c.if-self.false (record { func = refl; ctx = refl }) refl refl refl
       c.is_err-self.ensures.value c.law_consistent.ensures c.pool_constant-pooled.ensures;
 }
 

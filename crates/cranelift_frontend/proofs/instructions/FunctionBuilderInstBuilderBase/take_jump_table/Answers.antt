@@ -10,7 +10,7 @@ returns-then-self c = record { taken = take_refused c.args.table c.args.self.now
 pub returns : goal.returns
 returns c = record {
   taken =
-      table_taken c.args.table c.in-Some.edges c.args.self.now _ c.if-self.false (record { func = refl; ctx = refl }) refl refl c.if-self.false
+      table_taken c.args.table c.in-Some.edges c.args.self.now _ c.if-self.false (record { func = refl; ctx = refl }) refl refl refl c.if-self.false
       c.law_consistent.ensures (sym c.take_jump_table.ensures.taken ∙ c.in-Some.is) c.take_jump_table.ensures.served;
 }
 
