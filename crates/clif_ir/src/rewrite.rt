@@ -1,15 +1,20 @@
-//! The calls that rewrite an instruction in its place: its targets, its operands, and what its edges pass.
+//! The calls that rewrite an instruction in its place, which are its targets, its operands, and what its edges pass,
+//! and those that put an instruction beside another one.
 //!
-//! None takes memory, and none can fail. The number of the instruction stays, and so do its results, its block and
-//! its source place.
-ghost use Rattle.std.specs.Prelude.{◌≡◌, ◌<◌, length};
+//! A call that rewrites takes no memory, and can't fail. The number of the instruction stays, and so do its results,
+//! its block and its source place.
+ghost use Rattle.std.specs.Prelude.{◌≡◌, ◌≢◌, ◌<◌, ◌+◌, ◌-◌, ◌^◌, length, slice_index, EachIndex, All, IfOk, OnOk, OnErr};
 ghost use Rattle.clif_instructions.specs.Edges.{edge_at};
-ghost use Rattle.clif_instructions.specs.Instruction.{operands, destinations};
-ghost use Rattle.clif_ir.specs.Body.{inst_at};
-ghost use Rattle.clif_ir.specs.Changes.{with_branch_target, with_operand_at, with_passed_argument};
+ghost use Rattle.clif_instructions.specs.Instruction.{entries_of, operands, destinations, result_count, result_types};
+ghost use Rattle.clif_ir.specs.Body.{block_at, inst_at};
+ghost use Rattle.clif_ir.specs.Changes.{HasNoRoom, with_branch_target, with_inst, with_operand_at, with_passed_argument};
+ghost use Rattle.clif_ir.specs.Consistent.{EdgeExists, EntryExists};
+ghost use Rattle.clif_ir.specs.Reading.{place_in_block};
 
 use crate::function::Function;
-use clif_types::{Block, EntityRef, Inst, Value};
+use clif_instructions::inst_list::InsertAt;
+use clif_instructions::instructions::InstructionData;
+use clif_types::{Block, BuildError, EntityRef, Inst, SourceLoc, Type, Value};
 
 impl Function {
     /// Makes each edge of an instruction that goes to `from` go to `to`. What it passes stays.
@@ -43,5 +48,72 @@ impl Function {
         self.insts[inst.index()]
             .shape
             .set_edge_argument(edge, place, value);
+    }
+
+    /// Makes an instruction and puts it right before the instruction `next` of a block.
+    ///
+    /// It costs a step for each instruction of the block before the new one, and is otherwise as
+    /// [`Function::insert_inst`] says.
+    pub fn insert_inst_before(
+        &mut self,
+        next: Inst,
+        shape: InstructionData,
+        ctrl_type: Type,
+        srcloc: SourceLoc,
+    ) -> Result<Inst, BuildError>
+        requires inst_exists { next < length self.old.insts }
+        requires operands_exist { EachIndex (operands shape) (λ k. slice_index (operands shape) k < length self.old.values) }
+        requires edges_exist { All (EdgeExists self.old) (destinations shape) }
+        requires entries_exist { All (EntryExists self.old.tables) (entries_of shape) }
+        ensures ok { OnOk result (self.new ≡
+            with_inst self.old (inst_at self.old next).block (InsertAt.Behind (place_in_block self.old next)) shape (result_types shape ctrl_type) srcloc) }
+        ensures number { IfOk result (λ i. i ≡ length self.old.insts) }
+        ensures full { result ≡ Err BuildError.Full → HasNoRoom self.old (result_count shape) }
+        ensures at_limit { HasNoRoom self.old (result_count shape) → result ≡ Err BuildError.Full }
+        ensures never_failed { result ≢ Err BuildError.Failed }
+        ensures err { OnErr result (self.new ≡ self.old) }
+    {
+        let (block, place) = self.place_in_block(next);
+        self.insert_inst(block, InsertAt::Behind(place), shape, ctrl_type, srcloc)
+    }
+
+    /// Makes an instruction and puts it right behind the instruction `previous` of a block.
+    ///
+    /// It costs a step for each instruction of the block before the new one, and is otherwise as
+    /// [`Function::insert_inst`] says.
+    pub fn insert_inst_after(
+        &mut self,
+        previous: Inst,
+        shape: InstructionData,
+        ctrl_type: Type,
+        srcloc: SourceLoc,
+    ) -> Result<Inst, BuildError>
+        requires inst_exists { previous < length self.old.insts }
+        requires operands_exist { EachIndex (operands shape) (λ k. slice_index (operands shape) k < length self.old.values) }
+        requires edges_exist { All (EdgeExists self.old) (destinations shape) }
+        requires entries_exist { All (EntryExists self.old.tables) (entries_of shape) }
+        ensures ok { OnOk result (self.new ≡
+            with_inst self.old (inst_at self.old previous).block (InsertAt.Behind (place_in_block self.old previous + 1)) shape (result_types shape ctrl_type) srcloc) }
+        ensures number { IfOk result (λ i. i ≡ length self.old.insts) }
+        ensures full { result ≡ Err BuildError.Full → HasNoRoom self.old (result_count shape) }
+        ensures at_limit { HasNoRoom self.old (result_count shape) → result ≡ Err BuildError.Full }
+        ensures never_failed { result ≢ Err BuildError.Failed }
+        ensures err { OnErr result (self.new ≡ self.old) }
+    {
+        let (block, place) = self.place_in_block(previous);
+        self.insert_inst(block, InsertAt::Behind(place + 1), shape, ctrl_type, srcloc)
+    }
+
+    // The block of an instruction, and its place there.
+    fn place_in_block(&self, inst: Inst) -> (Block, usize)
+        requires { inst < length self.now.insts }
+        ensures block { result.0 ≡ (inst_at self.now inst).block }
+        ensures exists { result.0 < length self.now.blocks }
+        ensures place { result.1 ≡ place_in_block self.now inst }
+        ensures inside { result.1 < length (block_at self.now result.0).insts }
+        ensures small { result.1 < 2 ^ 64 - 1 }
+    {
+        self.law_consistent();
+        (self.insts[inst.index()].block, self.inst_place(inst))
     }
 }
