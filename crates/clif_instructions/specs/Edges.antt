@@ -1,5 +1,5 @@
 -- What changes the edges of a branch. Source: own.
-use Rattle.std.specs.Prelude.{ℕ, ◌==◌, ◌-◌, ◌++◌, List, [], ◌∷◌, length, map, take, drop, if◌then◌else◌, codes}
+use Rattle.std.specs.Prelude.{ℕ, ◌==◌, ◌-◌, ◌++◌, List, [], ◌∷◌, length, map, take, drop, slice_index_or, slice_set, if◌then◌else◌, codes}
 use Rattle.std.specs.Fmt.{decimal}
 use Rattle.clif_instructions.specs.declared.block_call.BlockArg.{BlockArg}
 use Rattle.clif_instructions.specs.declared.block_call.BlockArg.TheVariants.{Value, TryCallRet, TryCallExn}
@@ -28,6 +28,21 @@ redirected from to edge = if edge.block == from then record edge { block = to } 
 -- edges, of which each that went to the first block goes to the second
 abbrev pub with_target_changed : ℕ → ℕ → List BlockCall → List BlockCall
 with_target_changed from to edges = map (redirected from to) edges
+
+-- an edge that passes this value at this place
+abbrev pub with_passed : ℕ → ℕ → BlockCall → BlockCall
+with_passed place value edge = record edge { args = slice_set edge.args place (Value value) }
+
+-- what stands for an edge that isn't there
+abbrev pub no_edge : BlockCall
+no_edge = record { block = 0; args = [] }
+
+abbrev pub edge_at : List BlockCall → ℕ → BlockCall
+edge_at edges k = slice_index_or edges k no_edge
+
+-- edges, of which edge `k` passes this value at this place
+abbrev pub with_passed_at : ℕ → ℕ → ℕ → List BlockCall → List BlockCall
+with_passed_at k place value edges = slice_set edges k (with_passed place value (edge_at edges k))
 
 -- what an argument of an edge prints
 abbrev pub argument_text : BlockArg → List ℕ

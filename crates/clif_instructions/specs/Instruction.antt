@@ -1,6 +1,6 @@
 -- The table of instructions: operands, results, and which ones end a block.
 -- Source: own, after the crate's instruction set.
-use Rattle.std.specs.Prelude.{ℕ, Bool, true, false, List, [], ◌∷◌, length, map, is_some, slice_get, slice_index_or}
+use Rattle.std.specs.Prelude.{ℕ, Bool, true, false, List, [], ◌∷◌, length, map, is_some, slice_get, slice_index_or, slice_set}
 use Rattle.clif_types.specs.declared.types.«Type».{«Type»}
 use Rattle.clif_types.specs.declared.types.«Type».TheVariants.{Invalid}
 use Rattle.clif_opcodes.specs.declared.opcodes.Opcode.{Opcode}
@@ -8,7 +8,7 @@ use Rattle.clif_opcodes.specs.declared.opcodes.Opcode.TheVariants as opcode
 use Rattle.clif_opcodes.specs.Kinds.{result_type}
 use Rattle.clif_opcodes.specs.Typing.{Row, row_of}
 use Rattle.clif_instructions.specs.declared.block_call.BlockCall.{BlockCall}
-use Rattle.clif_instructions.specs.Edges.{appended_to, with_argument_to}
+use Rattle.clif_instructions.specs.Edges.{appended_to, with_argument_to, redirected, with_target_changed, with_passed, with_passed_at}
 use Rattle.clif_instructions.specs.declared.instructions.InstructionData.{InstructionData}
 use Rattle.clif_instructions.specs.declared.instructions.InstructionData.TheVariants.{UnaryImm, UnaryIeee, UnaryConst, Unary, Binary, IntCompare, Concat, Split, Convert, Ternary, Load, Store, StackLoad, StackStore, Jump, Brif, BranchTable, MultiAry, Trap, CondTrap}
 
@@ -48,6 +48,38 @@ with_argument block value (Jump destination) = Jump (appended_to block value des
 with_argument block value (Brif arg blocks) = Brif arg (with_argument_to block value blocks)
 with_argument block value (BranchTable arg table) = BranchTable arg (with_argument_to block value table)
 with_argument block value shape = shape
+
+-- an instruction, of whose edges each that went to the first block goes to the second
+abbrev pub with_targets_changed : ℕ → ℕ → InstructionData → InstructionData
+with_targets_changed from to (Jump destination) = Jump (redirected from to destination)
+with_targets_changed from to (Brif arg blocks) = Brif arg (with_target_changed from to blocks)
+with_targets_changed from to (BranchTable arg table) = BranchTable arg (with_target_changed from to table)
+with_targets_changed from to shape = shape
+
+-- an instruction, of whose edges this one passes this value at this place
+abbrev pub with_edge_argument : ℕ → ℕ → ℕ → InstructionData → InstructionData
+with_edge_argument edge place value (Jump destination) = Jump (with_passed place value destination)
+with_edge_argument edge place value (Brif arg blocks) = Brif arg (with_passed_at edge place value blocks)
+with_edge_argument edge place value (BranchTable arg table) = BranchTable arg (with_passed_at edge place value table)
+with_edge_argument edge place value shape = shape
+
+-- an instruction whose operand at this place, of those that it has, is this value
+abbrev pub with_operand : ℕ → ℕ → InstructionData → InstructionData
+with_operand place value (Unary opcode arg) = Unary opcode value
+with_operand place value (Binary opcode args) = Binary opcode (slice_set args place value)
+with_operand place value (IntCompare cond args) = IntCompare cond (slice_set args place value)
+with_operand place value (Concat args) = Concat (slice_set args place value)
+with_operand place value (Split arg) = Split value
+with_operand place value (Convert opcode arg) = Convert opcode value
+with_operand place value (Ternary args) = Ternary (slice_set args place value)
+with_operand place value (Load flags arg offset) = Load flags value offset
+with_operand place value (Store flags args offset) = Store flags (slice_set args place value) offset
+with_operand place value (StackStore arg slot offset) = StackStore value slot offset
+with_operand place value (Brif arg blocks) = Brif value blocks
+with_operand place value (BranchTable arg table) = BranchTable value table
+with_operand place value (MultiAry args) = MultiAry (slice_set args place value)
+with_operand place value (CondTrap opcode arg code) = CondTrap opcode value code
+with_operand place value shape = shape
 
 -- whether the instruction has edges
 abbrev pub is_branch : InstructionData → Bool

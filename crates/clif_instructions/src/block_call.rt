@@ -1,5 +1,5 @@
 //! Edges: the target of a branch, and what it passes to the target's parameters.
-ghost use Rattle.std.specs.Prelude.{◌≡◌, ◌-◌, [], ◌∷◌, ◌++◌, length, take, Some, OnOk, OnErr, IfOk};
+ghost use Rattle.std.specs.Prelude.{◌≡◌, ◌-◌, ◌<◌, [], ◌∷◌, ◌++◌, length, slice_set, take, Some, OnOk, OnErr, IfOk};
 ghost use Rattle.clif_instructions.specs.Edges.{argument_text};
 ghost use Rattle.clif_instructions.specs.Kept.{args_of};
 
@@ -113,6 +113,18 @@ impl BlockArgs {
             Args::More(more) => more.push(arg)?,
         }
         Ok(())
+    }
+
+    /// Makes `arg` the argument at `place`, in place of what was there.
+    pub fn set(&mut self, place: usize, arg: BlockArg)
+        requires { place < length self.old }
+        ensures { self.new ≡ slice_set self.old place arg }
+    {
+        match &mut self.args {
+            Args::None => {}
+            Args::One(only) => *only = arg,
+            Args::More(more) => more[place] = arg,
+        }
     }
 
     /// Takes the last argument away, if there is one.

@@ -1,6 +1,6 @@
 //! Changes of the edges of a branch or of a table, all at once.
-ghost use Rattle.std.specs.Prelude.{◌≡◌, ◌≤◌, length, OnOk, OnErr};
-ghost use Rattle.clif_instructions.specs.Edges.{appended_to, redirected, with_argument_to, with_target_changed, taken_from, taken_back};
+ghost use Rattle.std.specs.Prelude.{◌≡◌, ◌<◌, ◌≤◌, length, OnOk, OnErr};
+ghost use Rattle.clif_instructions.specs.Edges.{appended_to, redirected, with_argument_to, with_target_changed, edge_at, with_passed, with_passed_at, taken_from, taken_back};
 
 use crate::block_call::{BlockArg, BlockCall};
 use clif_types::{Block, BuildError, Value};
@@ -71,10 +71,27 @@ pub fn redirect_edges(edges: &mut [BlockCall], from: Block, to: Block)
 }
 
 // Makes an edge that goes to `from` go to `to`.
-fn redirect_edge(edge: &mut BlockCall, from: Block, to: Block)
+pub(crate) fn redirect_edge(edge: &mut BlockCall, from: Block, to: Block)
     ensures { edge.new ≡ redirected from to edge.old }
 {
     if edge.block == from {
         edge.block = to;
     }
+}
+
+// Makes an edge pass `value` at `place`, in place of what it passed there.
+pub(crate) fn set_argument(edge: &mut BlockCall, place: usize, value: Value)
+    requires { place < length edge.old.args }
+    ensures { edge.new ≡ with_passed place value edge.old }
+{
+    edge.args.set(place, BlockArg::Value(value));
+}
+
+// Makes one of these edges pass `value` at `place`, in place of what it passed there.
+pub(crate) fn set_argument_at(edges: &mut [BlockCall], edge: usize, place: usize, value: Value)
+    requires edge_exists { edge < length edges.old }
+    requires place_exists { place < length (edge_at edges.old edge).args }
+    ensures { edges.new ≡ with_passed_at edge place value edges.old }
+{
+    set_argument(&mut edges[edge], place, value);
 }

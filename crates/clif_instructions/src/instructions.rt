@@ -1,12 +1,15 @@
 //! Instructions: their shapes, operands and results.
-ghost use Rattle.std.specs.Prelude.{◌≡◌, OnOk, OnErr};
+ghost use Rattle.std.specs.Prelude.{◌≡◌, ◌<◌, length, slice_set, OnOk, OnErr};
 ghost use Rattle.clif_opcodes.specs.Typing.{float_const_row, pooled_const_row};
-ghost use Rattle.clif_instructions.specs.Instruction.{operands, destinations, with_argument, has_result, is_branch, is_terminator, opcode_of, typing_of};
+ghost use Rattle.clif_instructions.specs.Edges.{edge_at, with_passed_at, with_target_changed};
+ghost use Rattle.clif_instructions.specs.Instruction.{operands, destinations, with_argument, with_targets_changed, with_edge_argument, with_operand, has_result, is_branch, is_terminator, opcode_of, typing_of};
 
 use crate::block_call::BlockCall;
-use crate::edges::{append_to_edge, append_to_edges};
+use crate::edges::{
+    append_to_edge, append_to_edges, redirect_edge, redirect_edges, set_argument, set_argument_at,
+};
 use crate::jump_table::JumpTableData;
-use crate::value_list::ValueList;
+use crate::value_list::{ValueList, set_value};
 use clif_opcodes::{
     BinaryOpcode, CondTrapOpcode, Control, ConvertOpcode, FloatConstOpcode, Opcode,
     PooledConstOpcode, ResultKind, StackOpcode, UnaryOpcode,
@@ -175,6 +178,65 @@ impl InstructionData {
             InstructionData::Brif { blocks, .. } => append_to_edges(blocks, block, value),
             InstructionData::BranchTable { table, .. } => table.append_argument(block, value),
             _ => Ok(()),
+        }
+    }
+
+    /// Makes each edge that goes to `from` go to `to`. What it passes stays.
+    pub fn change_target(&mut self, from: Block, to: Block)
+        ensures exact { self.new ≡ with_targets_changed from to self.old }
+        ensures edges { destinations self.new ≡ with_target_changed from to (destinations self.old) }
+    {
+        match self {
+            InstructionData::Jump { destination } => redirect_edge(destination, from, to),
+            InstructionData::Brif { blocks, .. } => redirect_edges(blocks, from, to),
+            InstructionData::BranchTable { table, .. } => table.change_target(from, to),
+            _ => {}
+        }
+    }
+
+    /// Makes the edge at `edge` pass `value` at `place`, in place of what it passed there.
+    pub fn set_edge_argument(&mut self, edge: usize, place: usize, value: Value)
+        requires edge_exists { edge < length (destinations self.old) }
+        requires place_exists { place < length (edge_at (destinations self.old) edge).args }
+        ensures exact { self.new ≡ with_edge_argument edge place value self.old }
+        ensures edges { destinations self.new ≡ with_passed_at edge place value (destinations self.old) }
+    {
+        match self {
+            InstructionData::Jump { destination } => set_argument(destination, place, value),
+            InstructionData::Brif { blocks, .. } => set_argument_at(blocks, edge, place, value),
+            InstructionData::BranchTable { table, .. } => table.set_argument(edge, place, value),
+            _ => {}
+        }
+    }
+
+    /// Makes `value` the operand at `place`, in the order in which operands are printed.
+    pub fn set_operand(&mut self, place: usize, value: Value)
+        requires { place < length (operands self.old) }
+        ensures exact { self.new ≡ with_operand place value self.old }
+        ensures operands { operands self.new ≡ slice_set (operands self.old) place value }
+        ensures edges { destinations self.new ≡ destinations self.old }
+    {
+        match self {
+            InstructionData::UnaryImm { .. }
+            | InstructionData::UnaryIeee { .. }
+            | InstructionData::UnaryConst { .. }
+            | InstructionData::StackLoad { .. }
+            | InstructionData::Jump { .. }
+            | InstructionData::Trap { .. } => {}
+            InstructionData::Unary { arg, .. } => *arg = value,
+            InstructionData::Binary { args, .. } => set_value(args, place, value),
+            InstructionData::IntCompare { args, .. } => set_value(args, place, value),
+            InstructionData::Concat { args } => set_value(args, place, value),
+            InstructionData::Split { arg } => *arg = value,
+            InstructionData::Convert { arg, .. } => *arg = value,
+            InstructionData::Ternary { args } => set_value(args, place, value),
+            InstructionData::Load { arg, .. } => *arg = value,
+            InstructionData::Store { args, .. } => set_value(args, place, value),
+            InstructionData::StackStore { arg, .. } => *arg = value,
+            InstructionData::Brif { arg, .. } => *arg = value,
+            InstructionData::BranchTable { arg, .. } => *arg = value,
+            InstructionData::MultiAry { args } => args.set(place, value),
+            InstructionData::CondTrap { arg, .. } => *arg = value,
         }
     }
 

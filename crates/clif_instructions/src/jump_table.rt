@@ -1,9 +1,9 @@
 //! Jump tables.
-ghost use Rattle.std.specs.Prelude.{◌≡◌, ◌∷◌, slice_index_or, drop, OnOk, OnErr, IfOk};
-ghost use Rattle.clif_instructions.specs.Edges.{with_argument_to, with_target_changed};
+ghost use Rattle.std.specs.Prelude.{◌≡◌, ◌∷◌, ◌<◌, length, slice_index_or, drop, OnOk, OnErr, IfOk};
+ghost use Rattle.clif_instructions.specs.Edges.{edge_at, with_argument_to, with_passed_at, with_target_changed};
 
 use crate::block_call::BlockCall;
-use crate::edges::{append_to_edges, redirect_edges};
+use crate::edges::{append_to_edges, redirect_edges, set_argument_at};
 use clif_types::{Block, BuildError, Value};
 use std::marker::Model;
 
@@ -73,5 +73,14 @@ impl JumpTableData {
         ensures { self.new ≡ with_target_changed from to self.old }
     {
         redirect_edges(self.edges.as_mut_slice(), from, to);
+    }
+
+    /// Makes the edge at `edge` pass `value` at `place`, in place of what it passed there.
+    pub(crate) fn set_argument(&mut self, edge: usize, place: usize, value: Value)
+        requires edge_exists { edge < length self.old }
+        requires place_exists { place < length (edge_at self.old edge).args }
+        ensures { self.new ≡ with_passed_at edge place value self.old }
+    {
+        set_argument_at(self.edges.as_mut_slice(), edge, place, value);
     }
 }

@@ -1,5 +1,5 @@
 //! Short lists of values.
-ghost use Rattle.std.specs.Prelude.{◌≡◌, [], ◌∷◌, ◌++◌, length, OnOk, OnErr, ◌<◌, IfOk};
+ghost use Rattle.std.specs.Prelude.{◌≡◌, [], ◌∷◌, ◌++◌, length, slice_set, OnOk, OnErr, ◌<◌, IfOk};
 ghost use Rattle.clif_instructions.specs.Members.{Stands, place_of, without};
 ghost use Rattle.clif_instructions.specs.Kept.{values_of};
 
@@ -92,6 +92,19 @@ impl ValueList {
         Ok(())
     }
 
+    /// Makes `value` the one at `place`, in place of what was there.
+    pub fn set(&mut self, place: usize, value: Value)
+        requires { place < length self.old }
+        ensures { self.new ≡ slice_set self.old place value }
+    {
+        match &mut self.values {
+            Values::None => {}
+            Values::One(only) => *only = value,
+            Values::Two(pair) => set_value(pair, place, value),
+            Values::More(more) => more[place] = value,
+        }
+    }
+
     /// The place of the first `value`, which stands in the list.
     pub fn place_of(&self, value: Value) -> usize
         requires { Stands value self.now }
@@ -119,6 +132,14 @@ impl ValueList {
             }
         }
     }
+}
+
+// Makes `value` the one at `place` among these.
+pub(crate) fn set_value(values: &mut [Value], place: usize, value: Value)
+    requires { place < length values.old }
+    ensures { values.new ≡ slice_set values.old place value }
+{
+    values[place] = value;
 }
 
 // Values that lie in memory of their own. The only error is `Memory`.

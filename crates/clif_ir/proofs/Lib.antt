@@ -9,6 +9,8 @@ pub mod KeepsPlaces
 pub mod KeepsAlias
 pub mod KeepsListed
 pub mod KeepsBranch
+pub mod KeepsShape
+pub mod KeepsOperand
 pub mod Leading
 pub mod KeepsCold
 pub mod Orders

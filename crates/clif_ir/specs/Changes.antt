@@ -9,7 +9,7 @@ use Rattle.clif_ir.specs.declared.function.ValueOrigin.TheVariants.{Result, Para
 use Rattle.clif_ir.specs.declared.function.ValueNode.{ValueNode}
 use Rattle.clif_ir.specs.declared.function.InstNode.{InstNode}
 use Rattle.clif_instructions.specs.declared.inst_list.InsertAt.{InsertAt}
-use Rattle.clif_instructions.specs.Instruction.{with_argument}
+use Rattle.clif_instructions.specs.Instruction.{with_argument, with_targets_changed, with_edge_argument, with_operand}
 use Rattle.clif_ir.specs.Body.{Body, empty_block, block_at, inst_at, value_at, resolved}
 use Rattle.clif_instructions.specs.Members.{put_at, without, stands_in}
 
@@ -74,6 +74,22 @@ with_inst f b at shape types loc =
 abbrev pub with_branch_argument : Body → ℕ → ℕ → ℕ → Body
 with_branch_argument f i b v =
     record f { insts = slice_set f.insts i (record (inst_at f i) { shape = with_argument b v (inst_at f i).shape }) }
+
+-- with instruction `i` of this shape
+abbrev pub with_shape : Body → ℕ → InstructionData → Body
+with_shape f i shape = record f { insts = slice_set f.insts i (record (inst_at f i) { shape = shape }) }
+
+-- with each edge of instruction `i` that went to block `from` going to block `to`
+abbrev pub with_branch_target : Body → ℕ → ℕ → ℕ → Body
+with_branch_target f i from to = with_shape f i (with_targets_changed from to (inst_at f i).shape)
+
+-- with value `v` as the operand of instruction `i` at this place
+abbrev pub with_operand_at : Body → ℕ → ℕ → ℕ → Body
+with_operand_at f i place v = with_shape f i (with_operand place v (inst_at f i).shape)
+
+-- with value `v` as what this edge of instruction `i` passes at this place
+abbrev pub with_passed_argument : Body → ℕ → ℕ → ℕ → ℕ → Body
+with_passed_argument f i edge place v = with_shape f i (with_edge_argument edge place v (inst_at f i).shape)
 
 -- the block of a value that is a parameter
 abbrev pub home_of : ValueOrigin → ℕ

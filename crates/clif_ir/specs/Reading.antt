@@ -35,6 +35,10 @@ home_of_node (Some node) = home_of_param node.origin
 abbrev pub param_home : Body → ℕ → Option ℕ
 param_home f v = home_of_node (slice_get f.values v)
 
+-- the place of an instruction among those of its block
+abbrev pub place_in_block : Body → ℕ → ℕ
+place_in_block f i = place_of i (block_at f (inst_at f i).block).insts
+
 -- the edges of an instruction, if there is one
 abbrev pub edges_of : Body → Option ℕ → List BlockCall
 edges_of f None = []

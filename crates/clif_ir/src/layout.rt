@@ -91,7 +91,7 @@ impl Function {
     }
 
     // The place of an instruction among those of its block, by its slot.
-    fn inst_place(&self, inst: Inst) -> usize
+    pub(crate) fn inst_place(&self, inst: Inst) -> usize
         requires { inst < length self.now.insts }
         ensures inside { result < length (block_at self.now (inst_at self.now inst).block).insts }
         ensures there { slice_index (block_at self.now (inst_at self.now inst).block).insts result ≡ inst }

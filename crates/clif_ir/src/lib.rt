@@ -12,6 +12,7 @@ pub mod dfg;
 pub mod entities;
 pub mod function;
 pub mod layout;
+pub mod rewrite;
 pub mod successors;
 pub mod write;
 

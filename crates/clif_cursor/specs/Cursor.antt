@@ -1,0 +1,101 @@
+-- What a cursor makes of a function. Source: own, after the crate's documentation of `FuncCursor`.
+use Rattle.std.specs.Prelude.{◌≡◌, ◌≢◌, ◌<◌, ◌≤◌, ◌+◌, ◌-◌, ℕ, Bool, false, length, slice_get, List, All, Option, None, Some, Result, Err, IfOk, OnOk, OnErr, IsOk}
+use Rattle.clif_types.specs.declared.error.BuildError.{BuildError}
+use Rattle.clif_types.specs.declared.error.BuildError.TheVariants.{Full, Failed}
+use Rattle.clif_types.specs.declared.types.«Type».{«Type»}
+use Rattle.clif_instructions.specs.declared.block_call.BlockCall.{BlockCall}
+use Rattle.clif_instructions.specs.declared.inst_list.InsertAt.TheVariants.{Back}
+use Rattle.clif_instructions.specs.declared.instructions.InstructionData.{InstructionData}
+use Rattle.clif_instructions.specs.Instruction.{is_terminator, result_count, result_types}
+use Rattle.clif_tables.specs.Lists.{unserved, with_constant, with_table_served}
+use Rattle.clif_tables.specs.Makes.{Pools}
+use Rattle.clif_ir.specs.Body.{Body, block_at, inst_at}
+use Rattle.clif_ir.specs.Changes.{HasNoRoom, with_inst, with_tables}
+use Rattle.clif_ir.specs.Consistent.{EdgeExists}
+use Rattle.clif_cursor.specs.declared.cursor.FuncCursor.{FuncCursor}
+
+-- whether an instruction, if there is one, ends its block
+abbrev pub ends_block : Body → Option ℕ → Bool
+ends_block f None = false
+ends_block f (Some i) = is_terminator (inst_at f i).shape
+
+-- whether the last instruction of a block is its terminator
+abbrev pub is_filled : Body → ℕ → Bool
+is_filled f b = ends_block f (slice_get (block_at f b).insts (length (block_at f b).insts - 1))
+
+-- a block exists and has no terminator so far
+pub record IsOpen (f : Body) (b : ℕ) : Type 0 where
+  pub exists : b < length f.blocks
+  pub unfilled : is_filled f b ≡ false
+
+-- an instruction may be appended where the cursor is
+abbrev pub CanAppend : FuncCursor → Type 0
+CanAppend c = IsOpen c.func.now c.block
+
+-- the function with an instruction at the end of the cursor's block, at its source place
+abbrev pub with_appended : FuncCursor → InstructionData → «Type» → Body
+with_appended c shape ty = with_inst c.func.now c.block Back shape (result_types shape ty) c.srcloc
+
+-- both cursors are at the same place of the same function
+pub record IsThere (old new : FuncCursor) : Type 0 where
+  pub func : new.func.ghost_name ≡ old.func.ghost_name
+  pub block : new.block ≡ old.block
+  pub srcloc : new.srcloc ≡ old.srcloc
+
+-- An instruction was to be appended: it is, and nothing else is changed; or the function is as it was.
+pub record Appends {A : Type 0} (old new : FuncCursor) (shape : InstructionData) (ty : «Type») (answer : Result A BuildError) : Type 0 where
+  pub there : IsThere old new
+  pub ok : OnOk answer (new.func.now ≡ with_appended old shape ty)
+  pub err : OnErr answer (new.func.now ≡ old.func.now)
+  pub full : answer ≡ Err Full → HasNoRoom old.func.now (result_count shape)
+  pub never_failed : answer ≢ Err Failed
+
+-- the answer is the number of the instruction
+pub record Builds (old new : FuncCursor) (shape : InstructionData) (ty : «Type») (answer : Result ℕ BuildError) : Type 0 where
+  pub appends : Appends old new shape ty answer
+  pub number : IfOk answer (λ inst. inst ≡ length old.func.now.insts)
+  pub exists : IfOk answer (λ inst. inst < length new.func.now.insts)
+  pub current : is_terminator shape ≡ false → OnOk answer (CanAppend new)
+  pub grows : OnOk answer (length old.func.now.values ≤ length new.func.now.values)
+
+-- the same of an instruction that has one result and ends no block; the answer is that result
+pub record BuildsValue (old new : FuncCursor) (shape : InstructionData) (ty : «Type») (answer : Result ℕ BuildError) : Type 0 where
+  pub appends : Appends old new shape ty answer
+  pub number : IfOk answer (λ value. value ≡ length old.func.now.values)
+  pub exists : IfOk answer (λ value. value < length new.func.now.values)
+  pub current : OnOk answer (CanAppend new)
+  pub grows : OnOk answer (length old.func.now.values ≤ length new.func.now.values)
+  pub tables : OnOk answer (new.func.now.tables ≡ old.func.now.tables)
+
+-- the same of an instruction that has two results and ends no block; the answer is these
+pub record BuildsPair (old new : FuncCursor) (shape : InstructionData) (ty : «Type») (answer : Result (ℕ × ℕ) BuildError) : Type 0 where
+  pub appends : Appends old new shape ty answer
+  pub numbers : IfOk answer (λ pair. (pair.0 ≡ length old.func.now.values) × (pair.1 ≡ length old.func.now.values + 1))
+  pub exist : IfOk answer (λ pair. (pair.0 < length new.func.now.values) × (pair.1 < length new.func.now.values))
+  pub current : OnOk answer (CanAppend new)
+
+-- Bytes are pooled: the answer is the number of the constant with them, and nothing but the constants changes.
+pub record PoolsConstant (old new : FuncCursor) (bytes : List ℕ) (answer : Result ℕ BuildError) : Type 0 where
+  pub there : IsThere old new
+  pub pools : Pools bytes old.func.now.tables.constants old.func.now new.func.now (with_tables old.func.now (with_constant old.func.now.tables bytes)) answer
+  pub exists : IfOk answer (λ constant. constant < length new.func.now.tables.constants)
+  pub current : CanAppend old → OnOk answer (CanAppend new)
+
+-- the edges of the jump table with this number, if there is one that serves no instruction so far
+abbrev pub table_edges : Body → ℕ → Option (List BlockCall)
+table_edges f table = unserved (slice_get f.tables.jump_tables table)
+
+-- there is such a table, and its edges may be made
+abbrev pub MayServe : FuncCursor → ℕ → Type 0
+MayServe c table =
+    (edges : List BlockCall) × (table_edges c.func.now table ≡ Some edges) × All (EdgeExists c.func.now) edges
+
+-- The answer is the edges of a jump table, which serves an instruction from now on. Nothing else changes, and it can't fail.
+pub record TakesJumpTable (old new : FuncCursor) (table : ℕ) (answer : Result (List BlockCall) BuildError) : Type 0 where
+  pub there : IsThere old new
+  pub function : new.func.now ≡ with_tables old.func.now (with_table_served old.func.now.tables table)
+  pub edges : IfOk answer (λ edges. table_edges old.func.now table ≡ Some edges)
+  pub leads : MayServe old table → IfOk answer (λ edges. All (EdgeExists new.func.now) edges)
+  pub current : CanAppend old → OnOk answer (CanAppend new)
+  pub same_values : length new.func.now.values ≡ length old.func.now.values
+  pub never_err : IsOk answer

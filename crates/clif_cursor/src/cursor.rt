@@ -1,0 +1,194 @@
+//! The cursor, and how it makes instructions.
+ghost use Rattle.std.specs.Prelude.{◌≡◌, ◌<◌, ◌∷◌, [], length};
+ghost use Rattle.std.proofs.Common.{subst, sym};
+ghost use Rattle.std.proofs.Math.Nat.{lt_of_lt_of_le};
+ghost use Rattle.clif_tables.specs.Lists.{TableLists};
+ghost use Rattle.clif_instructions.specs.Instruction.{ASlot};
+ghost use Rattle.clif_ir.specs.Body.{value_at};
+ghost use Rattle.clif_ir.specs.Consistent.{EdgeExists, EntryExists};
+ghost use Rattle.clif_cursor.specs.Cursor.{CanAppend, Builds, BuildsPair, BuildsValue, MayServe, PoolsConstant, TakesJumpTable};
+
+use clif_inst_builder::InstBuilderBase;
+use clif_instructions::inst_list::InsertAt;
+use clif_ir::{Function, InstructionData, JumpTableData};
+use clif_types::{Block, BuildError, Constant, Inst, JumpTable, SourceLoc, Type, Value};
+use std::alloc::Global;
+
+/// Appends instructions to a block of a function, one after the other.
+///
+/// It changes nothing but the function, and that only by the instructions: the layout stays, and no predecessor is
+/// recorded anywhere. So it serves a pass over a function that is finished, and not one that a `FunctionBuilder`
+/// still builds.
+#[derive(Drop)]
+pub struct FuncCursor<'f> {
+    func: &'f mut Function,
+    block: Block,
+    srcloc: SourceLoc,
+}
+
+impl<'f> FuncCursor<'f> {
+    /// A cursor at the end of `block`. Its instructions have no source place until [`FuncCursor::set_srcloc`] gives
+    /// them one.
+    pub fn new(func: &'f mut Function, block: Block) -> Self
+        requires { block < length func.old.blocks }
+        ensures { result ≡ record { func = func.entry; block = block; srcloc = u32.MAX } }
+    {
+        FuncCursor {
+            func,
+            block,
+            srcloc: SourceLoc::new(u32::MAX),
+        }
+    }
+
+    /// The function, for reading.
+    pub fn func(&self) -> &Function
+        ensures { result.now ≡ self.now.func.now }
+    {
+        self.func
+    }
+
+    /// The block that instructions are appended to.
+    pub fn current_block(&self) -> Block
+        ensures { result ≡ self.now.block }
+    {
+        self.block
+    }
+
+    /// Goes to the end of another block.
+    pub fn goto_bottom(&mut self, block: Block)
+        requires { block < length self.old.func.now.blocks }
+        ensures { self.new ≡ record self.old { block = block } }
+    {
+        self.block = block;
+    }
+
+    /// Gives the instructions that are appended from now on this source place.
+    pub fn set_srcloc(&mut self, srcloc: SourceLoc)
+        ensures { self.new ≡ record self.old { srcloc = srcloc } }
+    {
+        self.srcloc = srcloc;
+    }
+
+    /// Lends the cursor for one instruction: `cursor.ins().iadd(x, y)?`. [`crate::InstBuilder`] has the instructions.
+    ///
+    /// The block has no terminator so far.
+    pub fn ins<'short>(&'short mut self) -> &'short mut FuncCursor<'f>
+        requires { CanAppend self.old }
+        ensures same { result.ghost_name ≡ self.entry.ghost_name }
+        ensures cursor { result.now ≡ self.old }
+    {
+        self
+    }
+}
+
+impl<'f> InstBuilderBase for FuncCursor<'f> {
+    ghost can_build = { CanAppend };
+
+    ghost has_value = { λ c value. value < length c.func.now.values };
+
+    ghost has_entry = { λ c entry. EntryExists c.func.now.tables entry };
+
+    ghost can_lead = { λ c edge. EdgeExists c.func.now edge };
+
+    ghost type_of = { λ c value. (value_at c.func.now value).ty };
+
+    ghost pools = { PoolsConstant };
+
+    ghost has_jump_table = { MayServe };
+
+    ghost takes = { TakesJumpTable };
+
+    ghost builds = { Builds };
+
+    ghost builds_value = { BuildsValue };
+
+    ghost builds_like = { λ old new shape x answer.
+        BuildsValue old new shape (value_at old.func.now x).ty answer };
+
+    ghost builds_pair = { λ old new shape x answer.
+        BuildsPair old new shape (value_at old.func.now x).ty answer };
+
+    ghost like_is_value = { λ old new shape x answer built. built };
+
+    ghost builds_on = { λ old new shape ty value built. built.current };
+
+    ghost built_exists = { λ old new shape ty value built. built.exists };
+
+    ghost others_exist = { λ old new shape ty value built other here.
+        lt_of_lt_of_le here built.grows };
+
+    ghost slots_stay = { λ old new shape ty value built slot here.
+        subst (λ (t : TableLists). EntryExists t (ASlot slot)) (sym built.tables) here };
+
+    ghost pooled_exists = { λ old new bytes constant pooled. pooled.exists };
+
+    ghost pooled_builds = { λ old new bytes constant pooled current.
+        pooled.current current };
+
+    ghost taken_leads = { λ old new table edges taken serves. taken.leads serves };
+
+    ghost taken_values = { λ old new table edges taken value here.
+        subst (λ n. value < n) (sym taken.same_values) here };
+
+    ghost taken_builds = { λ old new table edges taken current. taken.current current };
+
+    fn value_type(&self, value: Value) -> Type {
+        self.func.value_type(value)
+    }
+
+    fn allocator(&self) -> Global {
+        self.func.allocator()
+    }
+
+    fn pool_constant(&mut self, bytes: &[u8]) -> Result<Constant, BuildError> {
+        self.func.pool_constant(bytes)
+    }
+
+    fn take_jump_table(&mut self, table: JumpTable) -> Result<JumpTableData, BuildError> {
+        let Some(edges) = self.func.take_jump_table(table) else {
+            unreachable!();
+        };
+        Ok(edges)
+    }
+
+    fn build(&mut self, shape: InstructionData, ctrl_type: Type) -> Result<Inst, BuildError> {
+        self.func
+            .insert_inst(self.block, InsertAt::Back, shape, ctrl_type, self.srcloc)
+    }
+
+    fn build_value(
+        &mut self,
+        shape: InstructionData,
+        ctrl_type: Type,
+    ) -> Result<Value, BuildError> {
+        let inst = self.build(shape, ctrl_type)?;
+        Ok(self.func.inst_results(inst)[0])
+    }
+
+    fn build_like(&mut self, shape: InstructionData, like: Value) -> Result<Value, BuildError> {
+        let ty = self.func.value_type(like);
+        self.build_value(shape, ty)
+    }
+
+    fn build_pair(
+        &mut self,
+        shape: InstructionData,
+        like: Value,
+    ) -> Result<(Value, Value), BuildError> {
+        let ty = self.func.value_type(like);
+        let inst = self.build(shape, ty)?;
+        Ok(both_values(self.func.inst_results(inst)))
+    }
+
+    fn refuse(&mut self) -> BuildError {
+        BuildError::Memory
+    }
+}
+
+// The two values of a list.
+fn both_values(values: &[Value]) -> (Value, Value)
+    requires { length values.now ≡ 2 }
+    ensures { values.now ≡ result.0 ∷ result.1 ∷ [] }
+{
+    (values[0], values[1])
+}

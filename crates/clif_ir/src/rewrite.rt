@@ -1,0 +1,119 @@
+//! The calls that rewrite an instruction in its place, which are its targets, its operands, and what its edges pass,
+//! and those that put an instruction beside another one.
+//!
+//! A call that rewrites takes no memory, and can't fail. The number of the instruction stays, and so do its results,
+//! its block and its source place.
+ghost use Rattle.std.specs.Prelude.{◌≡◌, ◌≢◌, ◌<◌, ◌+◌, ◌-◌, ◌^◌, length, slice_index, EachIndex, All, IfOk, OnOk, OnErr};
+ghost use Rattle.clif_instructions.specs.Edges.{edge_at};
+ghost use Rattle.clif_instructions.specs.Instruction.{entries_of, operands, destinations, result_count, result_types};
+ghost use Rattle.clif_ir.specs.Body.{block_at, inst_at};
+ghost use Rattle.clif_ir.specs.Changes.{HasNoRoom, with_branch_target, with_inst, with_operand_at, with_passed_argument};
+ghost use Rattle.clif_ir.specs.Consistent.{EdgeExists, EntryExists};
+ghost use Rattle.clif_ir.specs.Reading.{place_in_block};
+
+use crate::function::Function;
+use clif_instructions::inst_list::InsertAt;
+use clif_instructions::instructions::InstructionData;
+use clif_types::{Block, BuildError, EntityRef, Inst, SourceLoc, Type, Value};
+
+impl Function {
+    /// Makes each edge of an instruction that goes to `from` go to `to`. What it passes stays.
+    pub fn change_branch_target(&mut self, inst: Inst, from: Block, to: Block)
+        requires inst_exists { inst < length self.old.insts }
+        requires target_exists { to < length self.old.blocks }
+        ensures { self.new ≡ with_branch_target self.old inst from to }
+    {
+        self.insts[inst.index()].shape.change_target(from, to);
+    }
+
+    /// Makes `value` the operand of an instruction at `place`, in the order in which operands are printed.
+    pub fn replace_operand(&mut self, inst: Inst, place: usize, value: Value)
+        requires inst_exists { inst < length self.old.insts }
+        requires place_exists { place < length (operands (inst_at self.old inst).shape) }
+        requires value_exists { value < length self.old.values }
+        ensures { self.new ≡ with_operand_at self.old inst place value }
+    {
+        self.insts[inst.index()].shape.set_operand(place, value);
+    }
+
+    /// Makes `value` what an edge of an instruction passes at `place`, in place of what it passed there. Edges
+    /// are counted from 0 on, in the order in which they are printed.
+    pub fn replace_branch_argument(&mut self, inst: Inst, edge: usize, place: usize, value: Value)
+        requires inst_exists { inst < length self.old.insts }
+        requires edge_exists { edge < length (destinations (inst_at self.old inst).shape) }
+        requires place_exists { place < length (edge_at (destinations (inst_at self.old inst).shape) edge).args }
+        requires value_exists { value < length self.old.values }
+        ensures { self.new ≡ with_passed_argument self.old inst edge place value }
+    {
+        self.insts[inst.index()]
+            .shape
+            .set_edge_argument(edge, place, value);
+    }
+
+    /// Makes an instruction and puts it right before the instruction `next` of a block.
+    ///
+    /// It costs a step for each instruction of the block before the new one, and is otherwise as
+    /// [`Function::insert_inst`] says.
+    pub fn insert_inst_before(
+        &mut self,
+        next: Inst,
+        shape: InstructionData,
+        ctrl_type: Type,
+        srcloc: SourceLoc,
+    ) -> Result<Inst, BuildError>
+        requires inst_exists { next < length self.old.insts }
+        requires operands_exist { EachIndex (operands shape) (λ k. slice_index (operands shape) k < length self.old.values) }
+        requires edges_exist { All (EdgeExists self.old) (destinations shape) }
+        requires entries_exist { All (EntryExists self.old.tables) (entries_of shape) }
+        ensures ok { OnOk result (self.new ≡
+            with_inst self.old (inst_at self.old next).block (InsertAt.Behind (place_in_block self.old next)) shape (result_types shape ctrl_type) srcloc) }
+        ensures number { IfOk result (λ i. i ≡ length self.old.insts) }
+        ensures full { result ≡ Err BuildError.Full → HasNoRoom self.old (result_count shape) }
+        ensures at_limit { HasNoRoom self.old (result_count shape) → result ≡ Err BuildError.Full }
+        ensures never_failed { result ≢ Err BuildError.Failed }
+        ensures err { OnErr result (self.new ≡ self.old) }
+    {
+        let (block, place) = self.place_in_block(next);
+        self.insert_inst(block, InsertAt::Behind(place), shape, ctrl_type, srcloc)
+    }
+
+    /// Makes an instruction and puts it right behind the instruction `previous` of a block.
+    ///
+    /// It costs a step for each instruction of the block before the new one, and is otherwise as
+    /// [`Function::insert_inst`] says.
+    pub fn insert_inst_after(
+        &mut self,
+        previous: Inst,
+        shape: InstructionData,
+        ctrl_type: Type,
+        srcloc: SourceLoc,
+    ) -> Result<Inst, BuildError>
+        requires inst_exists { previous < length self.old.insts }
+        requires operands_exist { EachIndex (operands shape) (λ k. slice_index (operands shape) k < length self.old.values) }
+        requires edges_exist { All (EdgeExists self.old) (destinations shape) }
+        requires entries_exist { All (EntryExists self.old.tables) (entries_of shape) }
+        ensures ok { OnOk result (self.new ≡
+            with_inst self.old (inst_at self.old previous).block (InsertAt.Behind (place_in_block self.old previous + 1)) shape (result_types shape ctrl_type) srcloc) }
+        ensures number { IfOk result (λ i. i ≡ length self.old.insts) }
+        ensures full { result ≡ Err BuildError.Full → HasNoRoom self.old (result_count shape) }
+        ensures at_limit { HasNoRoom self.old (result_count shape) → result ≡ Err BuildError.Full }
+        ensures never_failed { result ≢ Err BuildError.Failed }
+        ensures err { OnErr result (self.new ≡ self.old) }
+    {
+        let (block, place) = self.place_in_block(previous);
+        self.insert_inst(block, InsertAt::Behind(place + 1), shape, ctrl_type, srcloc)
+    }
+
+    // The block of an instruction, and its place there.
+    fn place_in_block(&self, inst: Inst) -> (Block, usize)
+        requires { inst < length self.now.insts }
+        ensures block { result.0 ≡ (inst_at self.now inst).block }
+        ensures exists { result.0 < length self.now.blocks }
+        ensures place { result.1 ≡ place_in_block self.now inst }
+        ensures inside { result.1 < length (block_at self.now result.0).insts }
+        ensures small { result.1 < 2 ^ 64 - 1 }
+    {
+        self.law_consistent();
+        (self.insts[inst.index()].block, self.inst_place(inst))
+    }
+}
