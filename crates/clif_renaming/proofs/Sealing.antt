@@ -1,12 +1,12 @@
 -- Scripts that differ only in when blocks are sealed show the same, and functions that mean what they mean have the same
 -- meaning.
-use Rattle.std.proofs.Common.{◌≡◌, ℕ, List, length, drop, refl, sym, ◌∙◌, ap, subst, Option}
+use Rattle.std.proofs.Common.{◌≡◌, ℕ, List, length, drop, refl, sym, ◌∙◌, ap, subst}
 use Rattle.std.specs.Prelude.{slice_get, option_map}
 use Rattle.clif_types.specs.StackSlot.{StackSlotShape}
 use Rattle.clif_tables.specs.Lists.{TableLists}
 use Rattle.clif_meaning.specs.FunctionView.{FunctionView}
 use Rattle.clif_meaning.specs.Headline.{IsWorldOf, function_behaviour, script_behaviour, script_run}
-use Rattle.clif_meaning.specs.Ledger.{Answered, VariableState, ledger_after, or_invalid, slot_count, value_answer_type}
+use Rattle.clif_meaning.specs.Ledger.{VariableState, ledger_after, or_invalid, slot_count}
 use Rattle.clif_meaning.specs.Machine.{observed}
 use Rattle.clif_meaning.specs.Request.{Script}
 use Rattle.clif_meaning.specs.SameMeaning.{Behaviour, SameMeaning}
