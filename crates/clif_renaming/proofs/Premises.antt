@@ -1,21 +1,26 @@
--- Scripts that differ only in when blocks are sealed meet the premises in the same worlds.
-use Rattle.std.proofs.Common.{◌≡◌, ◌↔◌, ℕ, List, drop, ap}
+-- Scripts that differ only in when blocks are sealed meet the premises in the same worlds, and functions that mean what they
+-- mean have the same meaning.
+use Rattle.std.proofs.Common.{◌≡◌, ◌↔◌, ℕ, List, drop, ap, subst}
 use Rattle.std.specs.Prelude.{option_map, slice_get}
 use Rattle.clif_types.specs.Signature.{SignatureShape}
 use Rattle.clif_types.specs.StackSlot.{StackSlotShape}
+use Rattle.clif_types.specs.Target.{pointer_type_of}
 use Rattle.clif_types.specs.declared.types.«Type».{«Type»}
 use Rattle.clif_meaning.specs.FunctionView.{FunctionView}
-use Rattle.clif_meaning.specs.Headline.{script_run}
+use Rattle.clif_meaning.specs.Headline.{IsWorldOf, function_behaviour, script_behaviour, script_run}
 use Rattle.clif_meaning.specs.Ledger.{VariableState, ledger_after, or_invalid, slot_count, type_of, variable_type}
+use Rattle.clif_meaning.specs.Machine.{observed}
 use Rattle.clif_meaning.specs.Name.{Name}
 use Rattle.clif_meaning.specs.Premises.{Premises}
 use Rattle.clif_meaning.specs.Program.{program_of}
 use Rattle.clif_meaning.specs.Request.{Script}
-use Rattle.clif_meaning.specs.ScriptMachine.{ScriptRun}
+use Rattle.clif_meaning.specs.SameMeaning.{SameMeaning}
+use Rattle.clif_meaning.specs.ScriptMachine.{ScriptRun, script_machine}
 use Rattle.clif_meaning.specs.Store.{in_slots_from}
 use Rattle.clif_meaning.specs.Tracked.{is_tracked}
-use Rattle.clif_meaning.specs.World.{World}
-use Rattle.clif_renaming.specs.Laws.{PremisesStay}
+use Rattle.clif_meaning.specs.World.{PlacesSlots, World}
+use Rattle.clif_meaning.proofs.Simulation.{symmetric, transitive}
+use Rattle.clif_renaming.specs.Laws.{FunctionsMeanTheSame, PremisesStay}
 use Rattle.clif_renaming.specs.Sealing.{name_left, unsealed, without_seals}
 use Rattle.clif_renaming.proofs.Filled.{unsealed_filled}
 use Rattle.clif_renaming.proofs.Images.{bare_elsewhere}
@@ -24,7 +29,7 @@ use Rattle.clif_renaming.proofs.Ledgers.{unsealed_tables, unsealed_types}
 use Rattle.clif_renaming.proofs.PlacedNames.{placed_alike}
 use Rattle.clif_renaming.proofs.Places.{names_apart}
 use Rattle.clif_renaming.proofs.Programs.{unsealed_program}
-use Rattle.clif_renaming.proofs.Sealing.{unsealed_run}
+use Rattle.clif_renaming.proofs.Sealing.{same_shown, unsealed_run}
 use Rattle.clif_renaming.proofs.StepPremises.{claims_true_alike, slots_spared_alike}
 use Rattle.clif_renaming.proofs.TrackedNames.{unsealed_marked, unsealed_tracked}
 
@@ -92,3 +97,19 @@ premises_stay left right signature pointer f g world differ slots =
     (exactly_then (said_of_equals (λ (script : Script). Premises script signature pointer (script_run script f world)) (unsealed left) (unsealed right) differ)
     (exactly_then (turned (premises_unsealed right signature pointer f world))
     (said_of_equals (λ (run : ScriptRun). Premises right signature pointer run) (script_run right f world) (script_run right g world) (same_run right f g world slots))))
+
+pub functions_mean_the_same : FunctionsMeanTheSame
+functions_mean_the_same left right signature width f g world differ slots left_means right_means is left_meets =
+    let also : IsWorldOf signature g width world = record {
+      arguments = is.arguments;
+      pointers = is.pointers;
+      slots = subst (λ (list : List StackSlotShape). PlacesSlots world list) slots is.slots;
+    } in
+    let right_meets = (premises_stay left right signature (pointer_type_of width) f g world differ slots).0 left_meets in
+    let first = symmetric (script_behaviour left f world) (function_behaviour left f world) (left_means world is left_meets) in
+    let middle : SameMeaning (script_behaviour left f world) (script_behaviour right g world) =
+    subst (λ (run : ScriptRun). SameMeaning (script_behaviour left f world) (observed (script_machine run))) (same_run right f g world slots)
+    (same_shown left right f world differ).same_meaning in
+    transitive (function_behaviour left f world) (script_behaviour left f world) (function_behaviour right g world) first
+    (transitive (script_behaviour left f world) (script_behaviour right g world) (function_behaviour right g world) middle
+    (right_means world also right_meets))

@@ -15,14 +15,14 @@ pub fn sealing_is_free()
     ensures { SealingIsFree }
 {}
 
-/// Functions that mean what such scripts mean have the same meaning.
-pub fn functions_mean_the_same()
-    ensures { FunctionsMeanTheSame }
-{}
-
 /// Where one of two such scripts meets the premises of the theorem on finished functions, the other one does.
 pub fn premises_stay()
     ensures { PremisesStay }
+{}
+
+/// Functions that mean what such scripts mean have the same meaning.
+pub fn functions_mean_the_same()
+    ensures { FunctionsMeanTheSame }
 {}
 
 /// Scripts that differ only in when blocks are sealed, and some that differ in more.
