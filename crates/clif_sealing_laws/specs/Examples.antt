@@ -1,10 +1,17 @@
 -- Worked examples: lists of calls that `replay` accepts and that differ only in when a block is sealed, and a list that differs
--- in more. Own.
+-- in more; and a loop that meets the premises of the theorem however its blocks are sealed. The rows `sample` and `sample_late`
+-- are after the documentation of cranelift-frontend, the others own.
 use Rattle.std.specs.Prelude.{◌≡◌, ℕ, List, [], ◌∷◌}
 use Rattle.clif_types.specs.Signature.{SignatureShape}
+use Rattle.clif_types.specs.Target.{pointer_type_of}
+use Rattle.clif_types.specs.declared.target.PointerWidth.TheVariants.{U64}
 use Rattle.clif_types.specs.declared.trapcode.TrapCode.TheVariants.{IntegerOverflow}
 use Rattle.clif_meaning.specs.Acceptance.{Accepted, verdict_on_attempts}
 use Rattle.clif_meaning.specs.Examples.{i32}
+use Rattle.clif_meaning.specs.Headline.{script_run}
+use Rattle.clif_meaning.specs.Premises.{Premises}
+use Rattle.clif_meaning.specs.SampleExamples.{sample_function, sample_late_script, sample_script, sample_signature}
+use Rattle.clif_meaning.specs.World.{World}
 use Rattle.clif_calls.specs.declared.call.Call.{Call}
 use Rattle.clif_calls.specs.declared.call.Call.TheVariants as call
 use Rattle.clif_calls.specs.declared.call.Name.{Name}
@@ -33,3 +40,7 @@ pub record SealingLawExamples (signature : SignatureShape) : Type 0 where
   pub last_accepted : verdict_on_attempts (attempts_of signature (sealed_last 0)) ≡ Accepted
   -- wrong: another variable is used
   pub other_variable : DifferInSealing (requests_of signature sealed_first) (requests_of signature (sealed_last 1)) → ⊥
+  -- the row `sample` seals its blocks as soon as may be, and meets the premises in every world; so does `sample_late`, which seals
+  -- them all at the end
+  pub rows_differ : DifferInSealing sample_script sample_late_script
+  pub late_meets : (world : World) → Premises sample_late_script sample_signature (pointer_type_of U64) (script_run sample_late_script sample_function world)

@@ -1,10 +1,12 @@
-//! Laws on two finished functions whose scripts differ only in when blocks are sealed. The functions here have empty bodies,
-//! and their contracts are the laws.
+//! Laws on two finished functions whose scripts differ only in when blocks are sealed. The contracts of the functions here are
+//! the laws; their bodies are empty, or cite another law.
 #![tactic(auto)]
 
 ghost use Rattle.clif_types.specs.Signature.{SignatureShape};
 ghost use Rattle.clif_sealing_laws.specs.Examples.{SealingLawExamples};
 ghost use Rattle.clif_sealing_laws.specs.Laws.{BuiltFunctionsAgree, ReplayedFunctionsAgree};
+
+use clif_simulation::examples::sample_meets_premises;
 
 /// Two finished functions, whose builders stood for calls that differ only in when blocks are sealed, have the same meaning
 /// in each world in which one of the scripts meets the premises.
@@ -17,7 +19,10 @@ pub fn replayed_functions_agree()
     ensures { ReplayedFunctionsAgree }
 {}
 
-/// Lists of calls that differ only in when blocks are sealed, and some that differ in more.
+/// Lists of calls that differ only in when blocks are sealed, one that differs in more, and a loop that meets the premises
+/// however its blocks are sealed.
 pub fn sealing_law_examples()
     ensures { (signature : SignatureShape) → SealingLawExamples signature }
-{}
+{
+    sample_meets_premises();
+}
