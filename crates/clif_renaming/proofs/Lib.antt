@@ -4,5 +4,11 @@ pub mod Places
 pub mod Programs
 pub mod Ledgers
 pub mod TrackedNames
+pub mod Images
+pub mod PlacedNames
+pub mod Filled
+pub mod ItemPremises
+pub mod StepPremises
 pub mod Sealing
+pub mod Premises
 pub mod RenamingRow

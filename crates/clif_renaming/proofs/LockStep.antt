@@ -17,11 +17,11 @@ use Rattle.clif_meaning.specs.ScriptMachine.{ScriptRun, ScriptState, blank_state
 use Rattle.clif_meaning.specs.Store.{assigned, memory_beside, shown_memory}
 use Rattle.clif_meaning.specs.World.{World}
 use Rattle.clif_renaming.specs.Laws.{NamesAreFree, ShowTheSame}
-use Rattle.clif_renaming.specs.Renaming.{AreRenamedItems, IsRenamedItem, IsRenamedProgram, KeepsApart, renamed_edge, renamed_instruction}
+use Rattle.clif_renaming.specs.Renaming.{AreRenamedItems, IsRenamedItem, IsRenamedProgram, IsRenamedRun, KeepsApart, renamed_edge, renamed_instruction}
 use Rattle.clif_renaming.proofs.RenamedNames.{arguments_renamed, assigned_renamed, each_renamed}
 
 -- the same place of the two programs
-abbrev IsRenamedControl : (Name → Name) → Control Item → Control Item → Type 0
+abbrev pub IsRenamedControl : (Name → Name) → Control Item → Control Item → Type 0
 IsRenamedControl rename (At rest) (At renamed) = AreRenamedItems rename rest renamed
 IsRenamedControl rename (HasReturned results) (HasReturned renamed) = renamed ≡ results
 IsRenamedControl rename (HasTrapped reason) (HasTrapped other) = other ≡ reason
@@ -29,25 +29,25 @@ IsRenamedControl rename IsStuck IsStuck = Unit {0}
 IsRenamedControl rename _ _ = ⊥
 
 -- the second state is the first one renamed
-record IsRenamedState (rename : Name → Name) (state renamed : ScriptState) : Type 0 where
-  variables : renamed.variables ≡ state.variables
-  names : (x : Name) → renamed.names (rename x) ≡ state.names x
-  memory : renamed.memory ≡ state.memory
-  events : renamed.events ≡ state.events
-  control : IsRenamedControl rename state.control renamed.control
+pub record IsRenamedState (rename : Name → Name) (state renamed : ScriptState) : Type 0 where
+  pub variables : renamed.variables ≡ state.variables
+  pub names : (x : Name) → renamed.names (rename x) ≡ state.names x
+  pub memory : renamed.memory ≡ state.memory
+  pub events : renamed.events ≡ state.events
+  pub control : IsRenamedControl rename state.control renamed.control
 
 -- Two runs in one world, with the same variables and spill slots.
 module _ (rename : Name → Name) (apart : KeepsApart rename) (world : World) (hidden : ℕ → Bool) (variable_type : ℕ → «Type») (is_marked : ℕ → Bool)
     (program program' : Program) (name_type name_type' : Name → «Type») (is_tracked is_tracked' : Name → Bool)
     (renamed : IsRenamedProgram rename program program') (same_type : (x : Name) → name_type' (rename x) ≡ name_type x)
     (same_tracked : (x : Name) → is_tracked' (rename x) ≡ is_tracked x) where
-  abbrev run : ScriptRun
+  abbrev pub run : ScriptRun
   run = record { program = program; variable_type = variable_type; name_type = name_type; is_marked = is_marked; is_tracked = is_tracked; hidden = hidden; world = world }
 
-  abbrev run' : ScriptRun
+  abbrev pub run' : ScriptRun
   run' = record { program = program'; variable_type = variable_type; name_type = name_type'; is_marked = is_marked; is_tracked = is_tracked'; hidden = hidden; world = world }
 
-  abbrev Alike : ScriptState → ScriptState → Type 0
+  abbrev pub Alike : ScriptState → ScriptState → Type 0
   Alike s t = IsRenamedState rename s t
 
   stuck : (s t : ScriptState) → Alike s t → Alike (record s { control = IsStuck }) (record t { control = IsStuck })
@@ -212,7 +212,7 @@ module _ (rename : Name → Name) (apart : KeepsApart rename) (world : World) (h
   started None = blank
   started (Some entry) = entered (blank_state run) (blank_state run') entry world.arguments blank
 
-  in_step : (n : ℕ) → Alike (state_after (script_machine run) n) (state_after (script_machine run') n)
+  pub in_step : (n : ℕ) → Alike (state_after (script_machine run) n) (state_after (script_machine run') n)
   in_step zero = subst (λ (entry : Option Name). Alike (start_at run program.entry) (start_at run' entry)) (sym renamed.entry) (started program.entry)
   in_step (suc n) =
       let before = in_step n in
@@ -252,29 +252,39 @@ show_the_same left right same = record {
   same_meaning = record { there = λ n. (n, same n); back = λ n. (n, sym (same n)) };
 }
 
+-- the second run, with the variables, the spill slots and the world of the first one
+abbrev pub with_world_of : ScriptRun → ScriptRun → ScriptRun
+with_world_of run renamed = record {
+  program = renamed.program;
+  variable_type = run.variable_type;
+  name_type = renamed.name_type;
+  is_marked = run.is_marked;
+  is_tracked = renamed.is_tracked;
+  hidden = run.hidden;
+  world = run.world;
+}
+
 -- The renamed run is one in the same world, with the same variables and spill slots.
+pub same_world : (rename : Name → Name) (first renamed : ScriptRun) → IsRenamedRun rename first renamed → with_world_of first renamed ≡ renamed
+same_world rename first renamed is = sym (λ i. record {
+  program = renamed.program;
+  variable_type = fun_ext is.variable_type i;
+  name_type = renamed.name_type;
+  is_marked = fun_ext is.is_marked i;
+  is_tracked = renamed.is_tracked;
+  hidden = fun_ext is.hidden i;
+  world = is.world i;
+})
+
+pub states_alike : (rename : Name → Name) (first renamed : ScriptRun) → KeepsApart rename → IsRenamedRun rename first renamed → (n : ℕ)
+    → IsRenamedState rename (state_after (script_machine first) n) (state_after (script_machine (with_world_of first renamed)) n)
+states_alike rename first renamed apart is n =
+    in_step rename apart first.world first.hidden first.variable_type first.is_marked first.program renamed.program
+    first.name_type renamed.name_type first.is_tracked renamed.is_tracked is.program is.name_type is.is_tracked n
+
 pub names_are_free : NamesAreFree
 names_are_free rename run renamed apart is =
     show_the_same (observed (script_machine run)) (observed (script_machine renamed)) (λ n.
     observed_alike rename apart run.world run.hidden run.variable_type run.is_marked run.program renamed.program
     run.name_type renamed.name_type run.is_tracked renamed.is_tracked is.program is.name_type is.is_tracked n
-    ∙ ap (λ (r : ScriptRun). observed (script_machine r) n) same)
-  where
-    same : record {
-      program = renamed.program;
-      variable_type = run.variable_type;
-      name_type = renamed.name_type;
-      is_marked = run.is_marked;
-      is_tracked = renamed.is_tracked;
-      hidden = run.hidden;
-      world = run.world;
-    } ≡ renamed
-    same = sym (λ i. record {
-      program = renamed.program;
-      variable_type = fun_ext is.variable_type i;
-      name_type = renamed.name_type;
-      is_marked = fun_ext is.is_marked i;
-      is_tracked = renamed.is_tracked;
-      hidden = fun_ext is.hidden i;
-      world = is.world i;
-    })
+    ∙ ap (λ (r : ScriptRun). observed (script_machine r) n) (same_world rename run renamed is))

@@ -8,7 +8,7 @@ use Rattle.clif_meaning.specs.Name.{Name, answer_of, same_name}
 use Rattle.clif_meaning.specs.Store.{argument_bits, assigned}
 use Rattle.clif_renaming.specs.Renaming.{KeepsApart, renamed_argument}
 
-names_equal : (a b : Name) → same_name a b ≡ true → a ≡ b
+pub names_equal : (a b : Name) → same_name a b ≡ true → a ≡ b
 names_equal a b same =
     let both = and_parts (a.place == b.place) (a.index == b.index) same in
     ap₂ answer_of (eqb-true a.place b.place both.0) (eqb-true a.index b.index both.1)

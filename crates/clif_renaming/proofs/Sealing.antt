@@ -1,20 +1,14 @@
--- Scripts that differ only in when blocks are sealed show the same, and functions that mean what they mean have the same
--- meaning.
-use Rattle.std.proofs.Common.{◌≡◌, ℕ, List, length, drop, refl, sym, ◌∙◌, ap, subst, Option}
+-- Scripts that differ only in when blocks are sealed show the same.
+use Rattle.std.proofs.Common.{◌≡◌, ℕ, List, length, drop, refl, sym, ◌∙◌, ap}
 use Rattle.std.specs.Prelude.{slice_get, option_map}
-use Rattle.clif_types.specs.StackSlot.{StackSlotShape}
 use Rattle.clif_tables.specs.Lists.{TableLists}
 use Rattle.clif_meaning.specs.FunctionView.{FunctionView}
-use Rattle.clif_meaning.specs.Headline.{IsWorldOf, function_behaviour, script_behaviour, script_run}
-use Rattle.clif_meaning.specs.Ledger.{Answered, VariableState, ledger_after, or_invalid, slot_count, value_answer_type}
-use Rattle.clif_meaning.specs.Machine.{observed}
+use Rattle.clif_meaning.specs.Headline.{script_behaviour, script_run}
+use Rattle.clif_meaning.specs.Ledger.{VariableState, or_invalid}
 use Rattle.clif_meaning.specs.Request.{Script}
-use Rattle.clif_meaning.specs.SameMeaning.{Behaviour, SameMeaning}
-use Rattle.clif_meaning.specs.ScriptMachine.{script_machine}
 use Rattle.clif_meaning.specs.Store.{in_slots_from}
-use Rattle.clif_meaning.specs.World.{PlacesSlots, World}
-use Rattle.clif_meaning.proofs.Simulation.{symmetric, transitive}
-use Rattle.clif_renaming.specs.Laws.{FunctionsMeanTheSame, SealingIsFree, ShowTheSame}
+use Rattle.clif_meaning.specs.World.{World}
+use Rattle.clif_renaming.specs.Laws.{SealingIsFree, ShowTheSame}
 use Rattle.clif_renaming.specs.Renaming.{IsRenamedRun}
 use Rattle.clif_renaming.specs.Sealing.{DifferInSealing, name_left, unsealed}
 use Rattle.clif_renaming.proofs.Ledgers.{unsealed_tables, unsealed_types}
@@ -47,25 +41,3 @@ same_shown left right function world differ =
 
 pub sealing_is_free : SealingIsFree
 sealing_is_free = record { apart = names_apart; renamed = unsealed_run; same = same_shown }
-
--- what a script shows depends on the slots of the function alone
-same_slots : (script : Script) (f g : FunctionView) (world : World) → f.slots ≡ g.slots → script_behaviour script f world ≡ script_behaviour script g world
-same_slots script f g world same =
-    ap (λ (slots : List StackSlotShape). observed (script_machine (record (script_run script f world) {
-      hidden = λ address. in_slots_from world (slot_count (ledger_after script)) (drop (slot_count (ledger_after script)) slots) address;
-    }))) same
-
-pub functions_mean_the_same : FunctionsMeanTheSame
-functions_mean_the_same left right signature width f g world differ slots left_means right_means is left_meets right_meets =
-    let also : IsWorldOf signature g width world = record {
-      arguments = is.arguments;
-      pointers = is.pointers;
-      slots = subst (λ (list : List StackSlotShape). PlacesSlots world list) slots is.slots;
-    } in
-    let first = symmetric (script_behaviour left f world) (function_behaviour left f world) (left_means world is left_meets) in
-    let middle : SameMeaning (script_behaviour left f world) (script_behaviour right g world) =
-    subst (λ (run : Behaviour). SameMeaning (script_behaviour left f world) run) (same_slots right f g world slots)
-    (same_shown left right f world differ).same_meaning in
-    transitive (function_behaviour left f world) (script_behaviour left f world) (function_behaviour right g world) first
-    (transitive (script_behaviour left f world) (script_behaviour right g world) (function_behaviour right g world) middle
-    (right_means world also right_meets))

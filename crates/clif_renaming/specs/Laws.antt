@@ -1,7 +1,8 @@
 -- The laws of renaming, as the contracts of this crate's functions state them.
-use Rattle.std.specs.Prelude.{◌≡◌, ℕ}
+use Rattle.std.specs.Prelude.{◌≡◌, ◌↔◌, ℕ}
 use Rattle.clif_types.specs.declared.target.PointerWidth.{PointerWidth}
 use Rattle.clif_types.specs.Signature.{SignatureShape}
+use Rattle.clif_types.specs.declared.types.«Type».{«Type»}
 use Rattle.clif_types.specs.Target.{pointer_type_of}
 use Rattle.clif_meaning.specs.FunctionView.{FunctionView}
 use Rattle.clif_meaning.specs.Headline.{IsWorldOf, MeansTheSame, function_behaviour, script_behaviour, script_run}
@@ -35,8 +36,16 @@ pub record SealingIsFree : Type 0 where
   pub same : (left right : Script) (function : FunctionView) (world : World) → DifferInSealing left right
       → ShowTheSame (script_behaviour left function world) (script_behaviour right function world)
 
--- Two functions that mean what such scripts mean have the same meaning, in each world of both in which both scripts meet the
--- premises, where the functions have the same slots.
+-- Scripts that differ only in when blocks are sealed meet the premises in the same worlds, beside functions with the same
+-- slots. Source: own.
+abbrev pub PremisesStay : Type 0
+PremisesStay =
+    (left right : Script) (signature : SignatureShape) (pointer : «Type») (f g : FunctionView) (world : World)
+    → DifferInSealing left right → f.slots ≡ g.slots
+    → Premises left signature pointer (script_run left f world) ↔ Premises right signature pointer (script_run right g world)
+
+-- Two functions that mean what such scripts mean have the same meaning, in each world in which the first script meets the
+-- premises, where the functions have the same slots. Source: own.
 abbrev pub FunctionsMeanTheSame : Type 0
 FunctionsMeanTheSame =
     (left right : Script) (signature : SignatureShape) (width : PointerWidth) (f g : FunctionView) (world : World)
@@ -44,5 +53,4 @@ FunctionsMeanTheSame =
     → MeansTheSame left signature width f → MeansTheSame right signature width g
     → IsWorldOf signature f width world
     → Premises left signature (pointer_type_of width) (script_run left f world)
-    → Premises right signature (pointer_type_of width) (script_run right g world)
     → SameMeaning (function_behaviour left f world) (function_behaviour right g world)

@@ -3,7 +3,7 @@
 #![tactic(auto)]
 
 ghost use Rattle.clif_renaming.specs.Examples.{RenamingExamples};
-ghost use Rattle.clif_renaming.specs.Laws.{FunctionsMeanTheSame, NamesAreFree, SealingIsFree};
+ghost use Rattle.clif_renaming.specs.Laws.{FunctionsMeanTheSame, NamesAreFree, PremisesStay, SealingIsFree};
 
 /// The run of a script's program and the same run with its names renamed show the same after each number of steps.
 pub fn names_are_free()
@@ -13,6 +13,11 @@ pub fn names_are_free()
 /// Scripts that differ only in when blocks are sealed show the same after each number of steps.
 pub fn sealing_is_free()
     ensures { SealingIsFree }
+{}
+
+/// Where one of two such scripts meets the premises of the theorem on finished functions, the other one does.
+pub fn premises_stay()
+    ensures { PremisesStay }
 {}
 
 /// Functions that mean what such scripts mean have the same meaning.

@@ -1,0 +1,57 @@
+-- Finished functions of scripts that differ only in when blocks are sealed have the same slots, and so the same meaning.
+use Rattle.std.proofs.Common.{◌≡◌, ℕ, List, refl, sym, ◌∙◌, ap, Option}
+use Rattle.clif_types.specs.Signature.{SignatureShape}
+use Rattle.clif_types.specs.declared.target.PointerWidth.{PointerWidth}
+use Rattle.clif_types.specs.Target.{pointer_type_of}
+use Rattle.clif_tables.specs.Lists.{TableLists}
+use Rattle.clif_ir.specs.Body.{Body}
+use Rattle.clif_meaning.specs.Headline.{IsWorldOf, MeansTheSame, function_behaviour, script_run}
+use Rattle.clif_meaning.specs.Ledger.{ledger_after}
+use Rattle.clif_meaning.specs.Premises.{Premises}
+use Rattle.clif_meaning.specs.Request.{AnsweredCall, Script, script_of}
+use Rattle.clif_meaning.specs.SameMeaning.{SameMeaning}
+use Rattle.clif_meaning.specs.View.{view_of}
+use Rattle.clif_meaning.specs.World.{World}
+use Rattle.clif_renaming.specs.Sealing.{DifferInSealing}
+use Rattle.clif_renaming.proofs.Ledgers.{unsealed_tables}
+use Rattle.clif_renaming.proofs.Premises.{functions_mean_the_same}
+use Rattle.clif_replay.specs.Requests.{requests_of}
+use Rattle.cranelift_frontend.specs.Context.{ContextState}
+use Rattle.cranelift_frontend.specs.StandsFor.{StandsIn}
+use Rattle.clif_sealing_laws.specs.Laws.{BuiltFunctionsAgree, ReplayedFunctionsAgree}
+
+-- such scripts make the same entries of tables
+same_tables : (left right : Script) → DifferInSealing left right → (ledger_after left).tables ≡ (ledger_after right).tables
+same_tables left right differ =
+    sym (unsealed_tables left).tables ∙ ap (λ (script : Script). (ledger_after script).tables) differ ∙ (unsealed_tables right).tables
+
+-- the tables of a function are those of its script
+tables_of_script : (script : Script) (calls : List AnsweredCall) (declared : SignatureShape) (f : Body) (c : ContextState) (position : Option ℕ)
+    → script_of calls ≡ script → StandsIn declared calls f c position → f.tables.stack_slots ≡ (ledger_after script).tables.stack_slots
+tables_of_script script calls declared f c position is stands =
+    sym (ap (λ (tables : TableLists). tables.stack_slots) stands.ledger.tables) ∙ ap (λ (s : Script). (ledger_after s).tables.stack_slots) is
+
+functions_agree : (left right : Script) (calls others : List AnsweredCall) (declared : SignatureShape) (width : PointerWidth) (f g : Body) (c d : ContextState) (p q : Option ℕ) (world : World)
+    → DifferInSealing left right → script_of calls ≡ left → script_of others ≡ right
+    → StandsIn declared calls f c p → StandsIn declared others g d q
+    → MeansTheSame left declared width (view_of f) → MeansTheSame right declared width (view_of g)
+    → IsWorldOf declared (view_of f) width world
+    → Premises left declared (pointer_type_of width) (script_run left (view_of f) world)
+    → SameMeaning (function_behaviour left (view_of f) world) (function_behaviour right (view_of g) world)
+functions_agree left right calls others declared width f g c d p q world differ is_left is_right first second first_means second_means is meets =
+    let slots : (view_of f).slots ≡ (view_of g).slots =
+    tables_of_script left calls declared f c p is_left first
+    ∙ ap (λ (tables : TableLists). tables.stack_slots) (same_tables left right differ)
+    ∙ sym (tables_of_script right others declared g d q is_right second) in
+    functions_mean_the_same left right declared width (view_of f) (view_of g) world differ slots first_means second_means is meets
+
+pub built_functions_agree : BuiltFunctionsAgree
+built_functions_agree calls others declared width f g world differ first second is meets =
+    functions_agree (script_of calls) (script_of others) calls others declared width f g first.context second.context first.position second.position world
+    differ refl refl first.stands second.stands first.same_meaning second.same_meaning is meets
+
+pub replayed_functions_agree : ReplayedFunctionsAgree
+replayed_functions_agree calls others declared width f g world differ first second is meets =
+    functions_agree (requests_of declared calls) (requests_of declared others) first.built.made second.built.made declared width f g
+    first.built.context second.built.context first.built.position second.built.position world
+    differ first.built.script second.built.script first.built.stands second.built.stands first.same_meaning second.same_meaning is meets

@@ -1,0 +1,5 @@
+use Rattle.clif_sealing_laws.proofs.Functions
+use Rattle.clif_sealing_laws.proofs.replayed_functions_agree.Goals as goal
+
+pub returns : goal.returns
+returns c = Functions.replayed_functions_agree

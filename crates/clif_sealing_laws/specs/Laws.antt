@@ -1,0 +1,54 @@
+-- Laws on two finished functions whose scripts differ only in when blocks are sealed: they have the same meaning, which is
+-- that they make the same outside calls and end alike. Neither law asks anything of the functions' slots, and only one of
+-- the scripts has to meet the premises. Source: own.
+use Rattle.std.specs.Prelude.{ℕ, List, Option}
+use Rattle.clif_types.specs.Signature.{SignatureShape}
+use Rattle.clif_types.specs.declared.target.PointerWidth.{PointerWidth}
+use Rattle.clif_types.specs.Target.{pointer_type_of}
+use Rattle.clif_ir.specs.Body.{Body}
+use Rattle.clif_meaning.specs.Headline.{IsWorldOf, MeansTheSame, function_behaviour, script_run}
+use Rattle.clif_meaning.specs.Premises.{Premises}
+use Rattle.clif_meaning.specs.Request.{AnsweredCall, script_of}
+use Rattle.clif_meaning.specs.SameMeaning.{SameMeaning}
+use Rattle.clif_meaning.specs.View.{view_of}
+use Rattle.clif_meaning.specs.World.{World}
+use Rattle.clif_calls.specs.declared.call.Call.{Call}
+use Rattle.clif_renaming.specs.Sealing.{DifferInSealing}
+use Rattle.clif_replay.specs.Requests.{IsBuiltBy, requests_of}
+use Rattle.cranelift_frontend.specs.Context.{ContextState}
+use Rattle.cranelift_frontend.specs.StandsFor.{StandsIn}
+
+-- A finished function of a builder: the builder stood for the calls, with this context and current block, as `stands` of each
+-- call says; and the function means what they mean, as `same_meaning` of `finalize` says where it succeeds.
+pub record IsFinishedFrom (calls : List AnsweredCall) (declared : SignatureShape) (width : PointerWidth) (f : Body) : Type 0 where
+  pub context : ContextState
+  pub position : Option ℕ
+  pub stands : StandsIn declared calls f context position
+  pub same_meaning : MeansTheSame (script_of calls) declared width (view_of f)
+
+-- Two builders that stand for scripts that differ only in when blocks are sealed, finished: their functions have the same
+-- meaning, in each world in which the first script meets the premises. Source: own.
+abbrev pub BuiltFunctionsAgree : Type 0
+BuiltFunctionsAgree =
+    (calls others : List AnsweredCall) (declared : SignatureShape) (width : PointerWidth) (f g : Body) (world : World)
+    → DifferInSealing (script_of calls) (script_of others)
+    → IsFinishedFrom calls declared width f → IsFinishedFrom others declared width g
+    → IsWorldOf declared (view_of f) width world
+    → Premises (script_of calls) declared (pointer_type_of width) (script_run (script_of calls) (view_of f) world)
+    → SameMeaning (function_behaviour (script_of calls) (view_of f) world) (function_behaviour (script_of others) (view_of g) world)
+
+-- What `replay` says of the function that it returns, in its clauses of these names.
+pub record IsReplayOf (calls : List Call) (declared : SignatureShape) (width : PointerWidth) (f : Body) : Type 0 where
+  pub same_meaning : MeansTheSame (requests_of declared calls) declared width (view_of f)
+  pub built : IsBuiltBy calls declared f
+
+-- Two lists of calls that `replay` accepts, and that differ only in when blocks are sealed: the functions that it returns have
+-- the same meaning, in each world in which the first list meets the premises. Source: own.
+abbrev pub ReplayedFunctionsAgree : Type 0
+ReplayedFunctionsAgree =
+    (calls others : List Call) (declared : SignatureShape) (width : PointerWidth) (f g : Body) (world : World)
+    → DifferInSealing (requests_of declared calls) (requests_of declared others)
+    → IsReplayOf calls declared width f → IsReplayOf others declared width g
+    → IsWorldOf declared (view_of f) width world
+    → Premises (requests_of declared calls) declared (pointer_type_of width) (script_run (requests_of declared calls) (view_of f) world)
+    → SameMeaning (function_behaviour (requests_of declared calls) (view_of f) world) (function_behaviour (requests_of declared others) (view_of g) world)

@@ -1,0 +1,28 @@
+//! Laws on two finished functions whose scripts differ only in when blocks are sealed. The contracts of the functions here are
+//! the laws; their bodies are empty, or cite another law.
+#![tactic(auto)]
+
+ghost use Rattle.clif_types.specs.Signature.{SignatureShape};
+ghost use Rattle.clif_sealing_laws.specs.Examples.{SealingLawExamples};
+ghost use Rattle.clif_sealing_laws.specs.Laws.{BuiltFunctionsAgree, ReplayedFunctionsAgree};
+
+use clif_simulation::examples::sample_meets_premises;
+
+/// Two finished functions, whose builders stood for calls that differ only in when blocks are sealed, have the same meaning
+/// in each world in which one of the scripts meets the premises.
+pub fn built_functions_agree()
+    ensures { BuiltFunctionsAgree }
+{}
+
+/// So do the functions that `replay` returns for two lists of calls that differ only in when blocks are sealed.
+pub fn replayed_functions_agree()
+    ensures { ReplayedFunctionsAgree }
+{}
+
+/// Lists of calls that differ only in when blocks are sealed, one that differs in more, and a loop that meets the premises
+/// however its blocks are sealed.
+pub fn sealing_law_examples()
+    ensures { (signature : SignatureShape) → SealingLawExamples signature }
+{
+    sample_meets_premises();
+}
