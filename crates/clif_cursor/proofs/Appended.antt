@@ -1,5 +1,5 @@
 -- What an instruction that is appended makes of a function and of a cursor.
-use Rattle.std.proofs.Common.{◌≡◌, ◌≢◌, ℕ, ◌+◌, ◌-◌, ◌<◌, ◌≤◌, List, [], ◌∷◌, ◌++◌, length, refl, ap, arith, sym, ◌∙◌, subst, false}
+use Rattle.std.proofs.Common.{ap₂, get_or, map, ◌≡◌, ◌≢◌, ℕ, ◌+◌, ◌-◌, ◌<◌, ◌≤◌, List, [], ◌∷◌, ◌++◌, length, refl, ap, arith, sym, ◌∙◌, subst, false}
 use Rattle.std.specs.Prelude.{slice_get, slice_index, Some, Result, Ok, Err, IfOk, OnOk, OnErr}
 use Rattle.std.specs.List.{range_with_len}
 use Rattle.std.proofs.lemmas.Grind.{common_steps}
@@ -8,16 +8,19 @@ use Rattle.clif_types.specs.declared.error.BuildError.TheVariants.{Full, Failed}
 use Rattle.clif_types.specs.declared.types.«Type».{«Type»}
 use Rattle.clif_instructions.specs.declared.inst_list.InsertAt.TheVariants.{Back}
 use Rattle.clif_instructions.specs.declared.instructions.InstructionData.{InstructionData}
-use Rattle.clif_instructions.specs.Instruction.{is_terminator, result_count, result_types}
+use Rattle.clif_instructions.specs.Instruction.{is_terminator, result_count, result_type_of, result_types}
 use Rattle.clif_instructions.proofs.Lists.{at_set}
 use Rattle.clif_inst_builder.specs.Shapes.{GivesPair, GivesValue}
 use Rattle.clif_ir.specs.declared.function.BlockNode.{BlockNode}
 use Rattle.clif_ir.specs.declared.function.InstNode.{InstNode}
-use Rattle.clif_ir.specs.Body.{Body, block_at, empty_block, inst_at}
-use Rattle.clif_ir.specs.Changes.{HasNoRoom, inst_node, with_inst}
+use Rattle.clif_ir.specs.declared.function.ValueNode.{ValueNode}
+use Rattle.clif_ir.specs.declared.function.ValueOrigin.TheVariants.{Result as OfInst}
+use Rattle.std.proofs.Math.ListN.{get_or-append}
+use Rattle.clif_ir.specs.Body.{Body, block_at, empty_block, inst_at, no_value, value_at}
+use Rattle.clif_ir.specs.Changes.{HasNoRoom, inst_node, result_nodes, with_inst}
 use Rattle.clif_ir.proofs.KeepsInst.{length-result_types}
 use Rattle.clif_cursor.specs.declared.cursor.FuncCursor.{FuncCursor}
-use Rattle.clif_cursor.specs.Cursor.{Appends, Builds, BuildsPair, BuildsValue, CanAppend, IsOpen, IsThere, ends_block, is_filled, with_appended}
+use Rattle.clif_cursor.specs.Cursor.{Appends, Builds, BuildsPair, BuildsValue, CanAppend, IsOpen, IsThere, TypesStay, ends_block, is_filled, with_appended}
 
 get-last : (xs : List ℕ) (x : ℕ) → slice_get (xs ++ x ∷ []) (length xs) ≡ Some x
 get-last [] x = refl
@@ -57,8 +60,30 @@ module _ (f : Body) (b : ℕ) (shape : InstructionData) (types : List «Type») 
   values-after : length f.values ≤ length after.values
   values-after = grind (arith, common_steps)
 
+  types-after : TypesStay f after
+  types-after v inside = ap (λ (n : ValueNode). n.ty) (get_or-append f.values (result_nodes (length f.insts) 0 types) no_value v inside)
+
   exists-after : length f.insts < length after.insts
   exists-after = grind (arith, common_steps)
+
+-- the types of the results
+typed-one : (f : Body) (b : ℕ) (shape : InstructionData) (types : List «Type») (ty : «Type») (loc : ℕ) → types ≡ ty ∷ [] → (value_at (after f b shape types loc) (length f.values)).ty ≡ ty
+typed-one f b shape types ty loc one =
+    let node : ValueNode = record { ty = ty; origin = OfInst (length f.insts) 0 } in
+    let last : get_or (f.values ++ node ∷ []) (length f.values) no_value ≡ node = grind (arith, common_steps) in
+    ap (λ ts. (value_at (after f b shape ts loc) (length f.values)).ty) one ∙ ap (λ (n : ValueNode). n.ty) last
+
+typed-two : (f : Body) (b : ℕ) (shape : InstructionData) (types : List «Type») (loc : ℕ) → length types ≡ 2
+    → (value_at (after f b shape types loc) (length f.values)).ty ∷ (value_at (after f b shape types loc) (length f.values + 1)).ty ∷ [] ≡ types
+typed-two f b shape [] loc two = absurd (omega (arith, two))
+typed-two f b shape (t ∷ []) loc two = absurd (omega (arith, two))
+typed-two f b shape (t ∷ u ∷ []) loc two =
+    let first_node : ValueNode = record { ty = t; origin = OfInst (length f.insts) 0 } in
+    let second_node : ValueNode = record { ty = u; origin = OfInst (length f.insts) 1 } in
+    let first : get_or (f.values ++ first_node ∷ second_node ∷ []) (length f.values) no_value ≡ first_node = grind (arith, common_steps) in
+    let second : get_or (f.values ++ first_node ∷ second_node ∷ []) (length f.values + 1) no_value ≡ second_node = grind (arith, common_steps) in
+    ap₂ (λ (m n : ValueNode). m.ty ∷ n.ty ∷ []) first second
+typed-two f b shape (t ∷ u ∷ v ∷ ts) loc two = absurd (omega (arith, two))
 
 -- an instruction was appended where the cursor is, or that was refused
 pub builds_appended : (old new : FuncCursor) (shape : InstructionData) (ty : «Type») (r : Result ℕ BuildError) → CanAppend old → IsThere old new
@@ -70,6 +95,7 @@ builds_appended old new shape ty (Err e) is_open there ok number err full never_
   exists = tt;
   current = λ goes_on. tt;
   grows = tt;
+  types = tt;
 }
 builds_appended old new shape ty (Ok inst) is_open there ok number err full never_failed = record {
   appends = record { there = there; ok = ok; err = tt; full = full; never_failed = never_failed };
@@ -81,6 +107,7 @@ builds_appended old new shape ty (Ok inst) is_open there ok number err full neve
       subst (λ b. IsOpen new.func.now b) (sym there.block)
       (subst (λ (f : Body). IsOpen f old.block) (sym ok) (open-after old.func.now old.block shape (result_types shape ty) old.srcloc is_open goes_on));
   grows = subst (λ (f : Body). length old.func.now.values ≤ length f.values) (sym ok) (values-after old.func.now old.block shape (result_types shape ty) old.srcloc);
+  types = subst (λ (f : Body). TypesStay old.func.now f) (sym ok) (types-after old.func.now old.block shape (result_types shape ty) old.srcloc);
 }
 
 -- the results of the instruction that was built
@@ -132,7 +159,12 @@ builds_value old new shape ty inst value gives built is exists = record {
   exists = exists;
   current = built.current gives.goes_on;
   grows = built.grows;
+  types = built.types;
   tables = ap (λ (f : Body). f.tables) built.appends.ok;
+  typed =
+      ap (λ v. (value_at new.func.now v).ty) is
+      ∙ ap (λ (f : Body). (value_at f (length old.func.now.values)).ty) built.appends.ok
+      ∙ typed-one old.func.now old.block shape (result_types shape ty) (result_type_of shape ty) old.srcloc (gives.one_result ty);
 }
 
 pub builds_value_refused : (old new : FuncCursor) (shape : InstructionData) (ty : «Type») (e : BuildError) → Builds old new shape ty (Err e) → BuildsValue old new shape ty (Err e)
@@ -142,7 +174,9 @@ builds_value_refused old new shape ty e built = record {
   exists = tt;
   current = tt;
   grows = tt;
+  types = tt;
   tables = tt;
+  typed = tt;
 }
 
 pub builds_pair : (old new : FuncCursor) (shape : InstructionData) (ty : «Type») (inst : ℕ) (pair : ℕ × ℕ) → GivesPair shape → Builds old new shape ty (Ok inst)
@@ -153,6 +187,11 @@ builds_pair old new shape ty inst pair gives built are exist = record {
   numbers = (ap (λ xs. slice_index xs 0) are, ap (λ xs. slice_index xs 1) are);
   exist = exist;
   current = built.current gives.goes_on;
+  types = built.types;
+  typed =
+      ap (λ xs. map (λ v. (value_at new.func.now v).ty) xs) are
+      ∙ ap (λ (f : Body). (value_at f (length old.func.now.values)).ty ∷ (value_at f (length old.func.now.values + 1)).ty ∷ []) built.appends.ok
+      ∙ typed-two old.func.now old.block shape (result_types shape ty) old.srcloc (length-result_types shape ty ∙ gives.two_results);
 }
 
 pub builds_pair_refused : (old new : FuncCursor) (shape : InstructionData) (ty : «Type») (e : BuildError) → Builds old new shape ty (Err e) → BuildsPair old new shape ty (Err e)
@@ -161,6 +200,8 @@ builds_pair_refused old new shape ty e built = record {
   numbers = tt;
   exist = tt;
   current = tt;
+  types = tt;
+  typed = tt;
 }
 
 -- two numbers of a list

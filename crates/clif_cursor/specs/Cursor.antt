@@ -1,15 +1,15 @@
 -- What a cursor makes of a function. Source: own, after the crate's documentation of `FuncCursor`.
-use Rattle.std.specs.Prelude.{◌≡◌, ◌≢◌, ◌<◌, ◌≤◌, ◌+◌, ◌-◌, ℕ, Bool, false, length, slice_get, List, All, Option, None, Some, Result, Err, IfOk, OnOk, OnErr, IsOk}
+use Rattle.std.specs.Prelude.{◌≡◌, ◌≢◌, ◌<◌, ◌≤◌, ◌+◌, ◌-◌, ℕ, Bool, false, length, map, slice_get, List, [], ◌∷◌, All, Option, None, Some, Result, Err, IfOk, OnOk, OnErr, IsOk}
 use Rattle.clif_types.specs.declared.error.BuildError.{BuildError}
 use Rattle.clif_types.specs.declared.error.BuildError.TheVariants.{Full, Failed}
 use Rattle.clif_types.specs.declared.types.«Type».{«Type»}
 use Rattle.clif_instructions.specs.declared.block_call.BlockCall.{BlockCall}
 use Rattle.clif_instructions.specs.declared.inst_list.InsertAt.TheVariants.{Back}
 use Rattle.clif_instructions.specs.declared.instructions.InstructionData.{InstructionData}
-use Rattle.clif_instructions.specs.Instruction.{is_terminator, result_count, result_types}
+use Rattle.clif_instructions.specs.Instruction.{is_terminator, result_count, result_type_of, result_types}
 use Rattle.clif_tables.specs.Lists.{unserved, with_constant, with_table_served}
 use Rattle.clif_tables.specs.Makes.{Pools}
-use Rattle.clif_ir.specs.Body.{Body, block_at, inst_at}
+use Rattle.clif_ir.specs.Body.{Body, block_at, inst_at, value_at}
 use Rattle.clif_ir.specs.Changes.{HasNoRoom, with_inst, with_tables}
 use Rattle.clif_ir.specs.Consistent.{EdgeExists}
 use Rattle.clif_cursor.specs.declared.cursor.FuncCursor.{FuncCursor}
@@ -42,6 +42,10 @@ pub record IsThere (old new : FuncCursor) : Type 0 where
   pub block : new.block ≡ old.block
   pub srcloc : new.srcloc ≡ old.srcloc
 
+-- each value keeps its type
+abbrev pub TypesStay : Body → Body → Type 0
+TypesStay f g = (v : ℕ) → v < length f.values → (value_at g v).ty ≡ (value_at f v).ty
+
 -- An instruction was to be appended: it is, and nothing else is changed; or the function is as it was.
 pub record Appends {A : Type 0} (old new : FuncCursor) (shape : InstructionData) (ty : «Type») (answer : Result A BuildError) : Type 0 where
   pub there : IsThere old new
@@ -57,6 +61,7 @@ pub record Builds (old new : FuncCursor) (shape : InstructionData) (ty : «Type�
   pub exists : IfOk answer (λ inst. inst < length new.func.now.insts)
   pub current : is_terminator shape ≡ false → OnOk answer (CanAppend new)
   pub grows : OnOk answer (length old.func.now.values ≤ length new.func.now.values)
+  pub types : OnOk answer (TypesStay old.func.now new.func.now)
 
 -- the same of an instruction that has one result and ends no block; the answer is that result
 pub record BuildsValue (old new : FuncCursor) (shape : InstructionData) (ty : «Type») (answer : Result ℕ BuildError) : Type 0 where
@@ -65,7 +70,9 @@ pub record BuildsValue (old new : FuncCursor) (shape : InstructionData) (ty : «
   pub exists : IfOk answer (λ value. value < length new.func.now.values)
   pub current : OnOk answer (CanAppend new)
   pub grows : OnOk answer (length old.func.now.values ≤ length new.func.now.values)
+  pub types : OnOk answer (TypesStay old.func.now new.func.now)
   pub tables : OnOk answer (new.func.now.tables ≡ old.func.now.tables)
+  pub typed : IfOk answer (λ value. (value_at new.func.now value).ty ≡ result_type_of shape ty)
 
 -- the same of an instruction that has two results and ends no block; the answer is these
 pub record BuildsPair (old new : FuncCursor) (shape : InstructionData) (ty : «Type») (answer : Result (ℕ × ℕ) BuildError) : Type 0 where
@@ -73,6 +80,8 @@ pub record BuildsPair (old new : FuncCursor) (shape : InstructionData) (ty : «T
   pub numbers : IfOk answer (λ pair. (pair.0 ≡ length old.func.now.values) × (pair.1 ≡ length old.func.now.values + 1))
   pub exist : IfOk answer (λ pair. (pair.0 < length new.func.now.values) × (pair.1 < length new.func.now.values))
   pub current : OnOk answer (CanAppend new)
+  pub types : OnOk answer (TypesStay old.func.now new.func.now)
+  pub typed : IfOk answer (λ pair. map (λ value. (value_at new.func.now value).ty) (pair.0 ∷ pair.1 ∷ []) ≡ result_types shape ty)
 
 -- Bytes are pooled: the answer is the number of the constant with them, and nothing but the constants changes.
 pub record PoolsConstant (old new : FuncCursor) (bytes : List ℕ) (answer : Result ℕ BuildError) : Type 0 where

@@ -6,7 +6,7 @@ ghost use Rattle.clif_tables.specs.Lists.{TableLists};
 ghost use Rattle.clif_instructions.specs.Instruction.{ASlot};
 ghost use Rattle.clif_ir.specs.Body.{value_at};
 ghost use Rattle.clif_ir.specs.Consistent.{EdgeExists, EntryExists};
-ghost use Rattle.clif_cursor.specs.Cursor.{CanAppend, Builds, BuildsPair, BuildsValue, MayServe, PoolsConstant, TakesJumpTable};
+ghost use Rattle.clif_cursor.specs.Cursor.{CanAppend, Builds, BuildsPair, BuildsValue, is_filled, MayServe, PoolsConstant, TakesJumpTable};
 
 use clif_inst_builder::InstBuilderBase;
 use clif_instructions::inst_list::InsertAt;
@@ -52,6 +52,17 @@ impl<'f> FuncCursor<'f> {
         ensures { result ≡ self.now.block }
     {
         self.block
+    }
+
+    /// Whether the last instruction of the block is its terminator, behind which nothing may be appended.
+    pub fn is_filled(&self) -> bool
+        requires { self.now.block < length self.now.func.now.blocks }
+        ensures { result ≡ is_filled self.now.func.now self.now.block }
+    {
+        match self.func.last_inst(self.block) {
+            Some(inst) => self.func.inst_data(inst).is_terminator(),
+            None => false,
+        }
     }
 
     /// Goes to the end of another block.

@@ -16,6 +16,8 @@ mod lists;
 #[cfg(test)]
 mod numbers;
 #[cfg(test)]
+mod rewrites;
+#[cfg(test)]
 mod steps;
 #[cfg(test)]
 mod support;

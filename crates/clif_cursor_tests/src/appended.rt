@@ -1,0 +1,72 @@
+//! Instructions that a cursor appends.
+#![tactic(auto)]
+
+ghost use Rattle.std.specs.Prelude.{◌≡◌, ◌<◌, length, OnOk};
+ghost use Rattle.clif_ir.specs.Body.{value_at};
+ghost use Rattle.clif_cursor.specs.Cursor.{CanAppend};
+
+use clif_cursor::{FuncCursor, InstBuilder};
+use clif_ir::Function;
+use clif_types::types::I64;
+use clif_types::{
+    Block, BuildError, CallConv, EntityRef, Inst, MemFlagsData, Signature, SourceLoc, Type,
+    UserFuncName, Value,
+};
+use std::alloc::{AllocError, Global};
+use std::test::Fail;
+
+// The empty function `%sample`.
+fn sample(alloc: Global) -> Result<Function, AllocError> {
+    let name = UserFuncName::testcase(String::from_str(alloc, "sample")?);
+    let signature = Signature::new(alloc, CallConv::SystemV);
+    Ok(Function::with_name_signature(alloc, name, signature))
+}
+
+// Appends a sum, a store of it, and both halves of it and `x` together.
+fn compute(cursor: &mut FuncCursor<'_>, x: Value) -> Result<(), BuildError>
+    requires open { CanAppend cursor.old }
+    requires x_exists { x < length cursor.old.func.now.values }
+    requires x_type { (value_at cursor.old.func.now x).ty ≡ I64 }
+    ensures open { OnOk result (CanAppend cursor.new) }
+{
+    let seven = cursor.ins().iconst(I64, 7)?;
+    let sum = cursor.ins().iadd(x, seven)?;
+    cursor.ins().store(MemFlagsData::new(), sum, x, 8)?;
+    let whole = cursor.ins().iconcat(sum, x)?;
+    cursor.ins().isplit(whole)?;
+    Ok(())
+}
+
+// Each instruction at the end of its block, with the source place that the cursor had.
+#[test]
+fn appended(rt: HostRuntime) -> Result<(), Fail> {
+    let mut func = sample(rt.alloc())?;
+    let first = func.create_block()?;
+    let second = func.create_block()?;
+    func.ensure_block_inserted(first)?;
+    func.ensure_block_inserted(second)?;
+    let x = func.append_block_param(first, I64)?;
+    let mut cursor = FuncCursor::new(&mut func, first);
+    cursor.set_srcloc(SourceLoc::new(17));
+    assert!(rt; first.index() < cursor.func().block_count());
+    assert!(rt; !cursor.is_filled());
+    compute(&mut cursor, x)?;
+    assert!(rt; second.index() < cursor.func().block_count());
+    cursor.ins().jump(second, &[])?;
+    assert!(rt; second.index() < cursor.func().block_count());
+    cursor.goto_bottom(second);
+    assert!(rt; !cursor.is_filled());
+    cursor.set_srcloc(SourceLoc::new(18));
+    cursor.ins().return_(&[])?;
+    assert!(rt; second.index() < cursor.func().block_count());
+    assert!(rt; cursor.is_filled());
+    let last = Inst::new(6);
+    assert!(rt; last.index() < func.inst_count());
+    assert!(rt; func.srcloc(last) == SourceLoc::new(18));
+    let text =
+        "function %sample() system_v {\nblock0(v0: i64):\n    v1 = iconst.i64 7\n    v2 = iadd v0, v1  ; v1 = 7\n    store v2, v0+8\n    v3 = iconcat v2, v0\n    v4, v5 = isplit v3\n    jump block1\n\nblock1:\n    return\n}\n";
+    let shown = func.display();
+    let found = format!(in rt.alloc(); "{shown}")?;
+    assert!(rt; found.as_str() == text);
+    Ok(())
+}
