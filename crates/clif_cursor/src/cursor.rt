@@ -17,8 +17,9 @@ use std::alloc::Global;
 /// Appends instructions to a block of a function, one after the other.
 ///
 /// It changes nothing but the function, and that only by the instructions: the layout stays, and no predecessor is
-/// recorded anywhere. So it serves a pass over a function that is finished, and not one that a `FunctionBuilder`
-/// still builds.
+/// recorded anywhere. So it is for a function that is made by the calls of `clif_ir` alone, and not for one that a
+/// `FunctionBuilder` builds. It appends nothing behind a terminator: what is to stand before one is put there by
+/// [`Function::insert_inst_before`].
 #[derive(Drop)]
 pub struct FuncCursor<'f> {
     func: &'f mut Function,
