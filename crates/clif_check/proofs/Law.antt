@@ -12,12 +12,12 @@ use Rattle.clif_opcodes.specs.declared.opcodes.StackOpcode.TheVariants as stack
 use Rattle.clif_opcodes.specs.Kinds.{is_met}
 use Rattle.clif_opcodes.specs.Typing.{AreOfKinds, FitOperands, Row}
 use Rattle.clif_instructions.specs.declared.instructions.InstructionData.{InstructionData}
-use Rattle.clif_instructions.specs.declared.instructions.InstructionData.TheVariants.{UnaryImm, UnaryIeee, UnaryConst, Unary, Binary, IntCompare, Concat, Split, Convert, Ternary, Load, Store, StackLoad, StackStore, Jump, Brif, BranchTable, MultiAry, Trap, CondTrap}
+use Rattle.clif_instructions.specs.declared.instructions.InstructionData.TheVariants.{UnaryImm, UnaryIeee, UnaryConst, Unary, Binary, IntCompare, Concat, Split, Convert, Ternary, Load, Store, StackLoad, StackStore, Jump, Brif, BranchTable, MultiAry, Trap, CondTrap, Call, CallIndirect, TryCall, TryCallIndirect}
 use Rattle.clif_instructions.specs.Instruction.{operands, typing_of}
 use Rattle.clif_tables.specs.Lists.{TableLists}
 use Rattle.clif_ir.specs.declared.function.InstNode.{InstNode}
 use Rattle.clif_ir.specs.Body.{Body, inst_at, block_at}
-use Rattle.clif_meaning.specs.Event.{types_of}
+use Rattle.clif_tables.specs.Callees.{types_of}
 use Rattle.clif_meaning.specs.Instruction.{operation_typing}
 use Rattle.clif_meaning.specs.Typing as premise
 use Rattle.clif_meaning.specs.View.{operation_of, placed_of}
@@ -47,12 +47,22 @@ same_row tables (BranchTable arg table) = refl
 same_row tables (MultiAry args) = refl
 same_row tables (Trap code) = refl
 same_row tables (CondTrap opcode arg code) = refl
+same_row tables (Call function args) = refl
+same_row tables (CallIndirect sig args) = refl
+same_row tables (TryCall function args table) = refl
+same_row tables (TryCallIndirect args table) = refl
 
 -- what returns has no operands but those that it returns
 no_others : {X : Type 0} → others.Nothing ≡ others.Returned → X
 no_others {X} same = absurd (never same)
   where
     never : others.Nothing ≡ others.Returned → ⊥
+    never is = cc
+
+no_call : {X : Type 0} → others.Arguments ≡ others.Returned → X
+no_call {X} same = absurd (never same)
+  where
+    never : others.Arguments ≡ others.Returned → ⊥
     never is = cc
 
 returns_alone : (shape : InstructionData) → (typing_of shape).others ≡ others.Returned → (typing_of shape).operands ≡ []
@@ -80,6 +90,10 @@ returns_alone (BranchTable arg table) is = no_others is
 returns_alone (MultiAry args) is = refl
 returns_alone (Trap code) is = no_others is
 returns_alone (CondTrap opcode arg code) is = no_others is
+returns_alone (Call function args) is = no_call is
+returns_alone (CallIndirect sig args) is = no_call is
+returns_alone (TryCall function args table) is = no_call is
+returns_alone (TryCallIndirect args table) is = no_call is
 
 -- the operands, in one piece and in three
 fits : (f : Body) (returns arguments : List «Type») (ty : «Type») (which : OtherOperands) (kinds : List OperandKind) (found : List ℕ)

@@ -1,7 +1,6 @@
 -- The parts of an instruction, as pairs of what is found and what is asked.
-use Rattle.std.proofs.Common.{◌≡◌, ℕ, zero, suc, ◌<◌, List, [], ◌∷◌, map, length, take, drop, sym, ap, ◌∙◌, arith}
+use Rattle.std.proofs.Common.{◌≡◌, ℕ, zero, suc, ◌<◌, List, [], ◌∷◌, length, take, drop, sym, ap, ◌∙◌, arith}
 use Rattle.std.specs.Prelude.{Option, Some, All, slice_index}
-use Rattle.std.specs.List.{AllByRecursion}
 use Rattle.std.proofs.lemmas.Simd.{map-map}
 use Rattle.clif_types.specs.declared.types.«Type».{«Type»}
 use Rattle.clif_types.specs.declared.extfunc.AbiParam.{AbiParam}
@@ -14,10 +13,10 @@ use Rattle.clif_instructions.specs.declared.block_call.BlockArg.{BlockArg}
 use Rattle.clif_instructions.specs.declared.block_call.BlockArg.TheVariants as arg
 use Rattle.clif_instructions.specs.declared.block_call.BlockCall.{BlockCall}
 use Rattle.clif_ir.specs.Body.{Body, block_at}
-use Rattle.clif_meaning.specs.Event.{types_of}
-use Rattle.clif_meaning.specs.Typing.{argument_type, EdgeMatches}
-use Rattle.clif_meaning.specs.View.{argument_of, edge_of}
-use Rattle.clif_check.specs.WellTyped.{HasType, Matches, fixed_operands, type_at, types_at}
+use Rattle.clif_tables.specs.Callees.{types_of}
+use Rattle.clif_meaning.specs.Typing.{argument_type}
+use Rattle.clif_meaning.specs.View.{argument_of}
+use Rattle.clif_check.specs.WellTyped.{AllMatch, HasType, Matches, fixed_operands, type_at, types_at}
 use Rattle.clif_check.proofs.Pairs.{Pairwise, same_images, images_same}
 
 -- OPERANDS --------------------------------------------------------------------------------------------------------------
@@ -70,41 +69,39 @@ pairs_types f values params pairs = same_images (type_at f) (λ param. param.val
 -- EDGES -----------------------------------------------------------------------------------------------------------------
 
 -- a value that an edge passes
-pub has_type : (f : Body) (value : ℕ) (ty : «Type») → type_at f value ≡ ty → HasType f (arg.Value value) ty
-has_type f value ty same = ap (λ (own : «Type»). Some own) same
+pub has_type : (f : Body) (results payload : List «Type») (value : ℕ) (ty : «Type») → type_at f value ≡ ty → HasType f results payload (arg.Value value) ty
+has_type f results payload value ty same = ap (λ (own : «Type»). Some own) same
 
-pub type_had : (f : Body) (value : ℕ) (ty : «Type») → HasType f (arg.Value value) ty → type_at f value ≡ ty
-type_had f value ty has = cc
+pub type_had : (f : Body) (results payload : List «Type») (value : ℕ) (ty : «Type») → HasType f results payload (arg.Value value) ty → type_at f value ≡ ty
+type_had f results payload value ty has = cc
 
-abbrev pub Passes : Body → BlockArg → ℕ → Type 0
-Passes f argument param = HasType f argument (type_at f param)
+abbrev pub Passes : Body → (results payload : List «Type») → BlockArg → ℕ → Type 0
+Passes f results payload argument param = HasType f results payload argument (type_at f param)
 
 -- what an argument of an edge has for a type
-abbrev passed : Body → BlockArg → Option «Type»
-passed f argument = argument_type (type_at f) [] [] (argument_of argument)
+abbrev passed : Body → (results payload : List «Type») → BlockArg → Option «Type»
+passed f results payload argument = argument_type (type_at f) results payload (argument_of argument)
 
 abbrev expected : Body → ℕ → Option «Type»
 expected f param = Some (type_at f param)
 
-pub edge_pairs : (f : Body) (edge : BlockCall) → Matches f edge → Pairwise (Passes f) edge.args (block_at f edge.block).params
-edge_pairs f edge matches =
-    images_same (passed f) (expected f) edge.args (block_at f edge.block).params
-    (sym (map-map (argument_type (type_at f) [] []) argument_of edge.args) ∙ matches ∙ map-map (λ ty. Some ty) (type_at f) (block_at f edge.block).params)
+pub edge_pairs : (f : Body) (results payload : List «Type») (edge : BlockCall) → Matches f results payload edge → Pairwise (Passes f results payload) edge.args (block_at f edge.block).params
+edge_pairs f results payload edge matches =
+    images_same (passed f results payload) (expected f) edge.args (block_at f edge.block).params
+    (sym (map-map (argument_type (type_at f) results payload) argument_of edge.args) ∙ matches ∙ map-map (λ ty. Some ty) (type_at f) (block_at f edge.block).params)
 
-pub pairs_edge : (f : Body) (edge : BlockCall) → Pairwise (Passes f) edge.args (block_at f edge.block).params → Matches f edge
-pairs_edge f edge pairs =
-    map-map (argument_type (type_at f) [] []) argument_of edge.args ∙ same_images (passed f) (expected f) edge.args (block_at f edge.block).params pairs
+pub pairs_edge : (f : Body) (results payload : List «Type») (edge : BlockCall) → Pairwise (Passes f results payload) edge.args (block_at f edge.block).params → Matches f results payload edge
+pairs_edge f results payload edge pairs =
+    map-map (argument_type (type_at f) results payload) argument_of edge.args ∙ same_images (passed f results payload) (expected f) edge.args (block_at f edge.block).params pairs
     ∙ sym (map-map (λ ty. Some ty) (type_at f) (block_at f edge.block).params)
 
--- the edges of an instruction, which starts no call
-abbrev pub EdgesMatch : Body → List BlockCall → Type 0
-EdgesMatch f edges = AllByRecursion (EdgeMatches (type_at f) (λ block. types_at f (block_at f block).params) [] []) (map edge_of edges)
+-- several edges
+pub edges_match : (f : Body) (results payload : List «Type») (edges : List BlockCall) → All (Matches f results payload) edges → AllMatch f results payload edges
+edges_match f results payload [] all = tt
+edges_match f results payload (edge ∷ edges) all =
+    (all 0 edge (omega arith), edges_match f results payload edges (λ k d inside. all (suc k) d (omega (arith, inside))))
 
-pub edges_match : (f : Body) (edges : List BlockCall) → All (Matches f) edges → EdgesMatch f edges
-edges_match f [] all = tt
-edges_match f (edge ∷ edges) all = (all 0 edge (omega arith), edges_match f edges (λ k d inside. all (suc k) d (omega (arith, inside))))
-
-pub edge_at : (f : Body) (edges : List BlockCall) → EdgesMatch f edges → All (Matches f) edges
-edge_at f [] all k d inside = absurd (omega (arith, inside))
-edge_at f (edge ∷ edges) all zero d inside = all.0
-edge_at f (edge ∷ edges) all (suc k) d inside = edge_at f edges all.1 k d (omega (arith, inside))
+pub edge_at : (f : Body) (results payload : List «Type») (edges : List BlockCall) → AllMatch f results payload edges → All (Matches f results payload) edges
+edge_at f results payload [] all k d inside = absurd (omega (arith, inside))
+edge_at f results payload (edge ∷ edges) all zero d inside = all.0
+edge_at f results payload (edge ∷ edges) all (suc k) d inside = edge_at f results payload edges all.1 k d (omega (arith, inside))

@@ -1,6 +1,6 @@
--- When an instruction of a function is well typed: by the typing table, by what the function's signature returns, and by the
--- parameters of the blocks to which its edges lead. Source: own, after Cranelift's documentation of its instructions; with
--- the words of the premises on scripts.
+-- When an instruction of a function is well typed: by the typing table, by the signature of what it calls, by what the
+-- function's own signature returns, and by the parameters of the blocks to which its edges lead. Source: own, after
+-- Cranelift's documentation of its instructions; with the words of the premises on scripts.
 use Rattle.std.specs.Prelude.{◌≡◌, ◌<◌, ℕ, List, [], ◌∷◌, ◌++◌, map, length, take, drop, IsTrue, ◌↔◌, Some, All, EachIndex, slice_index}
 use Rattle.std.specs.List.{AllByRecursion, flat_map}
 use Rattle.clif_types.specs.declared.types.«Type».{«Type»}
@@ -11,14 +11,15 @@ use Rattle.clif_opcodes.specs.Typing.{AreOfKinds}
 use Rattle.clif_instructions.specs.declared.block_call.BlockArg.{BlockArg}
 use Rattle.clif_instructions.specs.declared.block_call.BlockCall.{BlockCall}
 use Rattle.clif_instructions.specs.declared.instructions.InstructionData.{InstructionData}
+use Rattle.clif_instructions.specs.ExceptionTables.{ExceptionShape}
 use Rattle.clif_instructions.specs.Instruction.{operands, typing_of}
 use Rattle.clif_tables.specs.Lists.{TableLists}
 use Rattle.clif_ir.specs.declared.function.InstNode.{InstNode}
 use Rattle.clif_ir.specs.Body.{Body, value_at, inst_at, block_at}
-use Rattle.clif_meaning.specs.Event.{types_of}
+use Rattle.clif_tables.specs.Callees.{types_of}
 use Rattle.clif_meaning.specs.Typing.{argument_type, argument_types, call_shape, EdgeMatches, EachEdgeMatches}
 use Rattle.clif_meaning.specs.Typing as premise
-use Rattle.clif_meaning.specs.View.{argument_of, controlling_of, edge_of, edges_of, operation_of, placed_of}
+use Rattle.clif_meaning.specs.View.{argument_of, controlling_of, edge_of, edges_of, operation_of, placed_of, try_call_of}
 use Rattle.clif_check.specs.declared.error.CheckError.{CheckError}
 use Rattle.clif_check.specs.declared.error.CheckErrorKind.{CheckErrorKind}
 use Rattle.clif_check.specs.declared.error.CheckErrorKind.TheVariants as kind
@@ -68,17 +69,28 @@ FitReturns _ found expected = Unit {0}
 abbrev pub HasReturned : Body → InstNode → Type 0
 HasReturned f node = FitReturns (typing_of node.shape).others (types_at f (operands node.shape)) (types_of f.signature.returns)
 
--- The arguments of each edge and the parameters of its target agree in number, order and type.
+-- The arguments of each edge and the parameters of its target agree in number, order and type. The normal edge of a try call
+-- may pass what its signature returns, and the edge of an item the parts of an exception.
 abbrev pub HasEdges : Body → InstNode → Type 0
 HasEdges f node =
     EachEdgeMatches (type_at f) (λ block. types_at f (block_at f block).params) (call_shape (operation_of f.tables node.shape)) (edges_of node.shape)
 
--- the same of one edge that starts at no call, and of one argument of it
-abbrev pub Matches : Body → BlockCall → Type 0
-Matches f edge = EdgeMatches (type_at f) (λ block. types_at f (block_at f block).params) [] [] (edge_of edge)
+-- the same of one edge, at whose start a call gives results and a payload of these types, and of one argument of it
+abbrev pub Matches : Body → (results payload : List «Type») → BlockCall → Type 0
+Matches f results payload edge = EdgeMatches (type_at f) (λ block. types_at f (block_at f block).params) results payload (edge_of edge)
 
-abbrev pub HasType : Body → BlockArg → «Type» → Type 0
-HasType f argument ty = argument_type (type_at f) [] [] (argument_of argument) ≡ Some ty
+abbrev pub HasType : Body → (results payload : List «Type») → BlockArg → «Type» → Type 0
+HasType f results payload argument ty = argument_type (type_at f) results payload (argument_of argument) ≡ Some ty
+
+-- and of several edges
+abbrev pub AllMatch : Body → (results payload : List «Type») → List BlockCall → Type 0
+AllMatch f results payload edges =
+    AllByRecursion (EdgeMatches (type_at f) (λ block. types_at f (block_at f block).params) results payload) (map edge_of edges)
+
+-- the same of the edges of a call with this exception table
+abbrev pub TryCallMatches : Body → ExceptionShape → Type 0
+TryCallMatches f table =
+    EachEdgeMatches (type_at f) (λ block. types_at f (block_at f block).params) (Some (try_call_of f.tables table)) (map edge_of table.edges)
 
 -- INSTRUCTIONS ----------------------------------------------------------------------------------------------------------
 

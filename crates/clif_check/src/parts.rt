@@ -1,15 +1,16 @@
 //! The parts of one instruction, each against what the typing table, the signature or a target says.
-ghost use Rattle.std.specs.Prelude.{◌≡◌, ◌<◌, ◌↔◌, length, IsTrue, None, IfSome, take, drop};
+ghost use Rattle.std.specs.Prelude.{◌≡◌, ◌<◌, ◌↔◌, length, All, IsTrue, None, IfSome, take, drop};
 ghost use Rattle.clif_opcodes.specs.Typing.{AreOfKinds};
 ghost use Rattle.clif_ir.specs.Body.{inst_at};
 ghost use Rattle.clif_ir.specs.Consistent.{EdgeExists, PassedExists};
-ghost use Rattle.clif_meaning.specs.Event.{types_of};
+ghost use Rattle.clif_tables.specs.Callees.{types_of};
 ghost use Rattle.clif_meaning.specs.View.{first_type};
-ghost use Rattle.clif_check.specs.WellTyped.{Fails, HasArguments, HasEdges, HasOperands, HasReturned, HasType, IsWellTyped, Matches, ValuesExist, callee_types, controlling_type, fixed_operands, types_at};
+ghost use Rattle.clif_check.specs.WellTyped.{AllMatch, Fails, HasArguments, HasEdges, HasOperands, HasReturned, HasType, IsWellTyped, Matches, TryCallMatches, ValuesExist, callee_types, controlling_type, fixed_operands, types_at};
 
 use crate::error::CheckErrorKind;
-use clif_ir::{BlockArg, BlockCall, Function, InstructionData};
+use clif_ir::{BlockArg, BlockCall, ExceptionTargets, Function, InstructionData};
 use clif_opcodes::{Control, OperandKind, OtherOperands, ResultKind};
+use clif_types::types::I64;
 use clif_types::{AbiParam, Inst, Type, Value};
 
 // The first part of an instruction that isn't well typed, if one isn't.
@@ -138,11 +139,12 @@ fn has_arguments(func: &Function, inst: Inst) -> bool
     }
 }
 
-// The parameters of what an instruction calls. No instruction calls anything so far.
-fn callee_params<'a>(_func: &'a Function, _shape: &InstructionData) -> &'a [AbiParam]
-    ensures { types_of result.now ≡ callee_types _func.now.tables _shape.now }
+// The parameters of what an instruction calls; none where it calls nothing.
+#[tactic(auto, using(crate::proofs::Calls::types_taken))]
+fn callee_params<'a>(func: &'a Function, shape: &InstructionData) -> &'a [AbiParam]
+    ensures { types_of result.now ≡ callee_types func.now.tables shape.now }
 {
-    &[]
+    func.tables().callee_params(shape)
 }
 
 // Whether the values that an instruction returns have the types that the function returns; so too where it returns none.
@@ -184,14 +186,44 @@ fn same_type(one: Type, other: Type) -> bool
 
 // EDGES
 
+// The types of the parts of an exception.
+const PAYLOAD: [Type; 2] = [I64, I64];
+
 // Whether the arguments of each edge of an instruction have the types of its target's parameters.
 fn has_edges(func: &Function, inst: Inst) -> bool
     requires { inst < length func.now.insts }
     ensures { IsTrue result ↔ HasEdges func.now (inst_at func.now inst) }
 {
-    let edges = func.inst_data(inst).branch_destination();
+    let shape = func.inst_data(inst);
+    match shape.exception_targets() {
+        Some(exception) => try_call_matches(func, exception),
+        None => edges_match(func, &[], &[], shape.branch_destination()),
+    }
+}
+
+// The same of the edges of a call with this exception table. Its normal edge, the first one, may pass what the
+// signature returns, and the edge of an item the parts of an exception.
+fn try_call_matches(func: &Function, exception: &ExceptionTargets) -> bool
+    requires { All (EdgeExists func.now) exception.now.edges }
+    ensures { IsTrue result ↔ TryCallMatches func.now exception.now }
+{
+    let returns = func.tables().signature_returns(exception.signature());
+    match exception.all_branches().split_first() {
+        Some((normal, items)) => {
+            edge_matches(func, returns, &[], normal) && edges_match(func, &[], &PAYLOAD, items)
+        }
+        None => true,
+    }
+}
+
+// Whether the arguments of each of these edges have the types of its target's parameters, where the call at their
+// start gives results and a payload of these types.
+fn edges_match(func: &Function, results: &[AbiParam], payload: &[Type], edges: &[BlockCall]) -> bool
+    requires { All (EdgeExists func.now) edges.now }
+    ensures { IsTrue result ↔ AllMatch func.now (types_of results.now) payload.now edges.now }
+{
     for place in 0..edges.len() {
-        if !edge_matches(func, &edges[place]) {
+        if !edge_matches(func, results, payload, &edges[place]) {
             return false;
         }
     }
@@ -199,9 +231,9 @@ fn has_edges(func: &Function, inst: Inst) -> bool
 }
 
 // Whether the arguments of an edge have the types of its target's parameters, and are as many.
-fn edge_matches(func: &Function, edge: &BlockCall) -> bool
+fn edge_matches(func: &Function, results: &[AbiParam], payload: &[Type], edge: &BlockCall) -> bool
     requires { EdgeExists func.now edge.now }
-    ensures { IsTrue result ↔ Matches func.now edge.now }
+    ensures { IsTrue result ↔ Matches func.now (types_of results.now) payload.now edge.now }
 {
     let arguments = edge.args.as_slice();
     let params = func.block_params(edge.block);
@@ -209,21 +241,34 @@ fn edge_matches(func: &Function, edge: &BlockCall) -> bool
         return false;
     }
     for place in 0..arguments.len() {
-        if !has_type(func, arguments[place], func.value_type(params[place])) {
+        let ty = func.value_type(params[place]);
+        if !has_type(func, results, payload, arguments[place], ty) {
             return false;
         }
     }
     true
 }
 
-// Whether an edge that starts at no call passes a value of this type. What a call gives is passed along its own edges
-// alone, and no instruction with edges is a call so far.
-fn has_type(func: &Function, argument: BlockArg, ty: Type) -> bool
+// Whether an argument of an edge has this type. What the call at its start doesn't give there has none.
+fn has_type(
+    func: &Function,
+    results: &[AbiParam],
+    payload: &[Type],
+    argument: BlockArg,
+    ty: Type,
+) -> bool
     requires { PassedExists func.now argument }
-    ensures { IsTrue result ↔ HasType func.now argument ty }
+    ensures { IsTrue result ↔ HasType func.now (types_of results.now) payload.now argument ty }
 {
     match argument {
         BlockArg::Value(value) => same_type(func.value_type(value), ty),
-        BlockArg::TryCallRet(_) | BlockArg::TryCallExn(_) => false,
+        BlockArg::TryCallRet(place) => match results.get(place as usize) {
+            Some(param) => same_type(param.value_type, ty),
+            None => false,
+        },
+        BlockArg::TryCallExn(place) => match payload.get(place as usize) {
+            Some(part) => same_type(*part, ty),
+            None => false,
+        },
     }
 }

@@ -3,7 +3,13 @@
 #![tactic(auto)]
 
 #[cfg(test)]
+mod callees;
+#[cfg(test)]
+mod calls;
+#[cfg(test)]
 mod edges;
+#[cfg(test)]
+mod exceptions;
 #[cfg(test)]
 mod operands;
 #[cfg(test)]

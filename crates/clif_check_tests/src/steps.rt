@@ -4,6 +4,7 @@
 ghost use Rattle.std.specs.Prelude.{◌<◌, length, IsTrue, EachIndex, All, slice_index};
 ghost use Rattle.clif_ir.specs.Consistent.{EdgeExists, PassedExists};
 
+use crate::callees::{Call, call_of, has_contexts, import_function, import_signature};
 use clif_check::{CheckErrorKind, check};
 use clif_instructions::inst_list::InsertAt;
 use clif_ir::{
@@ -27,6 +28,10 @@ pub enum Step<'a> {
     Aside,
     /// Puts a block at the end of the layout.
     LayOut(u32),
+    /// Imports a signature of these parameters and returned values.
+    Import(&'a [Type], &'a [Type]),
+    /// Imports a function of this signature.
+    Function(u32),
     /// Puts a parameter at the end of those of a block.
     Param(u32, Type),
     /// Puts an instruction at the end of a block, with its controlling type.
@@ -52,6 +57,7 @@ pub enum Plain<'a> {
     Return(&'a [u32]),
     Trap,
     CondTrap(CondTrapOpcode, u32),
+    Calls(Call<'a>),
 }
 
 /// What an edge passes, where a value is told by its number.
@@ -62,7 +68,8 @@ pub enum Arg {
     Exn(u32),
 }
 
-fn v(rt: &impl Abort, number: u32) -> Value {
+/// The value with this number, which may not exist.
+pub fn v(rt: &impl Abort, number: u32) -> Value {
     assert!(rt; number < 1000);
     Value::from_u32(number)
 }
@@ -81,7 +88,8 @@ fn block_of(rt: &impl Abort, func: &Function, number: u32) -> Block
     block
 }
 
-fn values(rt: &impl Abort, alloc: Global, numbers: &[u32]) -> Result<ValueList, Fail> {
+/// The list of values with these numbers.
+pub fn values(rt: &impl Abort, alloc: Global, numbers: &[u32]) -> Result<ValueList, Fail> {
     let mut list = ValueList::new(alloc);
     for number in numbers {
         list.push(v(rt, *number))?;
@@ -89,7 +97,8 @@ fn values(rt: &impl Abort, alloc: Global, numbers: &[u32]) -> Result<ValueList, 
     Ok(list)
 }
 
-fn edge(rt: &impl Abort, alloc: Global, block: u32, args: &[Arg]) -> Result<BlockCall, Fail> {
+/// The edge to a block that passes this.
+pub fn edge(rt: &impl Abort, alloc: Global, block: u32, args: &[Arg]) -> Result<BlockCall, Fail> {
     let mut call = BlockCall::new(alloc, b(rt, block), &[])?;
     for arg in args {
         let arg = match *arg {
@@ -191,6 +200,7 @@ fn shape_of(rt: &impl Abort, alloc: Global, plain: Plain<'_>) -> Result<Instruct
             arg: v(rt, x),
             code: TrapCode::HeapOutOfBounds,
         },
+        Plain::Calls(call) => call_of(rt, alloc, call)?,
     })
 }
 
@@ -205,6 +215,7 @@ fn put(
     let shape = shape_of(rt, func.allocator(), plain)?;
     assert!(rt; has_operands(func, shape.arguments()));
     assert!(rt; has_edges(func, shape.branch_destination()));
+    assert!(rt; has_contexts(func, &shape));
     assert!(rt; func.has_entries(&shape));
     func.insert_inst(block, InsertAt::Back, shape, ty, SourceLoc::new(0))?;
     Ok(())
@@ -238,6 +249,8 @@ fn make(rt: &impl Abort, func: &mut Function, step: Step<'_>) -> Result<(), Fail
         Step::LaidOut => laid_out(func),
         Step::Aside => aside(func),
         Step::LayOut(block) => lay_out(rt, func, block),
+        Step::Import(params, returns) => import_signature(func, params, returns),
+        Step::Function(sig) => import_function(rt, func, sig),
         Step::Param(block, ty) => param(rt, func, block, ty),
         Step::Put(block, ty, plain) => put(rt, func, block, ty, plain),
     }
@@ -247,10 +260,16 @@ fn make(rt: &impl Abort, func: &mut Function, step: Step<'_>) -> Result<(), Fail
 fn function(alloc: Global, returns: &[Type]) -> Result<Function, AllocError> {
     let name = UserFuncName::testcase(String::from_str(alloc, "t")?);
     let mut signature = Signature::new(alloc, CallConv::SystemV);
-    for ty in returns {
-        signature.returns.push(AbiParam::new(*ty))?;
-    }
+    push_types(&mut signature.returns, returns)?;
     Ok(Function::with_name_signature(alloc, name, signature))
+}
+
+/// Puts these types at the end of a list.
+pub fn push_types(list: &mut Vec<AbiParam>, types: &[Type]) -> Result<(), AllocError> {
+    for ty in types {
+        list.push(AbiParam::new(*ty))?;
+    }
+    Ok(())
 }
 
 /// Asserts what the check tells of the function that the steps make, which returns these types: the number of an

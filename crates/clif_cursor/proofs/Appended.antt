@@ -8,9 +8,11 @@ use Rattle.clif_types.specs.declared.error.BuildError.TheVariants.{Full, Failed}
 use Rattle.clif_types.specs.declared.types.«Type».{«Type»}
 use Rattle.clif_instructions.specs.declared.inst_list.InsertAt.TheVariants.{Back}
 use Rattle.clif_instructions.specs.declared.instructions.InstructionData.{InstructionData}
-use Rattle.clif_instructions.specs.Instruction.{is_terminator, result_count, result_type_of, result_types}
+use Rattle.clif_instructions.specs.Instruction.{is_terminator, result_type_of, result_types}
+use Rattle.clif_tables.specs.Callees.{count_of_results, types_of_results}
 use Rattle.clif_instructions.proofs.Lists.{at_set}
 use Rattle.clif_inst_builder.specs.Shapes.{GivesPair, GivesValue}
+use Rattle.clif_inst_builder.proofs.NoCalls.{one_type, plain_types, two_results as two_of}
 use Rattle.clif_ir.specs.declared.function.BlockNode.{BlockNode}
 use Rattle.clif_ir.specs.declared.function.InstNode.{InstNode}
 use Rattle.clif_ir.specs.declared.function.ValueNode.{ValueNode}
@@ -18,7 +20,7 @@ use Rattle.clif_ir.specs.declared.function.ValueOrigin.TheVariants.{Result as Of
 use Rattle.std.proofs.Math.ListN.{get_or-append}
 use Rattle.clif_ir.specs.Body.{Body, block_at, empty_block, inst_at, no_value, value_at}
 use Rattle.clif_ir.specs.Changes.{HasNoRoom, inst_node, result_nodes, with_inst}
-use Rattle.clif_ir.proofs.KeepsInst.{length-result_types}
+use Rattle.clif_ir.proofs.KeepsInst.{length-types_of_results}
 use Rattle.clif_cursor.specs.declared.cursor.FuncCursor.{FuncCursor}
 use Rattle.clif_cursor.specs.Cursor.{Appends, Builds, BuildsPair, BuildsValue, CanAppend, IsOpen, IsThere, TypesStay, ends_block, is_filled, with_appended}
 
@@ -88,7 +90,7 @@ typed-two f b shape (t ∷ u ∷ v ∷ ts) loc two = absurd (omega (arith, two))
 -- an instruction was appended where the cursor is, or that was refused
 pub builds_appended : (old new : FuncCursor) (shape : InstructionData) (ty : «Type») (r : Result ℕ BuildError) → CanAppend old → IsThere old new
     → OnOk r (new.func.now ≡ with_appended old shape ty) → IfOk r (λ inst. inst ≡ length old.func.now.insts) → OnErr r (new.func.now ≡ old.func.now)
-    → (r ≡ Err Full → HasNoRoom old.func.now (result_count shape)) → r ≢ Err Failed → Builds old new shape ty r
+    → (r ≡ Err Full → HasNoRoom old.func.now (count_of_results old.func.now.tables shape)) → r ≢ Err Failed → Builds old new shape ty r
 builds_appended old new shape ty (Err e) is_open there ok number err full never_failed = record {
   appends = record { there = there; ok = tt; err = err; full = full; never_failed = never_failed };
   number = tt;
@@ -96,39 +98,41 @@ builds_appended old new shape ty (Err e) is_open there ok number err full never_
   current = λ goes_on. tt;
   grows = tt;
   types = tt;
+  tables = tt;
 }
 builds_appended old new shape ty (Ok inst) is_open there ok number err full never_failed = record {
   appends = record { there = there; ok = ok; err = tt; full = full; never_failed = never_failed };
   number = number;
   exists =
       subst (λ (f : Body). inst < length f.insts) (sym ok)
-      (subst (λ i. i < length (with_appended old shape ty).insts) (sym number) (exists-after old.func.now old.block shape (result_types shape ty) old.srcloc));
+      (subst (λ i. i < length (with_appended old shape ty).insts) (sym number) (exists-after old.func.now old.block shape (types_of_results old.func.now.tables shape ty) old.srcloc));
   current = λ goes_on.
       subst (λ b. IsOpen new.func.now b) (sym there.block)
-      (subst (λ (f : Body). IsOpen f old.block) (sym ok) (open-after old.func.now old.block shape (result_types shape ty) old.srcloc is_open goes_on));
-  grows = subst (λ (f : Body). length old.func.now.values ≤ length f.values) (sym ok) (values-after old.func.now old.block shape (result_types shape ty) old.srcloc);
-  types = subst (λ (f : Body). TypesStay old.func.now f) (sym ok) (types-after old.func.now old.block shape (result_types shape ty) old.srcloc);
+      (subst (λ (f : Body). IsOpen f old.block) (sym ok) (open-after old.func.now old.block shape (types_of_results old.func.now.tables shape ty) old.srcloc is_open goes_on));
+  grows = subst (λ (f : Body). length old.func.now.values ≤ length f.values) (sym ok) (values-after old.func.now old.block shape (types_of_results old.func.now.tables shape ty) old.srcloc);
+  types = subst (λ (f : Body). TypesStay old.func.now f) (sym ok) (types-after old.func.now old.block shape (types_of_results old.func.now.tables shape ty) old.srcloc);
+  tables = ap (λ (f : Body). f.tables) ok;
 }
 
 -- the results of the instruction that was built
 results-built : (old new : FuncCursor) (shape : InstructionData) (ty : «Type») (inst : ℕ) → Builds old new shape ty (Ok inst)
-    → (inst_at new.func.now inst).results ≡ range_with_len (length old.func.now.values) (length (result_types shape ty))
+    → (inst_at new.func.now inst).results ≡ range_with_len (length old.func.now.values) (length (types_of_results old.func.now.tables shape ty))
 results-built old new shape ty inst built =
     ap (λ (f : Body). (inst_at f inst).results) built.appends.ok
     ∙ ap (λ i. (inst_at (with_appended old shape ty) i).results) built.number
-    ∙ ap (λ (n : InstNode). n.results) (node-after old.func.now old.block shape (result_types shape ty) old.srcloc)
+    ∙ ap (λ (n : InstNode). n.results) (node-after old.func.now old.block shape (types_of_results old.func.now.tables shape ty) old.srcloc)
 
 pub one_result : (old new : FuncCursor) (shape : InstructionData) (ty : «Type») (inst : ℕ) → GivesValue shape → Builds old new shape ty (Ok inst)
     → (inst_at new.func.now inst).results ≡ length old.func.now.values ∷ []
 one_result old new shape ty inst gives built =
     results-built old new shape ty inst built
-    ∙ ap (λ (ts : List «Type»). range_with_len (length old.func.now.values) (length ts)) (gives.one_result ty)
+    ∙ ap (λ (ts : List «Type»). range_with_len (length old.func.now.values) (length ts)) (one_type old.func.now.tables shape ty gives)
 
 pub two_results : (old new : FuncCursor) (shape : InstructionData) (ty : «Type») (inst : ℕ) → GivesPair shape → Builds old new shape ty (Ok inst)
     → (inst_at new.func.now inst).results ≡ length old.func.now.values ∷ (length old.func.now.values + 1) ∷ []
 two_results old new shape ty inst gives built =
     results-built old new shape ty inst built
-    ∙ ap (λ n. range_with_len (length old.func.now.values) n) (length-result_types shape ty ∙ gives.two_results)
+    ∙ ap (λ n. range_with_len (length old.func.now.values) n) (length-types_of_results old.func.now.tables shape ty ∙ two_of old.func.now.tables shape gives)
 
 -- the same instruction, whatever is answered of it
 appends_with : {A B : Type 0} (old new : FuncCursor) (shape : InstructionData) (ty : «Type») (x : A) (y : B)
@@ -160,11 +164,11 @@ builds_value old new shape ty inst value gives built is exists = record {
   current = built.current gives.goes_on;
   grows = built.grows;
   types = built.types;
-  tables = ap (λ (f : Body). f.tables) built.appends.ok;
+  tables = built.tables;
   typed =
       ap (λ v. (value_at new.func.now v).ty) is
       ∙ ap (λ (f : Body). (value_at f (length old.func.now.values)).ty) built.appends.ok
-      ∙ typed-one old.func.now old.block shape (result_types shape ty) (result_type_of shape ty) old.srcloc (gives.one_result ty);
+      ∙ typed-one old.func.now old.block shape (types_of_results old.func.now.tables shape ty) (result_type_of shape ty) old.srcloc (one_type old.func.now.tables shape ty gives);
 }
 
 pub builds_value_refused : (old new : FuncCursor) (shape : InstructionData) (ty : «Type») (e : BuildError) → Builds old new shape ty (Err e) → BuildsValue old new shape ty (Err e)
@@ -191,7 +195,8 @@ builds_pair old new shape ty inst pair gives built are exist = record {
   typed =
       ap (λ xs. map (λ v. (value_at new.func.now v).ty) xs) are
       ∙ ap (λ (f : Body). (value_at f (length old.func.now.values)).ty ∷ (value_at f (length old.func.now.values + 1)).ty ∷ []) built.appends.ok
-      ∙ typed-two old.func.now old.block shape (result_types shape ty) old.srcloc (length-result_types shape ty ∙ gives.two_results);
+      ∙ typed-two old.func.now old.block shape (types_of_results old.func.now.tables shape ty) old.srcloc (length-types_of_results old.func.now.tables shape ty ∙ two_of old.func.now.tables shape gives)
+      ∙ plain_types old.func.now.tables shape ty gives.no_call;
 }
 
 pub builds_pair_refused : (old new : FuncCursor) (shape : InstructionData) (ty : «Type») (e : BuildError) → Builds old new shape ty (Err e) → BuildsPair old new shape ty (Err e)

@@ -6,7 +6,8 @@ use Rattle.clif_types.specs.declared.types.«Type».{«Type»}
 use Rattle.clif_instructions.specs.declared.block_call.BlockCall.{BlockCall}
 use Rattle.clif_instructions.specs.declared.inst_list.InsertAt.TheVariants.{Back}
 use Rattle.clif_instructions.specs.declared.instructions.InstructionData.{InstructionData}
-use Rattle.clif_instructions.specs.Instruction.{is_terminator, result_count, result_type_of, result_types}
+use Rattle.clif_instructions.specs.Instruction.{is_terminator, result_type_of, result_types}
+use Rattle.clif_tables.specs.Callees.{count_of_results, types_of_results}
 use Rattle.clif_tables.specs.Lists.{unserved, with_constant, with_table_served}
 use Rattle.clif_tables.specs.Makes.{Pools}
 use Rattle.clif_ir.specs.Body.{Body, block_at, inst_at, value_at}
@@ -34,7 +35,7 @@ CanAppend c = IsOpen c.func.now c.block
 
 -- the function with an instruction at the end of the cursor's block, at its source place
 abbrev pub with_appended : FuncCursor → InstructionData → «Type» → Body
-with_appended c shape ty = with_inst c.func.now c.block Back shape (result_types shape ty) c.srcloc
+with_appended c shape ty = with_inst c.func.now c.block Back shape (types_of_results c.func.now.tables shape ty) c.srcloc
 
 -- both cursors are at the same place of the same function
 pub record IsThere (old new : FuncCursor) : Type 0 where
@@ -51,7 +52,7 @@ pub record Appends {A : Type 0} (old new : FuncCursor) (shape : InstructionData)
   pub there : IsThere old new
   pub ok : OnOk answer (new.func.now ≡ with_appended old shape ty)
   pub err : OnErr answer (new.func.now ≡ old.func.now)
-  pub full : answer ≡ Err Full → HasNoRoom old.func.now (result_count shape)
+  pub full : answer ≡ Err Full → HasNoRoom old.func.now (count_of_results old.func.now.tables shape)
   pub never_failed : answer ≢ Err Failed
 
 -- the answer is the number of the instruction
@@ -62,6 +63,7 @@ pub record Builds (old new : FuncCursor) (shape : InstructionData) (ty : «Type�
   pub current : is_terminator shape ≡ false → OnOk answer (CanAppend new)
   pub grows : OnOk answer (length old.func.now.values ≤ length new.func.now.values)
   pub types : OnOk answer (TypesStay old.func.now new.func.now)
+  pub tables : OnOk answer (new.func.now.tables ≡ old.func.now.tables)
 
 -- the same of an instruction that has one result and ends no block; the answer is that result
 pub record BuildsValue (old new : FuncCursor) (shape : InstructionData) (ty : «Type») (answer : Result ℕ BuildError) : Type 0 where

@@ -3,12 +3,11 @@ ghost use Rattle.std.specs.Prelude.{◌≡◌, ◌<◌, ◌∷◌, [], length};
 ghost use Rattle.std.proofs.Common.{subst, sym};
 ghost use Rattle.std.proofs.Math.Nat.{lt_of_lt_of_le};
 ghost use Rattle.clif_tables.specs.Lists.{TableLists};
-ghost use Rattle.clif_instructions.specs.Instruction.{ASlot};
 ghost use Rattle.clif_ir.specs.Body.{value_at};
 ghost use Rattle.clif_ir.specs.Consistent.{EdgeExists, EntryExists};
 ghost use Rattle.clif_cursor.specs.Cursor.{CanAppend, Builds, BuildsPair, BuildsValue, is_filled, MayServe, PoolsConstant, TakesJumpTable};
 
-use clif_inst_builder::InstBuilderBase;
+use clif_inst_builder::{InstBuilderBase, both_values};
 use clif_instructions::inst_list::InsertAt;
 use clif_ir::{Function, InstructionData, JumpTableData};
 use clif_types::{Block, BuildError, Constant, Inst, JumpTable, SourceLoc, Type, Value};
@@ -129,8 +128,8 @@ impl<'f> InstBuilderBase for FuncCursor<'f> {
     ghost others_exist = { λ old new shape ty value built other here.
         lt_of_lt_of_le here built.grows };
 
-    ghost slots_stay = { λ old new shape ty value built slot here.
-        subst (λ (t : TableLists). EntryExists t (ASlot slot)) (sym built.tables) here };
+    ghost entries_stay = { λ old new shape ty value built entry here.
+        subst (λ (t : TableLists). EntryExists t entry) (sym built.tables) here };
 
     ghost pooled_exists = { λ old new bytes constant pooled. pooled.exists };
 
@@ -195,12 +194,4 @@ impl<'f> InstBuilderBase for FuncCursor<'f> {
     fn refuse(&mut self) -> BuildError {
         BuildError::Memory
     }
-}
-
-// The two values of a list.
-fn both_values(values: &[Value]) -> (Value, Value)
-    requires { length values.now ≡ 2 }
-    ensures { values.now ≡ result.0 ∷ result.1 ∷ [] }
-{
-    (values[0], values[1])
 }

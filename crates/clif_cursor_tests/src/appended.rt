@@ -7,12 +7,13 @@ ghost use Rattle.clif_cursor.specs.Cursor.{CanAppend};
 
 use clif_cursor::{FuncCursor, InstBuilder};
 use clif_ir::Function;
-use clif_types::types::I64;
+use clif_types::types::{I8, I64};
 use clif_types::{
-    Block, BuildError, CallConv, EntityRef, Inst, MemFlagsData, Signature, SourceLoc, Type,
-    UserFuncName, Value,
+    AbiParam, Block, BuildError, CallConv, EntityRef, ExtFuncData, ExternalName, FuncRef, Inst,
+    MemFlagsData, SigRef, Signature, SourceLoc, Type, UserFuncName, Value,
 };
 use std::alloc::{AllocError, Global};
+use std::process::Abort;
 use std::test::Fail;
 
 // The empty function `%sample`.
@@ -65,6 +66,64 @@ fn appended(rt: HostRuntime) -> Result<(), Fail> {
     assert!(rt; func.srcloc(last) == SourceLoc::new(18));
     let text =
         "function %sample() system_v {\nblock0(v0: i64):\n    v1 = iconst.i64 7\n    v2 = iadd v0, v1  ; v1 = 7\n    store v2, v0+8\n    v3 = iconcat v2, v0\n    v4, v5 = isplit v3\n    jump block1\n\nblock1:\n    return\n}\n";
+    let shown = func.display();
+    let found = format!(in rt.alloc(); "{shown}")?;
+    assert!(rt; found.as_str() == text);
+    Ok(())
+}
+
+// Calls a function with `x`, and then what is at the address `x`.
+fn call_both(
+    cursor: &mut FuncCursor<'_>,
+    sig: SigRef,
+    function: FuncRef,
+    x: Value,
+) -> Result<(), BuildError>
+    requires open { CanAppend cursor.old }
+    requires x_exists { x < length cursor.old.func.now.values }
+    requires sig_exists { sig < length cursor.old.func.now.tables.signatures }
+    requires function_exists { function < length cursor.old.func.now.tables.functions }
+    ensures open { OnOk result (CanAppend cursor.new) }
+{
+    cursor.ins().call(function, &[x])?;
+    cursor.ins().call_indirect(sig, x, &[])?;
+    Ok(())
+}
+
+// Imports a signature that returns two values, and the function `g` with it.
+fn imports(rt: &impl Abort, alloc: Global, func: &mut Function) -> Result<(SigRef, FuncRef), Fail> {
+    let mut signature = Signature::new(alloc, CallConv::Fast);
+    signature.returns.push(AbiParam::new(I64))?;
+    signature.returns.push(AbiParam::new(I8))?;
+    let sig = func.import_signature(signature)?;
+    assert!(rt; sig.index() < func.tables().signature_count());
+    let name = ExternalName::testcase(String::from_str(alloc, "g")?);
+    let function = func.import_function(ExtFuncData {
+        name,
+        signature: sig,
+        colocated: true,
+        patchable: false,
+    })?;
+    Ok((sig, function))
+}
+
+// A call's results get the next numbers, as many as its signature returns.
+#[test]
+fn calls(rt: HostRuntime) -> Result<(), Fail> {
+    let mut func = sample(rt.alloc())?;
+    let (sig, function) = imports(&rt, rt.alloc(), &mut func)?;
+    let block = func.create_block()?;
+    func.ensure_block_inserted(block)?;
+    let x = func.append_block_param(block, I64)?;
+    let mut cursor = FuncCursor::new(&mut func, block);
+    assert!(rt; block.index() < cursor.func().block_count());
+    assert!(rt; !cursor.is_filled());
+    assert!(rt; x.index() < cursor.func().value_count());
+    assert!(rt; sig.index() < cursor.func().tables().signature_count());
+    assert!(rt; function.index() < cursor.func().tables().function_count());
+    call_both(&mut cursor, sig, function, x)?;
+    let text =
+        "function %sample() system_v {\n    sig0 = () -> i64, i8 fast\n    fn0 = colocated %g sig0\n\nblock0(v0: i64):\n    v1, v2 = call fn0(v0)\n    v3, v4 = call_indirect sig0, v0()\n}\n";
     let shown = func.display();
     let found = format!(in rt.alloc(); "{shown}")?;
     assert!(rt; found.as_str() == text);

@@ -16,8 +16,8 @@ use Rattle.clif_opcodes.specs.declared.opcodes.PooledConstOpcode.{PooledConstOpc
 use Rattle.clif_opcodes.specs.declared.opcodes.StackOpcode.{StackOpcode}
 use Rattle.clif_opcodes.specs.declared.opcodes.UnaryOpcode.{UnaryOpcode}
 use Rattle.clif_instructions.specs.declared.instructions.InstructionData.{InstructionData}
-use Rattle.clif_instructions.specs.declared.instructions.InstructionData.TheVariants.{UnaryImm, UnaryIeee, UnaryConst, Unary, Binary, IntCompare, Concat, Split, Convert, Ternary, Load, Store, StackLoad, StackStore, Jump, Brif, BranchTable, MultiAry, Trap, CondTrap}
-use Rattle.clif_instructions.specs.Instruction.{destinations, is_branch, is_terminator, result_count, result_type_of, result_types}
+use Rattle.clif_instructions.specs.declared.instructions.InstructionData.TheVariants.{UnaryImm, UnaryIeee, UnaryConst, Unary, Binary, IntCompare, Concat, Split, Convert, Ternary, Load, Store, StackLoad, StackStore, Jump, Brif, BranchTable, MultiAry, Trap, CondTrap, Call, CallIndirect}
+use Rattle.clif_instructions.specs.Instruction.{destinations, is_branch, is_call, is_terminator, result_count, result_type_of, result_types}
 
 -- an edge to a block that passes these arguments
 abbrev pub edge_to : ℕ → List BlockArg → BlockCall
@@ -88,15 +88,23 @@ trap code = Trap code
 abbrev pub cond_trap : CondTrapOpcode → ℕ → TrapCode → InstructionData
 cond_trap opcode c code = CondTrap opcode c code
 
--- an instruction of this shape has one result, goes nowhere and ends no block
+abbrev pub call : ℕ → List ℕ → InstructionData
+call function args = Call function args
+
+abbrev pub call_indirect : ℕ → ℕ → List ℕ → InstructionData
+call_indirect sig callee args = CallIndirect sig (callee ∷ args)
+
+-- an instruction of this shape has one result, calls nothing, goes nowhere and ends no block
 pub record GivesValue (shape : InstructionData) : Type 0 where
+  pub no_call : is_call shape ≡ false
   pub no_branch : is_branch shape ≡ false
   pub no_edges : destinations shape ≡ []
   pub one_result : (ty : «Type») → result_types shape ty ≡ result_type_of shape ty ∷ []
   pub goes_on : is_terminator shape ≡ false
 
--- an instruction of this shape has two results, goes nowhere and ends no block
+-- an instruction of this shape has two results, calls nothing, goes nowhere and ends no block
 pub record GivesPair (shape : InstructionData) : Type 0 where
+  pub no_call : is_call shape ≡ false
   pub no_branch : is_branch shape ≡ false
   pub no_edges : destinations shape ≡ []
   pub two_results : result_count shape ≡ 2

@@ -1,162 +1,24 @@
 //! The instructions by name, over anything that makes an instruction of any shape: `builder.ins().iadd(x, y)?`.
 ghost use Rattle.std.specs.Prelude.{◌≡◌, ◌∷◌, [], length, IsTrue, IfOk, OnErr, Err, All};
 ghost use Rattle.clif_types.specs.Types.{bytes_of, is_int, is_type};
-ghost use Rattle.clif_instructions.specs.Instruction.{ASlot, AConstant, entries_of, operands, destinations};
+ghost use Rattle.clif_instructions.specs.Instruction.{AFunctionRef, ASignatureRef, ASlot};
 ghost use Rattle.clif_opcodes.specs.Kinds.{is_met};
 ghost use Rattle.clif_opcodes.specs.declared.kinds.Demand.{Demand};
-ghost use Rattle.clif_inst_builder.specs.Shapes.{AfterPooling, GivesPair, GivesValue, AfterValue, LikeIsValue, PoolsThenBuilds, AfterTaking, TakesThenBuilds, binary, branch_table, brif_to, concat, cond_trap, convert, edge_to, int_compare, jump, load, multi_ary, split, stack, stack_store, store, ternary, trap, unary, unary_const, unary_ieee, unary_imm};
+ghost use Rattle.clif_inst_builder.specs.Shapes.{PoolsThenBuilds, TakesThenBuilds, binary, branch_table, brif_to, call, call_indirect, concat, cond_trap, convert, edge_to, int_compare, jump, load, multi_ary, split, stack, stack_store, store, ternary, trap, unary, unary_const, unary_ieee, unary_imm};
 
+use crate::base::InstBuilderBase;
 use clif_instructions::block_call::{BlockArg, BlockCall};
 use clif_instructions::instructions::InstructionData;
-use clif_instructions::jump_table::JumpTableData;
 use clif_instructions::value_list::ValueList;
 use clif_opcodes::{
     BinaryOpcode, CondTrapOpcode, ConvertOpcode, FloatConstOpcode, PooledConstOpcode, StackOpcode,
     UnaryOpcode,
 };
 use clif_types::{
-    Block, BuildError, Constant, Inst, IntCC, JumpTable, MemFlagsData, StackSlot, TrapCode, Type,
-    Value,
+    Block, BuildError, FuncRef, Inst, IntCC, JumpTable, MemFlagsData, SigRef, StackSlot, TrapCode,
+    Type, Value,
 };
 use std::alloc::Global;
-
-/// What makes an instruction of any shape at the end of the current block.
-pub trait InstBuilderBase {
-    ghost use Rattle.std.specs.Prelude.{ℕ, List, Result, Err};
-    ghost use Rattle.clif_types.specs.declared.error.BuildError.{BuildError};
-    ghost use Rattle.clif_types.specs.declared.types.«Type».{«Type»};
-    ghost use Rattle.clif_instructions.specs.declared.block_call.BlockCall.{BlockCall};
-    ghost use Rattle.clif_instructions.specs.declared.instructions.InstructionData.{InstructionData};
-    ghost use Rattle.clif_instructions.specs.Instruction.{EntryRef, ASlot, AConstant};
-
-    // there is a current block, which may get an instruction
-    ghost can_build: { Self → Type 0 };
-
-    // the function has this value
-    ghost has_value: { Self → ℕ → Type 0 };
-
-    // the function has this entry of a table
-    ghost has_entry: { Self → EntryRef → Type 0 };
-
-    // an edge may be made: its target exists and isn't sealed, and the function has what it passes
-    ghost can_lead: { Self → BlockCall → Type 0 };
-
-    // the type of a value
-    ghost type_of: { Self → ℕ → «Type» };
-
-    // what `pool_constant` makes of the builder, by the bytes and its result
-    ghost pools: { Self → Self → List ℕ → Result ℕ BuildError → Type 0 };
-
-    // there is a jump table of this number that serves no instruction so far, and its edges may be made
-    ghost has_jump_table: { Self → ℕ → Type 0 };
-
-    // what `take_jump_table` makes of the builder, by the table and its result
-    ghost takes: { Self → Self → ℕ → Result (List BlockCall) BuildError → Type 0 };
-
-    // what `build` makes of the builder, by its result
-    ghost builds: { Self → Self → InstructionData → «Type» → Result ℕ BuildError → Type 0 };
-
-    // what `build_value` makes of it
-    ghost builds_value: { Self → Self → InstructionData → «Type» → Result ℕ BuildError → Type 0 };
-
-    // what `build_like` makes of it
-    ghost builds_like: { Self → Self → InstructionData → ℕ → Result ℕ BuildError → Type 0 };
-
-    // what `build_pair` makes of it
-    ghost builds_pair: { Self → Self → InstructionData → ℕ → Result (ℕ × ℕ) BuildError → Type 0 };
-
-    /// The type of a value.
-    fn value_type(&self, value: Value) -> Type
-        requires exists { has_value self.now value }
-        ensures { result ≡ type_of self.now value };
-
-    /// The allocator of what an instruction holds.
-    fn allocator(&self) -> Global;
-
-    /// The constant of these bytes, the lowest first. It is made if there is none: equal bytes are one constant.
-    fn pool_constant(&mut self, bytes: &[u8]) -> Result<Constant, BuildError>
-        ensures pooled { pools self.old self.new bytes.now result };
-
-    /// Takes the edges of a jump table for the instruction that it serves from now on.
-    fn take_jump_table(&mut self, table: JumpTable) -> Result<JumpTableData, BuildError>
-        requires serves { has_jump_table self.old table }
-        ensures taken { takes self.old self.new table result };
-
-    /// Appends an instruction; `ctrl_type` is its controlling type.
-    ///
-    /// A terminator fills the block. A branch becomes a predecessor of the target of each edge, once.
-    fn build(&mut self, shape: InstructionData, ctrl_type: Type) -> Result<Inst, BuildError>
-        requires current { can_build self.old }
-        requires operands_exist { All (has_value self.old) (operands shape) }
-        requires edges { All (can_lead self.old) (destinations shape) }
-        requires entries_exist { All (has_entry self.old) (entries_of shape) }
-        ensures built { builds self.old self.new shape ctrl_type result };
-
-    /// Appends an instruction that has one result and goes on behind it, and returns the result's value.
-    fn build_value(&mut self, shape: InstructionData, ctrl_type: Type) -> Result<Value, BuildError>
-        requires current { can_build self.old }
-        requires operands_exist { All (has_value self.old) (operands shape) }
-        requires entries_exist { All (has_entry self.old) (entries_of shape) }
-        requires value { GivesValue shape }
-        ensures built { builds_value self.old self.new shape ctrl_type result };
-
-    /// The same, with the type of `like` as the controlling type.
-    fn build_like(&mut self, shape: InstructionData, like: Value) -> Result<Value, BuildError>
-        requires current { can_build self.old }
-        requires operands_exist { All (has_value self.old) (operands shape) }
-        requires entries_exist { All (has_entry self.old) (entries_of shape) }
-        requires value { GivesValue shape }
-        requires like_exists { has_value self.old like }
-        ensures built { builds_like self.old self.new shape like result };
-
-    /// Appends an instruction that has two results and goes on behind it, with the type of `like` as the controlling
-    /// type, and returns the values of the results in order.
-    fn build_pair(
-        &mut self,
-        shape: InstructionData,
-        like: Value,
-    ) -> Result<(Value, Value), BuildError>
-        requires current { can_build self.old }
-        requires operands_exist { All (has_value self.old) (operands shape) }
-        requires entries_exist { All (has_entry self.old) (entries_of shape) }
-        requires pair { GivesPair shape }
-        requires like_exists { has_value self.old like }
-        ensures built { builds_pair self.old self.new shape like result };
-
-    /// Fails, since memory was refused for what an instruction was to hold.
-    fn refuse(&mut self) -> BuildError
-        ensures refused { (shape : InstructionData) (ty : «Type») →
-            builds self.old self.new shape ty (Err result) };
-
-    // after a value was built one can build on, with this value, and with the values and slots that there were before
-    ghost builds_on: { AfterValue builds_value (λ old new value. can_build new) };
-
-    ghost built_exists: { AfterValue builds_value (λ old new value. has_value new value) };
-
-    ghost others_exist: { AfterValue builds_value
-        (λ old new value. (x : ℕ) → has_value old x → has_value new x) };
-
-    ghost slots_stay: { AfterValue builds_value
-        (λ old new value. (s : ℕ) → has_entry old (ASlot s) → has_entry new (ASlot s)) };
-
-    // after a constant was pooled it is there, and one can build as before
-    ghost pooled_exists: { AfterPooling pools
-        (λ old new constant. has_entry new (AConstant constant)) };
-
-    ghost pooled_builds: { AfterPooling pools (λ old new constant. can_build old → can_build new) };
-
-    // after the edges of a table were taken they may be made, the values are there, and one can build as before
-    ghost taken_leads: { AfterTaking takes
-        (λ old new table edges. has_jump_table old table → All (can_lead new) edges) };
-
-    ghost taken_values: { AfterTaking takes
-        (λ old new table edges. (x : ℕ) → has_value old x → has_value new x) };
-
-    ghost taken_builds: { AfterTaking takes
-        (λ old new table edges. can_build old → can_build new) };
-
-    ghost like_is_value: { LikeIsValue builds_like builds_value type_of };
-}
 
 /// The instructions, by name: `builder.ins().iadd(x, y)?`.
 ///
@@ -667,6 +529,49 @@ pub trait InstBuilder: InstBuilderBase {
         )
     }
 
+    /// `call function(x, ..)`: calls a function that was imported, with these arguments. The results of the instruction are
+    /// what the function's signature returns.
+    final fn call(&mut self, function: FuncRef, args: &[Value]) -> Result<Inst, BuildError>
+        requires current { Self.can_build self.old }
+        requires args_exist { All (Self.has_value self.old) args.now }
+        requires function_exists { Self.has_entry self.old (AFunctionRef function) }
+        ensures built { Self.builds self.old self.new (call function args.now) Type.Invalid result }
+    {
+        match ValueList::from_slice(self.allocator(), args) {
+            Ok(args) => {
+                let func_ref = function;
+                self.build(InstructionData::Call { func_ref, args }, Type::Invalid)
+            }
+            Err(_) => Err(self.refuse()),
+        }
+    }
+
+    /// `call_indirect sig, callee(x, ..)`: calls what is at an address, by a signature that was imported, with these
+    /// arguments. The results of the instruction are what the signature returns.
+    final fn call_indirect(
+        &mut self,
+        sig: SigRef,
+        callee: Value,
+        args: &[Value],
+    ) -> Result<Inst, BuildError>
+        requires current { Self.can_build self.old }
+        requires callee_exists { Self.has_value self.old callee }
+        requires args_exist { All (Self.has_value self.old) args.now }
+        requires signature_exists { Self.has_entry self.old (ASignatureRef sig) }
+        ensures built { Self.builds self.old self.new (call_indirect sig callee args.now) Type.Invalid result }
+    {
+        match callee_and_args(self.allocator(), callee, args) {
+            Ok(args) => {
+                let sig_ref = sig;
+                self.build(
+                    InstructionData::CallIndirect { sig_ref, args },
+                    Type::Invalid,
+                )
+            }
+            Err(_) => Err(self.refuse()),
+        }
+    }
+
     /// `return x, ..`: ends the function with these values, which the signature gives the types of. The current
     /// block is filled afterwards.
     final fn return_(&mut self, values: &[Value]) -> Result<Inst, BuildError>
@@ -783,6 +688,19 @@ pub trait InstBuilder: InstBuilderBase {
 }
 
 impl<B: InstBuilderBase> InstBuilder for B {}
+
+// What is called, and the arguments behind it.
+fn callee_and_args(alloc: Global, callee: Value, args: &[Value]) -> Result<ValueList, BuildError>
+    ensures ok { IfOk result (λ values. values ≡ callee ∷ args.now) }
+    ensures only_memory { OnErr result (result ≡ Err BuildError.Memory) }
+{
+    let mut values = ValueList::new(alloc);
+    values.push(callee)?;
+    for arg in args {
+        values.push(*arg)?;
+    }
+    Ok(values)
+}
 
 // The edges of a `brif`.
 fn two_edges(

@@ -4,6 +4,8 @@
 //! every implementor. Contracts say which shape a method makes, by the words of `specs/Shapes.antt`.
 #![tactic(auto)]
 
+pub mod base;
 pub mod inst_builder;
 
-pub use inst_builder::{InstBuilder, InstBuilderBase};
+pub use base::{InstBuilderBase, both_values};
+pub use inst_builder::InstBuilder;

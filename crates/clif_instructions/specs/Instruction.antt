@@ -1,6 +1,6 @@
 -- The table of instructions: operands, results, and which ones end a block.
 -- Source: own, after the crate's instruction set.
-use Rattle.std.specs.Prelude.{ℕ, Bool, true, false, List, [], ◌∷◌, length, map, is_some, slice_get, slice_index_or, slice_set}
+use Rattle.std.specs.Prelude.{ℕ, Bool, true, false, List, [], ◌∷◌, Option, Some, None, length, map, is_some, slice_get, slice_index_or, slice_set}
 use Rattle.clif_types.specs.declared.types.«Type».{«Type»}
 use Rattle.clif_types.specs.declared.types.«Type».TheVariants.{Invalid}
 use Rattle.clif_opcodes.specs.declared.opcodes.Opcode.{Opcode}
@@ -9,8 +9,9 @@ use Rattle.clif_opcodes.specs.Kinds.{result_type}
 use Rattle.clif_opcodes.specs.Typing.{Row, row_of}
 use Rattle.clif_instructions.specs.declared.block_call.BlockCall.{BlockCall}
 use Rattle.clif_instructions.specs.Edges.{appended_to, with_argument_to, redirected, with_target_changed, with_passed, with_passed_at}
+use Rattle.clif_instructions.specs.ExceptionTables.{ExceptionShape, contexts_of}
 use Rattle.clif_instructions.specs.declared.instructions.InstructionData.{InstructionData}
-use Rattle.clif_instructions.specs.declared.instructions.InstructionData.TheVariants.{UnaryImm, UnaryIeee, UnaryConst, Unary, Binary, IntCompare, Concat, Split, Convert, Ternary, Load, Store, StackLoad, StackStore, Jump, Brif, BranchTable, MultiAry, Trap, CondTrap}
+use Rattle.clif_instructions.specs.declared.instructions.InstructionData.TheVariants.{UnaryImm, UnaryIeee, UnaryConst, Unary, Binary, IntCompare, Concat, Split, Convert, Ternary, Load, Store, StackLoad, StackStore, Jump, Brif, BranchTable, MultiAry, Trap, CondTrap, Call, CallIndirect, TryCall, TryCallIndirect}
 
 -- the operands, as they are printed
 abbrev pub operands : InstructionData → List ℕ
@@ -34,19 +35,43 @@ operands (BranchTable arg table) = arg ∷ []
 operands (MultiAry args) = args
 operands (Trap code) = []
 operands (CondTrap opcode arg code) = arg ∷ []
+operands (Call function args) = args
+operands (CallIndirect sig args) = args
+operands (TryCall function args table) = args
+operands (TryCallIndirect args table) = args
 
 -- the edges, as they are printed
 abbrev pub destinations : InstructionData → List BlockCall
 destinations (Jump destination) = destination ∷ []
 destinations (Brif arg blocks) = blocks
 destinations (BranchTable arg table) = table
+destinations (TryCall function args table) = table.edges
+destinations (TryCallIndirect args table) = table.edges
 destinations _ = []
+
+-- the exception table, if it has one
+abbrev pub exception_table : InstructionData → Option ExceptionShape
+exception_table (TryCall function args table) = Some table
+exception_table (TryCallIndirect args table) = Some table
+exception_table _ = None
+
+-- the values that it names beside these: the contexts of a try call, of any type
+abbrev pub contexts : InstructionData → List ℕ
+contexts (TryCall function args table) = contexts_of table
+contexts (TryCallIndirect args table) = contexts_of table
+contexts _ = []
+
+-- an exception table with these edges
+abbrev pub with_edges : List BlockCall → ExceptionShape → ExceptionShape
+with_edges edges table = record table { edges = edges }
 
 -- an instruction, of whose edges each that goes to the block passes this value as well, at the end
 abbrev pub with_argument : ℕ → ℕ → InstructionData → InstructionData
 with_argument block value (Jump destination) = Jump (appended_to block value destination)
 with_argument block value (Brif arg blocks) = Brif arg (with_argument_to block value blocks)
 with_argument block value (BranchTable arg table) = BranchTable arg (with_argument_to block value table)
+with_argument block value (TryCall function args table) = TryCall function args (with_edges (with_argument_to block value table.edges) table)
+with_argument block value (TryCallIndirect args table) = TryCallIndirect args (with_edges (with_argument_to block value table.edges) table)
 with_argument block value shape = shape
 
 -- an instruction, of whose edges each that went to the first block goes to the second
@@ -54,6 +79,8 @@ abbrev pub with_targets_changed : ℕ → ℕ → InstructionData → Instructio
 with_targets_changed from to (Jump destination) = Jump (redirected from to destination)
 with_targets_changed from to (Brif arg blocks) = Brif arg (with_target_changed from to blocks)
 with_targets_changed from to (BranchTable arg table) = BranchTable arg (with_target_changed from to table)
+with_targets_changed from to (TryCall function args table) = TryCall function args (with_edges (with_target_changed from to table.edges) table)
+with_targets_changed from to (TryCallIndirect args table) = TryCallIndirect args (with_edges (with_target_changed from to table.edges) table)
 with_targets_changed from to shape = shape
 
 -- an instruction, of whose edges this one passes this value at this place
@@ -61,6 +88,8 @@ abbrev pub with_edge_argument : ℕ → ℕ → ℕ → InstructionData → Inst
 with_edge_argument edge place value (Jump destination) = Jump (with_passed place value destination)
 with_edge_argument edge place value (Brif arg blocks) = Brif arg (with_passed_at edge place value blocks)
 with_edge_argument edge place value (BranchTable arg table) = BranchTable arg (with_passed_at edge place value table)
+with_edge_argument edge place value (TryCall function args table) = TryCall function args (with_edges (with_passed_at edge place value table.edges) table)
+with_edge_argument edge place value (TryCallIndirect args table) = TryCallIndirect args (with_edges (with_passed_at edge place value table.edges) table)
 with_edge_argument edge place value shape = shape
 
 -- an instruction whose operand at this place, of those that it has, is this value
@@ -79,6 +108,10 @@ with_operand place value (Brif arg blocks) = Brif value blocks
 with_operand place value (BranchTable arg table) = BranchTable value table
 with_operand place value (MultiAry args) = MultiAry (slice_set args place value)
 with_operand place value (CondTrap opcode arg code) = CondTrap opcode value code
+with_operand place value (Call function args) = Call function (slice_set args place value)
+with_operand place value (CallIndirect sig args) = CallIndirect sig (slice_set args place value)
+with_operand place value (TryCall function args table) = TryCall function (slice_set args place value) table
+with_operand place value (TryCallIndirect args table) = TryCallIndirect (slice_set args place value) table
 with_operand place value shape = shape
 
 -- whether the instruction has edges
@@ -86,7 +119,17 @@ abbrev pub is_branch : InstructionData → Bool
 is_branch (Jump destination) = true
 is_branch (Brif arg blocks) = true
 is_branch (BranchTable arg table) = true
+is_branch (TryCall function args table) = true
+is_branch (TryCallIndirect args table) = true
 is_branch _ = false
+
+-- whether it calls what a signature describes
+abbrev pub is_call : InstructionData → Bool
+is_call (Call function args) = true
+is_call (CallIndirect sig args) = true
+is_call (TryCall function args table) = true
+is_call (TryCallIndirect args table) = true
+is_call _ = false
 
 -- the opcode
 abbrev pub opcode_of : InstructionData → Opcode
@@ -110,6 +153,10 @@ opcode_of (BranchTable arg table) = opcode.BrTable
 opcode_of (MultiAry args) = opcode.Return
 opcode_of (Trap code) = opcode.Trap
 opcode_of (CondTrap name arg code) = opcode.CondTrap name
+opcode_of (Call function args) = opcode.Call
+opcode_of (CallIndirect sig args) = opcode.CallIndirect
+opcode_of (TryCall function args table) = opcode.TryCall
+opcode_of (TryCallIndirect args table) = opcode.TryCallIndirect
 
 -- its row of the typing table
 abbrev pub typing_of : InstructionData → Row
@@ -139,10 +186,16 @@ result_type_of shape ty = slice_index_or (result_types shape ty) 0 Invalid
 pub data EntryRef : Type 0 where
   ASlot : (number : ℕ) → EntryRef
   AConstant : (number : ℕ) → EntryRef
+  ASignatureRef : (number : ℕ) → EntryRef
+  AFunctionRef : (number : ℕ) → EntryRef
 
 -- the entries of tables that it names
 abbrev pub entries_of : InstructionData → List EntryRef
 entries_of (UnaryConst opcode constant) = AConstant constant ∷ []
 entries_of (StackLoad opcode slot offset) = ASlot slot ∷ []
 entries_of (StackStore arg slot offset) = ASlot slot ∷ []
+entries_of (Call function args) = AFunctionRef function ∷ []
+entries_of (CallIndirect sig args) = ASignatureRef sig ∷ []
+entries_of (TryCall function args table) = AFunctionRef function ∷ ASignatureRef table.sig ∷ []
+entries_of (TryCallIndirect args table) = ASignatureRef table.sig ∷ []
 entries_of _ = []

@@ -1,5 +1,6 @@
 pub mod Members
 pub mod Edges
+pub mod ExceptionTables
 pub mod Instruction
 pub mod Immediates
 pub mod Kept

@@ -1,13 +1,14 @@
 //! Instructions: their shapes, operands and results.
-ghost use Rattle.std.specs.Prelude.{◌≡◌, ◌<◌, length, slice_set, OnOk, OnErr};
+ghost use Rattle.std.specs.Prelude.{◌≡◌, ◌<◌, length, option_copied, slice_set, OnOk, OnErr};
 ghost use Rattle.clif_opcodes.specs.Typing.{float_const_row, pooled_const_row};
 ghost use Rattle.clif_instructions.specs.Edges.{edge_at, with_passed_at, with_target_changed};
-ghost use Rattle.clif_instructions.specs.Instruction.{operands, destinations, with_argument, with_targets_changed, with_edge_argument, with_operand, has_result, is_branch, is_terminator, opcode_of, typing_of};
+ghost use Rattle.clif_instructions.specs.Instruction.{operands, destinations, with_argument, with_targets_changed, with_edge_argument, with_operand, exception_table, has_result, is_branch, is_terminator, opcode_of, typing_of};
 
 use crate::block_call::BlockCall;
 use crate::edges::{
     append_to_edge, append_to_edges, redirect_edge, redirect_edges, set_argument, set_argument_at,
 };
+use crate::exception_table::ExceptionTargets;
 use crate::jump_table::JumpTableData;
 use crate::value_list::{ValueList, set_value};
 use clif_opcodes::{
@@ -15,7 +16,9 @@ use clif_opcodes::{
     PooledConstOpcode, ResultKind, StackOpcode, UnaryOpcode,
 };
 use clif_types::types::{F16, F32, F64, F128, I8};
-use clif_types::{Block, BuildError, Constant, IntCC, MemFlagsData, StackSlot, TrapCode, Value};
+use clif_types::{
+    Block, BuildError, Constant, FuncRef, IntCC, MemFlagsData, SigRef, StackSlot, TrapCode, Value,
+};
 use std::slice;
 
 /// An instruction without its results and its place: what it does, and with which operands.
@@ -123,6 +126,32 @@ pub enum InstructionData {
         arg: Value,
         code: TrapCode,
     },
+    /// `call function(x, ..)`: calls a function that was imported. Its results are what the function's signature
+    /// returns.
+    Call {
+        func_ref: FuncRef,
+        args: ValueList,
+    },
+    /// `call_indirect sig, p(x, ..)`: calls what is at an address, by a signature that was imported. `args` are the
+    /// address and then the arguments. Its results are what the signature returns.
+    CallIndirect {
+        sig_ref: SigRef,
+        args: ValueList,
+    },
+    /// `try_call function(x, ..), sig, block(ret0, ..), [tag0: block(exn0, ..), ..]`: calls a function that was
+    /// imported, and goes along the normal edge when it returns, or along that of an item when it throws. It has no
+    /// results: what the signature returns is passed along the normal edge.
+    TryCall {
+        func_ref: FuncRef,
+        args: ValueList,
+        exception: ExceptionTargets,
+    },
+    /// `try_call_indirect p(x, ..), sig, ..`: the same for what is at an address. `args` are the address and then the
+    /// arguments.
+    TryCallIndirect {
+        args: ValueList,
+        exception: ExceptionTargets,
+    },
 }
 
 impl InstructionData {
@@ -151,6 +180,21 @@ impl InstructionData {
             InstructionData::BranchTable { arg, .. } => slice::from_ref(arg),
             InstructionData::MultiAry { args } => args.as_slice(),
             InstructionData::CondTrap { arg, .. } => slice::from_ref(arg),
+            InstructionData::Call { args, .. } => args.as_slice(),
+            InstructionData::CallIndirect { args, .. } => args.as_slice(),
+            InstructionData::TryCall { args, .. } => args.as_slice(),
+            InstructionData::TryCallIndirect { args, .. } => args.as_slice(),
+        }
+    }
+
+    /// The exception table, if the instruction has one.
+    pub fn exception_targets(&self) -> Option<&ExceptionTargets>
+        ensures { option_copied result ≡ exception_table self.now }
+    {
+        match self {
+            InstructionData::TryCall { exception, .. } => Some(exception),
+            InstructionData::TryCallIndirect { exception, .. } => Some(exception),
+            _ => None,
         }
     }
 
@@ -162,6 +206,8 @@ impl InstructionData {
             InstructionData::Jump { destination } => slice::from_ref(destination),
             InstructionData::Brif { blocks, .. } => blocks,
             InstructionData::BranchTable { table, .. } => table.all_branches(),
+            InstructionData::TryCall { exception, .. } => exception.all_branches(),
+            InstructionData::TryCallIndirect { exception, .. } => exception.all_branches(),
             _ => &[],
         }
     }
@@ -177,6 +223,10 @@ impl InstructionData {
             InstructionData::Jump { destination } => append_to_edge(destination, block, value),
             InstructionData::Brif { blocks, .. } => append_to_edges(blocks, block, value),
             InstructionData::BranchTable { table, .. } => table.append_argument(block, value),
+            InstructionData::TryCall { exception, .. } => exception.append_argument(block, value),
+            InstructionData::TryCallIndirect { exception, .. } => {
+                exception.append_argument(block, value)
+            }
             _ => Ok(()),
         }
     }
@@ -190,6 +240,8 @@ impl InstructionData {
             InstructionData::Jump { destination } => redirect_edge(destination, from, to),
             InstructionData::Brif { blocks, .. } => redirect_edges(blocks, from, to),
             InstructionData::BranchTable { table, .. } => table.change_target(from, to),
+            InstructionData::TryCall { exception, .. } => exception.change_target(from, to),
+            InstructionData::TryCallIndirect { exception, .. } => exception.change_target(from, to),
             _ => {}
         }
     }
@@ -205,6 +257,12 @@ impl InstructionData {
             InstructionData::Jump { destination } => set_argument(destination, place, value),
             InstructionData::Brif { blocks, .. } => set_argument_at(blocks, edge, place, value),
             InstructionData::BranchTable { table, .. } => table.set_argument(edge, place, value),
+            InstructionData::TryCall { exception, .. } => {
+                exception.set_argument(edge, place, value);
+            }
+            InstructionData::TryCallIndirect { exception, .. } => {
+                exception.set_argument(edge, place, value);
+            }
             _ => {}
         }
     }
@@ -237,6 +295,10 @@ impl InstructionData {
             InstructionData::BranchTable { arg, .. } => *arg = value,
             InstructionData::MultiAry { args } => args.set(place, value),
             InstructionData::CondTrap { arg, .. } => *arg = value,
+            InstructionData::Call { args, .. } => args.set(place, value),
+            InstructionData::CallIndirect { args, .. } => args.set(place, value),
+            InstructionData::TryCall { args, .. } => args.set(place, value),
+            InstructionData::TryCallIndirect { args, .. } => args.set(place, value),
         }
     }
 
@@ -265,10 +327,15 @@ impl InstructionData {
             InstructionData::MultiAry { .. } => Opcode::Return,
             InstructionData::Trap { .. } => Opcode::Trap,
             InstructionData::CondTrap { opcode, .. } => Opcode::CondTrap(*opcode),
+            InstructionData::Call { .. } => Opcode::Call,
+            InstructionData::CallIndirect { .. } => Opcode::CallIndirect,
+            InstructionData::TryCall { .. } => Opcode::TryCall,
+            InstructionData::TryCallIndirect { .. } => Opcode::TryCallIndirect,
         }
     }
 
-    /// The kinds of the results, in order: those of its row of the typing table, told by the format.
+    /// The kinds of the results, in order: those of its row of the typing table, told by the format. What a call gives
+    /// is no part of the row: its signature tells that.
     pub fn result_kinds(&self) -> &'static [ResultKind]
         ensures { result.now ≡ (typing_of self.now).results }
     {
@@ -292,7 +359,11 @@ impl InstructionData {
             | InstructionData::BranchTable { .. }
             | InstructionData::MultiAry { .. }
             | InstructionData::Trap { .. }
-            | InstructionData::CondTrap { .. } => &[],
+            | InstructionData::CondTrap { .. }
+            | InstructionData::Call { .. }
+            | InstructionData::CallIndirect { .. }
+            | InstructionData::TryCall { .. }
+            | InstructionData::TryCallIndirect { .. } => &[],
         }
     }
 
@@ -319,6 +390,8 @@ impl InstructionData {
             InstructionData::Jump { .. }
                 | InstructionData::Brif { .. }
                 | InstructionData::BranchTable { .. }
+                | InstructionData::TryCall { .. }
+                | InstructionData::TryCallIndirect { .. }
         )
     }
 

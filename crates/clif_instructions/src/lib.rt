@@ -8,6 +8,7 @@
 
 pub mod block_call;
 pub mod edges;
+pub mod exception_table;
 pub mod immediates;
 pub mod inst_list;
 pub mod instructions;

@@ -54,6 +54,8 @@ pub enum Cause {
     Assigned(Operand),
     /// The arguments of an edge don't have the types of its target's parameters.
     Edge,
+    /// The instruction is a call of what lies outside, which is run by no interpreter so far.
+    OutsideCall,
 }
 
 impl Cause {
@@ -78,6 +80,7 @@ impl Cause {
             Cause::EntryTarget => "a branch leads to the entry block",
             Cause::NotFilled => "a branch leads to a block without a terminator",
             Cause::NoTarget => "a branch leads to no block",
+            Cause::OutsideCall => "a call leads outside",
             _ => "the arguments of an edge don't fit its target's parameters",
         }
     }

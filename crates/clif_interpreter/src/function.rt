@@ -28,8 +28,8 @@ struct State<'a> {
 }
 
 /// What an instruction of a function does, by its format: a row for each.
-fn operation_of(func: &Function, shape: &InstructionData) -> Operation {
-    match shape {
+fn operation_of(func: &Function, shape: &InstructionData) -> Result<Operation, Cause> {
+    Ok(match shape {
         InstructionData::UnaryImm { imm } => Operation::Iconst(*imm),
         InstructionData::UnaryIeee { opcode, bits } => Operation::FloatConst(*opcode, *bits),
         InstructionData::UnaryConst { opcode, constant } => {
@@ -72,7 +72,11 @@ fn operation_of(func: &Function, shape: &InstructionData) -> Operation {
         InstructionData::MultiAry { .. } => Operation::Return,
         InstructionData::Trap { code } => Operation::Trap(*code),
         InstructionData::CondTrap { opcode, code, .. } => Operation::CondTrap(*opcode, *code),
-    }
+        InstructionData::Call { .. }
+        | InstructionData::CallIndirect { .. }
+        | InstructionData::TryCall { .. }
+        | InstructionData::TryCallIndirect { .. } => return Err(Cause::OutsideCall),
+    })
 }
 
 // The bits of a pooled constant, of which at most 128 are kept; zero if there is no such constant.
@@ -114,7 +118,7 @@ impl<'a> State<'a> {
         Ok(all)
     }
 
-    // What an edge passes. No instruction with edges is a try call so far.
+    // What an edge passes. An instruction with edges that is run is no try call.
     fn passed(&self, args: &[BlockArg]) -> Result<Vec<Typed>, Cause> {
         let mut passed = Vec::new(self.alloc);
         for arg in args {
@@ -190,7 +194,7 @@ impl<'a> State<'a> {
 
     // Makes an instruction of this shape and with these results.
     fn make(&mut self, shape: &InstructionData, results: &[Value]) -> Result<Next, Cause> {
-        let operation = operation_of(self.func, shape);
+        let operation = operation_of(self.func, shape)?;
         let operands = self.all(shape.arguments())?;
         let operands = operands.as_slice();
         let given = self.given(results)?;

@@ -10,7 +10,7 @@ use Rattle.std.proofs.lemmas.Grind.{common_steps}
 use Rattle.clif_ir.specs.declared.function.ValueOrigin.{ValueOrigin}
 use Rattle.clif_ir.specs.declared.function.ValueOrigin.TheVariants.{Result, Param, Alias}
 use Rattle.clif_ir.specs.Body.{Body, value_at, inst_at, block_at, alias_of_origin}
-use Rattle.clif_ir.specs.Consistent.{IsConsistent, IsOrigin, PassedExists, EdgeExists}
+use Rattle.clif_ir.specs.Consistent.{IsConsistent, IsOrigin, PassedExists, EdgeExists, ValueExists}
 use Rattle.clif_instructions.specs.Members.{Stands, Once}
 use Rattle.clif_ir.proofs.Aliases.{LeadsInside}
 use Rattle.clif_instructions.proofs.Lists.{below_or_not}
@@ -46,6 +46,9 @@ larger_edge f g blocks values edge here =
 pub larger_edges : (f g : Body) → length f.blocks ≤ length g.blocks → length f.values ≤ length g.values
     → (edges : List BlockCall) → All (EdgeExists f) edges → All (EdgeExists g) edges
 larger_edges f g blocks values edges here = All-weaker (EdgeExists f) (EdgeExists g) (larger_edge f g blocks values) edges here
+
+pub larger_values : (f g : Body) → length f.values ≤ length g.values → (values : List ℕ) → All (ValueExists f) values → All (ValueExists g) values
+larger_values f g more values here = All-weaker (ValueExists f) (ValueExists g) (λ v inside. omega (arith, inside, more)) values here
 
 -- what stands in a list stands in one with more at its end
 pub Stands-append : (x : ℕ) (xs ys : List ℕ) → Stands x xs → Stands x (xs ++ ys)

@@ -12,7 +12,7 @@ use Rattle.clif_instructions.specs.Members.{without, Stands, Once}
 use Rattle.clif_ir.specs.Consistent.{IsConsistent, IsOrigin}
 use Rattle.clif_ir.specs.Whole.{IsPlaced, no_place}
 use Rattle.clif_instructions.proofs.Lists.{at_set}
-use Rattle.clif_ir.proofs.Keeps.{larger_edges, larger_origin, leads_inside}
+use Rattle.clif_ir.proofs.Keeps.{larger_edges, larger_values, larger_origin, leads_inside}
 use Rattle.clif_instructions.proofs.Members.{Stands-without, without-stood, Once-without}
 use Rattle.clif_ir.proofs.Aliases.{ways_end-set, follow-inside, resolved-no_alias}
 
@@ -57,6 +57,7 @@ with_alias_consistent f v original b known exists is_param there apart =
           larger_origin f g x _ (λ i here. (here, refl)) (λ c here. (omega (arith, here, block_count), still_param x c other))
           (omega (arith, count)) (known.origins x (omega (arith, inside, count))));
       operands_exist = λ i k inside. omega (arith, count, known.operands_exist i k inside);
+      contexts_exist = λ i. larger_values f g (omega (arith, count)) _ (known.contexts_exist i);
       edges_exist = λ i. larger_edges f g (omega (arith, block_count)) (omega (arith, count)) _ (known.edges_exist i);
       results_known = λ i k inside.
           let here : (slice_index (inst_at f i).results k < length f.values) × ((value_at f (slice_index (inst_at f i).results k)).origin ≡ Result i k) = known.results_known i k inside in

@@ -26,6 +26,7 @@ with_block_consistent f known room =
           (λ b here. (omega (arith, here, count), λ stands. subst (λ (n : BlockNode). Stands v n.params) (sym (old b here)) stands))
           (omega arith) (known.origins v inside);
       operands_exist = known.operands_exist;
+      contexts_exist = known.contexts_exist;
       edges_exist = λ i. larger_edges f g (omega (arith, count)) (omega arith) _ (known.edges_exist i);
       results_known = known.results_known;
       params_known = λ b.

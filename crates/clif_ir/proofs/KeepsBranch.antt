@@ -9,12 +9,12 @@ use Rattle.clif_ir.specs.declared.function.BlockPlace.{BlockPlace}
 use Rattle.clif_ir.specs.declared.function.InstNode.{InstNode}
 use Rattle.clif_ir.specs.declared.function.ValueOrigin.TheVariants.{Result}
 use Rattle.clif_instructions.specs.declared.instructions.InstructionData.{InstructionData}
-use Rattle.clif_instructions.specs.declared.instructions.InstructionData.TheVariants.{Jump, Brif, BranchTable}
+use Rattle.clif_instructions.specs.declared.instructions.InstructionData.TheVariants.{Jump, Brif, BranchTable, TryCall, TryCallIndirect}
 use Rattle.clif_instructions.specs.Edges.{appended_to, with_argument_to}
-use Rattle.clif_instructions.specs.Instruction.{entries_of, operands, destinations, with_argument}
+use Rattle.clif_instructions.specs.Instruction.{contexts, entries_of, operands, destinations, with_argument}
 use Rattle.clif_ir.specs.Body.{Body, inst_at, value_at, block_at, no_inst}
 use Rattle.clif_ir.specs.Changes.{with_branch_argument}
-use Rattle.clif_ir.specs.Consistent.{IsConsistent, PassedExists, EdgeExists, EntryExists}
+use Rattle.clif_ir.specs.Consistent.{IsConsistent, PassedExists, EdgeExists, EntryExists, ValueExists}
 use Rattle.clif_instructions.specs.Members.{Stands}
 use Rattle.clif_ir.specs.Whole.{IsPlaced}
 use Rattle.clif_instructions.proofs.Lists.{at_set}
@@ -24,19 +24,33 @@ pub operands-with_argument : (b v : ℕ) (shape : InstructionData) → operands 
 operands-with_argument b v (Jump destination) = refl
 operands-with_argument b v (Brif arg blocks) = refl
 operands-with_argument b v (BranchTable arg table) = refl
+operands-with_argument b v (TryCall function args table) = refl
+operands-with_argument b v (TryCallIndirect args table) = refl
 operands-with_argument b v _ = refl
 
 pub destinations-with_argument : (b v : ℕ) (shape : InstructionData) → destinations (with_argument b v shape) ≡ with_argument_to b v (destinations shape)
 destinations-with_argument b v (Jump destination) = refl
 destinations-with_argument b v (Brif arg blocks) = refl
 destinations-with_argument b v (BranchTable arg table) = refl
+destinations-with_argument b v (TryCall function args table) = refl
+destinations-with_argument b v (TryCallIndirect args table) = refl
 destinations-with_argument b v _ = refl
 
 entries-with_argument : (b v : ℕ) (shape : InstructionData) → entries_of (with_argument b v shape) ≡ entries_of shape
 entries-with_argument b v (Jump destination) = refl
 entries-with_argument b v (Brif arg blocks) = refl
 entries-with_argument b v (BranchTable arg table) = refl
+entries-with_argument b v (TryCall function args table) = refl
+entries-with_argument b v (TryCallIndirect args table) = refl
 entries-with_argument b v _ = refl
+
+contexts-with_argument : (b v : ℕ) (shape : InstructionData) → contexts (with_argument b v shape) ≡ contexts shape
+contexts-with_argument b v (Jump destination) = refl
+contexts-with_argument b v (Brif arg blocks) = refl
+contexts-with_argument b v (BranchTable arg table) = refl
+contexts-with_argument b v (TryCall function args table) = refl
+contexts-with_argument b v (TryCallIndirect args table) = refl
+contexts-with_argument b v _ = refl
 
 -- an edge that passes an existing value more names what exists, by whether it goes to the block
 appended-exists-by : (f : Body) (b v : ℕ) (edge : BlockCall) → v < length f.values → EdgeExists f edge → (test : Bool) → (edge.block == b) ≡ test
@@ -78,6 +92,10 @@ with_branch_argument_consistent f i b v known exists inside =
           at_set (λ (m : InstNode). (k : ℕ) → k < length (operands m.shape) → slice_index (operands m.shape) k < length f.values) f.insts i node j no_inst exists
           (λ _. subst (λ xs. (k : ℕ) → k < length xs → slice_index xs k < length f.values) (sym (operands-with_argument b v shape)) (known.operands_exist i))
           (λ _. known.operands_exist j);
+      contexts_exist = λ j.
+          at_set (λ (m : InstNode). All (ValueExists f) (contexts m.shape)) f.insts i node j no_inst exists
+          (λ _. subst (All (ValueExists f)) (sym (contexts-with_argument b v shape)) (known.contexts_exist i))
+          (λ _. known.contexts_exist j);
       edges_exist = λ j.
           at_set (λ (m : InstNode). All (EdgeExists f) (destinations m.shape)) f.insts i node j no_inst exists
           (λ _. with_argument-exists f b v shape inside (known.edges_exist i))

@@ -37,6 +37,7 @@ with_cold_consistent f b known exists =
           (λ c there. (omega (arith, there, count), λ stands. subst (λ xs. Stands v xs) (sym (cold_params f b exists c)) stands))
           (omega arith) (known.origins v inside);
       operands_exist = known.operands_exist;
+      contexts_exist = known.contexts_exist;
       edges_exist = λ i. larger_edges f g (omega (arith, count)) (omega arith) _ (known.edges_exist i);
       results_known = known.results_known;
       params_known = λ c. subst (λ xs. (k : ℕ) → k < length xs → (slice_index xs k < length f.values) × ((value_at f (slice_index xs k)).origin ≡ Param c)) (sym (cold_params f b exists c)) (known.params_known c);

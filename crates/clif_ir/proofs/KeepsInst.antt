@@ -13,27 +13,31 @@ use Rattle.clif_ir.specs.declared.function.ValueNode.{ValueNode}
 use Rattle.clif_ir.specs.declared.function.ValueOrigin.TheVariants.{Result, Param}
 use Rattle.clif_instructions.specs.declared.inst_list.InsertAt.{InsertAt}
 use Rattle.clif_instructions.specs.declared.instructions.InstructionData.{InstructionData}
-use Rattle.clif_instructions.specs.declared.instructions.InstructionData.TheVariants.{Jump, Brif, BranchTable}
-use Rattle.clif_instructions.specs.Instruction.{entries_of, operands, destinations, result_count, result_types}
+use Rattle.clif_instructions.specs.declared.instructions.InstructionData.TheVariants.{Jump, Brif, BranchTable, TryCall, TryCallIndirect}
+use Rattle.clif_instructions.specs.Instruction.{contexts, entries_of, operands, destinations}
+use Rattle.clif_tables.specs.Callees.{count_of_results, types_of_results}
+use Rattle.clif_tables.specs.Lists.{TableLists}
 use Rattle.clif_ir.specs.Body.{Body, value_at, inst_at, block_at, empty_block, no_value, no_inst, alias_of_origin, resolved}
 use Rattle.clif_instructions.specs.Members.{IsPlaceOf, put_at, Stands, Once}
 use Rattle.clif_ir.specs.Changes.{with_inst, inst_node, result_nodes}
-use Rattle.clif_ir.specs.Consistent.{IsConsistent, IsOrigin, EdgeExists, EntryExists, alias_count}
+use Rattle.clif_ir.specs.Consistent.{IsConsistent, IsOrigin, EdgeExists, EntryExists, ValueExists, alias_count}
 use Rattle.clif_instructions.proofs.Lists.{at_push, at_set, at_append}
-use Rattle.clif_ir.proofs.Keeps.{larger_edges, leads_inside, larger_origin}
+use Rattle.clif_ir.proofs.Keeps.{larger_edges, larger_values, leads_inside, larger_origin}
 use Rattle.clif_ir.proofs.Inserting.{put_at-each, put_at-Stands, put_at-stands, put_at-Once}
 use Rattle.clif_ir.proofs.Aliases.{ways_end-append, follow_end}
 
--- an instruction has as many results as its row of the typing table says
-pub length-result_types : (shape : InstructionData) (ty : «Type») → length (result_types shape ty) ≡ result_count shape
-length-result_types shape ty = grind (arith, common_steps)
+-- an instruction has as many results as its row of the typing table and its signature say
+pub length-types_of_results : (t : TableLists) (shape : InstructionData) (ty : «Type») → length (types_of_results t shape ty) ≡ count_of_results t shape
+length-types_of_results t shape ty = grind (arith, common_steps)
 
 -- an instruction with edges has no results
-pub branch-result_types : (shape : InstructionData) (ty : «Type») → destinations shape ≢ [] → result_types shape ty ≡ []
-branch-result_types (Jump destination) ty branch = refl
-branch-result_types (Brif arg blocks) ty branch = refl
-branch-result_types (BranchTable arg table) ty branch = refl
-branch-result_types _ ty branch = absurd (branch refl)
+pub branch-types_of_results : (t : TableLists) (shape : InstructionData) (ty : «Type») → destinations shape ≢ [] → types_of_results t shape ty ≡ []
+branch-types_of_results t (Jump destination) ty branch = refl
+branch-types_of_results t (Brif arg blocks) ty branch = refl
+branch-types_of_results t (BranchTable arg table) ty branch = refl
+branch-types_of_results t (TryCall function args table) ty branch = refl
+branch-types_of_results t (TryCallIndirect args table) ty branch = refl
+branch-types_of_results t _ ty branch = absurd (branch refl)
 
 length-result_nodes : (i k : ℕ) (types : List «Type») → length (result_nodes i k types) ≡ length types
 length-result_nodes i k [] = refl
@@ -60,9 +64,9 @@ alias_of-result_nodes i k (ty ∷ types) (suc j) = alias_of-result_nodes i (k + 
 
 pub with_inst_consistent : (f : Body) (b : ℕ) (at : InsertAt) (shape : InstructionData) (types : List «Type») (loc : ℕ)
     → IsConsistent f → b < length f.blocks → IsPlaceOf at (length (block_at f b).insts) → EachIndex (operands shape) (λ k. slice_index (operands shape) k < length f.values)
-    → All (EdgeExists f) (destinations shape) → All (EntryExists f.tables) (entries_of shape) → (destinations shape ≢ [] → types ≡ []) → length f.insts < 2 ^ 32 - 1 → length f.values + length types < 2 ^ 32
+    → All (EdgeExists f) (destinations shape) → All (ValueExists f) (contexts shape) → All (EntryExists f.tables) (entries_of shape) → (destinations shape ≢ [] → types ≡ []) → length f.insts < 2 ^ 32 - 1 → length f.values + length types < 2 ^ 32
     → IsConsistent (with_inst f b at shape types loc)
-with_inst_consistent f b at shape types loc known exists fits operands_exist edges_exist entries_exist without_results inst_room value_room =
+with_inst_consistent f b at shape types loc known exists fits operands_exist edges_exist contexts_exist entries_exist without_results inst_room value_room =
     let g : Body = with_inst f b at shape types loc in
     let n : ℕ = length f.values in
     let i0 : ℕ = length f.insts in
@@ -109,6 +113,11 @@ with_inst_consistent f b at shape types loc known exists fits operands_exist edg
           (λ _ k inside. omega (arith, count, known.operands_exist i k inside))
           (λ _ k inside. omega (arith, count, operands_exist k inside))
           (λ _ k inside. absurd (omega (arith, inside)));
+      contexts_exist = λ i.
+          at_push (λ m. All (ValueExists g) (contexts m.shape)) f.insts node i no_inst
+          (λ _. larger_values f g (omega (arith, count)) _ (known.contexts_exist i))
+          (λ _. larger_values f g (omega (arith, count)) _ contexts_exist)
+          (λ _ k d inside. absurd (omega (arith, inside)));
       edges_exist = λ i.
           at_push (λ m. All (EdgeExists g) (destinations m.shape)) f.insts node i no_inst
           (λ _. larger_edges f g (omega (arith, block_count)) (omega (arith, count)) _ (known.edges_exist i))

@@ -5,12 +5,12 @@ use Rattle.std.proofs.lemmas.Grind.{common_steps}
 use Rattle.clif_instructions.specs.declared.block_call.BlockArg.TheVariants.{Value}
 use Rattle.clif_instructions.specs.declared.block_call.BlockCall.{BlockCall}
 use Rattle.clif_instructions.specs.declared.instructions.InstructionData.{InstructionData}
-use Rattle.clif_instructions.specs.declared.instructions.InstructionData.TheVariants.{Unary, Binary, IntCompare, Concat, Split, Convert, Ternary, Load, Store, StackStore, Jump, Brif, BranchTable, MultiAry, CondTrap, UnaryImm, UnaryIeee, UnaryConst, StackLoad, Trap}
+use Rattle.clif_instructions.specs.declared.instructions.InstructionData.TheVariants.{Unary, Binary, IntCompare, Concat, Split, Convert, Ternary, Load, Store, StackStore, Jump, Brif, BranchTable, MultiAry, CondTrap, UnaryImm, UnaryIeee, UnaryConst, StackLoad, Trap, Call, CallIndirect, TryCall, TryCallIndirect}
 use Rattle.clif_instructions.specs.Edges.{edge_at, no_edge, with_passed, with_passed_at}
-use Rattle.clif_instructions.specs.Instruction.{entries_of, operands, destinations, with_operand, with_edge_argument}
+use Rattle.clif_instructions.specs.Instruction.{contexts, entries_of, operands, destinations, with_operand, with_edge_argument}
 use Rattle.clif_ir.specs.Body.{Body, inst_at}
 use Rattle.clif_ir.specs.Changes.{with_operand_at, with_passed_argument}
-use Rattle.clif_ir.specs.Consistent.{IsConsistent, PassedExists, EdgeExists, EntryExists}
+use Rattle.clif_ir.specs.Consistent.{IsConsistent, PassedExists, EdgeExists, EntryExists, ValueExists}
 use Rattle.clif_instructions.proofs.Lists.{at_set}
 use Rattle.clif_ir.proofs.KeepsShape.{Fits, fits_now, with_shape_consistent}
 
@@ -54,6 +54,10 @@ operands-with_operand place v (Brif arg blocks) inside = only_set arg v place in
 operands-with_operand place v (BranchTable arg table) inside = only_set arg v place inside
 operands-with_operand place v (MultiAry args) inside = refl
 operands-with_operand place v (CondTrap opcode arg code) inside = only_set arg v place inside
+operands-with_operand place v (Call function args) inside = refl
+operands-with_operand place v (CallIndirect sig args) inside = refl
+operands-with_operand place v (TryCall function args table) inside = refl
+operands-with_operand place v (TryCallIndirect args table) inside = refl
 
 destinations-with_operand : (place v : ℕ) (shape : InstructionData) → destinations (with_operand place v shape) ≡ destinations shape
 destinations-with_operand place v (Unary opcode arg) = refl
@@ -70,6 +74,10 @@ destinations-with_operand place v (Brif arg blocks) = refl
 destinations-with_operand place v (BranchTable arg table) = refl
 destinations-with_operand place v (MultiAry args) = refl
 destinations-with_operand place v (CondTrap opcode arg code) = refl
+destinations-with_operand place v (Call function args) = refl
+destinations-with_operand place v (CallIndirect sig args) = refl
+destinations-with_operand place v (TryCall function args table) = refl
+destinations-with_operand place v (TryCallIndirect args table) = refl
 destinations-with_operand place v _ = refl
 
 entries-with_operand : (place v : ℕ) (shape : InstructionData) → entries_of (with_operand place v shape) ≡ entries_of shape
@@ -87,7 +95,32 @@ entries-with_operand place v (Brif arg blocks) = refl
 entries-with_operand place v (BranchTable arg table) = refl
 entries-with_operand place v (MultiAry args) = refl
 entries-with_operand place v (CondTrap opcode arg code) = refl
+entries-with_operand place v (Call function args) = refl
+entries-with_operand place v (CallIndirect sig args) = refl
+entries-with_operand place v (TryCall function args table) = refl
+entries-with_operand place v (TryCallIndirect args table) = refl
 entries-with_operand place v _ = refl
+
+contexts-with_operand : (place v : ℕ) (shape : InstructionData) → contexts (with_operand place v shape) ≡ contexts shape
+contexts-with_operand place v (Unary opcode arg) = refl
+contexts-with_operand place v (Binary opcode args) = refl
+contexts-with_operand place v (IntCompare cond args) = refl
+contexts-with_operand place v (Concat args) = refl
+contexts-with_operand place v (Split arg) = refl
+contexts-with_operand place v (Convert opcode arg) = refl
+contexts-with_operand place v (Ternary args) = refl
+contexts-with_operand place v (Load flags arg offset) = refl
+contexts-with_operand place v (Store flags args offset) = refl
+contexts-with_operand place v (StackStore arg slot offset) = refl
+contexts-with_operand place v (Brif arg blocks) = refl
+contexts-with_operand place v (BranchTable arg table) = refl
+contexts-with_operand place v (MultiAry args) = refl
+contexts-with_operand place v (CondTrap opcode arg code) = refl
+contexts-with_operand place v (Call function args) = refl
+contexts-with_operand place v (CallIndirect sig args) = refl
+contexts-with_operand place v (TryCall function args table) = refl
+contexts-with_operand place v (TryCallIndirect args table) = refl
+contexts-with_operand place v _ = refl
 
 fits_with_operand : (f : Body) (results : List ℕ) (place v : ℕ) (shape : InstructionData) → v < length f.values → place < length (operands shape)
     → Fits f results shape → Fits f results (with_operand place v shape)
@@ -95,6 +128,7 @@ fits_with_operand f results place v shape inside here fits = record {
   operands_exist =
       subst (λ xs. (k : ℕ) → k < length xs → slice_index xs k < length f.values) (sym (operands-with_operand place v shape here))
       (numbers_set (length f.values) (operands shape) place v inside here fits.operands_exist);
+  contexts_exist = subst (All (ValueExists f)) (sym (contexts-with_operand place v shape)) fits.contexts_exist;
   edges_exist = subst (All (EdgeExists f)) (sym (destinations-with_operand place v shape)) fits.edges_exist;
   entries_exist = subst (All (EntryExists f.tables)) (sym (entries-with_operand place v shape)) fits.entries_exist;
   edges_without_results = subst (λ edges. edges ≢ [] → results ≡ []) (sym (destinations-with_operand place v shape)) fits.edges_without_results;
@@ -109,13 +143,25 @@ operands-with_edge_argument : (edge place v : ℕ) (shape : InstructionData) →
 operands-with_edge_argument edge place v (Jump destination) = refl
 operands-with_edge_argument edge place v (Brif arg blocks) = refl
 operands-with_edge_argument edge place v (BranchTable arg table) = refl
+operands-with_edge_argument edge place v (TryCall function args table) = refl
+operands-with_edge_argument edge place v (TryCallIndirect args table) = refl
 operands-with_edge_argument edge place v _ = refl
 
 entries-with_edge_argument : (edge place v : ℕ) (shape : InstructionData) → entries_of (with_edge_argument edge place v shape) ≡ entries_of shape
 entries-with_edge_argument edge place v (Jump destination) = refl
 entries-with_edge_argument edge place v (Brif arg blocks) = refl
 entries-with_edge_argument edge place v (BranchTable arg table) = refl
+entries-with_edge_argument edge place v (TryCall function args table) = refl
+entries-with_edge_argument edge place v (TryCallIndirect args table) = refl
 entries-with_edge_argument edge place v _ = refl
+
+contexts-with_edge_argument : (edge place v : ℕ) (shape : InstructionData) → contexts (with_edge_argument edge place v shape) ≡ contexts shape
+contexts-with_edge_argument edge place v (Jump destination) = refl
+contexts-with_edge_argument edge place v (Brif arg blocks) = refl
+contexts-with_edge_argument edge place v (BranchTable arg table) = refl
+contexts-with_edge_argument edge place v (TryCall function args table) = refl
+contexts-with_edge_argument edge place v (TryCallIndirect args table) = refl
+contexts-with_edge_argument edge place v _ = refl
 
 -- the only edge of a jump
 only_passed : (edge place v : ℕ) (destination : BlockCall) → edge < 1 → with_passed place v destination ∷ [] ≡ with_passed_at edge place v (destination ∷ [])
@@ -127,6 +173,8 @@ destinations-with_edge_argument : (edge place v : ℕ) (shape : InstructionData)
 destinations-with_edge_argument edge place v (Jump destination) inside = only_passed edge place v destination inside
 destinations-with_edge_argument edge place v (Brif arg blocks) inside = refl
 destinations-with_edge_argument edge place v (BranchTable arg table) inside = refl
+destinations-with_edge_argument edge place v (TryCall function args table) inside = refl
+destinations-with_edge_argument edge place v (TryCallIndirect args table) inside = refl
 destinations-with_edge_argument edge place v _ inside = absurd (omega (arith, inside))
 
 fits_with_edge_argument : (f : Body) (results : List ℕ) (edge place v : ℕ) (shape : InstructionData) → v < length f.values → edge < length (destinations shape)
@@ -136,6 +184,7 @@ fits_with_edge_argument f results edge place v shape inside here there fits =
     let some : destinations shape ≢ [] = λ none. let count : length (destinations shape) ≡ 0 = ap (λ (xs : List BlockCall). length xs) none in omega (arith, here, count) in
     record {
       operands_exist = subst (λ xs. (k : ℕ) → k < length xs → slice_index xs k < length f.values) (sym (operands-with_edge_argument edge place v shape)) fits.operands_exist;
+      contexts_exist = subst (All (ValueExists f)) (sym (contexts-with_edge_argument edge place v shape)) fits.contexts_exist;
       edges_exist =
           subst (All (EdgeExists f)) (sym (destinations-with_edge_argument edge place v shape here))
           (all_set (EdgeExists f) (destinations shape) edge (with_passed place v (edge_at (destinations shape) edge)) here

@@ -12,7 +12,7 @@ use Rattle.clif_ir.specs.Changes.{with_param}
 use Rattle.clif_ir.specs.Consistent.{IsConsistent, IsOrigin}
 use Rattle.clif_instructions.specs.Members.{Stands, Once}
 use Rattle.clif_instructions.proofs.Lists.{at_push, at_set}
-use Rattle.clif_ir.proofs.Keeps.{larger_edges, leads_inside, larger_origin, Stands-append, Stands-push, Once-push}
+use Rattle.clif_ir.proofs.Keeps.{larger_edges, larger_values, leads_inside, larger_origin, Stands-append, Stands-push, Once-push}
 use Rattle.clif_ir.proofs.Aliases.{ways_end-append}
 
 pub with_param_consistent : (f : Body) (b : ℕ) (ty : «Type») → IsConsistent f → b < length f.blocks → length f.values < 2 ^ 32 - 1
@@ -50,6 +50,7 @@ with_param_consistent f b ty known exists room =
           ))
           (λ past. absurd (omega (arith, past, inside, count)));
       operands_exist = λ i k inside. omega (arith, count, known.operands_exist i k inside);
+      contexts_exist = λ i. larger_values f g (omega (arith, count)) _ (known.contexts_exist i);
       edges_exist = λ i. larger_edges f g (omega (arith, block_count)) (omega (arith, count)) _ (known.edges_exist i);
       results_known = λ i k inside.
           let here : (slice_index (inst_at f i).results k < n) × ((value_at f (slice_index (inst_at f i).results k)).origin ≡ _) = known.results_known i k inside in

@@ -115,6 +115,7 @@ with_order_consistent f layout known exist once = record {
   blocks_fit = known.blocks_fit;
   origins = λ v inside. larger_origin f (record f { layout = layout }) v _ (λ i here. (here, refl)) (λ c here. (here, λ stands. stands)) (omega arith) (known.origins v inside);
   operands_exist = known.operands_exist;
+  contexts_exist = known.contexts_exist;
   edges_exist = λ i. larger_edges f (record f { layout = layout }) (omega arith) (omega arith) _ (known.edges_exist i);
   results_known = known.results_known;
   params_known = known.params_known;

@@ -8,12 +8,12 @@ use Rattle.clif_ir.specs.declared.function.BlockPlace.{BlockPlace}
 use Rattle.clif_ir.specs.declared.function.InstNode.{InstNode}
 use Rattle.clif_ir.specs.declared.function.ValueOrigin.TheVariants.{Result}
 use Rattle.clif_instructions.specs.declared.instructions.InstructionData.{InstructionData}
-use Rattle.clif_instructions.specs.declared.instructions.InstructionData.TheVariants.{Jump, Brif, BranchTable}
+use Rattle.clif_instructions.specs.declared.instructions.InstructionData.TheVariants.{Jump, Brif, BranchTable, TryCall, TryCallIndirect}
 use Rattle.clif_instructions.specs.Edges.{redirected, with_target_changed}
-use Rattle.clif_instructions.specs.Instruction.{entries_of, operands, destinations, with_targets_changed}
+use Rattle.clif_instructions.specs.Instruction.{contexts, entries_of, operands, destinations, with_targets_changed}
 use Rattle.clif_ir.specs.Body.{Body, inst_at, value_at, block_at, no_inst}
 use Rattle.clif_ir.specs.Changes.{with_shape, with_branch_target}
-use Rattle.clif_ir.specs.Consistent.{IsConsistent, EdgeExists, EntryExists}
+use Rattle.clif_ir.specs.Consistent.{IsConsistent, EdgeExists, EntryExists, ValueExists}
 use Rattle.clif_instructions.specs.Members.{Stands}
 use Rattle.clif_ir.specs.Whole.{IsPlaced}
 use Rattle.clif_instructions.proofs.Lists.{at_set}
@@ -22,6 +22,7 @@ use Rattle.clif_ir.proofs.Keeps.{larger_origin}
 -- what a shape names exists, and it fits results that are there
 pub record Fits (f : Body) (results : List ℕ) (shape : InstructionData) : Type 0 where
   pub operands_exist : (k : ℕ) → k < length (operands shape) → slice_index (operands shape) k < length f.values
+  pub contexts_exist : All (ValueExists f) (contexts shape)
   pub edges_exist : All (EdgeExists f) (destinations shape)
   pub entries_exist : All (EntryExists f.tables) (entries_of shape)
   pub edges_without_results : destinations shape ≢ [] → results ≡ []
@@ -30,6 +31,7 @@ pub record Fits (f : Body) (results : List ℕ) (shape : InstructionData) : Type
 pub fits_now : (f : Body) (i : ℕ) → IsConsistent f → Fits f (inst_at f i).results (inst_at f i).shape
 fits_now f i known = record {
   operands_exist = known.operands_exist i;
+  contexts_exist = known.contexts_exist i;
   edges_exist = known.edges_exist i;
   entries_exist = known.entries_exist i;
   edges_without_results = known.edges_without_results i;
@@ -53,6 +55,9 @@ with_shape_consistent f i shape known exists fits =
       operands_exist = λ j.
           at_set (λ (m : InstNode). (k : ℕ) → k < length (operands m.shape) → slice_index (operands m.shape) k < length f.values) f.insts i node j no_inst exists
           (λ _. fits.operands_exist) (λ _. known.operands_exist j);
+      contexts_exist = λ j.
+          at_set (λ (m : InstNode). All (ValueExists f) (contexts m.shape)) f.insts i node j no_inst exists
+          (λ _. fits.contexts_exist) (λ _. known.contexts_exist j);
       edges_exist = λ j.
           at_set (λ (m : InstNode). All (EdgeExists f) (destinations m.shape)) f.insts i node j no_inst exists
           (λ _. fits.edges_exist) (λ _. known.edges_exist j);
@@ -93,6 +98,8 @@ operands-with_targets_changed : (from to : ℕ) (shape : InstructionData) → op
 operands-with_targets_changed from to (Jump destination) = refl
 operands-with_targets_changed from to (Brif arg blocks) = refl
 operands-with_targets_changed from to (BranchTable arg table) = refl
+operands-with_targets_changed from to (TryCall function args table) = refl
+operands-with_targets_changed from to (TryCallIndirect args table) = refl
 operands-with_targets_changed from to _ = refl
 
 destinations-with_targets_changed : (from to : ℕ) (shape : InstructionData)
@@ -100,13 +107,25 @@ destinations-with_targets_changed : (from to : ℕ) (shape : InstructionData)
 destinations-with_targets_changed from to (Jump destination) = refl
 destinations-with_targets_changed from to (Brif arg blocks) = refl
 destinations-with_targets_changed from to (BranchTable arg table) = refl
+destinations-with_targets_changed from to (TryCall function args table) = refl
+destinations-with_targets_changed from to (TryCallIndirect args table) = refl
 destinations-with_targets_changed from to _ = refl
 
 entries-with_targets_changed : (from to : ℕ) (shape : InstructionData) → entries_of (with_targets_changed from to shape) ≡ entries_of shape
 entries-with_targets_changed from to (Jump destination) = refl
 entries-with_targets_changed from to (Brif arg blocks) = refl
 entries-with_targets_changed from to (BranchTable arg table) = refl
+entries-with_targets_changed from to (TryCall function args table) = refl
+entries-with_targets_changed from to (TryCallIndirect args table) = refl
 entries-with_targets_changed from to _ = refl
+
+contexts-with_targets_changed : (from to : ℕ) (shape : InstructionData) → contexts (with_targets_changed from to shape) ≡ contexts shape
+contexts-with_targets_changed from to (Jump destination) = refl
+contexts-with_targets_changed from to (Brif arg blocks) = refl
+contexts-with_targets_changed from to (BranchTable arg table) = refl
+contexts-with_targets_changed from to (TryCall function args table) = refl
+contexts-with_targets_changed from to (TryCallIndirect args table) = refl
+contexts-with_targets_changed from to _ = refl
 
 -- an edge that goes to an existing block instead names what exists, by whether it went to the first block
 redirected-exists-by : (f : Body) (from to : ℕ) (edge : BlockCall) → to < length f.blocks → EdgeExists f edge → (test : Bool) → (edge.block == from) ≡ test
@@ -125,6 +144,7 @@ pub fits_with_targets : (f : Body) (results : List ℕ) (from to : ℕ) (shape :
     → Fits f results (with_targets_changed from to shape)
 fits_with_targets f results from to shape inside fits = record {
   operands_exist = subst (λ xs. (k : ℕ) → k < length xs → slice_index xs k < length f.values) (sym (operands-with_targets_changed from to shape)) fits.operands_exist;
+  contexts_exist = subst (All (ValueExists f)) (sym (contexts-with_targets_changed from to shape)) fits.contexts_exist;
   edges_exist =
       subst (All (EdgeExists f)) (sym (destinations-with_targets_changed from to shape))
       (All-map (EdgeExists f) (redirected from to) (destinations shape)

@@ -10,7 +10,7 @@ use Rattle.clif_ir.specs.Body.{Body, value_at, inst_at, block_at, alias_of, alia
 use Rattle.clif_instructions.specs.declared.block_call.BlockCall.{BlockCall}
 use Rattle.clif_instructions.specs.declared.block_call.BlockArg.{BlockArg}
 use Rattle.clif_instructions.specs.declared.block_call.BlockArg.TheVariants as arg
-use Rattle.clif_instructions.specs.Instruction.{EntryRef, ASlot, AConstant, entries_of, operands, destinations}
+use Rattle.clif_instructions.specs.Instruction.{EntryRef, ASlot, AConstant, ASignatureRef, AFunctionRef, contexts, entries_of, operands, destinations}
 use Rattle.clif_instructions.specs.Members.{Stands, Once}
 
 -- where value `v` comes from exists and knows `v`
@@ -37,6 +37,12 @@ EdgeExists f edge = (edge.block < length f.blocks) × All (PassedExists f) edge.
 abbrev pub EntryExists : TableLists → EntryRef → Type 0
 EntryExists tables (ASlot number) = number < length tables.stack_slots
 EntryExists tables (AConstant number) = number < length tables.constants
+EntryExists tables (ASignatureRef number) = number < length tables.signatures
+EntryExists tables (AFunctionRef number) = number < length tables.functions
+
+-- a value of the function
+abbrev pub ValueExists : Body → ℕ → Type 0
+ValueExists f v = v < length f.values
 
 pub record IsConsistent (f : Body) : Type 0 where
   -- no table has more than 2^32 - 1 entries
@@ -47,6 +53,7 @@ pub record IsConsistent (f : Body) : Type 0 where
   pub origins : (v : ℕ) → v < length f.values → IsOrigin f v (value_at f v).origin
   pub operands_exist : (i k : ℕ) → k < length (operands (inst_at f i).shape)
       → slice_index (operands (inst_at f i).shape) k < length f.values
+  pub contexts_exist : (i : ℕ) → All (ValueExists f) (contexts (inst_at f i).shape)
   pub edges_exist : (i : ℕ) → All (EdgeExists f) (destinations (inst_at f i).shape)
   pub entries_exist : (i : ℕ) → All (EntryExists f.tables) (entries_of (inst_at f i).shape)
   -- results and parameters know their place

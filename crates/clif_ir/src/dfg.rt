@@ -3,12 +3,13 @@
 //! Each call first makes room and then changes, so that after an error the function is as it was. The
 //! errors are `Memory`, where memory was refused, and `Full`, which comes exactly where a table that
 //! the call grows holds 2^32 - 1 entries already, or has fewer numbers left than the call gives.
-ghost use Rattle.std.specs.Prelude.{◌≡◌, ◌≢◌, [], ◌∷◌, ◌++◌, length, ◌+◌, ◌-◌, ◌^◌, ◌≤◌, ◌<◌, ◌⊎◌, ℕ, true, slice_index, slice_index_or, slice_set, map, EachIndex, vec_len, vec_capacity, All, IfOk, OnOk, OnErr};
+ghost use Rattle.std.specs.Prelude.{◌≡◌, ◌≢◌, [], ◌∷◌, ◌++◌, length, ◌+◌, ◌-◌, ◌^◌, ◌≤◌, ◌<◌, ◌⊎◌, ℕ, slice_index, slice_index_or, slice_set, map, EachIndex, vec_len, vec_capacity, All, IfOk, OnOk, OnErr};
 ghost use Rattle.clif_opcodes.specs.Kinds.{result_type};
 ghost use Rattle.clif_ir.specs.Body.{Body, value_at, block_at, empty_block, resolved};
 ghost use Rattle.clif_instructions.specs.Members.{Stands, IsPlaceOf, put_at};
-ghost use Rattle.clif_ir.specs.Consistent.{EdgeExists, EntryExists};
-ghost use Rattle.clif_instructions.specs.Instruction.{entries_of, operands, destinations, has_result, result_count, result_types};
+ghost use Rattle.clif_ir.specs.Consistent.{EdgeExists, EntryExists, ValueExists};
+ghost use Rattle.clif_instructions.specs.Instruction.{contexts, entries_of, operands, destinations};
+ghost use Rattle.clif_tables.specs.Callees.{count_of_results, types_of, types_of_results};
 ghost use Rattle.clif_ir.specs.Whole.{lowered, moved_count, next_slot, placed_at};
 ghost use Rattle.clif_ir.specs.Changes.{HasNoRoom, with_block, with_param, with_inst, with_branch_argument, with_alias, home_of, result_nodes};
 ghost use Rattle.std.specs.List.{range_with_len};
@@ -18,7 +19,7 @@ use clif_instructions::inst_list::{InsertAt, InstList};
 use clif_instructions::instructions::InstructionData;
 use clif_instructions::value_list::ValueList;
 use clif_opcodes::ResultKind;
-use clif_types::{Block, BuildError, EntityRef, Inst, SourceLoc, Type, Value};
+use clif_types::{AbiParam, Block, BuildError, EntityRef, Inst, SourceLoc, Type, Value};
 use std::alloc::Global;
 
 /// How many entries a table holds at most.
@@ -109,7 +110,7 @@ fn room_for_inst(
     numbered_results(alloc, first, count)
 }
 
-// Puts the results of `inst` into the table of values, which has room for them.
+// Puts results of these kinds of `inst` into the table of values, which has room for them.
 fn push_result_nodes(
     values: &mut Vec<ValueNode>,
     inst: Inst,
@@ -118,14 +119,50 @@ fn push_result_nodes(
 )
     requires room { vec_len values.old + length kinds.now ≤ vec_capacity values.old }
     requires few { length kinds.now < 2 ^ 32 }
-    ensures { values.new.items ≡
+    ensures exact { values.new.items ≡
         values.old.items ++ result_nodes inst 0 (map (result_type controlling) kinds.now) }
+    ensures len { vec_len values.new ≡ vec_len values.old + length kinds.now }
+    ensures capacity { vec_capacity values.new ≡ vec_capacity values.old }
 {
     for (place, kind) in kinds.iter().enumerate() {
         let ty = kind.at(controlling);
         let origin = ValueOrigin::Result(inst, place as u32);
         values.push_reserved(ValueNode { ty, origin });
     }
+}
+
+// Puts results of `inst` into the table of values, which has room for them: what a call gives, whose places among the
+// results are those from `first` on.
+fn push_given_nodes(values: &mut Vec<ValueNode>, inst: Inst, first: usize, given: &[AbiParam])
+    requires room { vec_len values.old + length given.now ≤ vec_capacity values.old }
+    requires few { first + length given.now < 2 ^ 32 }
+    ensures { values.new.items ≡ values.old.items ++ result_nodes inst first (types_of given.now) }
+{
+    for (place, param) in given.iter().enumerate() {
+        let origin = ValueOrigin::Result(inst, (first + place) as u32);
+        values.push_reserved(ValueNode {
+            ty: param.value_type,
+            origin,
+        });
+    }
+}
+
+// Puts the results of `inst` into the table of values, which has room for them: those of these kinds, and what a call
+// gives.
+fn push_results(
+    values: &mut Vec<ValueNode>,
+    inst: Inst,
+    controlling: Type,
+    kinds: &[ResultKind],
+    given: &[AbiParam],
+)
+    requires room { vec_len values.old + length kinds.now + length given.now ≤ vec_capacity values.old }
+    requires few { length kinds.now + length given.now < 2 ^ 32 }
+    ensures { values.new.items ≡
+        values.old.items ++ result_nodes inst 0 (map (result_type controlling) kinds.now ++ types_of given.now) }
+{
+    push_result_nodes(values, inst, controlling, kinds);
+    push_given_nodes(values, inst, kinds.len(), given);
 }
 
 // Puts an instruction into `block`.
@@ -249,8 +286,9 @@ impl Function {
     /// Makes an instruction and puts it into `block`, at a place that costs a step for each instruction
     /// before it, or none at the back.
     ///
-    /// It gets the next number of an instruction, and its results get the next numbers of values;
-    /// `ctrl_type` is its controlling type, and `Type::Invalid` where it has no results. `Full` comes
+    /// It gets the next number of an instruction, and its results get the next numbers of values. Their types come
+    /// from `ctrl_type`, its controlling type, which is `Type::Invalid` where it has none, and for a call from the
+    /// signature that it names. `Full` comes
     /// where there are 2^32 - 1 instructions or 2^32 - 1 values, and so for an instruction without
     /// results too, or where fewer numbers of values are left than there are results.
     pub fn insert_inst(
@@ -265,23 +303,25 @@ impl Function {
         requires place_exists { IsPlaceOf at (length (block_at self.old block).insts) }
         requires operands_exist { EachIndex (operands shape) (λ k. slice_index (operands shape) k < length self.old.values) }
         requires edges_exist { All (EdgeExists self.old) (destinations shape) }
+        requires contexts_exist { All (ValueExists self.old) (contexts shape) }
         requires entries_exist { All (EntryExists self.old.tables) (entries_of shape) }
         ensures ok { OnOk result (self.new ≡
-            with_inst self.old block at shape (result_types shape ctrl_type) srcloc) }
+            with_inst self.old block at shape (types_of_results self.old.tables shape ctrl_type) srcloc) }
         ensures number { IfOk result (λ i. i ≡ length self.old.insts) }
-        ensures unaliased { OnOk result (has_result shape ≡ true → resolved self.new (length self.old.values) ≡ length self.old.values) }
-        ensures full { result ≡ Err BuildError.Full → HasNoRoom self.old (result_count shape) }
-        ensures at_limit { HasNoRoom self.old (result_count shape) → result ≡ Err BuildError.Full }
+        ensures unaliased { OnOk result (resolved self.new (length self.old.values) ≡ length self.old.values) }
+        ensures full { result ≡ Err BuildError.Full → HasNoRoom self.old (count_of_results self.old.tables shape) }
+        ensures at_limit { HasNoRoom self.old (count_of_results self.old.tables shape) → result ≡ Err BuildError.Full }
         ensures never_failed { result ≢ Err BuildError.Failed }
         ensures err { OnErr result (self.new ≡ self.old) }
     {
         let kinds = shape.result_kinds();
+        let given = self.tables.given_by_call(&shape);
         let results = room_for_inst(
             self.alloc,
             &mut self.values,
             &mut self.insts,
             &mut self.inst_slots,
-            kinds.len(),
+            kinds.len() + given.len(),
         )?;
         let inst = Inst::new(self.insts.len());
         let place = self.block_places[block.index()];
@@ -292,7 +332,7 @@ impl Function {
         lower_slots(&mut self.inst_slots, insts, moved_count(at));
         self.block_places[block.index()] = placed_at(at, place);
         self.inst_slots.push_reserved(slot);
-        push_result_nodes(&mut self.values, inst, ctrl_type, kinds);
+        push_results(&mut self.values, inst, ctrl_type, kinds, given);
         self.insts.push_reserved(InstNode {
             shape,
             results,

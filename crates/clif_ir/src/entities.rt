@@ -5,7 +5,7 @@
 //! exactly where the table holds 2^32 - 1 entries; the function is then as it was.
 ghost use Rattle.std.specs.Prelude.{◌≡◌, ◌<◌, ◌↔◌, length, slice_get, All, IsTrue};
 ghost use Rattle.clif_tables.specs.Entries.{AStackSlot, ADynamicStackSlot, AGlobalValue, ASignature, AFunction};
-ghost use Rattle.clif_tables.specs.Lists.{unserved, with_constant, with_jump_table, with_table_served};
+ghost use Rattle.clif_tables.specs.Lists.{unserved, with_constant, with_exception_table, with_exception_table_served, with_jump_table, with_table_served};
 ghost use Rattle.clif_tables.specs.Makes.{MakesEntry, Pools};
 ghost use Rattle.clif_instructions.specs.Instruction.{entries_of};
 ghost use Rattle.clif_ir.specs.Changes.{with_tables};
@@ -14,10 +14,11 @@ ghost use Rattle.clif_ir.specs.Entries.{MakesIn};
 
 use crate::function::Function;
 use clif_instructions::instructions::InstructionData;
-use clif_tables::{JumpTableData, Tables};
+use clif_tables::{ExceptionTableData, ExceptionTargets, JumpTableData, Tables};
 use clif_types::{
-    BuildError, Constant, DynamicStackSlot, DynamicStackSlotData, EntityRef, ExtFuncData, FuncRef,
-    GlobalValue, GlobalValueData, JumpTable, SigRef, Signature, StackSlot, StackSlotData,
+    BuildError, Constant, DynamicStackSlot, DynamicStackSlotData, EntityRef, ExceptionTable,
+    ExtFuncData, FuncRef, GlobalValue, GlobalValueData, JumpTable, SigRef, Signature, StackSlot,
+    StackSlotData,
 };
 
 impl Function {
@@ -39,8 +40,32 @@ impl Function {
             InstructionData::UnaryConst { constant, .. } => {
                 constant.index() < self.tables.constant_count()
             }
+            InstructionData::Call { func_ref, .. } => self.has_function(*func_ref),
+            InstructionData::CallIndirect { sig_ref, .. } => self.has_signature(*sig_ref),
+            InstructionData::TryCall {
+                func_ref,
+                exception,
+                ..
+            } => self.has_function(*func_ref) && self.has_signature(exception.signature()),
+            InstructionData::TryCallIndirect { exception, .. } => {
+                self.has_signature(exception.signature())
+            }
             _ => true,
         }
+    }
+
+    // Whether a function of this number was imported.
+    fn has_function(&self, function: FuncRef) -> bool
+        ensures { IsTrue result ↔ (function < length self.now.tables.functions) }
+    {
+        function.index() < self.tables.function_count()
+    }
+
+    // Whether a signature of this number was imported.
+    fn has_signature(&self, sig: SigRef) -> bool
+        ensures { IsTrue result ↔ (sig < length self.now.tables.signatures) }
+    {
+        sig.index() < self.tables.signature_count()
     }
 
     /// Makes a stack slot.
@@ -106,5 +131,25 @@ impl Function {
         ensures served { self.new ≡ with_tables self.old (with_table_served self.old.tables table) }
     {
         self.tables.take_jump_table(table)
+    }
+
+    /// Makes an exception table, which serves no instruction so far.
+    pub fn create_exception_table(
+        &mut self,
+        table: ExceptionTableData,
+    ) -> Result<ExceptionTable, BuildError>
+        ensures { MakesEntry (λ number. number) (length self.old.tables.exception_tables) self.old self.new
+            (with_tables self.old (with_exception_table self.old.tables table)) result }
+    {
+        self.tables.create_exception_table(table)
+    }
+
+    /// Takes an exception table for the instruction that it serves from now on, if there is a table of this number
+    /// that serves none so far.
+    pub fn take_exception_table(&mut self, table: ExceptionTable) -> Option<ExceptionTargets>
+        ensures taken { result ≡ unserved (slice_get self.old.tables.exception_tables table) }
+        ensures served { self.new ≡ with_tables self.old (with_exception_table_served self.old.tables table) }
+    {
+        self.tables.take_exception_table(table)
     }
 }

@@ -15,8 +15,12 @@ pub mod layout;
 pub mod rewrite;
 pub mod successors;
 pub mod write;
+mod write_calls;
 
 pub use clif_instructions::block_call::{BlockArg, BlockArgs, BlockCall};
+pub use clif_instructions::exception_table::{
+    ExceptionItem, ExceptionTableData, ExceptionTableItem, ExceptionTargets,
+};
 pub use clif_instructions::instructions::InstructionData;
 pub use clif_instructions::jump_table::JumpTableData;
 pub use clif_instructions::value_list::ValueList;

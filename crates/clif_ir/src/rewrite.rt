@@ -5,10 +5,11 @@
 //! its block and its source place.
 ghost use Rattle.std.specs.Prelude.{◌≡◌, ◌≢◌, ◌<◌, ◌+◌, ◌-◌, ◌^◌, length, slice_index, EachIndex, All, IfOk, OnOk, OnErr};
 ghost use Rattle.clif_instructions.specs.Edges.{edge_at};
-ghost use Rattle.clif_instructions.specs.Instruction.{entries_of, operands, destinations, result_count, result_types};
-ghost use Rattle.clif_ir.specs.Body.{block_at, inst_at};
+ghost use Rattle.clif_instructions.specs.Instruction.{contexts, entries_of, operands, destinations};
+ghost use Rattle.clif_tables.specs.Callees.{count_of_results, types_of_results};
+ghost use Rattle.clif_ir.specs.Body.{block_at, inst_at, resolved};
 ghost use Rattle.clif_ir.specs.Changes.{HasNoRoom, with_branch_target, with_inst, with_operand_at, with_passed_argument};
-ghost use Rattle.clif_ir.specs.Consistent.{EdgeExists, EntryExists};
+ghost use Rattle.clif_ir.specs.Consistent.{EdgeExists, EntryExists, ValueExists};
 ghost use Rattle.clif_ir.specs.Reading.{place_in_block};
 
 use crate::function::Function;
@@ -64,12 +65,14 @@ impl Function {
         requires inst_exists { next < length self.old.insts }
         requires operands_exist { EachIndex (operands shape) (λ k. slice_index (operands shape) k < length self.old.values) }
         requires edges_exist { All (EdgeExists self.old) (destinations shape) }
+        requires contexts_exist { All (ValueExists self.old) (contexts shape) }
         requires entries_exist { All (EntryExists self.old.tables) (entries_of shape) }
         ensures ok { OnOk result (self.new ≡
-            with_inst self.old (inst_at self.old next).block (InsertAt.Behind (place_in_block self.old next)) shape (result_types shape ctrl_type) srcloc) }
+            with_inst self.old (inst_at self.old next).block (InsertAt.Behind (place_in_block self.old next)) shape (types_of_results self.old.tables shape ctrl_type) srcloc) }
         ensures number { IfOk result (λ i. i ≡ length self.old.insts) }
-        ensures full { result ≡ Err BuildError.Full → HasNoRoom self.old (result_count shape) }
-        ensures at_limit { HasNoRoom self.old (result_count shape) → result ≡ Err BuildError.Full }
+        ensures unaliased { OnOk result (resolved self.new (length self.old.values) ≡ length self.old.values) }
+        ensures full { result ≡ Err BuildError.Full → HasNoRoom self.old (count_of_results self.old.tables shape) }
+        ensures at_limit { HasNoRoom self.old (count_of_results self.old.tables shape) → result ≡ Err BuildError.Full }
         ensures never_failed { result ≢ Err BuildError.Failed }
         ensures err { OnErr result (self.new ≡ self.old) }
     {
@@ -91,12 +94,14 @@ impl Function {
         requires inst_exists { previous < length self.old.insts }
         requires operands_exist { EachIndex (operands shape) (λ k. slice_index (operands shape) k < length self.old.values) }
         requires edges_exist { All (EdgeExists self.old) (destinations shape) }
+        requires contexts_exist { All (ValueExists self.old) (contexts shape) }
         requires entries_exist { All (EntryExists self.old.tables) (entries_of shape) }
         ensures ok { OnOk result (self.new ≡
-            with_inst self.old (inst_at self.old previous).block (InsertAt.Behind (place_in_block self.old previous + 1)) shape (result_types shape ctrl_type) srcloc) }
+            with_inst self.old (inst_at self.old previous).block (InsertAt.Behind (place_in_block self.old previous + 1)) shape (types_of_results self.old.tables shape ctrl_type) srcloc) }
         ensures number { IfOk result (λ i. i ≡ length self.old.insts) }
-        ensures full { result ≡ Err BuildError.Full → HasNoRoom self.old (result_count shape) }
-        ensures at_limit { HasNoRoom self.old (result_count shape) → result ≡ Err BuildError.Full }
+        ensures unaliased { OnOk result (resolved self.new (length self.old.values) ≡ length self.old.values) }
+        ensures full { result ≡ Err BuildError.Full → HasNoRoom self.old (count_of_results self.old.tables shape) }
+        ensures at_limit { HasNoRoom self.old (count_of_results self.old.tables shape) → result ≡ Err BuildError.Full }
         ensures never_failed { result ≢ Err BuildError.Failed }
         ensures err { OnErr result (self.new ≡ self.old) }
     {

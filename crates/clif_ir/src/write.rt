@@ -12,6 +12,7 @@ ghost use Rattle.clif_ir.specs.Consistent.{EdgeExists};
 ghost use Rattle.clif_instructions.specs.Instruction.{operands, destinations};
 
 use crate::function::{Function, ValueDef};
+use crate::write_calls::{write_call, write_call_of_address, write_exceptions};
 use clif_instructions::block_call::{BlockArg, BlockCall};
 use clif_instructions::immediates::{FloatBits, Imm64, Offset32, signed_at};
 use clif_instructions::instructions::InstructionData;
@@ -120,7 +121,10 @@ fn write_inst<W: fmt::Write>(f: &mut fmt::Formatter<W>, func: &Function, inst: I
 }
 
 // Values, joined by `, `.
-fn write_values<W: fmt::Write>(f: &mut fmt::Formatter<W>, values: &[Value]) -> fmt::Result {
+pub(crate) fn write_values<W: fmt::Write>(
+    f: &mut fmt::Formatter<W>,
+    values: &[Value],
+) -> fmt::Result {
     for (place, value) in values.iter().enumerate() {
         if place > 0 {
             f.write_str(", ")?;
@@ -152,6 +156,23 @@ fn write_operation<W: fmt::Write>(
             return write!(f, " {float}");
         }
         InstructionData::BranchTable { arg, table } => return write_table(f, *arg, table),
+        InstructionData::Call { func_ref, args } => return write_call(f, *func_ref, args),
+        InstructionData::CallIndirect { sig_ref, args } => {
+            write!(f, " {sig_ref},")?;
+            return write_call_of_address(f, args);
+        }
+        InstructionData::TryCall {
+            func_ref,
+            args,
+            exception,
+        } => {
+            write_call(f, *func_ref, args)?;
+            return write_exceptions(f, exception);
+        }
+        InstructionData::TryCallIndirect { args, exception } => {
+            write_call_of_address(f, args)?;
+            return write_exceptions(f, exception);
+        }
         InstructionData::IntCompare { cond, .. } => write!(f, " {cond}")?,
         InstructionData::Load { flags, .. } => write!(f, "{flags}")?,
         InstructionData::Store { flags, .. } => write!(f, "{flags}")?,
@@ -233,7 +254,10 @@ fn write_edges<W: fmt::Write>(f: &mut fmt::Formatter<W>, edges: &[BlockCall]) ->
 }
 
 // The target of an edge, and in parentheses what it passes; without these where it passes nothing.
-fn write_edge<W: fmt::Write>(f: &mut fmt::Formatter<W>, edge: &BlockCall) -> fmt::Result {
+pub(crate) fn write_edge<W: fmt::Write>(
+    f: &mut fmt::Formatter<W>,
+    edge: &BlockCall,
+) -> fmt::Result {
     let block = edge.block;
     write!(f, "{block}")?;
     if edge.args.as_slice().is_empty() {

@@ -4,6 +4,12 @@
 #[cfg(test)]
 mod aliases;
 #[cfg(test)]
+mod call_changes;
+#[cfg(test)]
+mod callees;
+#[cfg(test)]
+mod calls;
+#[cfg(test)]
 mod edges;
 #[cfg(test)]
 mod facts;

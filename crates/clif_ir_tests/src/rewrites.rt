@@ -25,7 +25,7 @@ use std::test::Fail;
 
 /// A change of an instruction, where all is told by numbers.
 #[derive(Clone, Copy)]
-enum Rewrite {
+pub enum Rewrite {
     /// Makes its edges that go to a block go to another one.
     Target(u32, u32, u32),
     /// Replaces its operand at a place.
@@ -107,11 +107,22 @@ fn rewrites(
 ) -> Result<(), Fail> {
     let mut func = sample(alloc)?;
     make_all(rt, &mut func, steps)?;
-    prints(rt, &func, before)?;
+    changes_text(rt, &mut func, before, changes, after)
+}
+
+/// Asserts the text of a function, and its text after the changes.
+pub fn changes_text(
+    rt: &impl Abort,
+    func: &mut Function,
+    before: &str,
+    changes: &[Rewrite],
+    after: &str,
+) -> Result<(), Fail> {
+    prints(rt, func, before)?;
     for change in changes.iter() {
-        make_rewrite(rt, &mut func, *change)?;
+        make_rewrite(rt, func, *change)?;
     }
-    prints(rt, &func, after)
+    prints(rt, func, after)
 }
 
 // All edges to the block change, and no other edge does. What they pass stays.

@@ -1,6 +1,7 @@
 //! Functions that are made by tables of steps, where the conditions of each call are asserted.
 #![tactic(auto)]
 
+use crate::callees::has_contexts;
 use crate::facts::{Fact, holds};
 use crate::instructions::{Plain, shape_of};
 use crate::support::{
@@ -127,7 +128,8 @@ fn pool(func: &mut Function, byte: u8, count: u8) -> Result<(), Fail> {
     Ok(())
 }
 
-fn insert(
+/// Puts an instruction into a block, with its controlling type.
+pub fn insert(
     rt: &impl Abort,
     func: &mut Function,
     block: u32,
@@ -138,6 +140,7 @@ fn insert(
     let block = block_of(rt, func, block);
     assert!(rt; has_operands(func, shape.arguments()));
     assert!(rt; has_edges(func, shape.branch_destination()));
+    assert!(rt; has_contexts(func, &shape));
     assert!(rt; func.has_entries(&shape));
     assert!(rt; is_place_of(at, func.block_inst_count(block)));
     func.insert_inst(block, at, shape, ty, SourceLoc::new(PLACE))?;

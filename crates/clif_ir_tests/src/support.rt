@@ -5,9 +5,9 @@ ghost use Rattle.std.specs.Prelude.{◌≡◌, ◌<◌, length, IsTrue, EachInde
 ghost use Rattle.clif_ir.specs.Body.{value_at};
 ghost use Rattle.clif_ir.specs.Changes.{home_of};
 ghost use Rattle.clif_instructions.specs.Members.{IsPlaceOf};
-ghost use Rattle.clif_ir.specs.Consistent.{EdgeExists};
+ghost use Rattle.clif_ir.specs.Consistent.{EdgeExists, PassedExists};
 
-use clif_instructions::block_call::BlockCall;
+use clif_instructions::block_call::{BlockArg, BlockCall};
 use clif_instructions::inst_list::InsertAt;
 use clif_ir::function::{Function, ValueOrigin};
 use clif_types::{
@@ -83,14 +83,25 @@ pub fn is_place_of(at: InsertAt, len: usize) -> bool
     }
 }
 
-// Whether the target of an edge exists, to which nothing is passed.
+// Whether what an edge passes exists.
+fn has_argument(func: &Function, arg: BlockArg) -> bool
+    ensures { IsTrue result → PassedExists func.now arg }
+{
+    match arg {
+        BlockArg::Value(value) => value.index() < func.value_count(),
+        BlockArg::TryCallRet(_) | BlockArg::TryCallExn(_) => true,
+    }
+}
+
+// Whether the target of an edge exists, and what it passes.
 fn has_edge(func: &Function, edge: &BlockCall) -> bool
     ensures { IsTrue result → EdgeExists func.now edge.now }
 {
-    edge.block.index() < func.block_count() && edge.args.as_slice().is_empty()
+    let args = edge.args.as_slice();
+    edge.block.index() < func.block_count() && args.iter().all(|arg| has_argument(func, *arg))
 }
 
-/// Whether the targets of these edges exist, to which nothing is passed.
+/// Whether the targets of these edges exist, and what they pass.
 pub fn has_edges(func: &Function, edges: &[BlockCall]) -> bool
     ensures { IsTrue result → All (EdgeExists func.now) edges.now }
 {
@@ -125,7 +136,8 @@ pub fn typed(
     Ok(Function::with_name_signature(alloc, name, signature))
 }
 
-fn push_types(list: &mut Vec<AbiParam>, types: &[Type]) -> Result<(), AllocError> {
+/// Puts these types at the end of a list.
+pub fn push_types(list: &mut Vec<AbiParam>, types: &[Type]) -> Result<(), AllocError> {
     for ty in types {
         list.push(AbiParam::new(*ty))?;
     }

@@ -1,6 +1,6 @@
 -- Outcomes fit the typing table.
 use Rattle.std.proofs.Common.{◌≡◌, ◌^◌, ◌*◌, ◌+◌, ◌/◌, ◌%◌, ◌<◌, ℕ, zero, suc, List, [], ◌∷◌, ◌++◌, arith, subst, refl, sym, ◌∙◌, ap}
-use Rattle.std.specs.Prelude.{ℤ, pos, negsuc, Option, Some, None, Bool, true, false, ◌==◌, ◌&&◌, not, IsTrue, if◌then◌else◌}
+use Rattle.std.specs.Prelude.{ℤ, pos, negsuc, Option, Some, None, Bool, true, false, ◌==◌, ◌&&◌, not, IsTrue, if◌then◌else◌, take}
 use Rattle.std.specs.List.{AllByRecursion}
 use Rattle.std.proofs.Math.Nat.{mod-lt}
 use Rattle.std.proofs.lemmas.Bool.{eq-eqb}
@@ -11,6 +11,8 @@ use Rattle.clif_types.specs.Types.{bits_of}
 use Rattle.clif_types.specs.declared.trapcode.TrapCode.{TrapCode}
 use Rattle.clif_types.specs.declared.trapcode.TrapCode.TheVariants.{HeapOutOfBounds}
 use Rattle.clif_types.specs.MemFlags.{MemFlagsShape}
+use Rattle.clif_types.specs.declared.extname.ExternalName.{ExternalName}
+use Rattle.clif_types.specs.declared.extname.ExternalName.TheVariants.{User, TestCase, LibCall}
 use Rattle.clif_opcodes.specs.declared.opcodes.FloatConstOpcode.TheVariants.{F16const, F32const, F64const}
 use Rattle.clif_opcodes.specs.declared.opcodes.PooledConstOpcode.TheVariants.{F128const, Vconst}
 use Rattle.clif_opcodes.specs.declared.kinds.OperandKind.{OperandKind}
@@ -19,12 +21,13 @@ use Rattle.clif_opcodes.specs.declared.kinds.OperandKind.TheVariants as kind
 use Rattle.clif_opcodes.specs.Typing.{AreOfKinds, binary_second, convert_operand}
 use Rattle.clif_meaning.specs.Bits.{Bits, HasWidth, IsValue, AreValues, value_bytes, value_of_bytes, wrapped}
 use Rattle.clif_opcodes.specs.declared.opcodes.StackOpcode.TheVariants.{StackAddr, StackLoad}
-use Rattle.clif_meaning.specs.Instruction.{Iconst, FloatConst, PooledConst, Unary, Binary, Compare, Concat, Split, Convert, Select, Operation, Compute, Load, Store, Stack, StackStore, Trap, CondTrap, Jump, Brif, BrTable, Return}
+use Rattle.clif_meaning.specs.Instruction.{Iconst, FloatConst, PooledConst, Unary, Binary, Compare, Concat, Split, Convert, Select, Operation, Compute, Load, Store, Stack, StackStore, Trap, CondTrap, Jump, Brif, BrTable, Return, Call, CallIndirect, TryCall, TryCallIndirect}
 use Rattle.clif_meaning.specs.Memory.{Memory, Range, address_in, bytes_in, written}
-use Rattle.clif_meaning.specs.Access.{Accessible, Aligned, Holds, access_claims, claims_if, claims_of}
-use Rattle.clif_meaning.specs.Outcome.{Outcome, Gives, NoStep, Traps, access_outcome, accessed, are_accessible, compares, converted_number, low_bits_at, no_claim, slot_accessed, slot_address, traps_on, unary_number, binary_fault, binary_number, outcome_of, outcome_of_computed, unless_fault}
+use Rattle.clif_meaning.specs.Access.{Accessible, Aligned, Holds, LibraryCall, access_claims, claims_if, claims_of, library_named}
+use Rattle.clif_meaning.specs.Outcome.{Outcome, Gives, NoStep, Traps, access_outcome, accessed, are_accessible, compares, converted_number, low_bits_at, no_claim, slot_accessed, slot_address, traps_on, unary_number, binary_fault, binary_number, call_outcome, outcome_of, outcome_of_computed, unless_fault}
 use Rattle.clif_meaning.specs.Laws.{FitsTypes, OutcomesFit}
 use Rattle.clif_meaning.specs.Program.{result_types}
+use Rattle.clif_meaning.specs.Event.{CallShape, plain_call}
 use Rattle.clif_meaning.specs.World.{World}
 use Rattle.clif_meaning.proofs.SampleWorld.{pow_pos}
 
@@ -93,6 +96,25 @@ module _ (P : List «Type» → List Bits → Type 0) (ty : «Type») where
   three_operands i j k (t ∷ u ∷ v ∷ []) (x ∷ y ∷ z ∷ w ∷ operands) fits values it = absurd values.1.1.1
   three_operands i j k (t ∷ u ∷ v ∷ []) (x ∷ y ∷ z ∷ []) fits values it = it t u v x y z fits.1.0 fits.1.1.0 values.1.0 values.1.1.0
 
+  -- an address, and others behind it
+  with_address : (types : List «Type») (operands : List Bits) → AreOfKinds ty (kind.Address ∷ []) (take 1 types) → AreValues types operands
+      → ((t : «Type») (x : Bits) (more : List «Type») (bits : List Bits) → P (t ∷ more) (x ∷ bits)) → P types operands
+  with_address [] operands fits values it = absurd fits
+  with_address (t ∷ types) [] fits values it = absurd values
+  with_address (t ∷ types) (x ∷ operands) fits values it = it t x types operands
+
+-- CALLS -----------------------------------------------------------------------------------------------------------------
+
+-- the call of a function that is none of the C library
+named_fits : (results returns : List «Type») (name : ExternalName) (call : CallShape) (arguments : List Bits) → library_named name call.signature ≡ None
+    → FitsTypes results returns (call_outcome name call arguments)
+named_fits results returns (User reference) call arguments outside = tt
+named_fits results returns (TestCase text) call arguments outside = tt
+named_fits results returns (LibCall callee) call arguments outside = absurd (is_none (record { callee = callee; signature = call.signature }) outside)
+  where
+    is_none : (called : LibraryCall) → Some called ≡ None → ⊥
+    is_none called same = cc
+
 -- ACCESSES --------------------------------------------------------------------------------------------------------------
 
 -- bytes of which each may be touched are accessible
@@ -147,74 +169,81 @@ Fits world operation ty returns memory types operands =
     → FitsTypes (result_types operation ty) returns (outcome_of world operation ty types operands memory)
 
 pub outcomes_fit : OutcomesFit
-outcomes_fit world (Compute (Iconst number)) ty returns types operands memory at fits values =
+outcomes_fit world (Compute (Iconst number)) ty returns types operands memory outside at fits values =
     no_operand (Fits world (Compute (Iconst number)) ty returns memory) ty types operands fits values (λ claims. (constant_fits (bits_of ty) number, tt))
-outcomes_fit world (Compute (FloatConst F16const bits)) ty returns types operands memory at fits values =
+outcomes_fit world (Compute (FloatConst F16const bits)) ty returns types operands memory outside at fits values =
     no_operand (Fits world (Compute (FloatConst F16const bits)) ty returns memory) ty types operands fits values (λ claims. (mod-lt bits (pow_pos 16), tt))
-outcomes_fit world (Compute (FloatConst F32const bits)) ty returns types operands memory at fits values =
+outcomes_fit world (Compute (FloatConst F32const bits)) ty returns types operands memory outside at fits values =
     no_operand (Fits world (Compute (FloatConst F32const bits)) ty returns memory) ty types operands fits values (λ claims. (mod-lt bits (pow_pos 32), tt))
-outcomes_fit world (Compute (FloatConst F64const bits)) ty returns types operands memory at fits values =
+outcomes_fit world (Compute (FloatConst F64const bits)) ty returns types operands memory outside at fits values =
     no_operand (Fits world (Compute (FloatConst F64const bits)) ty returns memory) ty types operands fits values (λ claims. (mod-lt bits (pow_pos 64), tt))
-outcomes_fit world (Compute (PooledConst F128const bytes)) ty returns types operands memory at fits values =
+outcomes_fit world (Compute (PooledConst F128const bytes)) ty returns types operands memory outside at fits values =
     no_operand (Fits world (Compute (PooledConst F128const bytes)) ty returns memory) ty types operands fits values (λ claims. (mod-lt (value_of_bytes bytes) (pow_pos 128), tt))
-outcomes_fit world (Compute (PooledConst Vconst bytes)) ty returns types operands memory at fits values =
+outcomes_fit world (Compute (PooledConst Vconst bytes)) ty returns types operands memory outside at fits values =
     no_operand (Fits world (Compute (PooledConst Vconst bytes)) ty returns memory) ty types operands fits values (λ claims. (low_fits ty (value_of_bytes bytes), tt))
-outcomes_fit world (Compute (Unary opcode)) ty returns types operands memory at fits values =
+outcomes_fit world (Compute (Unary opcode)) ty returns types operands memory outside at fits values =
     one_operand (Fits world (Compute (Unary opcode)) ty returns memory) ty kind.Controlling types operands fits values
     (λ t x is_kind is_value claims. (low_fits ty (unary_number opcode (bits_of ty) x), tt))
-outcomes_fit world (Compute (Binary opcode)) ty returns types operands memory at fits values =
+outcomes_fit world (Compute (Binary opcode)) ty returns types operands memory outside at fits values =
     two_operands (Fits world (Compute (Binary opcode)) ty returns memory) ty kind.Controlling (binary_second opcode) types operands fits values
     (λ t u x y first second x_is y_is claims. fits_unless ty returns memory (binary_fault opcode (bits_of ty) x y) (low_bits_at ty (binary_number opcode (bits_of ty) x y))
     (low_fits ty (binary_number opcode (bits_of ty) x y)))
-outcomes_fit world (Compute (Compare condition)) ty returns types operands memory at fits values =
+outcomes_fit world (Compute (Compare condition)) ty returns types operands memory outside at fits values =
     two_operands (Fits world (Compute (Compare condition)) ty returns memory) ty kind.Controlling kind.Controlling types operands fits values
     (λ t u x y first second x_is y_is claims. (bit_fits (compares condition (bits_of ty) x y), tt))
-outcomes_fit world (Compute Concat) ty returns types operands memory at fits values =
+outcomes_fit world (Compute Concat) ty returns types operands memory outside at fits values =
     two_operands (Fits world (Compute Concat) ty returns memory) ty kind.Controlling kind.Controlling types operands fits values
     (λ t u x y first second x_is y_is claims. (low_fits (double_of ty) (x + 2 ^ bits_of ty * y), tt))
-outcomes_fit world (Compute Split) ty returns types operands memory at fits values =
+outcomes_fit world (Compute Split) ty returns types operands memory outside at fits values =
     one_operand (Fits world (Compute Split) ty returns memory) ty kind.Controlling types operands fits values
     (λ t x is_kind is_value claims. (low_fits (half_of ty) x, (low_fits (half_of ty) (x / 2 ^ bits_of (half_of ty)), tt)))
-outcomes_fit world (Compute (Convert opcode)) ty returns types operands memory at fits values =
+outcomes_fit world (Compute (Convert opcode)) ty returns types operands memory outside at fits values =
     one_operand (Fits world (Compute (Convert opcode)) ty returns memory) ty (convert_operand opcode) types operands fits values
     (λ t x is_kind is_value claims. (low_fits ty (converted_number opcode t ty x), tt))
-outcomes_fit world (Compute Select) ty returns types operands memory at fits values =
+outcomes_fit world (Compute Select) ty returns types operands memory outside at fits values =
     three_operands (Fits world (Compute Select) ty returns memory) ty kind.AnInteger kind.Controlling kind.Controlling types operands fits values
     (λ t u v x y z second third y_is z_is claims. (either_fits ty (x == 0) y z (subst (λ (s : «Type»). IsValue s y) second y_is) (subst (λ (s : «Type»). IsValue s z) third z_is), tt))
-outcomes_fit world (Load flags offset) ty returns types operands memory at fits values =
+outcomes_fit world (Load flags offset) ty returns types operands memory outside at fits values =
     one_operand (Fits world (Load flags offset) ty returns memory) ty kind.Address types operands fits values
     (λ t x is_kind is_value claims.
     let range : Range = accessed ty t x offset in
     access_fits world flags range (Gives (low_bits_at ty (value_of_bytes (bytes_in memory range)) ∷ []) memory) (ty ∷ []) returns claims
     (low_fits ty (value_of_bytes (bytes_in memory range)), tt))
-outcomes_fit world (Store flags offset) ty returns types operands memory at fits values =
+outcomes_fit world (Store flags offset) ty returns types operands memory outside at fits values =
     two_operands (Fits world (Store flags offset) ty returns memory) ty kind.Controlling kind.Address types operands fits values
     (λ t u x y first second x_is y_is claims.
     let range : Range = accessed ty u y offset in
     access_fits world flags range (Gives [] (written memory range (value_bytes range.size x))) [] returns claims tt)
-outcomes_fit world (Stack StackAddr slot offset) ty returns types operands memory at fits values =
+outcomes_fit world (Stack StackAddr slot offset) ty returns types operands memory outside at fits values =
     no_operand (Fits world (Stack StackAddr slot offset) ty returns memory) ty types operands fits values (λ claims. (low_fits ty (slot_address world slot offset), tt))
-outcomes_fit world (Stack StackLoad slot offset) ty returns types operands memory at fits values =
+outcomes_fit world (Stack StackLoad slot offset) ty returns types operands memory outside at fits values =
     no_operand (Fits world (Stack StackLoad slot offset) ty returns memory) ty types operands fits values
     (λ claims.
     let range : Range = slot_accessed world ty slot offset in
     access_fits world no_claim range (Gives (low_bits_at ty (value_of_bytes (bytes_in memory range)) ∷ []) memory) (ty ∷ []) returns tt
     (low_fits ty (value_of_bytes (bytes_in memory range)), tt))
-outcomes_fit world (StackStore slot offset) ty returns types operands memory at fits values =
+outcomes_fit world (StackStore slot offset) ty returns types operands memory outside at fits values =
     one_operand (Fits world (StackStore slot offset) ty returns memory) ty kind.Controlling types operands fits values
     (λ t x is_kind is_value claims.
     let range : Range = slot_accessed world ty slot offset in
     access_fits world no_claim range (Gives [] (written memory range (value_bytes range.size x))) [] returns tt tt)
-outcomes_fit world (Trap reason) ty returns types operands memory at fits values =
+outcomes_fit world (Trap reason) ty returns types operands memory outside at fits values =
     no_operand (Fits world (Trap reason) ty returns memory) ty types operands fits values (λ claims. tt)
-outcomes_fit world (CondTrap opcode reason) ty returns types operands memory at fits values =
+outcomes_fit world (CondTrap opcode reason) ty returns types operands memory outside at fits values =
     one_operand (Fits world (CondTrap opcode reason) ty returns memory) ty kind.Controlling types operands fits values
     (λ t x is_kind is_value claims. trap_fits (traps_on opcode x) reason returns memory)
-outcomes_fit world Jump ty returns types operands memory at fits values =
+outcomes_fit world Jump ty returns types operands memory outside at fits values =
     no_operand (Fits world Jump ty returns memory) ty types operands fits values (λ claims. tt)
-outcomes_fit world Brif ty returns types operands memory at fits values =
+outcomes_fit world Brif ty returns types operands memory outside at fits values =
     one_operand (Fits world Brif ty returns memory) ty kind.Controlling types operands fits values (λ t x is_kind is_value claims. tt)
-outcomes_fit world (BrTable entries) ty returns types operands memory at fits values =
+outcomes_fit world (BrTable entries) ty returns types operands memory outside at fits values =
     one_operand (Fits world (BrTable entries) ty returns memory) ty (kind.Exactly (type.Lane lane.I32)) types operands fits values (λ t x is_kind is_value claims. tt)
-outcomes_fit world Return ty returns types operands memory at fits values =
+outcomes_fit world Return ty returns types operands memory outside at fits values =
     λ claims. subst (λ (ts : List «Type»). AreValues ts operands) fits values
+outcomes_fit world (Call name signature) ty returns types operands memory outside at fits values =
+    λ claims. named_fits (result_types (Call name signature) ty) returns name (plain_call signature) operands outside
+outcomes_fit world (CallIndirect signature) ty returns types operands memory outside at fits values =
+    with_address (Fits world (CallIndirect signature) ty returns memory) ty types operands fits.0 values (λ t x more bits claims. tt)
+outcomes_fit world (TryCall name call) ty returns types operands memory outside at fits values = λ claims. named_fits [] returns name call operands outside
+outcomes_fit world (TryCallIndirect call) ty returns types operands memory outside at fits values =
+    with_address (Fits world (TryCallIndirect call) ty returns memory) ty types operands fits.0 values (λ t x more bits claims. tt)

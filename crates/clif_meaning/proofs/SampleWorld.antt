@@ -7,7 +7,8 @@ use Rattle.clif_types.specs.declared.types.«Type».{«Type»}
 use Rattle.clif_types.specs.Types.{bits_of}
 use Rattle.clif_meaning.specs.Bits.{IsValue, AreValues}
 use Rattle.clif_meaning.specs.Memory.{byte_order}
-use Rattle.clif_meaning.specs.Event.{Results, types_of}
+use Rattle.clif_meaning.specs.Event.{Results}
+use Rattle.clif_tables.specs.Callees.{types_of}
 use Rattle.clif_meaning.specs.World.{World, HasSignOf}
 use Rattle.clif_meaning.specs.Examples.{sign_number, moved_by_16}
 

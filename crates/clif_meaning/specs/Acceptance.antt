@@ -11,7 +11,7 @@ use Rattle.clif_opcodes.specs.declared.opcodes.PooledConstOpcode.{PooledConstOpc
 use Rattle.clif_opcodes.specs.declared.opcodes.PooledConstOpcode.TheVariants.{F128const, Vconst}
 use Rattle.clif_opcodes.specs.declared.opcodes.StackOpcode.{StackOpcode}
 use Rattle.clif_opcodes.specs.declared.opcodes.StackOpcode.TheVariants.{StackAddr, StackLoad}
-use Rattle.clif_instructions.specs.Instruction.{EntryRef, ASlot, AConstant}
+use Rattle.clif_instructions.specs.Instruction.{EntryRef, ASlot, AConstant, ASignatureRef, AFunctionRef}
 use Rattle.clif_opcodes.specs.declared.kinds.Demand.TheVariants.{ADoubled, AHalved, AVector}
 use Rattle.clif_opcodes.specs.Kinds.{is_met}
 use Rattle.clif_opcodes.specs.Typing.{convert_demand}
@@ -24,7 +24,7 @@ use Rattle.clif_types.specs.Types.{bytes_of, is_int, is_type}
 use Rattle.clif_tables.specs.Entries.{TableEntry, AStackSlot, AFunction}
 use Rattle.clif_tables.specs.Lists.{TableLists}
 use Rattle.clif_meaning.specs.SameType.{same_type}
-use Rattle.clif_meaning.specs.Instruction.{Iconst, FloatConst, PooledConst, Unary, Binary, Compare, Concat, Split, Convert, Select, Operation, operation_entries, Instruction, Compute, Load, Store, Stack, StackStore, Trap, CondTrap, Jump, Brif, BrTable, Return, Argument, Known, CallResult, CallPayload, Edge}
+use Rattle.clif_meaning.specs.Instruction.{Iconst, FloatConst, PooledConst, Unary, Binary, Compare, Concat, Split, Convert, Select, Operation, operation_entries, Instruction, Compute, Load, Store, Stack, StackStore, Trap, CondTrap, Jump, Brif, BrTable, Return, Call, CallIndirect, TryCall, TryCallIndirect, Argument, Known, CallResult, CallPayload, Edge}
 use Rattle.clif_meaning.specs.Name.{Name}
 use Rattle.clif_meaning.specs.Request.{Request, CreateBlock, SwitchToBlock, SealBlock, SealAllBlocks, InsertBlockAfter, SetColdBlock, EnsureInsertedBlock, AppendBlockParams, AppendFunctionParams, DeclareVar, DefVar, UseVar, MakeEntry, MakeEdge, MakeJumpTable, Build, Finalize, Script, Attempt, outright}
 use Rattle.clif_meaning.specs.Ledger.{BlockState, Ledger, empty_ledger, type_of, or_invalid, has_value, has_block, edge_named, unserved_edges, is_filled, is_sealed, is_inserted, is_pristine, has_predecessors, is_unreachable, variable_type, ledger_with}
@@ -64,7 +64,7 @@ abbrev pub has_bytes : PooledConstOpcode → «Type» → List ℕ → Bool
 has_bytes F128const ty bytes = length bytes == 16
 has_bytes Vconst ty bytes = is_met AVector ty && (length bytes == bytes_of ty)
 
--- what an operation asks beside its operands: the table of operations
+-- What an operation asks beside its operands: the table of operations. No script makes an outside call so far.
 abbrev pub can_operate : Operation → «Type» → Bool
 can_operate (Compute (Iconst number)) ty = is_int ty
 can_operate (Compute (PooledConst opcode bytes)) ty = has_bytes opcode ty bytes
@@ -74,12 +74,18 @@ can_operate (Compute Split) ty = is_met AHalved ty
 can_operate (Load flags offset) ty = is_type ty
 can_operate (Stack StackAddr slot offset) ty = is_int ty
 can_operate (Stack StackLoad slot offset) ty = is_type ty
+can_operate (Call name signature) ty = false
+can_operate (CallIndirect signature) ty = false
+can_operate (TryCall name call) ty = false
+can_operate (TryCallIndirect call) ty = false
 can_operate _ ty = true
 
 -- an entry that an operation names was made
 abbrev pub has_entry : TableLists → EntryRef → Bool
 has_entry tables (ASlot number) = nat_lt number (length tables.stack_slots)
 has_entry tables (AConstant number) = nat_lt number (length tables.constants)
+has_entry tables (ASignatureRef number) = nat_lt number (length tables.signatures)
+has_entry tables (AFunctionRef number) = nat_lt number (length tables.functions)
 
 -- an entry may be made: a stack slot is aligned to at most 2^31 bytes, and the signature of a function was imported
 abbrev pub can_make : TableLists → TableEntry → Bool

@@ -1,14 +1,16 @@
 -- What an item of a script does to memory by itself, and what it claims: the ranges that it may touch, and what its
 -- flags, alignments and overlap promise. After the documentation of Cranelift's memory flags and memory helpers.
-use Rattle.std.specs.Prelude.{◌≡◌, ℕ, ◌%◌, ◌^◌, ◌<◌, ◌++◌, Bool, false, if◌then◌else◌, List, [], ◌∷◌, IsTrue, ◌&&◌, Option, None}
+use Rattle.std.specs.Prelude.{◌≡◌, ℕ, ◌%◌, ◌^◌, ◌<◌, ◌++◌, Bool, false, if◌then◌else◌, List, [], ◌∷◌, IsTrue, ◌&&◌, Option, Some, None}
 use Rattle.clif_opcodes.specs.declared.opcodes.StackOpcode.TheVariants.{StackLoad}
 use Rattle.clif_types.specs.declared.types.«Type».{«Type»}
 use Rattle.clif_types.specs.MemFlags.{MemFlagsShape}
 use Rattle.clif_types.specs.Signature.{SignatureShape}
 use Rattle.clif_types.specs.declared.libcall.LibCall.{LibCall}
+use Rattle.clif_types.specs.declared.extname.ExternalName.{ExternalName}
+use Rattle.clif_types.specs.declared.extname.ExternalName.TheVariants as name
 use Rattle.clif_meaning.specs.Bits.{Bits}
 use Rattle.clif_meaning.specs.Memory.{Range, address_in, lies_in}
-use Rattle.clif_meaning.specs.Instruction.{Operation, Load, Store, Stack, StackStore}
+use Rattle.clif_meaning.specs.Instruction.{Operation, Load, Store, Stack, StackStore, Call, TryCall}
 use Rattle.clif_meaning.specs.Outcome.{accessed, slot_accessed, operand_type}
 use Rattle.clif_meaning.specs.World.{World}
 
@@ -51,6 +53,13 @@ pub record LibraryCall : Type 0 where
   pub callee : LibCall
   pub signature : SignatureShape
 
--- The table of operations: the call of a library function that it makes, if it makes one. No operation does so far.
+-- the call of a library function by its name, if it is the name of one
+abbrev pub library_named : ExternalName → SignatureShape → Option LibraryCall
+library_named (name.LibCall callee) signature = Some (record { callee = callee; signature = signature })
+library_named _ signature = None
+
+-- The table of operations: the call of a library function that it makes, if it makes one.
 abbrev pub library_call : Operation → Option LibraryCall
+library_call (Call name signature) = library_named name signature
+library_call (TryCall name call) = library_named name call.signature
 library_call _ = None

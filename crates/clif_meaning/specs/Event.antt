@@ -1,17 +1,13 @@
 -- Outside calls as they are seen from outside, and what may be answered to them. Own.
-use Rattle.std.specs.Prelude.{ℕ, ◌+◌, ◌<◌, List, [], ◌∷◌, map}
+use Rattle.std.specs.Prelude.{ℕ, ◌+◌, ◌<◌, List, [], ◌∷◌}
 use Rattle.clif_types.specs.declared.types.«Type».{«Type»}
 use Rattle.clif_types.specs.Signature.{SignatureShape}
-use Rattle.clif_types.specs.declared.extfunc.AbiParam.{AbiParam}
 use Rattle.clif_types.specs.declared.extname.ExternalName.{ExternalName}
+use Rattle.clif_tables.specs.Callees.{types_of}
 use Rattle.clif_types.specs.declared.types.«Type».TheVariants as type
 use Rattle.clif_types.specs.declared.types.LaneType.TheVariants as lane
 use Rattle.clif_meaning.specs.Bits.{Bits, AreValues}
 use Rattle.clif_meaning.specs.Memory.{Memory}
-
--- the types of parameters or of what is returned
-abbrev pub types_of : List AbiParam → List «Type»
-types_of params = map (λ param. param.value_type) params
 
 -- what is called: a function by its name, or whatever lies at an address, by the signature that the call gives
 pub data Callee : Type 0 where
@@ -29,6 +25,10 @@ pub data CallItem : Type 0 where
 pub record CallShape : Type 0 where
   pub signature : SignatureShape
   pub items : List CallItem
+
+-- the call of a signature that isn't a try call
+abbrev pub plain_call : SignatureShape → CallShape
+plain_call signature = record { signature = signature; items = [] }
 
 -- an outside call as it is shown: the callee, the bits of the arguments, and memory outside spill slots
 pub record Event : Type 0 where

@@ -8,7 +8,7 @@ use Rattle.clif_types.specs.Signature.{SignatureShape}
 use Rattle.clif_types.specs.declared.target.PointerWidth.{PointerWidth}
 use Rattle.clif_types.specs.Target.{pointer_type_of}
 use Rattle.clif_meaning.specs.Bits.{AreValues}
-use Rattle.clif_meaning.specs.Event.{types_of}
+use Rattle.clif_tables.specs.Callees.{types_of}
 use Rattle.clif_meaning.specs.World.{World, PlacesSlots}
 use Rattle.clif_meaning.specs.Machine.{observed}
 use Rattle.clif_meaning.specs.SameMeaning.{SameMeaning, Behaviour}

@@ -15,7 +15,11 @@ use Rattle.clif_types.specs.declared.condcodes.IntCC.{IntCC}
 use Rattle.clif_types.specs.declared.trapcode.TrapCode.{TrapCode}
 use Rattle.clif_types.specs.declared.types.«Type».{«Type»}
 use Rattle.clif_types.specs.MemFlags.{MemFlagsShape}
+use Rattle.clif_types.specs.Signature.{SignatureShape}
+use Rattle.clif_types.specs.declared.extfunc.AbiParam.{AbiParam}
+use Rattle.clif_types.specs.declared.extname.ExternalName.{ExternalName}
 use Rattle.clif_instructions.specs.Instruction.{EntryRef, ASlot}
+use Rattle.clif_meaning.specs.Event.{CallShape}
 
 -- operations that compute bits from bits, without memory, world or control
 pub data Arithmetic : Type 0 where
@@ -64,6 +68,13 @@ pub data Operation : Type 0 where
   BrTable : (entries : ℕ) → Operation
   -- ends the run with the operands
   Return : Operation
+  -- calls a function by its name, with its operands
+  Call : (name : ExternalName) (signature : SignatureShape) → Operation
+  -- calls what is at an address, its first operand, with the others
+  CallIndirect : (signature : SignatureShape) → Operation
+  -- the same, and goes along its first edge where the call returns, or along that of an item where it throws
+  TryCall : (name : ExternalName) → CallShape → Operation
+  TryCallIndirect : CallShape → Operation
 
 -- its opcode
 abbrev pub operation_opcode : Operation → Opcode
@@ -87,12 +98,23 @@ operation_opcode Jump = opcode.Jump
 operation_opcode Brif = opcode.Brif
 operation_opcode (BrTable entries) = opcode.BrTable
 operation_opcode Return = opcode.Return
+operation_opcode (Call name signature) = opcode.Call
+operation_opcode (CallIndirect signature) = opcode.CallIndirect
+operation_opcode (TryCall name call) = opcode.TryCall
+operation_opcode (TryCallIndirect call) = opcode.TryCallIndirect
 
 -- its row of the typing table
 abbrev pub operation_typing : Operation → Row
 operation_typing operation = row_of (operation_opcode operation)
 
--- the entries of tables that it names. The bytes of a constant, which it has itself, are none.
+-- what a plain call gives. A try call gives nothing itself: what it gets is passed along its first edge.
+abbrev pub operation_returns : Operation → List AbiParam
+operation_returns (Call name signature) = signature.returns
+operation_returns (CallIndirect signature) = signature.returns
+operation_returns _ = []
+
+-- the entries of tables that it names. The bytes of a constant, which it has itself, are none, and so are the name and the
+-- signature of a call.
 abbrev pub operation_entries : Operation → List EntryRef
 operation_entries (Stack name slot offset) = ASlot slot ∷ []
 operation_entries (StackStore slot offset) = ASlot slot ∷ []

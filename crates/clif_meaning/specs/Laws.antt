@@ -1,9 +1,9 @@
 -- Laws of the definitions, as the contracts of this crate's functions state them.
-use Rattle.std.specs.Prelude.{◌≡◌, ℕ, List, [], ◌∷◌, ◌++◌, length, slice_get, Some, IsTrue}
+use Rattle.std.specs.Prelude.{◌≡◌, ℕ, List, [], ◌∷◌, ◌++◌, length, slice_get, Some, None, IsTrue}
 use Rattle.clif_types.specs.declared.types.«Type».{«Type»}
 use Rattle.clif_opcodes.specs.Kinds.{is_met}
 use Rattle.std.specs.List.{AllByRecursion}
-use Rattle.clif_meaning.specs.Access.{Holds, claims_of}
+use Rattle.clif_meaning.specs.Access.{Holds, claims_of, library_call}
 use Rattle.clif_meaning.specs.Bits.{Bits, AreValues}
 use Rattle.clif_meaning.specs.Instruction.{Operation, operation_typing}
 use Rattle.clif_meaning.specs.Memory.{Memory}
@@ -50,10 +50,10 @@ FitsTypes results returns NoStep = ⊥
 
 -- Outcomes fit the typing table: an instruction that is made at a type at which it is there, on values of the types that
 -- the table asks for, and whose claims are true, has a meaning, and gives values of the types of its results. Only accesses
--- to memory claim anything.
+-- to memory claim anything. Calls of library functions, which have no meaning so far, are aside.
 abbrev pub OutcomesFit : Type 0
 OutcomesFit =
     (world : World) (operation : Operation) (ty : «Type») (returns types : List «Type») (operands : List Bits) (memory : Memory)
-    → IsTrue (is_met (operation_typing operation).demand ty) → TakesOperands returns operation ty types
+    → library_call operation ≡ None → IsTrue (is_met (operation_typing operation).demand ty) → TakesOperands returns operation ty types
     → AreValues types operands → AllByRecursion (Holds world) (claims_of world operation ty types operands)
     → FitsTypes (result_types operation ty) returns (outcome_of world operation ty types operands memory)

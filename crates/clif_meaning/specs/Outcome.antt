@@ -19,6 +19,8 @@ use Rattle.clif_types.specs.declared.types.LaneType.TheVariants as lane
 use Rattle.clif_types.specs.declared.types.«Type».{«Type»}
 use Rattle.clif_types.specs.declared.types.«Type».TheVariants as type
 use Rattle.clif_types.specs.MemFlags.{MemFlagsShape}
+use Rattle.clif_types.specs.declared.extname.ExternalName.{ExternalName}
+use Rattle.clif_types.specs.declared.extname.ExternalName.TheVariants.{LibCall}
 use Rattle.clif_types.specs.declared.trapcode.TrapCode.{TrapCode}
 use Rattle.clif_types.specs.declared.trapcode.TrapCode.TheVariants.{DivisionByZero, HeapOutOfBounds, IntegerOverflow}
 use Rattle.clif_opcodes.specs.declared.opcodes.StackOpcode.TheVariants.{StackAddr, StackLoad}
@@ -27,8 +29,8 @@ use Rattle.clif_opcodes.specs.declared.opcodes.ConvertOpcode.TheVariants.{Splat,
 use Rattle.clif_types.specs.Types.{bits_of, bytes_of, lane_count_of, lane_type_of}
 use Rattle.clif_meaning.specs.Bits.{Bits, value_bytes, value_of_bytes, wrapped}
 use Rattle.clif_meaning.specs.Memory.{Memory, Range, address_in, bytes_in, written}
-use Rattle.clif_meaning.specs.Instruction.{Arithmetic, Iconst, FloatConst, PooledConst, Unary, Binary, Compare, Concat, Split, Convert, Select, Operation, Compute, Load, Store, Stack, StackStore, Trap, CondTrap, Jump, Brif, BrTable, Return}
-use Rattle.clif_meaning.specs.Event.{Callee, CallShape}
+use Rattle.clif_meaning.specs.Instruction.{Arithmetic, Iconst, FloatConst, PooledConst, Unary, Binary, Compare, Concat, Split, Convert, Select, Operation, Compute, Load, Store, Stack, StackStore, Trap, CondTrap, Jump, Brif, BrTable, Return, Call, CallIndirect, TryCall, TryCallIndirect}
+use Rattle.clif_meaning.specs.Event.{Callee, Named, AtAddress, CallShape, plain_call}
 use Rattle.clif_meaning.specs.World.{World}
 
 pub data Outcome : Type 0 where
@@ -229,6 +231,12 @@ edge_by condition = if condition == 0 then 1 else 0
 abbrev pub edge_in_table : ℕ → Bits → ℕ
 edge_in_table entries index = if nat_lt index entries then suc index else 0
 
+-- The call of a function by its name: an outside call, except of a function of the C library. What such a function does isn't
+-- defined so far, and its call has no step.
+abbrev pub call_outcome : ExternalName → CallShape → List Bits → Outcome
+call_outcome (LibCall callee) call arguments = NoStep
+call_outcome name call arguments = Calls (Named name) call arguments
+
 -- the table of operations: world, controlling type, the operands' types and bits, memory
 abbrev pub outcome_of : World → Operation → «Type» → List «Type» → List Bits → Memory → Outcome
 outcome_of world (Compute arithmetic) ty types operands memory = outcome_of_computed (computed arithmetic ty types operands) memory
@@ -252,4 +260,8 @@ outcome_of world Jump ty types [] memory = Goes 0 [] memory
 outcome_of world Brif ty types (condition ∷ []) memory = Goes (edge_by condition) [] memory
 outcome_of world (BrTable entries) ty types (index ∷ []) memory = Goes (edge_in_table entries index) [] memory
 outcome_of world Return ty types operands memory = Returns operands
+outcome_of world (Call name signature) ty types arguments memory = call_outcome name (plain_call signature) arguments
+outcome_of world (CallIndirect signature) ty types (address ∷ arguments) memory = Calls (AtAddress address signature) (plain_call signature) arguments
+outcome_of world (TryCall name call) ty types arguments memory = call_outcome name call arguments
+outcome_of world (TryCallIndirect call) ty types (address ∷ arguments) memory = Calls (AtAddress address call.signature) call arguments
 outcome_of world _ ty types _ memory = NoStep

@@ -10,7 +10,7 @@ use Rattle.clif_types.specs.declared.types.«Type».TheVariants as type
 use Rattle.clif_types.specs.declared.types.LaneType.TheVariants as lane
 use Rattle.clif_meaning.specs.Memory.{Range, lies_in}
 use Rattle.clif_meaning.specs.Instruction.{Edge}
-use Rattle.clif_meaning.specs.Event.{types_of}
+use Rattle.clif_tables.specs.Callees.{types_of}
 use Rattle.clif_meaning.specs.Machine.{Control, At, HasReturned, HasTrapped, IsStuck, state_after}
 use Rattle.clif_meaning.specs.Name.{Name}
 use Rattle.clif_meaning.specs.Request.{Script}

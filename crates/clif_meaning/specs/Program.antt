@@ -4,13 +4,15 @@
 use Rattle.std.specs.Prelude.{ℕ, suc, if◌then◌else◌, List, [], ◌∷◌, ◌++◌, map, Option, Some, None, fold}
 use Rattle.clif_types.specs.declared.types.«Type».{«Type»}
 use Rattle.clif_opcodes.specs.Kinds.{result_type}
-use Rattle.clif_meaning.specs.Instruction.{Operation, operation_typing, Instruction}
+use Rattle.clif_tables.specs.Callees.{types_of}
+use Rattle.clif_meaning.specs.Instruction.{Operation, operation_returns, operation_typing, Instruction}
 use Rattle.clif_meaning.specs.Name.{Name, answer_of, same_name}
 use Rattle.clif_meaning.specs.Request.{Request, CreateBlock, SwitchToBlock, SealBlock, SealAllBlocks, InsertBlockAfter, SetColdBlock, EnsureInsertedBlock, AppendBlockParams, AppendFunctionParams, DeclareVar, DefVar, UseVar, MakeEntry, MakeEdge, MakeJumpTable, Build, Finalize, Script}
 
--- the types of an instruction's results, at the controlling type
+-- the types of an instruction's results, at the controlling type: by its row of the typing table, and those of what a plain
+-- call gives
 abbrev pub result_types : Operation → «Type» → List «Type»
-result_types operation ty = map (result_type ty) (operation_typing operation).results
+result_types operation ty = map (result_type ty) (operation_typing operation).results ++ types_of (operation_returns operation)
 
 -- the answers to the call at this place from this one on, as many as types
 abbrev pub answers_from : ℕ → ℕ → List «Type» → List Name

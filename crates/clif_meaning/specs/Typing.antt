@@ -4,12 +4,17 @@ use Rattle.std.specs.List.{AllByRecursion}
 use Rattle.clif_types.specs.declared.types.«Type».{«Type»}
 use Rattle.clif_opcodes.specs.Kinds.{is_met}
 use Rattle.clif_opcodes.specs.Typing.{FitOperands, Row}
-use Rattle.clif_meaning.specs.Instruction.{Operation, operation_typing, Argument, Known, CallResult, CallPayload, Edge, Instruction}
-use Rattle.clif_meaning.specs.Event.{CallShape, types_of, payload_types}
+use Rattle.clif_meaning.specs.Instruction.{Operation, Call, CallIndirect, TryCall, TryCallIndirect, operation_typing, Argument, Known, CallResult, CallPayload, Edge, Instruction}
+use Rattle.clif_meaning.specs.Event.{CallShape, payload_types, plain_call}
+use Rattle.clif_tables.specs.Callees.{types_of}
 use Rattle.clif_meaning.specs.FunctionView.{FunctionView}
 
--- The table of operations: the shape of the call that it makes, if it makes one. No operation does so far.
+-- The table of operations: the shape of the call that it makes, if it makes one.
 abbrev pub call_shape : Operation → Option CallShape
+call_shape (Call name signature) = Some (plain_call signature)
+call_shape (CallIndirect signature) = Some (plain_call signature)
+call_shape (TryCall name call) = Some call
+call_shape (TryCallIndirect call) = Some call
 call_shape _ = None
 
 -- the type of what an edge passes, where the call at its start gives results and a payload of these types there. What

@@ -4,7 +4,7 @@ use Rattle.std.specs.List.{list_any}
 use Rattle.clif_types.specs.declared.types.«Type».{«Type»}
 use Rattle.clif_types.specs.declared.types.«Type».TheVariants as type
 use Rattle.clif_instructions.specs.declared.instructions.InstructionData.{InstructionData}
-use Rattle.clif_instructions.specs.declared.instructions.InstructionData.TheVariants.{UnaryImm, UnaryIeee, UnaryConst, Unary, Binary, IntCompare, Concat, Split, Convert, Ternary, Load, Store, StackLoad, StackStore, Jump, Brif, BranchTable, MultiAry, Trap, CondTrap}
+use Rattle.clif_instructions.specs.declared.instructions.InstructionData.TheVariants.{UnaryImm, UnaryIeee, UnaryConst, Unary, Binary, IntCompare, Concat, Split, Convert, Ternary, Load, Store, StackLoad, StackStore, Jump, Brif, BranchTable, MultiAry, Trap, CondTrap, Call, CallIndirect, TryCall, TryCallIndirect}
 use Rattle.clif_ir.specs.declared.function.InstNode.{InstNode}
 use Rattle.clif_instructions.specs.declared.block_call.BlockArg.{BlockArg}
 use Rattle.clif_instructions.specs.declared.block_call.BlockArg.TheVariants as arg
@@ -14,7 +14,12 @@ use Rattle.clif_opcodes.specs.declared.kinds.Control.{Control}
 use Rattle.clif_opcodes.specs.declared.kinds.Control.TheVariants as control
 use Rattle.clif_opcodes.specs.declared.kinds.ResultKind.{ResultKind}
 use Rattle.clif_opcodes.specs.declared.kinds.ResultKind.TheVariants as kind
+use Rattle.clif_instructions.specs.ExceptionTables.{ExceptionShape}
+use Rattle.clif_instructions.specs.declared.exception_table.ExceptionItem.{ExceptionItem}
+use Rattle.clif_instructions.specs.declared.exception_table.ExceptionItem.TheVariants as kept
+use Rattle.clif_tables.specs.Callees.{function_at, signature_at}
 use Rattle.clif_tables.specs.Lists.{TableLists}
+use Rattle.clif_meaning.specs.Event.{CallItem, Tag, Default, Context, CallShape}
 use Rattle.clif_ir.specs.Body.{Body, value_at, inst_at, block_at, resolved}
 use Rattle.clif_meaning.specs.Instruction.{Operation, Compute, Iconst, Return, Edge, Argument, Known, CallResult, CallPayload}
 use Rattle.clif_meaning.specs.Instruction as operation
@@ -23,6 +28,15 @@ use Rattle.clif_meaning.specs.FunctionView.{Placed, BlockView, FunctionView}
 -- the bytes of a pooled constant
 abbrev pub constant_at : TableLists → ℕ → List ℕ
 constant_at tables constant = slice_index_or tables.constants constant []
+
+-- an item of an exception table, its edge or context value aside, and what an answer to its call depends on
+abbrev pub call_item_of : ExceptionItem → CallItem
+call_item_of (kept.Tag tag) = Tag tag
+call_item_of kept.Default = Default
+call_item_of (kept.Context value) = Context
+
+abbrev pub try_call_of : TableLists → ExceptionShape → CallShape
+try_call_of tables table = record { signature = signature_at tables table.sig; items = map call_item_of table.items }
 
 -- The table of instructions: what each one does, in a function with these tables,
 abbrev pub operation_of : TableLists → InstructionData → Operation
@@ -46,6 +60,10 @@ operation_of tables (BranchTable arg table) = operation.BrTable (length table - 
 operation_of tables (MultiAry args) = Return
 operation_of tables (Trap reason) = operation.Trap reason
 operation_of tables (CondTrap opcode arg reason) = operation.CondTrap opcode reason
+operation_of tables (Call function args) = operation.Call (function_at tables function).name (signature_at tables (function_at tables function).signature)
+operation_of tables (CallIndirect sig args) = operation.CallIndirect (signature_at tables sig)
+operation_of tables (TryCall function args table) = operation.TryCall (function_at tables function).name (try_call_of tables table)
+operation_of tables (TryCallIndirect args table) = operation.TryCallIndirect (try_call_of tables table)
 
 -- what an edge passes,
 abbrev pub argument_of : BlockArg → Argument ℕ
@@ -85,7 +103,7 @@ made_with body _ _ operands ty = type.Invalid
 abbrev pub made_at : Body → InstructionData → «Type» → «Type»
 made_at body shape ty = made_with body (typing_of shape).results (typing_of shape).control (operands shape) ty
 
--- an instruction with its results. There are no stack maps so far.
+-- an instruction with its results. There are no stack maps so far, and the contexts of a try call are no part of it.
 abbrev pub placed_of : Body → InstNode → Placed
 placed_of body node = record {
   instruction = record {

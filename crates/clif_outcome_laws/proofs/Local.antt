@@ -7,11 +7,14 @@ use Rattle.std.proofs.lemmas.Nat.{pow_pos}
 use Rattle.clif_types.specs.declared.types.«Type».{«Type»}
 use Rattle.clif_types.specs.MemFlags.{MemFlagsShape}
 use Rattle.clif_types.specs.declared.trapcode.TrapCode.TheVariants.{HeapOutOfBounds}
+use Rattle.clif_types.specs.declared.extname.ExternalName.{ExternalName}
+use Rattle.clif_types.specs.declared.extname.ExternalName.TheVariants.{LibCall}
 use Rattle.clif_meaning.specs.Bits.{Bits, value_bytes, value_of_bytes}
 use Rattle.clif_meaning.specs.Memory.{Memory, Range, address_in, index_in, lies_in, bytes_from, bytes_in, written}
 use Rattle.clif_opcodes.specs.declared.opcodes.StackOpcode.TheVariants.{StackAddr, StackLoad}
-use Rattle.clif_meaning.specs.Instruction.{Compute, Load, Store, Stack, StackStore, Trap, CondTrap, Jump, Brif, BrTable, Return}
-use Rattle.clif_meaning.specs.Outcome.{Outcome, Computed, Values, Fault, Undefined, Gives, Traps, NoStep, access_outcome, accessed, no_claim, slot_accessed, are_accessible, computed, outcome_of_computed, low_bits_at, operand_type}
+use Rattle.clif_meaning.specs.Instruction.{Compute, Load, Store, Stack, StackStore, Trap, CondTrap, Jump, Brif, BrTable, Return, Call, CallIndirect, TryCall, TryCallIndirect}
+use Rattle.clif_meaning.specs.Event.{CallShape, plain_call}
+use Rattle.clif_meaning.specs.Outcome.{Outcome, Computed, Values, Fault, Undefined, Gives, Traps, NoStep, access_outcome, accessed, call_outcome, no_claim, slot_accessed, are_accessible, computed, outcome_of_computed, low_bits_at, operand_type}
 use Rattle.clif_meaning.specs.World.{World}
 use Rattle.clif_outcome_laws.specs.Locality.{ChangeAlike, SameInside, Agree, OutcomesAreLocal, lies_in_one}
 
@@ -95,6 +98,12 @@ trap_agrees : (left right : Memory) (reason : _) (b : Bool) → Agree [] left ri
 trap_agrees left right reason true = refl
 trap_agrees left right reason false = (refl, stays [] left right (λ address inside. cc))
 
+-- a call asks nothing of memory
+call_agrees : (left right : Memory) (name : ExternalName) (call : CallShape) (arguments : List Bits)
+    → Agree [] left right (call_outcome name call arguments) (call_outcome name call arguments)
+call_agrees left right (LibCall callee) call arguments = tt
+call_agrees left right _ call arguments = (refl, refl, refl)
+
 -- an access begins at an address
 begins : (access address_type : «Type») (address : Bits) (offset : ℤ) → (accessed access address_type address offset).start < 2 ^ (accessed access address_type address offset).width
 begins access address_type address offset = mod-lt _ (pow_pos _)
@@ -143,3 +152,9 @@ outcomes_are_local world (BrTable entries) ty types [] left right same = tt
 outcomes_are_local world (BrTable entries) ty types (index ∷ []) left right same = (refl, refl, stays [] left right same)
 outcomes_are_local world (BrTable entries) ty types (index ∷ x ∷ operands) left right same = tt
 outcomes_are_local world Return ty types operands left right same = refl
+outcomes_are_local world (Call name signature) ty types operands left right same = call_agrees left right name (plain_call signature) operands
+outcomes_are_local world (CallIndirect signature) ty types [] left right same = tt
+outcomes_are_local world (CallIndirect signature) ty types (address ∷ operands) left right same = (refl, refl, refl)
+outcomes_are_local world (TryCall name call) ty types operands left right same = call_agrees left right name call operands
+outcomes_are_local world (TryCallIndirect call) ty types [] left right same = tt
+outcomes_are_local world (TryCallIndirect call) ty types (address ∷ operands) left right same = (refl, refl, refl)

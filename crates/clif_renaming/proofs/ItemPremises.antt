@@ -4,7 +4,8 @@ use Rattle.std.specs.Prelude.{IsTrue, option_map}
 use Rattle.std.specs.List.{AllByRecursion}
 use Rattle.clif_types.specs.declared.types.«Type».{«Type»}
 use Rattle.clif_types.specs.Signature.{SignatureShape}
-use Rattle.clif_meaning.specs.Event.{CallShape, payload_types, types_of}
+use Rattle.clif_meaning.specs.Event.{CallShape, payload_types}
+use Rattle.clif_tables.specs.Callees.{types_of}
 use Rattle.clif_meaning.specs.Instruction.{Argument, Known, CallResult, CallPayload, Edge, Instruction}
 use Rattle.clif_meaning.specs.Ledger.{Ledger, is_filled, is_marked, or_invalid, type_of, variable_type}
 use Rattle.clif_meaning.specs.Name.{Name}

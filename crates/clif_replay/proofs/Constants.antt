@@ -9,7 +9,9 @@ use Rattle.clif_types.specs.Signature.{SignatureShape}
 use Rattle.clif_opcodes.specs.declared.opcodes.PooledConstOpcode.{PooledConstOpcode}
 use Rattle.clif_opcodes.specs.declared.opcodes.PooledConstOpcode.TheVariants.{F128const, Vconst}
 use Rattle.clif_instructions.specs.declared.instructions.InstructionData.TheVariants.{UnaryConst}
-use Rattle.clif_instructions.specs.Instruction.{result_count, result_types}
+use Rattle.clif_instructions.specs.Instruction.{result_types}
+use Rattle.clif_tables.specs.Callees.{count_of_results}
+use Rattle.clif_tables.specs.Lists.{TableLists}
 use Rattle.clif_ir.specs.Body.{Body}
 use Rattle.clif_meaning.specs.Acceptance.{has_bytes, pooled_const}
 use Rattle.clif_meaning.specs.Instruction.{Compute, PooledConst}
@@ -38,13 +40,14 @@ constant-shape calls f opcode ty bytes constant told found =
       operation = ap (λ (b : List ℕ). Compute (PooledConst opcode b)) (sym (get_or_from_slice_get f.tables.constants constant bytes [] found));
       controlling = controlling;
       typed = ap (result_types (UnaryConst opcode constant)) controlling;
+      calls_nothing = refl;
       operands_numbered = refl;
       edges = tt;
     }
 
-pub constant-count : (opcode : PooledConstOpcode) (constant : ℕ) → result_count (UnaryConst opcode constant) ≤ 1
-constant-count F128const constant = omega arith
-constant-count Vconst constant = omega arith
+pub constant-count : (tables : TableLists) (opcode : PooledConstOpcode) (constant : ℕ) → count_of_results tables (UnaryConst opcode constant) ≤ 1
+constant-count tables F128const constant = omega arith
+constant-count tables Vconst constant = omega arith
 
 -- it may be made in an open block, with as many bytes as its type has
 pub constant-allowed : (b : FunctionBuilder) (answers : List Answer) (opcode : PooledConstOpcode) (ty : «Type») (bytes : List ℕ) → is_open b ≡ true → has_bytes opcode ty bytes ≡ true

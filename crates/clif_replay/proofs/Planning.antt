@@ -8,9 +8,9 @@ use Rattle.clif_types.specs.declared.types.«Type».{«Type»}
 use Rattle.clif_types.specs.declared.types.«Type».TheVariants.{Invalid}
 use Rattle.clif_types.specs.Signature.{SignatureShape}
 use Rattle.clif_ir.specs.Body.{Body}
-use Rattle.clif_instructions.specs.Instruction.{EntryRef, AConstant, ASlot, destinations, entries_of, operands}
+use Rattle.clif_instructions.specs.Instruction.{EntryRef, AConstant, AFunctionRef, ASignatureRef, ASlot, contexts, destinations, entries_of, is_call, operands}
 use Rattle.clif_tables.specs.Lists.{TableLists}
-use Rattle.clif_ir.specs.Consistent.{EntryExists}
+use Rattle.clif_ir.specs.Consistent.{EntryExists, ValueExists}
 use Rattle.clif_instructions.specs.declared.block_call.BlockCall.{BlockCall}
 use Rattle.clif_opcodes.specs.declared.opcodes.FloatConstOpcode.TheVariants.{F16const, F32const, F64const}
 use Rattle.clif_opcodes.specs.declared.opcodes.StackOpcode.TheVariants as stack
@@ -29,7 +29,10 @@ use Rattle.clif_calls.specs.declared.plan.Plan.{Plan}
 use Rattle.clif_calls.specs.declared.plan.Plan.TheVariants as plan
 use Rattle.clif_replay.specs.declared.script.Answer.{Answer}
 use Rattle.clif_ir.specs.Changes.{HasNoRoom}
-use Rattle.clif_instructions.specs.Instruction.{result_count}
+use Rattle.clif_inst_builder.proofs.NoCalls.{no_contexts, plain_count}
+use Rattle.clif_tables.specs.Callees.{count_of_results}
+use Rattle.clif_meaning.specs.Event.{CallShape}
+use Rattle.clif_meaning.specs.Typing.{call_shape}
 use Rattle.clif_opcodes.specs.declared.opcodes.Opcode.{Opcode}
 use Rattle.clif_opcodes.specs.Typing.{row_of}
 use Rattle.clif_meaning.specs.Instruction.{Compute, Operation, PooledConst, operation_entries, operation_typing}
@@ -111,6 +114,14 @@ plan-same calls b answers ready p =
 pub opens-planned : (b : FunctionBuilder) (answers : List Answer) (p : Plan) → can_make b answers p ≡ true → is_open b ≡ true
 opens-planned b answers p may = (and_parts (is_open b) (has_names b answers p) (and_parts (is_open b && has_names b answers p) _ (and_parts _ (has_entries b.func.now p) may).0).0).0
 
+-- no plan asks for a call
+calls-nothing : (p : Plan) → call_shape (operation_in p) ≡ None
+calls-nothing (plan.Jump destination) = refl
+calls-nothing _ = refl
+
+never-calls : (p : Plan) {call : CallShape} → call_shape (operation_in p) ≡ Some call → ⊥
+never-calls p {call} is = let none : call_shape (operation_in p) ≡ None = calls-nothing p in cc
+
 -- THE SHAPE -----------------------------------------------------------------------------------------------------------
 
 edges-named : {declared : SignatureShape} (calls : List AnsweredCall) (b : FunctionBuilder) (answers : List Answer) → IsReady declared calls b answers
@@ -130,6 +141,7 @@ instruction-named calls b answers ready p s ty planned = record {
   controlling = controlling-same (λ name. or_invalid (type_of (ledger_of calls) (name_of name))) (λ name. type_in b.func.now (value_of b.func.now answers name)) (type-same calls b answers ready) p
       ∙ planned.controlling;
   typed = planned.typed;
+  calls_nothing = calls-nothing p;
   operands_numbered = all-numbered calls b answers ready (operands_in p) (operands s) planned.operands;
   edges = edges-named calls b answers ready (edges_in p) (destinations s) planned.edges;
 }
@@ -161,15 +173,33 @@ never-pooled : (p : Plan) → is-pooled (operation_in p) ≡ false
 never-pooled (plan.Jump destination) = refl
 never-pooled _ = refl
 
+planned-no-call : (tables : TableLists) (p : Plan) (s : InstructionData) → operation_in p ≡ operation_of tables s → is_call s ≡ false
+planned-no-call tables p (shape.Call function args) same = absurd (never-calls p (ap call_shape same))
+planned-no-call tables p (shape.CallIndirect sig args) same = absurd (never-calls p (ap call_shape same))
+planned-no-call tables p (shape.TryCall function args table) same = absurd (never-calls p (ap call_shape same))
+planned-no-call tables p (shape.TryCallIndirect args table) same = absurd (never-calls p (ap call_shape same))
+planned-no-call tables p _ same = refl
+
+pub contexts-exist : (b : FunctionBuilder) (answers : List Answer) (p : Plan) (s : InstructionData) (ty : «Type») → IsPlanned b answers p s ty
+    → All (ValueExists b.func.now) (contexts s)
+contexts-exist b answers p s ty planned =
+    subst (All (ValueExists b.func.now)) (sym (no_contexts s (planned-no-call b.func.now.tables p s planned.operation))) (λ k d inside. absurd (omega (arith, inside)))
+
 entries-alike : (tables : TableLists) (p : Plan) (s : InstructionData) → operation_in p ≡ operation_of tables s → operation_entries (operation_in p) ≡ entries_of s
 entries-alike tables p (shape.UnaryConst opcode constant) same =
     let no_way : false ≡ true = sym (never-pooled p) ∙ ap is-pooled same in absurd (false≢true no_way)
 entries-alike tables p (shape.UnaryIeee opcode bits) same = ap operation_entries same
+entries-alike tables p (shape.Call function args) same = absurd (never-calls p (ap call_shape same))
+entries-alike tables p (shape.CallIndirect sig args) same = absurd (never-calls p (ap call_shape same))
+entries-alike tables p (shape.TryCall function args table) same = absurd (never-calls p (ap call_shape same))
+entries-alike tables p (shape.TryCallIndirect args table) same = absurd (never-calls p (ap call_shape same))
 entries-alike tables p _ same = ap operation_entries same
 
 entry-exists : (tables : TableLists) (entry : EntryRef) → has_entry tables entry ≡ true → EntryExists tables entry
 entry-exists tables (ASlot number) there = ltb-true number (length tables.stack_slots) there
 entry-exists tables (AConstant number) there = ltb-true number (length tables.constants) there
+entry-exists tables (ASignatureRef number) there = ltb-true number (length tables.signatures) there
+entry-exists tables (AFunctionRef number) there = ltb-true number (length tables.functions) there
 
 all-entries-exist : (tables : TableLists) (entries : List EntryRef) → list_all (has_entry tables) entries ≡ true → All (EntryExists tables) entries
 all-entries-exist tables [] there k d inside = absurd (omega (arith, inside))
@@ -186,6 +216,8 @@ entries-found tables (entry ∷ entries) exist =
     entry-found : (e : EntryRef) → EntryExists tables e → has_entry tables e ≡ true
     entry-found (ASlot number) below = lt-ltb number (length tables.stack_slots) below
     entry-found (AConstant number) below = lt-ltb number (length tables.constants) below
+    entry-found (ASignatureRef number) below = lt-ltb number (length tables.signatures) below
+    entry-found (AFunctionRef number) below = lt-ltb number (length tables.functions) below
 
 -- a test of what the shape names is one of what the plan names
 pub entries-same : (b : FunctionBuilder) (answers : List Answer) (p : Plan) (s : InstructionData) (ty : «Type») (test : Bool) → IsPlanned b answers p s ty
@@ -234,10 +266,11 @@ plan-met f (plan.StackLoad stack.StackLoad ty slot offset) none few = few (omega
 plan-met f _ none few = few (omega arith)
 
 pub planned-full : (b : FunctionBuilder) (answers : List Answer) (p : Plan) (s : InstructionData) (ty : «Type») → IsPlanned b answers p s ty
-    → HasNoRoom b.func.now (result_count s) → (result_count s ≤ 1 → HasFullTable b) → PlanMeetsFullTable p b.func.now
+    → HasNoRoom b.func.now (count_of_results b.func.now.tables s) → (count_of_results b.func.now.tables s ≤ 1 → HasFullTable b) → PlanMeetsFullTable p b.func.now
 planned-full b answers p s ty planned none few =
-    let same : plan_count p ≡ result_count s =
-    ap (λ (o : Operation). length (operation_typing o).results) planned.operation ∙ ap (λ (o : Opcode). length (row_of o).results) (same_opcode b.func.now.tables s) in
+    let same : plan_count p ≡ count_of_results b.func.now.tables s =
+    ap (λ (o : Operation). length (operation_typing o).results) planned.operation ∙ ap (λ (o : Opcode). length (row_of o).results) (same_opcode b.func.now.tables s)
+    ∙ sym (plain_count b.func.now.tables s (planned-no-call b.func.now.tables p s planned.operation)) in
     plan-met b.func.now p (subst (HasNoRoom b.func.now) (sym same) none) (λ small. full-either b.func.now (few (subst (λ (n : ℕ). n ≤ 1) same small)))
 
 -- what names lead to is there

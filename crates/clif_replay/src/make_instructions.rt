@@ -1,8 +1,8 @@
 //! The instructions of a script, each made on a builder by its plan, if its condition holds.
 ghost use Rattle.std.specs.Prelude.{◌≡◌, ◌<◌, ◌-◌, ◌∷◌, [], length, slice_index, EachIndex, All, Err};
 ghost use Rattle.clif_ir.specs.Body.{value_at};
-ghost use Rattle.clif_ir.specs.Consistent.{EntryExists};
-ghost use Rattle.clif_instructions.specs.Instruction.{destinations, entries_of, operands};
+ghost use Rattle.clif_ir.specs.Consistent.{EntryExists, ValueExists};
+ghost use Rattle.clif_instructions.specs.Instruction.{contexts, destinations, entries_of, operands};
 ghost use Rattle.clif_meaning.specs.Acceptance.{can_operate};
 ghost use Rattle.cranelift_frontend.specs.Builder.{CanLead, HasCurrent};
 ghost use Rattle.cranelift_frontend.specs.Built.{Builds};
@@ -51,6 +51,7 @@ pub(crate) fn append(
 ) -> Result<Inst, BuildError>
     requires current { HasCurrent builder.old }
     requires operands_exist { EachIndex (operands shape) (λ k. slice_index (operands shape) k < length builder.old.func.now.values) }
+    requires contexts_exist { All (ValueExists builder.old.func.now) (contexts shape) }
     requires edges { All (CanLead builder.old) (destinations shape) }
     requires entries_exist { All (EntryExists builder.old.func.now.tables) (entries_of shape) }
     ensures { Builds builder.old builder.new shape ty result }

@@ -35,7 +35,7 @@ use Rattle.clif_simulation.proofs.Giving.{In, in_contained, name_keeps, value_ke
 use Rattle.clif_simulation.proofs.Agreement.{any_value, Agrees, GivesThere, given_agrees, UsesThere, used_agrees, AssignsThere, assigned_agrees}
 use Rattle.clif_simulation.proofs.Straight.{next_arm, straight, straight_end, straight_follows, visits_so_far, absent_name, absent_value, same_step}
 use Rattle.clif_simulation.proofs.OperandTypes.{OutcomesAlike}
-use Rattle.clif_simulation.proofs.Matching.{item_here, rest_behind, same_bits, IsPlain, outcome_plain, same_outcomes}
+use Rattle.clif_simulation.proofs.Matching.{item_here, rest_behind, same_bits, IsPlain, item_plain, outcome_plain, same_outcomes}
 use Rattle.clif_simulation.proofs.Listed.{all_at, place_within}
 use Rattle.clif_simulation.proofs.Ended.{with_ends_only, defined-end, is-end, denotes-end, name_stays, value_stays, visited_place}
 use Rattle.clif_simulation.proofs.Opened.{Opens, opened}
@@ -484,7 +484,7 @@ module _ (calls : List AnsweredCall) (f : Body) (ssa : SsaState) (consistent : I
         ∙ ap (λ (o : Outcome). function_machine_of.carry_out right_run q (answered_placed instruction results) (flat_map (carried calls) rest) o) same in
         subst (λ (state : FunctionState). Alongside (suc k) (script.run_item left_run p (Instruct place instruction results) rest) state) (sym right_is)
         (after_outcome k place instruction results rest p q here a outcome
-        (outcome_plain world instruction.operation instruction.controlling (map left_run.name_type instruction.operands) (map p.names instruction.operands) p.memory) refl left on)
+        (outcome_plain world instruction.operation (item_plain calls entry (carries.whole.earlier entry) k place instruction results stands) instruction.controlling (map left_run.name_type instruction.operands) (map p.names instruction.operands) p.memory) refl left on)
 
     -- One step of the script's machine that goes on is one of the function's, or none.
     abbrev pub Kept : ℕ → ScriptState → FunctionState → Type 0

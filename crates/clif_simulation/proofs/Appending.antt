@@ -21,7 +21,6 @@ use Rattle.clif_ssa.specs.Own.{Own, with_own_param}
 use Rattle.clif_ssa.specs.Ssa.{SsaState}
 use Rattle.clif_ssa.specs.SoundLaws.{DescribesSoundly}
 use Rattle.clif_ssa.specs.Structured.{HasType, Structured, VariableTypes}
-use Rattle.clif_ssa.proofs.Pooled.{KeepsConstants}
 use Rattle.clif_ssa.proofs.Bodies.{Firm}
 use Rattle.clif_ssa.proofs.CallersParameters.{callers_described}
 use Rattle.clif_ssa.proofs.Constructing.{more_none}
@@ -33,7 +32,7 @@ use Rattle.clif_simulation.specs.Tables.{code}
 use Rattle.clif_simulation.specs.Carries.{with_params}
 use Rattle.clif_simulation.proofs.Codes
 use Rattle.clif_simulation.proofs.Giving.{In}
-use Rattle.clif_simulation.proofs.Growing.{GoesOn}
+use Rattle.clif_simulation.proofs.Growing.{GoesOn, entries_same}
 
 -- what the caller made then
 abbrev pub own_after : Own → Body → ℕ → List «Type» → Own
@@ -90,9 +89,9 @@ more_values : (f : Body) (b : ℕ) (types : List «Type») → length f.values �
 more_values f b [] = omega arith
 more_values f b (t ∷ types) = let rest = more_values (with_param f b t) b types in let more = param_count f b t in omega (arith, rest, more)
 
-params_constants : (f : Body) (b : ℕ) (types : List «Type») → KeepsConstants f (with_params f b types)
-params_constants f b [] constant bytes here = here
-params_constants f b (ty ∷ types) constant bytes here = params_constants (with_param f b ty) b types constant bytes here
+params_tables : (f : Body) (b : ℕ) (types : List «Type») → (with_params f b types).tables ≡ f.tables
+params_tables f b [] = refl
+params_tables f b (ty ∷ types) = params_tables (with_param f b ty) b types
 
 pub goes_on-params : (f : Body) (b : ℕ) (types : List «Type») → GoesOn f (with_params f b types)
 goes_on-params f b types = record {
@@ -101,7 +100,7 @@ goes_on-params f b types = record {
   types = λ v below. (typed_still f b types v (value_at f v).ty (below, refl)).1;
   more_insts = let same = ap (λ (is : List InstNode). length is) (same_insts f b types) in omega (arith, same);
   more_values = more_values f b types;
-  constants = params_constants f b types;
+  entries = entries_same f.tables (with_params f b types).tables (params_tables f b types);
 }
 
 -- WHAT THE CALLER MADE --------------------------------------------------------------------------------------------------

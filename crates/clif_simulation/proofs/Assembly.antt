@@ -5,7 +5,7 @@ use Rattle.clif_types.specs.Target.{pointer_type_of}
 use Rattle.clif_ir.specs.Body.{Body}
 use Rattle.clif_ir.specs.Consistent.{IsConsistent}
 use Rattle.clif_ssa.specs.Ssa.{SsaState}
-use Rattle.clif_meaning.specs.Event.{types_of}
+use Rattle.clif_tables.specs.Callees.{types_of}
 use Rattle.clif_meaning.specs.Name.{Name}
 use Rattle.clif_meaning.specs.Request.{AnsweredCall, script_of}
 use Rattle.clif_meaning.specs.World.{World}

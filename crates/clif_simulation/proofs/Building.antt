@@ -17,6 +17,8 @@ use Rattle.clif_ir.specs.declared.function.BlockNode.{BlockNode}
 use Rattle.clif_instructions.specs.Instruction.{operands, destinations}
 use Rattle.clif_instructions.specs.Instruction as shapes
 use Rattle.clif_opcodes.specs.Kinds.{result_type}
+use Rattle.clif_opcodes.specs.declared.kinds.ResultKind.{ResultKind}
+use Rattle.clif_tables.specs.Callees.{given_by_call, types_of, types_of_results}
 use Rattle.clif_instructions.specs.Edges.{targets}
 use Rattle.clif_tables.specs.Lists.{TableLists}
 use Rattle.clif_ir.specs.Body.{Body, no_value, inst_at}
@@ -44,6 +46,7 @@ use Rattle.clif_meaning.specs.Request.{Build, AnsweredCall, script_of}
 use Rattle.clif_meaning.specs.Ledger.{AnInstruction, AValue, answers_to, is_filled, is_terminator, ledger_after, value_answer_type}
 use Rattle.clif_meaning.specs.Program.{Item, Instruct, result_types, answers_from, first_block}
 use Rattle.clif_meaning.specs.FunctionView.{Placed}
+use Rattle.clif_meaning.specs.Typing.{call_shape}
 use Rattle.clif_meaning.specs.View.{argument_of, edge_of, edges_of, operation_of, controlling_of, first_type, made_at}
 use Rattle.clif_simulation.specs.Tables.{IsProgramOf, code, answered, block_name, program_so_far}
 use Rattle.clif_simulation.specs.Carries.{AreDeclared, AreTypes, Carries, DeclaredAlong, EdgeEarlier, HasEntry, Holds, IsCurrent, IsEarlier, LeadsOwn, SoundOnPaths, SparesBlock, SparesEntry, answered_edge, as_passed, carried, own_placed}
@@ -51,7 +54,7 @@ use Rattle.clif_simulation.proofs.Calls.{inserted_soundly, longer_calls, name_st
 use Rattle.clif_simulation.proofs.Carrying.{all_contained, all_mapped, earlier_name, edge_earlier, edges_kept, holds_item, item_last, leads_kept, numbers_kept, spares_item}
 use Rattle.clif_simulation.proofs.Extending.{extended, one_answer}
 use Rattle.clif_simulation.proofs.Giving.{In, contained_in}
-use Rattle.clif_simulation.proofs.Growing.{inserted_constants, GoesOn, KeepsInsts, goes_on-from, goes_on-with_inst, insts_inserted, insts_kept, made_controlled}
+use Rattle.clif_simulation.proofs.Growing.{inserted_entries, GoesOn, KeepsInsts, goes_on-from, goes_on-with_inst, insts_inserted, insts_kept, made_controlled}
 use Rattle.clif_simulation.proofs.ItemCalls.{PutsItem, adds_instruction, last-with_item, number_of_answer}
 use Rattle.clif_simulation.proofs.Layouts.{out_before, never_out}
 use Rattle.clif_simulation.proofs.LedgerValues.{typed_on}
@@ -91,6 +94,7 @@ pub record SameBranch (calls : List AnsweredCall) (tables : TableLists) (shape :
   pub operation : operation_of tables shape ≡ instruction.operation
   pub arguments : operands shape ≡ map (answered calls) instruction.operands
   pub edges : edges_of shape ≡ map (answered_edge calls) instruction.edges
+  pub calls_nothing : call_shape instruction.operation ≡ None
   pub earlier : AllByRecursion (IsEarlier calls) instruction.operands
   pub edges_earlier : AllByRecursion (EdgeEarlier calls) instruction.edges
 
@@ -100,6 +104,7 @@ pub record SameInstruction (calls : List AnsweredCall) (tables : TableLists) (sh
   pub arguments : operands shape ≡ map (answered calls) instruction.operands
   pub no_edges : edges_of shape ≡ []
   pub edges : instruction.edges ≡ []
+  pub calls_nothing : call_shape instruction.operation ≡ None
   pub earlier : AllByRecursion (IsEarlier calls) instruction.operands
 
 same_branch : (calls : List AnsweredCall) (tables : TableLists) (shape : InstructionData) (instruction : Instruction Name Name)
@@ -108,6 +113,7 @@ same_branch calls tables shape instruction same = record {
   operation = same.operation;
   arguments = same.arguments;
   edges = same.no_edges ∙ sym (ap (map (answered_edge calls)) same.edges);
+  calls_nothing = same.calls_nothing;
   earlier = same.earlier;
   edges_earlier = subst (AllByRecursion (EdgeEarlier calls)) (sym same.edges) tt;
 }
@@ -237,17 +243,17 @@ module _ (calls : List AnsweredCall) (f : Body) (s : SsaState) (c : Carries call
     g = with_inst h b Back shape types loc
 
     on : GoesOn f g
-    on = goes_on-from f h g same.insts same.values (inserted_constants f b) (goes_on-with_inst h b Back shape types loc)
+    on = goes_on-from f h g same.insts same.values (inserted_entries f b) (goes_on-with_inst h b Back shape types loc)
 
     keeps : KeepsInsts f g
     keeps = insts_kept f g consistent on
 
     -- it is made at the type that is told with it
-    pub made_controlling : (ty : «Type») → types ≡ shapes.result_types shape ty → ((k : ℕ) → k < length (operands shape) → slice_index (operands shape) k < length f.values)
+    pub made_controlling : (ty : «Type») → types ≡ types_of_results f.tables shape ty → ((k : ℕ) → k < length (operands shape) → slice_index (operands shape) k < length f.values)
         → controlling_of g shape (inst_node h b shape types loc).results ≡ made_at f shape ty
     made_controlling ty typed operands_exist =
         made_controlled f g on (shapes.typing_of shape).results (shapes.typing_of shape).control (operands shape) (inst_node h b shape types loc).results ty operands_exist
-        (λ first others is. first_new h b shape types loc (result_type ty first) (map (result_type ty) others) (typed ∙ ap (map (result_type ty)) is))
+        (λ first others is. first_new h b shape types loc (result_type ty first) (map (result_type ty) others ++ types_of (given_by_call f.tables shape)) (typed ∙ ap (λ (kinds : List ResultKind). map (result_type ty) kinds ++ types_of (given_by_call f.tables shape)) is))
 
     longer_insts : i < length g.insts
     longer_insts = grind (arith, common_steps)
@@ -394,6 +400,7 @@ module _ (calls : List AnsweredCall) (f : Body) (s : SsaState) (c : Carries call
           all_mapped (IsEarlier calls) (IsEarlier after) (earlier_name calls call) instruction.operands matches.earlier,
           earlier_results,
           all_mapped (EdgeEarlier calls) (EdgeEarlier after) (edge_earlier calls call stays) instruction.edges matches.edges_earlier,
+          matches.calls_nothing,
         )
         (plain calls f s c consistent b B current unfilled) declared leads (entry_on types) structured
 

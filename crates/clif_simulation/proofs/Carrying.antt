@@ -178,6 +178,7 @@ module _ (calls : List AnsweredCall) (call : AnsweredCall) where
       all_mapped (IsEarlier calls) (IsEarlier after) earlier_name instruction.operands earlier.0,
       all_mapped (IsEarlier calls) (IsEarlier after) earlier_name results earlier.1,
       all_mapped (EdgeEarlier calls) (EdgeEarlier after) edge_earlier instruction.edges earlier.2,
+      earlier.3,
     )
     earlier_stays (Use variable name) earlier = earlier_name name earlier
     earlier_stays (Assign variable name) earlier = earlier_name name earlier

@@ -6,6 +6,10 @@ use Rattle.clif_types.specs.declared.types.«Type».{«Type»}
 use Rattle.clif_types.specs.declared.trapcode.TrapCode.{TrapCode}
 use Rattle.clif_types.specs.declared.trapcode.TrapCode.TheVariants.{HeapOutOfBounds}
 use Rattle.clif_types.specs.Types.{bits_of}
+use Rattle.clif_types.specs.declared.extname.ExternalName.{ExternalName}
+use Rattle.clif_types.specs.declared.extname.ExternalName.TheVariants.{LibCall}
+use Rattle.clif_tables.specs.Callees.{types_of}
+use Rattle.clif_meaning.specs.Event.{CallShape, plain_call}
 use Rattle.clif_meaning.specs.Bits.{Bits}
 use Rattle.clif_meaning.specs.Memory.{Memory, Range}
 use Rattle.clif_meaning.specs.Name.{Name, same_name, answer_of}
@@ -13,12 +17,12 @@ use Rattle.clif_opcodes.specs.declared.opcodes.FloatConstOpcode.TheVariants.{F16
 use Rattle.clif_types.specs.MemFlags.{MemFlagsShape}
 use Rattle.clif_opcodes.specs.declared.opcodes.PooledConstOpcode.TheVariants.{F128const, Vconst}
 use Rattle.clif_opcodes.specs.declared.opcodes.StackOpcode.TheVariants.{StackAddr, StackLoad}
-use Rattle.clif_meaning.specs.Instruction.{Instruction, Operation, Compute, Load, Store, Stack, StackStore, Trap, CondTrap, Jump, Brif, BrTable, Return, Arithmetic, Iconst, FloatConst, PooledConst, Unary, Binary, Compare, Concat, Split, Convert, Select}
+use Rattle.clif_meaning.specs.Instruction.{Instruction, Operation, Compute, Load, Store, Stack, StackStore, Trap, CondTrap, Jump, Brif, BrTable, Return, Call, CallIndirect, TryCall, TryCallIndirect, Arithmetic, Iconst, FloatConst, PooledConst, Unary, Binary, Compare, Concat, Split, Convert, Select}
 use Rattle.clif_meaning.specs.Request.{Request, Script}
 use Rattle.clif_meaning.specs.Program.{Program, Item, Instruct, Use, Assign, result_types, result_names, answers_from, with_item_at, with_inserted, extended, with_call, empty_program, program_of}
 use Rattle.clif_meaning.specs.Ledger.{is_terminator}
 use Rattle.clif_meaning.specs.World.{World}
-use Rattle.clif_meaning.specs.Outcome.{Outcome, Gives, Goes, Returns, Traps, Calls, NoStep, access_outcome, no_claim, are_accessible, binary_fault, binary_number, computed, traps_on, low_bits_at, outcome_of_computed, outcome_of, unless_fault}
+use Rattle.clif_meaning.specs.Outcome.{Outcome, Gives, Goes, Returns, Traps, Calls, NoStep, access_outcome, no_claim, are_accessible, binary_fault, binary_number, call_outcome, computed, traps_on, low_bits_at, outcome_of_computed, outcome_of, unless_fault}
 use Rattle.clif_simulation.proofs.Effects.{ProgramEffect, program_effect, Leaves, Inserts, Takes, Switches, Assigns, Uses, Builds}
 
 -- an instruction gives the names of its results
@@ -158,6 +162,11 @@ counted_trap : (traps : Bool) (reason : TrapCode) (memory : Memory) → GivesCou
 counted_trap true reason memory = tt
 counted_trap false reason memory = refl
 
+-- a call gives nothing by itself
+counted_call : (count : ℕ) (name : ExternalName) (call : CallShape) (arguments : List Bits) → GivesCount count (call_outcome name call arguments)
+counted_call count (LibCall callee) call arguments = tt
+counted_call count _ call arguments = tt
+
 counted_outcome : (world : World) (operation : Operation) (ty : «Type») (types : List «Type») (operands : List Bits) (memory : Memory)
     → GivesCount (length (result_types operation ty)) (outcome_of world operation ty types operands memory)
 counted_outcome world (Compute arithmetic) ty types operands memory =
@@ -191,6 +200,12 @@ counted_outcome world (BrTable entries) ty types [] memory = tt
 counted_outcome world (BrTable entries) ty types (x ∷ []) memory = tt
 counted_outcome world (BrTable entries) ty types (x ∷ y ∷ operands) memory = tt
 counted_outcome world Return ty types operands memory = tt
+counted_outcome world (Call name signature) ty types operands memory = counted_call (length (types_of signature.returns)) name (plain_call signature) operands
+counted_outcome world (CallIndirect signature) ty types [] memory = tt
+counted_outcome world (CallIndirect signature) ty types (address ∷ operands) memory = tt
+counted_outcome world (TryCall name call) ty types operands memory = counted_call 0 name call operands
+counted_outcome world (TryCallIndirect call) ty types [] memory = tt
+counted_outcome world (TryCallIndirect call) ty types (address ∷ operands) memory = tt
 
 -- an instruction that gives bits gives one for each name
 pub as_many : (world : World) (place : ℕ) (instruction : Instruction Name Name) (results : List Name) → results ≡ result_names place instruction
@@ -223,3 +238,7 @@ terminator_gives_none place instruction ends = ap (answers_from place 1) (none i
     none Brif ends = refl
     none (BrTable entries) ends = refl
     none Return ends = refl
+    none (Call name signature) ends = cc
+    none (CallIndirect signature) ends = cc
+    none (TryCall name call) ends = refl
+    none (TryCallIndirect call) ends = refl

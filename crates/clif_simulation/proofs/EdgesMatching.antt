@@ -117,7 +117,7 @@ module _ (calls : List AnsweredCall) (f : Body) (s : SsaState) (own : Own) (type
           passed = ap (λ (m : ℕ). map argument_of (own.passed i m)) same ∙ sym (ap (λ (e : Edge ℕ ℕ). e.arguments) edge.2);
           was = all_at (EdgeEarlier calls) it.instruction.edges k edge.0 named_earlier.2 edge.1;
           matches = all_at (EdgeMatches (name_types calls) (parameter_types (ledger_after (script_of calls)) (program_so_far calls)) [] []) it.instruction.edges k edge.0
-              (each_edge (name_types calls) (parameter_types (ledger_after (script_of calls)) (program_so_far calls)) it.instruction.operation it.instruction.edges item) edge.1;
+              (each_edge (name_types calls) (parameter_types (ledger_after (script_of calls)) (program_so_far calls)) it.instruction.operation named_earlier.3 it.instruction.edges item) edge.1;
         }
 
     -- a value has the type of its name
@@ -169,9 +169,18 @@ module _ (calls : List AnsweredCall) (f : Body) (s : SsaState) (own : Own) (type
         (values_match f passes.values (structured.parameters call.block).complete passes.are_for)
         ∙ sym (ap (wanted_types f) params)
 
+    -- and calls nothing
+    own_plain : (b t i : ℕ) (B : Name) → block_name calls b ≡ Some B → slice_get (own.insts b) t ≡ Some i → call_shape (operation_of f.tables (inst_at f i).shape) ≡ None
+    own_plain b t i B named there =
+        let it : OfItem calls ((program_so_far calls).items B) t (own_placed own f i) = of_item calls ((program_so_far calls).items B) t (own_placed own f i)
+        (ap (λ (ps : List Placed). slice_get ps t) (sym (items b B named)) ∙ map_at (own_placed own f) (own.insts b) t i there) in
+        let named_earlier : NamesEarlier calls (Instruct it.place it.instruction it.results) =
+        all_at (NamesEarlier calls) ((program_so_far calls).items B) it.j (Instruct it.place it.instruction it.results) (earlier B) it.stands in
+        ap (λ (p : Placed). call_shape p.instruction.operation) it.is ∙ named_earlier.3
+
     own_matches : (b t i : ℕ) (B : Name) → block_name calls b ≡ Some B → slice_get (own.insts b) t ≡ Some i → InstMatches f (placed_at_inst f i)
     own_matches b t i B named there =
-        each_matches (view_of f).value_type (value_types_at (view_of f)) (operation_of f.tables (inst_at f i).shape) (edges_of (inst_at f i).shape)
+        each_matches (view_of f).value_type (value_types_at (view_of f)) (operation_of f.tables (inst_at f i).shape) (own_plain b t i B named there) (edges_of (inst_at f i).shape)
         (all_where (EdgeMatches (view_of f).value_type (value_types_at (view_of f)) [] []) (edges_of (inst_at f i).shape) each)
       where
         each : (k : ℕ) (edge : Edge ℕ ℕ) → slice_get (edges_of (inst_at f i).shape) k ≡ Some edge → EdgeMatches (view_of f).value_type (value_types_at (view_of f)) [] [] edge

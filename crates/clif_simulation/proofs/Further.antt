@@ -31,7 +31,7 @@ use Rattle.clif_ssa.proofs.Constructing.{more_none}
 use Rattle.clif_simulation.specs.Carries.{Carries, Holds, IsCurrent, SoundOnPaths, own_placed}
 use Rattle.clif_simulation.proofs.Calls.{carries_kept, carries_on, inserted_soundly, name_stays, still}
 use Rattle.clif_simulation.proofs.Effects.{MakesNoBlock, MakesNoParameter}
-use Rattle.clif_simulation.proofs.Growing.{GoesOn, KeepsInsts, goes_on-constructs, insts_kept, insts_same}
+use Rattle.clif_simulation.proofs.Growing.{GoesOn, KeepsEntries, KeepsInsts, goes_on-constructs, insts_kept, insts_same}
 use Rattle.clif_simulation.proofs.Layouts as layouts
 use Rattle.clif_simulation.proofs.Values.{is_value_at}
 use Rattle.clif_simulation.proofs.Requests
@@ -107,20 +107,23 @@ map_kept : (P Q : ℕ → Placed) (count : ℕ) (xs : List ℕ) → ((i : ℕ) �
 map_kept P Q count [] same all = refl
 map_kept P Q count (x ∷ xs) same all = ap₂ (λ (p : Placed) (ps : List Placed). p ∷ ps) (same x all.0) (map_kept P Q count xs same all.1)
 
--- constants come to those that there are, and nothing is called
-pub carries_pooled : (calls : List AnsweredCall) (f : Body) (s : SsaState) (lists : TableLists) → IsConsistent f → KeepsConstants f (with_tables f lists)
+-- other tables, where what was in them keeps its numbers
+tables_on : (f : Body) (lists : TableLists) → KeepsEntries f.tables lists → GoesOn f (with_tables f lists)
+tables_on f lists keeps = record {
+  insts = λ i below. more_none (inst_at f i);
+  types = λ v below. refl;
+  more_insts = omega arith;
+  more_values = omega arith;
+  entries = keeps;
+}
+
+-- what is in tables keeps its numbers, and nothing is called
+pub carries_pooled : (calls : List AnsweredCall) (f : Body) (s : SsaState) (lists : TableLists) → IsConsistent f → KeepsEntries f.tables lists
     → Carries calls f s → Carries calls (with_tables f lists) s
 unfolding relaid_keeps
 carries_pooled calls f s lists consistent keeps c =
     let g : Body = with_tables f lists in
-    let on : GoesOn f g = record {
-      insts = λ i below. more_none (inst_at f i);
-      types = λ v below. refl;
-      more_insts = omega arith;
-      more_values = omega arith;
-      constants = keeps;
-    } in
-    let kept : KeepsInsts f g = insts_kept f g consistent on in
+    let kept : KeepsInsts f g = insts_kept f g consistent (tables_on f lists keeps) in
     let was : Holds calls c.own f s = c.holds in
     record {
       own = c.own;
@@ -140,12 +143,12 @@ carries_pooled calls f s lists consistent keeps c =
         parameters_values = was.parameters_values;
         values_typed = was.values_typed;
         entry = record { none = was.entry.none; some = was.entry.some };
-        structured = λ types are. relaid_structured f f.blocks f.layout lists keeps s (λ x. refl) (λ x. refl) refl types c.own (was.structured types are);
+        structured = λ types are. relaid_structured f f.blocks f.layout lists keeps.constants s (λ x. refl) (λ x. refl) refl types c.own (was.structured types are);
       };
       on_paths = λ spares.
           let before : SoundOnPaths calls c.own f s = c.on_paths spares in
           let after : Keeps c.own before.tables g s =
-          relaid_keeps f f.blocks f.layout lists keeps s (λ x. refl) (λ x. refl) refl c.own before.tables (before.describes, before.sound, before.counts) in
+          relaid_keeps f f.blocks f.layout lists keeps.constants s (λ x. refl) (λ x. refl) refl c.own before.tables (before.describes, before.sound, before.counts) in
           record {
             tables = before.tables;
             program = before.program;
@@ -203,14 +206,14 @@ module _ (calls : List AnsweredCall) (f : Body) (s : SsaState) (c : Carries call
       (insts_same f f refl refl refl) refl (λ b. refl) (λ types own h. h) (still calls f s c)
 
   -- an entry is put into its table
-  pub carries_tables : (entry : TableEntry) (number : ℕ) (lists : TableLists) → lists.constants ≡ f.tables.constants
+  pub carries_tables : (entry : TableEntry) (number : ℕ) (lists : TableLists) → IsConsistent f → KeepsEntries f.tables lists
       → Carries (calls ++ record { request = MakeEntry entry; numbers = number ∷ [] } ∷ []) (with_tables f lists) s
-  carries_tables entry number lists same_constants =
+  carries_tables entry number lists consistent keeps =
       let call : AnsweredCall = record { request = MakeEntry entry; numbers = number ∷ [] } in
       carries_kept calls f s c call (with_tables f lists) s tt tt (Requests.items_left calls call (λ program. refl)) (Requests.entry_left calls call (λ program. refl)) no_value
-      (insts_same f (with_tables f lists) refl refl same_constants) refl (λ x. refl)
-      (relaid_structured f f.blocks f.layout lists (λ constant bytes here. ap (λ (cs : List (List ℕ)). slice_get cs constant) same_constants ∙ here) s (λ x. refl) (λ x. refl) refl)
-      (relaid_keeps f f.blocks f.layout lists (λ constant bytes here. ap (λ (cs : List (List ℕ)). slice_get cs constant) same_constants ∙ here) s (λ x. refl) (λ x. refl) refl)
+      (insts_kept f (with_tables f lists) consistent (tables_on f lists keeps)) refl (λ x. refl)
+      (relaid_structured f f.blocks f.layout lists keeps.constants s (λ x. refl) (λ x. refl) refl)
+      (relaid_keeps f f.blocks f.layout lists keeps.constants s (λ x. refl) (λ x. refl) refl)
     where
       no_value : (index : ℕ) → is_value_at (answers_to (ledger_after (script_of calls)) (MakeEntry entry)) index ≡ false
       no_value zero = refl
@@ -226,7 +229,7 @@ module _ (calls : List AnsweredCall) (f : Body) (s : SsaState) (c : Carries call
       carries_on calls f s c call g s tt tt (Requests.items_ensured calls call refl)
       (λ e is. entry ∙ ap (λ (o : Option Name). first_block o (Some B)) is)
       (entry_begun calls (calls ++ call ∷ []) f g b B entry refl current.named (name_stays calls call tt) c.holds.entry)
-      (λ index. refl) (insts_same f g same.insts same.values (ap (λ (t : TableLists). t.constants) same.tables)) (λ x out. layouts.out_before f b x out) (λ x. refl)
+      (λ index. refl) (insts_same f g same.insts same.values same.tables) (λ x out. layouts.out_before f b x out) (λ x. refl)
       (λ types own before. inserted_structured types own f s b before)
       (λ own tables before.
       let after = inserted_soundly own f s tables b before in

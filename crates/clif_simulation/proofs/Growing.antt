@@ -1,6 +1,6 @@
 -- A function that goes on keeps the caller's instructions, as the machine sees them, though their edges may pass more.
 use Rattle.std.proofs.Common.{◌≡◌, ℕ, zero, suc, ◌<◌, ◌≤◌, ◌==◌, List, [], ◌∷◌, ◌++◌, length, map, refl, sym, ◌∙◌, ap, ap₂, subst, arith, Bool, true, false, inl, inr}
-use Rattle.std.specs.Prelude.{◌-◌, All, drop, slice_get, slice_index, slice_index_or, if◌then◌else◌}
+use Rattle.std.specs.Prelude.{◌-◌, Some, All, drop, slice_get, slice_index, if◌then◌else◌}
 use Rattle.std.proofs.lemmas.List.{length-map}
 use Rattle.std.proofs.lemmas.Option.{get_or_from_slice_get, slice_get-get_or}
 use Rattle.std.proofs.Math.ListN.{get_or-append}
@@ -13,15 +13,19 @@ use Rattle.clif_ir.specs.declared.function.InstNode.{InstNode}
 use Rattle.clif_ir.specs.declared.function.ValueNode.{ValueNode}
 use Rattle.clif_instructions.specs.declared.inst_list.InsertAt.{InsertAt}
 use Rattle.clif_instructions.specs.declared.instructions.InstructionData.{InstructionData}
-use Rattle.clif_instructions.specs.declared.instructions.InstructionData.TheVariants.{UnaryConst, Jump, Brif, BranchTable}
+use Rattle.clif_instructions.specs.declared.instructions.InstructionData.TheVariants.{UnaryConst, Jump, Brif, BranchTable, Call, CallIndirect, TryCall, TryCallIndirect}
 use Rattle.clif_instructions.specs.Edges.{appended_to, with_argument_to, targets}
-use Rattle.clif_instructions.specs.Instruction.{AConstant, entries_of, operands, destinations, typing_of, with_argument}
+use Rattle.clif_instructions.specs.Instruction.{AConstant, ASignatureRef, AFunctionRef, entries_of, operands, destinations, typing_of, with_argument}
 use Rattle.clif_opcodes.specs.Kinds.{result_type}
 use Rattle.clif_opcodes.specs.declared.kinds.Control.{Control}
 use Rattle.clif_opcodes.specs.declared.kinds.Control.TheVariants as control
 use Rattle.clif_opcodes.specs.declared.kinds.ResultKind.{ResultKind}
 use Rattle.clif_opcodes.specs.declared.kinds.ResultKind.TheVariants as kind
 use Rattle.clif_ir.specs.Body.{Body, no_value, inst_at, value_at}
+use Rattle.clif_types.specs.Signature.{SignatureShape}
+use Rattle.clif_types.specs.declared.extfunc.ExtFuncData.{ExtFuncData}
+use Rattle.clif_tables.specs.Callees.{function_at, no_function, no_signature, signature_at}
+use Rattle.clif_tables.specs.Entries.{TableEntry, AStackSlot, ADynamicStackSlot, AGlobalValue, ASignature, AFunction, SignaturesExist, with_entry}
 use Rattle.clif_tables.specs.Lists.{TableLists}
 use Rattle.clif_ir.specs.Consistent.{EntryExists, IsConsistent}
 use Rattle.clif_ir.specs.Changes.{inserted_in, with_inst}
@@ -32,20 +36,71 @@ use Rattle.clif_ssa.specs.Sound.{edge_target}
 use Rattle.clif_ssa.specs.Structured.{HasType}
 use Rattle.clif_ssa.proofs.Completing.{inserted_same}
 use Rattle.clif_ssa.proofs.Constructing.{more_none, more_then}
-use Rattle.clif_ssa.proofs.Pooled.{KeepsConstants, pools_keep}
+use Rattle.clif_ssa.proofs.Pooled.{pools_keep}
 use Rattle.clif_meaning.specs.Instruction.{Operation, Compute, PooledConst, BrTable, Edge}
+use Rattle.clif_meaning.specs.Instruction as operation
 use Rattle.clif_meaning.specs.FunctionView.{Placed}
-use Rattle.clif_meaning.specs.View.{argument_of, edge_of, edges_of, first_type, constant_at, controlling_of, operation_of, controlled, made_with}
+use Rattle.clif_meaning.specs.View.{argument_of, call_item_of, edge_of, edges_of, first_type, constant_at, controlling_of, operation_of, controlled, made_with}
 use Rattle.clif_simulation.specs.Carries.{as_passed, own_placed}
 
--- A function that goes on: its instructions stay, but that their edges may pass more, its values keep their types, and its constants
--- their numbers.
+-- The entries of tables from which it comes what instructions do keep their numbers.
+pub record KeepsEntries (t u : TableLists) : Type 0 where
+  pub constants : (k : ℕ) (bytes : List ℕ) → slice_get t.constants k ≡ Some bytes → slice_get u.constants k ≡ Some bytes
+  pub signatures : (k : ℕ) (signature : SignatureShape) → slice_get t.signatures k ≡ Some signature → slice_get u.signatures k ≡ Some signature
+  pub functions : (k : ℕ) (function : ExtFuncData) → slice_get t.functions k ≡ Some function → slice_get u.functions k ≡ Some function
+
+pub entries_same : (t u : TableLists) → u ≡ t → KeepsEntries t u
+entries_same t u same = record {
+  constants = λ k bytes here. ap (λ (v : TableLists). slice_get v.constants k) same ∙ here;
+  signatures = λ k signature here. ap (λ (v : TableLists). slice_get v.signatures k) same ∙ here;
+  functions = λ k function here. ap (λ (v : TableLists). slice_get v.functions k) same ∙ here;
+}
+
+-- where constants keep their numbers, and nothing else is another
+pub entries_pooled : (t u : TableLists) → ((k : ℕ) (bytes : List ℕ) → slice_get t.constants k ≡ Some bytes → slice_get u.constants k ≡ Some bytes)
+    → u.signatures ≡ t.signatures → u.functions ≡ t.functions → KeepsEntries t u
+entries_pooled t u constants signatures functions = record {
+  constants = constants;
+  signatures = λ k signature here. ap (λ (all : List SignatureShape). slice_get all k) signatures ∙ here;
+  functions = λ k function here. ap (λ (all : List ExtFuncData). slice_get all k) functions ∙ here;
+}
+
+pub entries_then : (t u v : TableLists) → KeepsEntries t u → KeepsEntries u v → KeepsEntries t v
+entries_then t u v first second = record {
+  constants = λ k bytes here. second.constants k bytes (first.constants k bytes here);
+  signatures = λ k signature here. second.signatures k signature (first.signatures k signature here);
+  functions = λ k function here. second.functions k function (first.functions k function here);
+}
+
+get_front : {X : Type 0} (xs ys : List X) (k : ℕ) (x : X) → slice_get xs k ≡ Some x → slice_get (xs ++ ys) k ≡ Some x
+get_front [] ys k x is = cc
+get_front (y ∷ xs) ys zero x is = is
+get_front (y ∷ xs) ys (suc k) x is = get_front xs ys k x is
+
+-- with an entry more at the end of its table
+pub entries_kept : (t : TableLists) (entry : TableEntry) → KeepsEntries t (with_entry t entry)
+entries_kept t (ASignature signature) = record {
+  constants = λ k bytes here. here;
+  signatures = λ k was here. get_front t.signatures (signature ∷ []) k was here;
+  functions = λ k function here. here;
+}
+entries_kept t (AFunction function) = record {
+  constants = λ k bytes here. here;
+  signatures = λ k signature here. here;
+  functions = λ k was here. get_front t.functions (function ∷ []) k was here;
+}
+entries_kept t (AStackSlot slot) = record { constants = λ k bytes here. here; signatures = λ k signature here. here; functions = λ k function here. here }
+entries_kept t (ADynamicStackSlot slot) = record { constants = λ k bytes here. here; signatures = λ k signature here. here; functions = λ k function here. here }
+entries_kept t (AGlobalValue value) = record { constants = λ k bytes here. here; signatures = λ k signature here. here; functions = λ k function here. here }
+
+-- A function that goes on: its instructions stay, but that their edges may pass more, its values keep their types, and what is in
+-- its tables its numbers.
 pub record GoesOn (f g : Body) : Type 0 where
   pub insts : (i : ℕ) → i < length f.insts → MayPassMore (inst_at f i) (inst_at g i)
   pub types : (v : ℕ) → v < length f.values → (value_at g v).ty ≡ (value_at f v).ty
   pub more_insts : length f.insts ≤ length g.insts
   pub more_values : length f.values ≤ length g.values
-  pub constants : KeepsConstants f g
+  pub entries : KeepsEntries f.tables g.tables
 
 pub goes_on-constructs : (f g : Body) → OnlyConstructs f g → GoesOn f g
 goes_on-constructs f g constructs = record {
@@ -53,7 +108,8 @@ goes_on-constructs f g constructs = record {
   types = λ v below. of (value_at f v) (value_at g v) (constructs.same_values v below);
   more_insts = constructs.insts;
   more_values = constructs.values;
-  constants = pools_keep f g constructs.tables;
+  entries = entries_pooled f.tables g.tables (pools_keep f g constructs.tables) (ap (λ (t : TableLists). t.signatures) constructs.tables.same)
+      (ap (λ (t : TableLists). t.functions) constructs.tables.same);
 }
   where
     of : (old new : ValueNode) → StaysOrNames old new → new.ty ≡ old.ty
@@ -67,19 +123,19 @@ goes_on-with_inst f b at shape types loc = record {
   types = λ v below. ap (λ (n : ValueNode). n.ty) (get_or-append f.values _ no_value v below);
   more_insts = grind (arith, common_steps);
   more_values = grind (arith, common_steps);
-  constants = λ constant bytes here. here;
+  entries = entries_same f.tables f.tables refl;
 }
 
 -- the same from a function with the same instructions and values
-pub goes_on-from : (f h g : Body) → h.insts ≡ f.insts → h.values ≡ f.values → KeepsConstants f h → GoesOn h g → GoesOn f g
-goes_on-from f h g insts values constants on = record {
+pub goes_on-from : (f h g : Body) → h.insts ≡ f.insts → h.values ≡ f.values → KeepsEntries f.tables h.tables → GoesOn h g → GoesOn f g
+goes_on-from f h g insts values entries on = record {
   insts = λ i below.
       subst (λ (is : List InstNode). MayPassMore (inst_at (record f { insts = is }) i) (inst_at g i)) insts (on.insts i (subst (λ (is : List InstNode). i < length is) (sym insts) below));
   types = λ v below.
       subst (λ (vs : List ValueNode). (value_at g v).ty ≡ (value_at (record f { values = vs }) v).ty) values (on.types v (subst (λ (vs : List ValueNode). v < length vs) (sym values) below));
   more_insts = subst (λ (is : List InstNode). length is ≤ length g.insts) insts on.more_insts;
   more_values = subst (λ (vs : List ValueNode). length vs ≤ length g.values) values on.more_values;
-  constants = λ constant bytes here. on.constants constant bytes (constants constant bytes here);
+  entries = entries_then f.tables h.tables g.tables entries on.entries;
 }
 
 pub goes_on-then : (f g h : Body) → GoesOn f g → GoesOn g h → GoesOn f h
@@ -88,30 +144,52 @@ goes_on-then f g h first second = record {
   types = λ v below. second.types v (omega (arith, below, first.more_values)) ∙ first.types v below;
   more_insts = omega (arith, first.more_insts, second.more_insts);
   more_values = omega (arith, first.more_values, second.more_values);
-  constants = λ constant bytes here. second.constants constant bytes (first.constants constant bytes here);
+  entries = entries_then f.tables g.tables h.tables first.entries second.entries;
 }
 
 -- a block in the layout
-pub inserted_constants : (f : Body) (b : ℕ) → KeepsConstants f (inserted_in f b)
-inserted_constants f b constant bytes here = ap (λ (t : TableLists). slice_get t.constants constant) (inserted_same f b).tables ∙ here
+pub inserted_entries : (f : Body) (b : ℕ) → KeepsEntries f.tables (inserted_in f b).tables
+inserted_entries f b = entries_same f.tables (inserted_in f b).tables (inserted_same f b).tables
 
 -- WHAT AN INSTRUCTION DOES ----------------------------------------------------------------------------------------------
 
--- a shape does what it does where the constants are the same,
-pub operation_same : (t u : TableLists) → u.constants ≡ t.constants → (shape : InstructionData) → operation_of u shape ≡ operation_of t shape
-operation_same t u same (UnaryConst opcode constant) =
-    ap (λ (constants : List (List ℕ)). Compute (PooledConst opcode (slice_index_or constants constant []))) same
-operation_same t u same _ = refl
+-- an entry that is there and keeps its number is the same
+signature_kept : (t u : TableLists) → KeepsEntries t u → (sig : ℕ) → sig < length t.signatures → signature_at u sig ≡ signature_at t sig
+signature_kept t u keeps sig below =
+    get_or_from_slice_get u.signatures sig (signature_at t sig) no_signature
+    (keeps.signatures sig (signature_at t sig) (slice_get-get_or t.signatures sig no_signature below))
 
--- and where the constants that it names keep their numbers
-pub operation_kept : (f g : Body) → KeepsConstants f g → (shape : InstructionData) → All (EntryExists f.tables) (entries_of shape)
-    → operation_of g.tables shape ≡ operation_of f.tables shape
-operation_kept f g keeps (UnaryConst opcode constant) exists =
-    let below : constant < length f.tables.constants = exists 0 (AConstant 0) (omega arith) in
-    let bytes : List ℕ = constant_at f.tables constant in
+function_kept : (t u : TableLists) → KeepsEntries t u → (function : ℕ) → function < length t.functions → function_at u function ≡ function_at t function
+function_kept t u keeps function below =
+    get_or_from_slice_get u.functions function (function_at t function) no_function
+    (keeps.functions function (function_at t function) (slice_get-get_or t.functions function no_function below))
+
+-- a shape does what it does where the entries that it names keep their numbers
+pub operation_kept : (t u : TableLists) → KeepsEntries t u → SignaturesExist t → (shape : InstructionData) → All (EntryExists t) (entries_of shape)
+    → operation_of u shape ≡ operation_of t shape
+operation_kept t u keeps have (UnaryConst opcode constant) exists =
+    let below : constant < length t.constants = exists 0 (AConstant 0) (omega arith) in
+    let bytes : List ℕ = constant_at t constant in
     ap (λ (found : List ℕ). Compute (PooledConst opcode found))
-    (get_or_from_slice_get g.tables.constants constant bytes [] (keeps constant bytes (slice_get-get_or f.tables.constants constant [] below)))
-operation_kept f g keeps _ exists = refl
+    (get_or_from_slice_get u.constants constant bytes [] (keeps.constants constant bytes (slice_get-get_or t.constants constant [] below)))
+operation_kept t u keeps have (Call function args) exists =
+    let there : function < length t.functions = exists 0 (AFunctionRef 0) (omega arith) in
+    let same : function_at u function ≡ function_at t function = function_kept t u keeps function there in
+    let signature : signature_at u (function_at t function).signature ≡ signature_at t (function_at t function).signature =
+    signature_kept t u keeps (function_at t function).signature (have function no_function there) in
+    ap (λ (found : ExtFuncData). operation.Call found.name (signature_at u found.signature)) same
+    ∙ ap (operation.Call (function_at t function).name) signature
+operation_kept t u keeps have (CallIndirect sig args) exists =
+    ap operation.CallIndirect (signature_kept t u keeps sig (exists 0 (ASignatureRef 0) (omega arith)))
+operation_kept t u keeps have (TryCall function args table) exists =
+    let there : function < length t.functions = exists 0 (AFunctionRef 0) (omega arith) in
+    ap₂ (λ (found : ExtFuncData) (signature : SignatureShape). operation.TryCall found.name (record { signature = signature; items = map call_item_of table.items }))
+    (function_kept t u keeps function there)
+    (signature_kept t u keeps table.sig (exists 1 (ASignatureRef 0) (omega arith)))
+operation_kept t u keeps have (TryCallIndirect args table) exists =
+    ap (λ (signature : SignatureShape). operation.TryCallIndirect (record { signature = signature; items = map call_item_of table.items }))
+    (signature_kept t u keeps table.sig (exists 0 (ASignatureRef 0) (omega arith)))
+operation_kept t u keeps have _ exists = refl
 
 -- THE CALLER'S INSTRUCTIONS ----------------------------------------------------------------------------------------------
 
@@ -128,14 +206,14 @@ pub record KeepsInsts (f g : Body) : Type 0 where
   pub more : length f.insts ≤ length g.insts
   pub types : (v : ℕ) (ty : «Type») → HasType f v ty → HasType g v ty
 
--- instructions, values and constants stay
-pub insts_same : (f g : Body) → g.insts ≡ f.insts → g.values ≡ f.values → g.tables.constants ≡ f.tables.constants → KeepsInsts f g
-insts_same f g insts values constants = record {
+-- instructions, values and tables stay
+pub insts_same : (f g : Body) → g.insts ≡ f.insts → g.values ≡ f.values → g.tables ≡ f.tables → KeepsInsts f g
+insts_same f g insts values tables = record {
   placed = λ own i below.
       ap (λ (is : List InstNode). own_placed own (record g { insts = is }) i) insts
       ∙ ap (λ (vs : List ValueNode). own_placed own (record g { insts = f.insts; values = vs }) i) values
       ∙ ap (λ (operation : Operation). parts operation (controlling_of f (inst_at f i).shape (inst_at f i).results) (operands (inst_at f i).shape)
-      (as_passed (own.passed i) 0 (edges_of (inst_at f i).shape)) (inst_at f i).results) (operation_same f.tables g.tables constants (inst_at f i).shape);
+      (as_passed (own.passed i) 0 (edges_of (inst_at f i).shape)) (inst_at f i).results) (ap (λ (t : TableLists). operation_of t (inst_at f i).shape) tables);
   targets = λ i k below. ap (λ (is : List InstNode). edge_target (record f { insts = is }) i k) insts;
   block = λ i below. ap (λ (is : List InstNode). branch_block (record f { insts = is }) i) insts;
   more = omega (arith, ap (λ (is : List InstNode). length is) insts);
@@ -153,7 +231,7 @@ insts_then f g h first next = record {
 
 pub insts_inserted : (f : Body) (b : ℕ) → KeepsInsts f (inserted_in f b)
 insts_inserted f b =
-    insts_same f (inserted_in f b) (inserted_same f b).insts (inserted_same f b).values (ap (λ (t : TableLists). t.constants) (inserted_same f b).tables)
+    insts_same f (inserted_in f b) (inserted_same f b).insts (inserted_same f b).values (inserted_same f b).tables
 
 -- what an argument more leaves of an instruction
 targets_appended : (b v : ℕ) (edges : List BlockCall) → targets (with_argument_to b v edges) ≡ targets edges
@@ -168,24 +246,32 @@ targets_with : (b v : ℕ) (shape : InstructionData) → targets (destinations (
 targets_with b v (Jump destination) = targets_appended b v (destination ∷ [])
 targets_with b v (Brif arg blocks) = targets_appended b v blocks
 targets_with b v (BranchTable arg table) = targets_appended b v table
+targets_with b v (TryCall function args table) = targets_appended b v table.edges
+targets_with b v (TryCallIndirect args table) = targets_appended b v table.edges
 targets_with b v _ = refl
 
 operation_with : (t : TableLists) (b v : ℕ) (shape : InstructionData) → operation_of t (with_argument b v shape) ≡ operation_of t shape
 operation_with t b v (Jump destination) = refl
 operation_with t b v (Brif arg blocks) = refl
 operation_with t b v (BranchTable arg table) = ap (λ (n : ℕ). BrTable (n - 1)) (length-map table (appended_to b v))
+operation_with t b v (TryCall function args table) = refl
+operation_with t b v (TryCallIndirect args table) = refl
 operation_with t b v _ = refl
 
 operands_with : (b v : ℕ) (shape : InstructionData) → operands (with_argument b v shape) ≡ operands shape
 operands_with b v (Jump destination) = refl
 operands_with b v (Brif arg blocks) = refl
 operands_with b v (BranchTable arg table) = refl
+operands_with b v (TryCall function args table) = refl
+operands_with b v (TryCallIndirect args table) = refl
 operands_with b v _ = refl
 
 controlling_with : (g : Body) (b v : ℕ) (shape : InstructionData) (values : List ℕ) → controlling_of g (with_argument b v shape) values ≡ controlling_of g shape values
 controlling_with g b v (Jump destination) values = refl
 controlling_with g b v (Brif arg blocks) values = refl
 controlling_with g b v (BranchTable arg table) values = refl
+controlling_with g b v (TryCall function args table) values = refl
+controlling_with g b v (TryCallIndirect args table) values = refl
 controlling_with g b v _ values = refl
 
 -- the same for more arguments
@@ -265,7 +351,7 @@ insts_kept f g consistent on = record {
       let more = on.insts i below in
       let same = same_with g more.0 (inst_at f i).shape in
       ap (λ (node : InstNode). parts (operation_of g.tables node.shape) (controlling_of g node.shape node.results) (operands node.shape) (as_passed (own.passed i) 0 (edges_of node.shape)) node.results) more.1
-      ∙ parts_same (inst_at f i).results (same.operation g.tables ∙ operation_kept f g on.constants (inst_at f i).shape (consistent.entries_exist i))
+      ∙ parts_same (inst_at f i).results (same.operation g.tables ∙ operation_kept f.tables g.tables on.entries consistent.signatures_exist (inst_at f i).shape (consistent.entries_exist i))
       (same.controlling (inst_at f i).results
       ∙ controlling_kept f g on (inst_at f i).shape (inst_at f i).results (λ k h. (consistent.results_known i k h).0) (consistent.operands_exist i))
       same.operands_same

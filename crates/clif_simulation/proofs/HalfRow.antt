@@ -8,7 +8,8 @@ use Rattle.clif_records.specs.declared.tables.Pending.{Pending}
 use Rattle.clif_ssa.specs.Ssa.{SsaState, record_of, sealed_of}
 use Rattle.clif_records.specs.Tables.{is_yes, pending_of}
 use Rattle.clif_meaning.specs.Bits.{Bits}
-use Rattle.clif_meaning.specs.Event.{Event, types_of}
+use Rattle.clif_meaning.specs.Event.{Event}
+use Rattle.clif_tables.specs.Callees.{types_of}
 use Rattle.clif_meaning.specs.Memory.{Memory}
 use Rattle.clif_meaning.specs.Name.{Name, answer_of, same_name}
 use Rattle.clif_meaning.specs.Instruction.{Operation, Compute, Iconst}

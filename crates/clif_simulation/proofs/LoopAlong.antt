@@ -3,7 +3,7 @@ use Rattle.std.proofs.Common.{◌≡◌, ℕ, zero, suc, ◌+◌, ◌<◌, false
 use Rattle.std.specs.List.{AllByRecursion}
 use Rattle.clif_types.specs.declared.target.PointerWidth.TheVariants.{U64}
 use Rattle.clif_ir.specs.Body.{follow}
-use Rattle.clif_meaning.specs.Event.{types_of}
+use Rattle.clif_tables.specs.Callees.{types_of}
 use Rattle.clif_meaning.specs.Name.{Name, answer_of}
 use Rattle.clif_meaning.specs.Request.{script_of}
 use Rattle.clif_meaning.specs.Ledger.{ledger_after}

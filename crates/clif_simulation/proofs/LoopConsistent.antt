@@ -6,9 +6,9 @@ use Rattle.std.proofs.lemmas.List.Elements.{All-from_recursion}
 use Rattle.clif_instructions.specs.declared.block_call.BlockArg.{BlockArg}
 use Rattle.clif_ir.specs.declared.function.ValueOrigin.TheVariants.{Result, Param}
 use Rattle.clif_ir.specs.Body.{inst_at, value_at, block_at, alias_of, follow}
-use Rattle.clif_ir.specs.Consistent.{IsConsistent, IsOrigin, EdgeExists, EntryExists, PassedExists, alias_count}
+use Rattle.clif_ir.specs.Consistent.{IsConsistent, IsOrigin, EdgeExists, EntryExists, ValueExists, PassedExists, alias_count}
 use Rattle.clif_instructions.specs.Members.{Once, Stands}
-use Rattle.clif_instructions.specs.Instruction.{entries_of, operands, destinations}
+use Rattle.clif_instructions.specs.Instruction.{contexts, entries_of, operands, destinations}
 use Rattle.clif_simulation.specs.CarryingExamples.{loop_body}
 
 -- numbers that follow each other
@@ -174,6 +174,16 @@ entries_exist (suc (suc (suc (suc (suc zero))))) k d inside = absurd (omega (ari
 entries_exist (suc (suc (suc (suc (suc (suc zero)))))) k d inside = absurd (omega (arith, inside))
 entries_exist (suc (suc (suc (suc (suc (suc (suc i))))))) k d inside = absurd (omega (arith, inside))
 
+contexts_exist : (i : ℕ) → All (ValueExists loop_body) (contexts (inst_at loop_body i).shape)
+contexts_exist zero k d inside = absurd (omega (arith, inside))
+contexts_exist (suc zero) k d inside = absurd (omega (arith, inside))
+contexts_exist (suc (suc zero)) k d inside = absurd (omega (arith, inside))
+contexts_exist (suc (suc (suc zero))) k d inside = absurd (omega (arith, inside))
+contexts_exist (suc (suc (suc (suc zero)))) k d inside = absurd (omega (arith, inside))
+contexts_exist (suc (suc (suc (suc (suc zero))))) k d inside = absurd (omega (arith, inside))
+contexts_exist (suc (suc (suc (suc (suc (suc zero)))))) k d inside = absurd (omega (arith, inside))
+contexts_exist (suc (suc (suc (suc (suc (suc (suc i))))))) k d inside = absurd (omega (arith, inside))
+
 edges_without_results : (i : ℕ) → destinations (inst_at loop_body i).shape ≢ [] → (inst_at loop_body i).results ≡ []
 edges_without_results zero some = absurd (some refl)
 edges_without_results (suc zero) some = refl
@@ -191,6 +201,7 @@ row_consistent = record {
   blocks_fit = omega arith;
   origins = origins;
   operands_exist = operands_exist;
+  contexts_exist = contexts_exist;
   edges_exist = edges_exist;
   results_known = results_known;
   params_known = params_known;

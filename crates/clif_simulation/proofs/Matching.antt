@@ -1,18 +1,21 @@
 -- How one step of the script's machine is matched, and what both machines show at an end.
-use Rattle.std.proofs.Common.{sym, ◌∙◌, ◌≡◌, ℕ, zero, suc, ◌<◌, ◌≤◌, List, [], ◌∷◌, length, map, drop, slice_get, Some, inl, inr, refl, ap₂, arith}
+use Rattle.std.proofs.Common.{sym, ◌∙◌, ◌≡◌, ℕ, zero, suc, ◌<◌, ◌≤◌, List, [], ◌∷◌, length, map, drop, slice_get, Some, None, inl, inr, refl, ap₂, arith}
 use Rattle.clif_meaning.specs.Bits.{Bits}
 use Rattle.clif_meaning.specs.Memory.{Memory, Range}
 use Rattle.std.specs.Prelude.{Bool, true, false, ◌==◌, ◌&&◌, ◌%◌, not, if◌then◌else◌}
 use Rattle.clif_meaning.specs.Machine.{Machine, Control, At, HasReturned, HasTrapped, IsStuck, Observation, Ending, ending_of}
 use Rattle.clif_meaning.specs.Event.{Event}
-use Rattle.clif_meaning.specs.Program.{Item}
+use Rattle.clif_meaning.specs.Name.{Name}
+use Rattle.clif_meaning.specs.Program.{Item, Instruct}
+use Rattle.clif_meaning.specs.Request.{AnsweredCall}
+use Rattle.clif_meaning.specs.Typing.{call_shape}
 use Rattle.clif_meaning.specs.FunctionView.{Placed}
 use Rattle.clif_meaning.specs.ScriptMachine as script
 use Rattle.clif_meaning.specs.ScriptMachine.{ScriptRun, ScriptState}
 use Rattle.clif_meaning.specs.FunctionMachine as function_machine_of
 use Rattle.clif_meaning.specs.FunctionMachine.{FunctionRun, FunctionState}
 use Rattle.clif_opcodes.specs.declared.opcodes.StackOpcode.TheVariants.{StackAddr, StackLoad}
-use Rattle.clif_meaning.specs.Instruction.{Operation, Compute, Load, Store, Stack, StackStore, Trap, CondTrap, Jump, Brif, BrTable, Return}
+use Rattle.clif_meaning.specs.Instruction.{Instruction, Operation, Compute, Load, Store, Stack, StackStore, Trap, CondTrap, Jump, Brif, BrTable, Return, Call, CallIndirect, TryCall, TryCallIndirect}
 use Rattle.clif_types.specs.declared.trapcode.TrapCode.{TrapCode}
 use Rattle.clif_types.specs.declared.trapcode.TrapCode.TheVariants.{HeapOutOfBounds}
 use Rattle.clif_types.specs.MemFlags.{MemFlagsShape}
@@ -20,7 +23,11 @@ use Rattle.clif_types.specs.declared.types.«Type».{«Type»}
 use Rattle.clif_meaning.specs.World.{World}
 use Rattle.clif_meaning.specs.Outcome.{Outcome, Gives, Goes, Returns, Traps, Calls, NoStep, Computed, Values, Fault, Undefined, access_outcome, no_claim, are_accessible, computed, outcome_of_computed, outcome_of, traps_on}
 use Rattle.clif_meaning.proofs.Stuttering.{Matched, ShowsOnlyEnds, steps_from}
+use Rattle.std.specs.List.{AllByRecursion}
+use Rattle.clif_simulation.specs.Carries.{NamesEarlier}
+use Rattle.clif_simulation.specs.Tables.{program_so_far}
 use Rattle.clif_simulation.proofs.Giving.{In}
+use Rattle.clif_simulation.proofs.Listed.{all_at}
 
 -- Lists -----------------------------------------------------------------------------------------------------------------
 
@@ -144,38 +151,51 @@ trap_plain : (traps : Bool) (reason : TrapCode) (memory : Memory) → IsPlain (i
 trap_plain true reason memory = tt
 trap_plain false reason memory = tt
 
--- no instruction so far is a call
-pub outcome_plain : (world : World) (operation : Operation) (ty : «Type») (types : List «Type») (operands : List Bits) (memory : Memory)
+-- what calls nothing
+pub outcome_plain : (world : World) (operation : Operation) → call_shape operation ≡ None → (ty : «Type») (types : List «Type») (operands : List Bits) (memory : Memory)
     → IsPlain (outcome_of world operation ty types operands memory)
-outcome_plain world (Compute arithmetic) ty types operands memory = computed_plain (computed arithmetic ty types operands) memory
-outcome_plain world (Load flags offset) ty types [] memory = tt
-outcome_plain world (Load flags offset) ty types (address ∷ []) memory = access_plain world flags _ (Gives _ memory) tt
-outcome_plain world (Load flags offset) ty types (address ∷ x ∷ operands) memory = tt
-outcome_plain world (Store flags offset) ty types [] memory = tt
-outcome_plain world (Store flags offset) ty types (stored ∷ []) memory = tt
-outcome_plain world (Store flags offset) ty types (stored ∷ address ∷ []) memory = access_plain world flags _ (Gives [] _) tt
-outcome_plain world (Store flags offset) ty types (stored ∷ address ∷ x ∷ operands) memory = tt
-outcome_plain world (Stack StackAddr slot offset) ty types [] memory = tt
-outcome_plain world (Stack StackAddr slot offset) ty types (x ∷ operands) memory = tt
-outcome_plain world (Stack StackLoad slot offset) ty types [] memory = access_plain world no_claim _ (Gives _ memory) tt
-outcome_plain world (Stack StackLoad slot offset) ty types (x ∷ operands) memory = tt
-outcome_plain world (StackStore slot offset) ty types [] memory = tt
-outcome_plain world (StackStore slot offset) ty types (stored ∷ []) memory = access_plain world no_claim _ (Gives [] _) tt
-outcome_plain world (StackStore slot offset) ty types (stored ∷ x ∷ operands) memory = tt
-outcome_plain world (Trap reason) ty types [] memory = tt
-outcome_plain world (Trap reason) ty types (x ∷ operands) memory = tt
-outcome_plain world (CondTrap opcode reason) ty types [] memory = tt
-outcome_plain world (CondTrap opcode reason) ty types (condition ∷ []) memory = trap_plain (traps_on opcode condition) reason memory
-outcome_plain world (CondTrap opcode reason) ty types (condition ∷ x ∷ operands) memory = tt
-outcome_plain world Jump ty types [] memory = tt
-outcome_plain world Jump ty types (x ∷ operands) memory = tt
-outcome_plain world Brif ty types [] memory = tt
-outcome_plain world Brif ty types (x ∷ []) memory = tt
-outcome_plain world Brif ty types (x ∷ y ∷ operands) memory = tt
-outcome_plain world (BrTable entries) ty types [] memory = tt
-outcome_plain world (BrTable entries) ty types (x ∷ []) memory = tt
-outcome_plain world (BrTable entries) ty types (x ∷ y ∷ operands) memory = tt
-outcome_plain world Return ty types operands memory = tt
+outcome_plain world (Compute arithmetic) no_call ty types operands memory = computed_plain (computed arithmetic ty types operands) memory
+outcome_plain world (Load flags offset) no_call ty types [] memory = tt
+outcome_plain world (Load flags offset) no_call ty types (address ∷ []) memory = access_plain world flags _ (Gives _ memory) tt
+outcome_plain world (Load flags offset) no_call ty types (address ∷ x ∷ operands) memory = tt
+outcome_plain world (Store flags offset) no_call ty types [] memory = tt
+outcome_plain world (Store flags offset) no_call ty types (stored ∷ []) memory = tt
+outcome_plain world (Store flags offset) no_call ty types (stored ∷ address ∷ []) memory = access_plain world flags _ (Gives [] _) tt
+outcome_plain world (Store flags offset) no_call ty types (stored ∷ address ∷ x ∷ operands) memory = tt
+outcome_plain world (Stack StackAddr slot offset) no_call ty types [] memory = tt
+outcome_plain world (Stack StackAddr slot offset) no_call ty types (x ∷ operands) memory = tt
+outcome_plain world (Stack StackLoad slot offset) no_call ty types [] memory = access_plain world no_claim _ (Gives _ memory) tt
+outcome_plain world (Stack StackLoad slot offset) no_call ty types (x ∷ operands) memory = tt
+outcome_plain world (StackStore slot offset) no_call ty types [] memory = tt
+outcome_plain world (StackStore slot offset) no_call ty types (stored ∷ []) memory = access_plain world no_claim _ (Gives [] _) tt
+outcome_plain world (StackStore slot offset) no_call ty types (stored ∷ x ∷ operands) memory = tt
+outcome_plain world (Trap reason) no_call ty types [] memory = tt
+outcome_plain world (Trap reason) no_call ty types (x ∷ operands) memory = tt
+outcome_plain world (CondTrap opcode reason) no_call ty types [] memory = tt
+outcome_plain world (CondTrap opcode reason) no_call ty types (condition ∷ []) memory = trap_plain (traps_on opcode condition) reason memory
+outcome_plain world (CondTrap opcode reason) no_call ty types (condition ∷ x ∷ operands) memory = tt
+outcome_plain world Jump no_call ty types [] memory = tt
+outcome_plain world Jump no_call ty types (x ∷ operands) memory = tt
+outcome_plain world Brif no_call ty types [] memory = tt
+outcome_plain world Brif no_call ty types (x ∷ []) memory = tt
+outcome_plain world Brif no_call ty types (x ∷ y ∷ operands) memory = tt
+outcome_plain world (BrTable entries) no_call ty types [] memory = tt
+outcome_plain world (BrTable entries) no_call ty types (x ∷ []) memory = tt
+outcome_plain world (BrTable entries) no_call ty types (x ∷ y ∷ operands) memory = tt
+outcome_plain world Return no_call ty types operands memory = tt
+outcome_plain world (Call name signature) no_call ty types operands memory = cc
+outcome_plain world (CallIndirect signature) no_call ty types operands memory = cc
+outcome_plain world (TryCall name call) no_call ty types operands memory = cc
+outcome_plain world (TryCallIndirect call) no_call ty types operands memory = cc
+
+-- No instruction of the program calls anything.
+pub item_plain : (calls : List AnsweredCall) (block : Name) → AllByRecursion (NamesEarlier calls) ((program_so_far calls).items block)
+    → (k place : ℕ) (instruction : Instruction Name Name) (results : List Name) → slice_get ((program_so_far calls).items block) k ≡ Some (Instruct place instruction results)
+    → call_shape instruction.operation ≡ None
+item_plain calls block earlier k place instruction results stands =
+    let item : NamesEarlier calls (Instruct place instruction results) =
+    all_at (NamesEarlier calls) ((program_so_far calls).items block) k (Instruct place instruction results) earlier stands in
+    item.3
 
 -- the same operation on the same bits, in the same memory, where the operands' types make no difference
 pub same_outcomes : (world : World) (operation : Operation) (ty : «Type») (types others : List «Type») (operands bits : List Bits) (memory other : Memory)

@@ -47,7 +47,7 @@ use Rattle.clif_simulation.proofs.Fronts.{placed_inst, steps_behind}
 use Rattle.clif_simulation.proofs.ItemsAt
 use Rattle.clif_simulation.proofs.ItemsAt.{same_instance}
 use Rattle.clif_simulation.proofs.Listed.{place_within}
-use Rattle.clif_simulation.proofs.Matching.{first_is, rest_is, item_here, rest_behind, same_bits, IsPlain, outcome_plain, same_outcomes}
+use Rattle.clif_simulation.proofs.Matching.{first_is, rest_is, item_here, rest_behind, same_bits, IsPlain, item_plain, outcome_plain, same_outcomes}
 use Rattle.clif_simulation.proofs.OpenArms
 use Rattle.clif_simulation.proofs.OpenEdges
 use Rattle.clif_simulation.proofs.OpenFlow
@@ -372,7 +372,7 @@ module _ (calls : List AnsweredCall) (f : Body) (ssa : SsaState) (consistent : I
             may_pass true is_open = inr (are_open d edge.target target_named is_open)
             may_pass false settled =
                 inl (OwnEdges.passed_count calls f ssa consistent carries i n edge of_function
-                ∙ Targets.passes_as_many_so_far calls B k place instruction results stands n edge is_edge growing signature typed settled)
+                ∙ Targets.passes_as_many_so_far calls B k place instruction results stands n edge is_edge (item_plain calls B (carries.earlier B) k place instruction results stands) growing signature typed settled)
 
             abbrev arm : Arm
             arm = record { source = last_place tables b; target = front d; edge = n }
@@ -524,7 +524,7 @@ module _ (calls : List AnsweredCall) (f : Body) (ssa : SsaState) (consistent : I
           instruct_step : (ahead : List Item) → (left_machine.next a).state.control ≡ At ahead → Comes (left_machine.next a) c
           unfolding outcome
           instruct_step =
-              after_outcome outcome (outcome_plain world instruction.operation instruction.controlling (map left_run.name_type instruction.operands) (map a.state.names instruction.operands) a.state.memory) left_goes right_goes
+              after_outcome outcome (outcome_plain world instruction.operation (item_plain calls B (carries.earlier B) k place instruction results stands) instruction.controlling (map left_run.name_type instruction.operands) (map a.state.names instruction.operands) a.state.memory) left_goes right_goes
 
       running_step : (rest : List Item) (left : List ℕ) → Stands b B k rest left path a.state c.state
           → (ahead : List Item) → (left_machine.next a).state.control ≡ At ahead → Comes (left_machine.next a) c

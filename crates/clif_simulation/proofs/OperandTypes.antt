@@ -20,9 +20,9 @@ use Rattle.clif_opcodes.specs.Kinds.{is_address, is_met}
 use Rattle.clif_opcodes.specs.Typing.{AreOfKinds, binary_second, convert_demand, convert_operand}
 use Rattle.clif_ir.specs.Body.{Body}
 use Rattle.clif_meaning.specs.Bits.{Bits}
-use Rattle.clif_meaning.specs.Event.{types_of}
+use Rattle.clif_tables.specs.Callees.{types_of}
 use Rattle.clif_opcodes.specs.declared.opcodes.StackOpcode.TheVariants.{StackAddr, StackLoad}
-use Rattle.clif_meaning.specs.Instruction.{Iconst, FloatConst, PooledConst, Unary, Binary, Compare, Concat, Split, Convert, Select, Operation, Compute, Load, Store, Stack, StackStore, Trap, CondTrap, Jump, Brif, BrTable, Return, Instruction, operation_typing}
+use Rattle.clif_meaning.specs.Instruction.{Iconst, FloatConst, PooledConst, Unary, Binary, Compare, Concat, Split, Convert, Select, Operation, Compute, Load, Store, Stack, StackStore, Trap, CondTrap, Jump, Brif, BrTable, Return, Call, CallIndirect, TryCall, TryCallIndirect, Instruction, operation_typing}
 use Rattle.clif_meaning.specs.Ledger.{ledger_after, or_invalid, type_of}
 use Rattle.clif_meaning.specs.Memory.{Memory}
 use Rattle.clif_meaning.specs.Name.{Name}
@@ -164,6 +164,18 @@ outcome_by_types world operation ty returns types others operands memory at fits
     by Brif at fits = alike Brif (kinds_valid ty (int_valid ty at) (kind.Controlling ∷ []) tt types fits)
     by (BrTable entries) at fits = alike (BrTable entries) (index_valid ty types fits)
     by Return at fits = refl
+    by (Call name signature) at fits = refl
+    by (CallIndirect signature) at fits = at_address operands
+      where
+        at_address : (xs : List Bits) → outcome_of world (CallIndirect signature) ty others xs memory ≡ outcome_of world (CallIndirect signature) ty types xs memory
+        at_address [] = refl
+        at_address (x ∷ xs) = refl
+    by (TryCall name call) at fits = refl
+    by (TryCallIndirect call) at fits = at_address operands
+      where
+        at_address : (xs : List Bits) → outcome_of world (TryCallIndirect call) ty others xs memory ≡ outcome_of world (TryCallIndirect call) ty types xs memory
+        at_address [] = refl
+        at_address (x ∷ xs) = refl
 
 -- Each instruction of the program has one outcome by the types of the names and by those of the values that answered them.
 abbrev pub OutcomesAlike : List AnsweredCall → Body → World → Type 0

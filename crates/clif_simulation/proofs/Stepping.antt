@@ -59,7 +59,7 @@ use Rattle.clif_simulation.proofs.OperandTypes.{outcomes_alike}
 use Rattle.clif_simulation.proofs.Targets
 use Rattle.clif_simulation.proofs.Placing.{at_second, map_at, map_length, placed_item}
 use Rattle.clif_simulation.proofs.TwoParts.{nothing_assigned}
-use Rattle.clif_simulation.proofs.Matching.{script_still, function_still, observation, remaining, first_is, rest_is, item_here, rest_behind, same_bits, matched_by_one, matched_by_none, matched_by_more, SameEnd, same_ending, IsPlain, outcome_plain, same_outcomes}
+use Rattle.clif_simulation.proofs.Matching.{script_still, function_still, observation, remaining, first_is, rest_is, item_here, rest_behind, same_bits, matched_by_one, matched_by_none, matched_by_more, SameEnd, same_ending, IsPlain, item_plain, outcome_plain, same_outcomes}
 
 -- what is passed has the same bits where the names have those of their answers
 pub same_arguments : (calls : List AnsweredCall) (names : Name → ℕ) (values : ℕ → ℕ) (given : List ℕ) (arguments : List (Argument Name))
@@ -377,7 +377,7 @@ module _ (calls : List AnsweredCall) (f : Body) (ssa : SsaState) (consistent : I
             (right_next : right_machine.next q ≡ function_machine_of.follow_edge right_run (record q { memory = memory }) given (slice_get (edges_of (inst_at f i).shape) n))
           where
             as_many : length edge.arguments ≡ length ((program_so_far calls).parameters edge.target)
-            as_many = Targets.passes_as_many calls B k place instruction results stands n edge is_edge signature typed
+            as_many = Targets.passes_as_many calls B k place instruction results stands n edge is_edge (item_plain calls B (carries.earlier B) k place instruction results stands) signature typed
 
             filled : IsTrue (is_filled (ledger_after (script_of calls)) edge.target)
             filled = Targets.target_filled calls B k place instruction results stands n edge is_edge targets
@@ -597,7 +597,7 @@ module _ (calls : List AnsweredCall) (f : Body) (ssa : SsaState) (consistent : I
         pub instruct_step : IsMatched p q
         unfolding outcome
         instruct_step =
-            after_outcome outcome (outcome_plain world instruction.operation instruction.controlling (map left_run.name_type instruction.operands) (map p.names instruction.operands) p.memory) left_goes right_goes
+            after_outcome outcome (outcome_plain world instruction.operation (item_plain calls B (carries.earlier B) k place instruction results stands) instruction.controlling (map left_run.name_type instruction.operands) (map p.names instruction.operands) p.memory) left_goes right_goes
 
     running_step : (b : ℕ) (B : Name) (k : ℕ) (rest : List Item) (left : List ℕ) (path : Path) (p : ScriptState) (q : FunctionState) → IsAt b B k rest left path p q → IsMatched p q
     running_step b B k [] left path p q r = stuck_step b B k path left p q r

@@ -22,6 +22,7 @@ use Rattle.clif_meaning.specs.Ledger.{ledger_after, has_value, is_filled, type_o
 use Rattle.clif_meaning.specs.Instruction.{Instruction, Argument, Known, CallResult, CallPayload, Edge}
 use Rattle.clif_meaning.specs.Program.{Item, Instruct, Use, Assign}
 use Rattle.clif_meaning.specs.FunctionView.{Placed}
+use Rattle.clif_meaning.specs.Typing.{call_shape}
 use Rattle.clif_meaning.specs.View.{argument_of, placed_of}
 use Rattle.clif_simulation.specs.Tables.{code, answered, block_name, callers_parameters, program_so_far, IsProgramOf}
 
@@ -94,10 +95,11 @@ pub record EdgeEarlier (calls : List AnsweredCall) (edge : Edge Name Name) : Typ
   pub leads : block_name calls (answered calls edge.target) ≡ Some edge.target
   pub passes : AllByRecursion (PassesEarlier calls) edge.arguments
 
--- what an item names, and what it gives, was answered
+-- what an item names, and what it gives, was answered; and no instruction makes an outside call so far
 abbrev pub NamesEarlier : List AnsweredCall → Item → Type 0
 NamesEarlier calls (Instruct place instruction results) =
     AllByRecursion (IsEarlier calls) instruction.operands × AllByRecursion (IsEarlier calls) results × AllByRecursion (EdgeEarlier calls) instruction.edges
+    × (call_shape instruction.operation ≡ None)
 NamesEarlier calls (Use variable name) = IsEarlier calls name
 NamesEarlier calls (Assign variable name) = IsEarlier calls name
 

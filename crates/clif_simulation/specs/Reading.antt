@@ -14,7 +14,8 @@ use Rattle.clif_meaning.specs.Name.{Name}
 use Rattle.clif_meaning.specs.Request.{AnsweredCall, script_of}
 use Rattle.clif_meaning.specs.Ledger.{Ledger, ledger_after, is_pristine, is_sealed, is_terminator, or_invalid, type_of}
 use Rattle.clif_meaning.specs.Instruction.{Edge}
-use Rattle.clif_meaning.specs.Event.{CallShape, types_of, payload_types}
+use Rattle.clif_meaning.specs.Event.{CallShape, payload_types}
+use Rattle.clif_tables.specs.Callees.{types_of}
 use Rattle.clif_meaning.specs.Typing.{call_shape, EdgeMatches}
 use Rattle.clif_meaning.specs.Program.{Program, Item, Instruct, Use, Assign}
 use Rattle.clif_meaning.specs.World.{World}

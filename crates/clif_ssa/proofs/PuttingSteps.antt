@@ -11,10 +11,11 @@ use Rattle.clif_instructions.specs.declared.inst_list.InsertAt.TheVariants.{Behi
 use Rattle.clif_instructions.specs.declared.instructions.InstructionData.{InstructionData}
 use Rattle.clif_ir.specs.Body.{Body, block_at}
 use Rattle.clif_ir.specs.Changes.{HasNoRoom, with_inst}
-use Rattle.clif_ir.specs.Consistent.{EdgeExists, EntryExists}
-use Rattle.clif_instructions.specs.Instruction.{entries_of, destinations, operands, result_count, result_types}
+use Rattle.clif_ir.specs.Consistent.{EdgeExists, EntryExists, ValueExists}
+use Rattle.clif_instructions.specs.Instruction.{contexts, entries_of, destinations, operands}
+use Rattle.clif_tables.specs.Callees.{count_of_results, types_of_results}
 use Rattle.clif_ir.proofs.Changes.{no_room_few}
-use Rattle.clif_ir.proofs.KeepsInst.{length-result_types}
+use Rattle.clif_ir.proofs.KeepsInst.{length-types_of_results}
 use Rattle.clif_ssa.specs.Limits.{IsFull}
 use Rattle.clif_ssa.specs.Ssa.{no_srcloc, with_steps}
 use Rattle.clif_ssa.specs.Zeros.{IsStepAt, IsZeroConstant, ZeroStep, zero_steps, zeros_number}
@@ -137,6 +138,9 @@ module _ (f g : Body) (b : ℕ) (ty : «Type») (place : ℕ) (g_is : g ≡ with
     pub step_edges : All (EdgeExists g) (destinations shape)
     step_edges = subst (λ edges. All (EdgeExists g) edges) (sym (ap destinations next.shape_is ∙ plain.no_edges constant (length g.values - 1))) (λ k d inside. absurd (omega (arith, inside)))
 
+    pub step_contexts : All (ValueExists g) (contexts shape)
+    step_contexts = subst (λ (values : List ℕ). All (ValueExists g) values) (sym (ap contexts next.shape_is ∙ plain.no_contexts constant (length g.values - 1))) (λ k d inside. absurd (omega (arith, inside)))
+
     pub step_entries : All (EntryExists g.tables) (entries_of shape)
     step_entries =
         subst (λ (s : InstructionData). All (EntryExists g.tables) (entries_of s)) (sym next.shape_is)
@@ -147,23 +151,24 @@ module _ (f g : Body) (b : ℕ) (ty : «Type») (place : ℕ) (g_is : g ≡ with
     pub step_fits : place + 1 ≤ length (zero_steps ty)
     step_fits = omega (arith, fits)
 
-    step_types : result_types shape result ≡ next.step.ty ∷ []
+    step_types : types_of_results g.tables shape result ≡ next.step.ty ∷ []
     step_types =
-        ap (result_types shape) next.result_is ∙ ap (λ s. result_types s next.step.ty) next.shape_is ∙ plain.one_result constant (length g.values - 1)
+        ap (types_of_results g.tables shape) next.result_is ∙ ap (λ s. types_of_results g.tables s next.step.ty) next.shape_is
+        ∙ plain.one_result g.tables constant (length g.values - 1)
 
     -- it has one result, so that there is room for it unless a table is full
-    pub step_full : length g.values < 2 ^ 32 → HasNoRoom g (result_count shape) → IsFull g
-    step_full small full = by (no_room_few g (result_count shape) small few full)
+    pub step_full : length g.values < 2 ^ 32 → HasNoRoom g (count_of_results g.tables shape) → IsFull g
+    step_full small full = by (no_room_few g (count_of_results g.tables shape) small few full)
       where
-        few : result_count shape ≤ 1
-        few = let one : length (result_types shape result) ≡ 1 = ap (λ (ts : List «Type»). length ts) step_types in omega (arith, one, length-result_types shape result)
+        few : count_of_results g.tables shape ≤ 1
+        few = let one : length (types_of_results g.tables shape result) ≡ 1 = ap (λ (ts : List «Type»). length ts) step_types in omega (arith, one, length-types_of_results g.tables shape result)
 
         by : (length g.insts ≡ 2 ^ 32 - 1) ⊎ (length g.values ≡ 2 ^ 32 - 1) → IsFull g
         by (inl insts) = inr insts
         by (inr values) = inl values
 
     -- there is one step more
-    pub step_more : (loc : ℕ) (h : Body) → b < length f.blocks → loc ≡ no_srcloc → h ≡ with_inst g b (Behind place) shape (result_types shape result) loc
+    pub step_more : (loc : ℕ) (h : Body) → b < length f.blocks → loc ≡ no_srcloc → h ≡ with_inst g b (Behind place) shape (types_of_results g.tables shape result) loc
         → (place + 1 ≤ length (zero_steps ty)) × (h ≡ with_steps f b (take (place + 1) (zero_steps ty)))
     step_more loc h there loc_is made = (step_fits, by)
       where

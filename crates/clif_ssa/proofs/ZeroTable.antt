@@ -11,7 +11,9 @@ use Rattle.clif_ir.specs.Consistent.{EntryExists}
 use Rattle.clif_instructions.specs.declared.instructions.InstructionData.{InstructionData}
 use Rattle.clif_opcodes.specs.declared.opcodes.PooledConstOpcode.{PooledConstOpcode}
 use Rattle.clif_opcodes.specs.declared.opcodes.PooledConstOpcode.TheVariants.{F128const, Vconst}
-use Rattle.clif_instructions.specs.Instruction.{entries_of, destinations, is_terminator, operands, result_types, with_argument}
+use Rattle.clif_instructions.specs.Instruction.{contexts, entries_of, destinations, is_terminator, operands, with_argument}
+use Rattle.clif_tables.specs.Callees.{types_of_results}
+use Rattle.clif_tables.specs.Lists.{TableLists}
 use Rattle.clif_ir.specs.declared.function.InstNode.{InstNode}
 use Rattle.clif_instructions.specs.declared.instructions.InstructionData.TheVariants.{UnaryImm, UnaryIeee, UnaryConst, Convert}
 use Rattle.clif_types.specs.declared.types.LaneType.TheVariants as lane
@@ -33,23 +35,25 @@ same_some same = cc
 
 -- THE TABLE -------------------------------------------------------------------------------------------------------
 
--- a step has no edges, has one result and at most the operand before, control goes on behind it, and a constant that it names
--- exists where this has zero bytes
+-- a step has no edges and no contexts, has one result and at most the operand before, control goes on behind it, and a
+-- constant that it names exists where this has zero bytes
 pub record IsPlainStep (step : ZeroStep) : Type 0 where
   pub no_edges : (constant value : ℕ) → destinations (step.shape constant value) ≡ []
+  pub no_contexts : (constant value : ℕ) → contexts (step.shape constant value) ≡ []
   pub entries : (f : Body) (constant value : ℕ) → HasZeros f constant step.size → All (EntryExists f.tables) (entries_of (step.shape constant value))
   pub unchanged : (b v constant value : ℕ) → with_argument b v (step.shape constant value) ≡ step.shape constant value
   pub goes_on : (constant value : ℕ) → is_terminator (step.shape constant value) ≡ false
-  pub one_result : (constant value : ℕ) → result_types (step.shape constant value) step.ty ≡ step.ty ∷ []
+  pub one_result : (t : TableLists) (constant value : ℕ) → types_of_results t (step.shape constant value) step.ty ≡ step.ty ∷ []
   pub operands_before : (constant value : ℕ) → All (λ operand. operand ≡ value) (operands (step.shape constant value))
 
 plain_constant : (ty : «Type») → IsPlainStep (unpooled (λ value. UnaryImm (pos 0)) ty)
 plain_constant ty = record {
   no_edges = λ constant value. refl;
+  no_contexts = λ constant value. refl;
   entries = λ f constant value has. All-nil _;
   unchanged = λ b v constant value. refl;
   goes_on = λ constant value. refl;
-  one_result = λ constant value. refl;
+  one_result = λ t constant value. refl;
   operands_before = λ constant value. All-nil _;
 }
 
@@ -57,10 +61,11 @@ plain_constant ty = record {
 plain_float : (opcode : FloatConstOpcode) → IsPlainStep (unpooled (λ value. UnaryIeee opcode 0) (float_type opcode))
 plain_float opcode = record {
   no_edges = λ constant value. refl;
+  no_contexts = λ constant value. refl;
   entries = λ f constant value has. All-nil _;
   unchanged = λ b v constant value. refl;
   goes_on = λ constant value. goes_on opcode;
-  one_result = λ constant value. one opcode;
+  one_result = λ t constant value. one t opcode;
   operands_before = λ constant value. All-nil _;
 }
   where
@@ -69,20 +74,21 @@ plain_float opcode = record {
     goes_on F32const = refl
     goes_on F64const = refl
 
-    one : (o : FloatConstOpcode) → result_types (UnaryIeee o 0) (float_type o) ≡ float_type o ∷ []
-    one F16const = refl
-    one F32const = refl
-    one F64const = refl
+    one : (t : TableLists) (o : FloatConstOpcode) → types_of_results t (UnaryIeee o 0) (float_type o) ≡ float_type o ∷ []
+    one t F16const = refl
+    one t F32const = refl
+    one t F64const = refl
 
 -- a pooled constant, at a type that it may have
-plain_pooled : (opcode : PooledConstOpcode) (ty : «Type») (size : ℕ) → ((constant : ℕ) → result_types (UnaryConst opcode constant) ty ≡ ty ∷ [])
+plain_pooled : (opcode : PooledConstOpcode) (ty : «Type») (size : ℕ) → ((t : TableLists) (constant : ℕ) → types_of_results t (UnaryConst opcode constant) ty ≡ ty ∷ [])
     → IsPlainStep (record { shape = λ constant value. UnaryConst opcode constant; ty = ty; size = Some size })
 plain_pooled opcode ty size one = record {
   no_edges = λ constant value. refl;
+  no_contexts = λ constant value. refl;
   entries = λ f constant value has. zeros_exist f constant size has;
   unchanged = λ b v constant value. refl;
   goes_on = λ constant value. goes_on opcode constant;
-  one_result = λ constant value. one constant;
+  one_result = λ t constant value. one t constant;
   operands_before = λ constant value. All-nil _;
 }
   where
@@ -94,10 +100,11 @@ plain_pooled opcode ty size one = record {
 plain_converted : (opcode : ConvertOpcode) (ty : «Type») → IsPlainStep (unpooled (λ value. Convert opcode value) ty)
 plain_converted opcode ty = record {
   no_edges = λ constant value. refl;
+  no_contexts = λ constant value. refl;
   entries = λ f constant value has. All-nil _;
   unchanged = λ b v constant value. refl;
   goes_on = λ constant value. refl;
-  one_result = λ constant value. refl;
+  one_result = λ t constant value. refl;
   operands_before = λ constant value. itself value;
 }
   where
@@ -115,13 +122,13 @@ plain_steps (type.Lane lane.I128) = (plain_constant (type.Lane lane.I64), (plain
 plain_steps (type.Lane lane.F16) = (float_at (type.Lane lane.F16) F16const refl, tt)
 plain_steps (type.Lane lane.F32) = (float_at (type.Lane lane.F32) F32const refl, tt)
 plain_steps (type.Lane lane.F64) = (float_at (type.Lane lane.F64) F64const refl, tt)
-plain_steps (type.Lane lane.F128) = (plain_pooled F128const (type.Lane lane.F128) 16 (λ constant. refl), tt)
+plain_steps (type.Lane lane.F128) = (plain_pooled F128const (type.Lane lane.F128) 16 (λ t constant. refl), tt)
 plain_steps (type.Vector lane.F16 count) = (plain_float F16const, (plain_converted Splat (type.Vector lane.F16 count), tt))
 plain_steps (type.Vector lane.F32 count) = (plain_float F32const, (plain_converted Splat (type.Vector lane.F32 count), tt))
 plain_steps (type.Vector lane.F64 count) = (plain_float F64const, (plain_converted Splat (type.Vector lane.F64 count), tt))
 plain_steps (type.Vector lane.F128 count) =
-    (plain_pooled F128const (type.Lane lane.F128) 16 (λ constant. refl), (plain_converted Splat (type.Vector lane.F128 count), tt))
-plain_steps (type.Vector l count) = (plain_pooled Vconst (type.Vector l count) (bytes_of (type.Vector l count)) (λ constant. refl), tt)
+    (plain_pooled F128const (type.Lane lane.F128) 16 (λ t constant. refl), (plain_converted Splat (type.Vector lane.F128 count), tt))
+plain_steps (type.Vector l count) = (plain_pooled Vconst (type.Vector l count) (bytes_of (type.Vector l count)) (λ t constant. refl), tt)
 plain_steps ty = (plain_constant ty, tt)
 
 -- the first step has no operands

@@ -1,3 +1,4 @@
+mod Absent
 mod LineByLine
 mod Positions
 mod Pooling

@@ -1,18 +1,18 @@
 //! The tables together.
-ghost use Rattle.std.specs.Prelude.{◌≡◌, ◌<◌, ◌^◌, length, slice_get, option_copied, OnOk, OnErr};
+ghost use Rattle.std.specs.Prelude.{◌≡◌, ◌<◌, ◌^◌, length, slice_get, option_copied};
 ghost use Rattle.std.specs.Borrow.{sem};
 ghost use Rattle.clif_tables.specs.Makes.{Makes, Pools};
 ghost use Rattle.clif_tables.specs.Lends.{lends_regions};
-ghost use Rattle.clif_tables.specs.Lists.{no_entries, with_stack_slot, with_dynamic_stack_slot, with_global_value, with_signature, with_function, with_constant, with_jump_table, with_exception_table, with_exception_argument, with_exception_target, with_table_served, unserved};
+ghost use Rattle.clif_tables.specs.Lists.{no_entries, with_stack_slot, with_dynamic_stack_slot, with_global_value, with_signature, with_function, with_constant, with_jump_table, with_exception_table, with_exception_table_served, with_table_served, unserved};
 
 use crate::constants::{ConstantData, ConstantPool};
-use crate::exception_table::{ExceptionTableData, ExceptionTargets};
 use crate::primary_map::PrimaryMap;
+use clif_instructions::exception_table::{ExceptionTableData, ExceptionTargets};
 use clif_instructions::jump_table::JumpTableData;
 use clif_types::{
-    AliasRegionSet, Block, BuildError, Constant, DynamicStackSlot, DynamicStackSlotData, EntityRef,
+    AliasRegionSet, BuildError, Constant, DynamicStackSlot, DynamicStackSlotData, EntityRef,
     ExceptionTable, ExtFuncData, FuncRef, GlobalValue, GlobalValueData, JumpTable, SigRef,
-    Signature, StackSlot, StackSlotData, Value,
+    Signature, StackSlot, StackSlotData,
 };
 use std::alloc::Global;
 use std::marker::Model;
@@ -31,7 +31,7 @@ pub struct Tables {
     pub(crate) functions: PrimaryMap<FuncRef, ExtFuncData>,
     pub(crate) constants: ConstantPool,
     jump_tables: PrimaryMap<JumpTable, Option<JumpTableData>>,
-    exception_tables: PrimaryMap<ExceptionTable, ExceptionTargets>,
+    exception_tables: PrimaryMap<ExceptionTable, Option<ExceptionTargets>>,
 }
 
 impl Model for Tables {
@@ -136,14 +136,14 @@ impl Tables {
         self.constants.insert(bytes)
     }
 
-    /// Makes a jump table.
+    /// Makes a jump table, which serves no instruction so far.
     pub fn create_jump_table(&mut self, table: JumpTableData) -> Result<JumpTable, BuildError>
         ensures { Makes (length self.old.jump_tables) self.old self.new (with_jump_table self.old table) result }
     {
         self.jump_tables.push(Some(table))
     }
 
-    /// Makes an exception table.
+    /// Makes an exception table, which serves no instruction so far.
     pub fn create_exception_table(
         &mut self,
         table: ExceptionTableData,
@@ -152,7 +152,7 @@ impl Tables {
     {
         self.exception_tables.check_room()?;
         let targets = ExceptionTargets::new(self.alloc, table)?;
-        self.exception_tables.push(targets)
+        self.exception_tables.push(Some(targets))
     }
 
     /// The regions, to which more may be added.
@@ -161,34 +161,6 @@ impl Tables {
         ensures value { result.now ≡ self.old.alias_regions }
     {
         &mut self.alias_regions
-    }
-
-    /// Puts a value at the end of what each edge of an exception table passes that goes to `block`. The only
-    /// error is `Memory`, and the tables are then as they were.
-    pub fn append_exception_table_argument(
-        &mut self,
-        table: ExceptionTable,
-        block: Block,
-        value: Value,
-    ) -> Result<(), BuildError>
-        requires { table < length self.old.exception_tables }
-        ensures ok { OnOk result (self.new ≡ with_exception_argument self.old table block value) }
-        ensures err { OnErr result (self.new ≡ self.old) }
-        ensures only_memory { OnErr result (result ≡ Err BuildError.Memory) }
-    {
-        self.exception_tables
-            .entry_mut(table)
-            .append_argument(block, value)
-    }
-
-    /// Makes each edge of an exception table that goes to `from` go to `to`. What it passes stays.
-    pub fn change_exception_table_target(&mut self, table: ExceptionTable, from: Block, to: Block)
-        requires { table < length self.old.exception_tables }
-        ensures { self.new ≡ with_exception_target self.old table from to }
-    {
-        self.exception_tables
-            .entry_mut(table)
-            .change_target(from, to);
     }
 
     /// The regions of memory.
@@ -259,11 +231,23 @@ impl Tables {
         self.jump_tables.entry_mut(table).take()
     }
 
-    /// An exception table, if there is one of this number.
+    /// An exception table, if there is one of this number that serves no instruction so far.
     pub fn exception_table(&self, table: ExceptionTable) -> Option<&ExceptionTargets>
-        ensures { option_copied result ≡ slice_get self.now.exception_tables table }
+        ensures { option_copied result ≡ unserved (slice_get self.now.exception_tables table) }
     {
-        self.exception_tables.get(table)
+        self.exception_tables.get(table)?.as_ref()
+    }
+
+    /// Takes an exception table for the instruction that it serves from now on, if there is a table of this number
+    /// that serves none so far.
+    pub fn take_exception_table(&mut self, table: ExceptionTable) -> Option<ExceptionTargets>
+        ensures taken { result ≡ unserved (slice_get self.old.exception_tables table) }
+        ensures served { self.new ≡ with_exception_table_served self.old table }
+    {
+        if table.index() >= self.exception_tables.len() {
+            return None;
+        }
+        self.exception_tables.entry_mut(table).take()
     }
 
     /// How many stack slots there are.

@@ -4,10 +4,11 @@
 use clif_instructions::block_call::{BlockArg, BlockCall};
 use clif_instructions::instructions::InstructionData;
 use clif_instructions::jump_table::JumpTableData;
+use clif_instructions::value_list::ValueList;
 use clif_tables::{
     ExceptionItem, ExceptionTableData, ExceptionTableItem, ExceptionTargets, Tables,
 };
-use clif_types::{Block, BuildError, EntityRef, ExceptionTable, JumpTable, SigRef, Value};
+use clif_types::{Block, BuildError, EntityRef, ExceptionTable, FuncRef, JumpTable, SigRef, Value};
 use std::alloc::Global;
 use std::fmt::Write;
 use std::process::Abort;
@@ -145,22 +146,6 @@ fn exception_table(
     Ok(tables.create_exception_table(ExceptionTableData { sig, normal, items })?)
 }
 
-// Asserts the edges of an exception table, the normal one first.
-fn has_exception_edges(
-    rt: &impl Abort,
-    alloc: Global,
-    tables: &Tables,
-    expected: &str,
-) -> Result<(), Fail> {
-    let table = tables.exception_table(ExceptionTable::from_u32(0));
-    are_edges(
-        rt,
-        alloc,
-        table.expect(rt, "a table").all_branches(),
-        expected,
-    )
-}
-
 // Asserts the parts of the exception table above.
 fn has_exception_parts(rt: &impl Abort, table: &ExceptionTargets) {
     assert!(rt; table.signature() == SigRef::from_u32(0));
@@ -177,24 +162,59 @@ fn has_exception_parts(rt: &impl Abort, table: &ExceptionTargets) {
     }
 }
 
+// The edges to block2 go to block4 and pass what they passed; and then each edge of the call that the table serves passes
+// a value to block4.
 fn changes_exception_table(
     rt: &impl Abort,
     alloc: Global,
     tables: &mut Tables,
 ) -> Result<(), Fail> {
     let number = exception_table(rt, alloc, tables)?;
-    has_exception_parts(rt, tables.exception_table(number).expect(rt, "a table"));
-    has_exception_edges(rt, alloc, tables, "block3 ret0;block2 exn0;block4;")?;
-    assert!(rt; number.index() < tables.exception_table_count());
-    tables.change_exception_table_target(number, block(rt, 2), block(rt, 4));
-    has_exception_edges(rt, alloc, tables, "block3 ret0;block4 exn0;block4;")?;
-    assert!(rt; number.index() < tables.exception_table_count());
-    tables.append_exception_table_argument(number, block(rt, 4), value(rt, 7))?;
-    has_exception_edges(rt, alloc, tables, "block3 ret0;block4 exn0 v7;block4 v7;")
+    let found = tables.exception_table(number).expect(rt, "a table");
+    has_exception_parts(rt, found);
+    let edges = found.all_branches();
+    are_edges(rt, alloc, edges, "block3 ret0;block2 exn0;block4;")?;
+    let mut exception = tables.take_exception_table(number).expect(rt, "a table");
+    has_exception_parts(rt, &exception);
+    exception.change_target(block(rt, 2), block(rt, 4));
+    let edges = exception.all_branches();
+    are_edges(rt, alloc, edges, "block3 ret0;block4 exn0;block4;")?;
+    let func_ref = FuncRef::from_u32(0);
+    let args = ValueList::new(alloc);
+    let mut call = InstructionData::TryCall {
+        func_ref,
+        args,
+        exception,
+    };
+    call.append_argument(block(rt, 4), value(rt, 7))?;
+    let edges = call.branch_destination();
+    are_edges(rt, alloc, edges, "block3 ret0;block4 exn0 v7;block4 v7;")
+}
+
+// An exception table is there until it is taken, and it still counts.
+fn exceptions_serve_once(rt: &impl Abort, alloc: Global, tables: &mut Tables) -> Result<(), Fail> {
+    let first = exception_table(rt, alloc, tables)?;
+    let second = exception_table(rt, alloc, tables)?;
+    assert!(rt; tables.exception_table(first).is_some());
+    assert!(rt; tables.take_exception_table(first).is_some());
+    assert!(rt; tables.exception_table(first).is_none());
+    assert!(rt; tables.take_exception_table(first).is_none());
+    assert!(rt; tables.exception_table(second).is_some());
+    assert!(rt; tables.exception_table_count() == 2);
+    let none = ExceptionTable::from_u32(2);
+    assert!(rt; tables.exception_table(none).is_none());
+    assert!(rt; tables.take_exception_table(none).is_none());
+    Ok(())
 }
 
 #[test]
 fn exception_tables(rt: HostRuntime) -> Result<(), Fail> {
     let mut tables = Tables::new(rt.alloc());
     changes_exception_table(&rt, rt.alloc(), &mut tables)
+}
+
+#[test]
+fn exception_tables_serve_one_instruction(rt: HostRuntime) -> Result<(), Fail> {
+    let mut tables = Tables::new(rt.alloc());
+    exceptions_serve_once(&rt, rt.alloc(), &mut tables)
 }

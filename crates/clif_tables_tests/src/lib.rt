@@ -2,6 +2,8 @@
 #![tactic(auto)]
 
 #[cfg(test)]
+mod callees;
+#[cfg(test)]
 mod edges;
 #[cfg(test)]
 mod lines;

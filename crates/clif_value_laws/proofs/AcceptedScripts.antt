@@ -9,7 +9,7 @@ use Rattle.clif_types.specs.Signature.{SignatureShape}
 use Rattle.clif_ssa.specs.Structured.{VariableTypes}
 use Rattle.clif_meaning.specs.Acceptance.{Accepted, Misuse, Refused, Verdict, allows, can_lead, can_operate, has_entry, is_open, is_refused, may_serve, refusal_of, verdict_from, verdict_on}
 use Rattle.clif_meaning.specs.Bits.{AreValues}
-use Rattle.clif_meaning.specs.Event.{types_of}
+use Rattle.clif_tables.specs.Callees.{types_of}
 use Rattle.clif_meaning.specs.FunctionView.{FunctionView}
 use Rattle.clif_meaning.specs.Headline.{script_run}
 use Rattle.clif_meaning.specs.Instruction.{Instruction, operation_entries}

@@ -10,7 +10,7 @@ use Rattle.clif_ssa.specs.Ssa.{SsaState, sealed_of}
 use Rattle.clif_ssa.specs.Sound.{entry_of}
 use Rattle.clif_ssa.specs.Structured.{Structured}
 use Rattle.clif_ssa.specs.Zeros.{insts_of_zeros}
-use Rattle.clif_meaning.specs.Event.{types_of}
+use Rattle.clif_tables.specs.Callees.{types_of}
 use Rattle.clif_meaning.specs.FunctionView.{Placed}
 use Rattle.clif_meaning.specs.Ledger.{or_invalid}
 use Rattle.clif_meaning.specs.Name.{Name}
@@ -64,7 +64,7 @@ module _ (calls : List AnsweredCall) (f : Body) (typed : ValuesTyped calls f) wh
       → AllByRecursion (GivesFitting (view_of f)) (carried calls item)
   item_fits (Instruct place instruction results) well given values = (
     λ world bits memory holds.
-        subst (λ (types : List «Type»). GivesValues types returns
+        subst (λ (types : List «Type»). GivesValues types returns (call_shape instruction.operation)
         (outcome_of world instruction.operation instruction.controlling (map (view_of f).value_type (map (answered calls) instruction.operands))
         (map bits (map (answered calls) instruction.operands)) memory))
         (sym (results_are results (result_types instruction.operation instruction.controlling) given.0))

@@ -1,23 +1,26 @@
 -- The function's machine keeps values of their types in its values.
-use Rattle.std.proofs.Common.{◌≡◌, ℕ, zero, suc, List, [], ◌∷◌, ◌++◌, map, slice_get, refl, sym, subst, true, Some, None, Option}
+use Rattle.std.proofs.Common.{◌≡◌, ℕ, zero, suc, List, [], ◌∷◌, ◌++◌, map, slice_get, refl, sym, subst, true, false, Bool, Some, None, Option, inl, inr}
+use Rattle.std.specs.Prelude.{◌⊎◌, ◌==◌, ◌&&◌, if◌then◌else◌}
 use Rattle.std.proofs.lemmas.Bool.{eqb-true}
 use Rattle.std.proofs.lemmas.List.{append-nil}
 use Rattle.std.specs.List.{AllByRecursion}
 use Rattle.clif_types.specs.declared.types.«Type».{«Type»}
 use Rattle.clif_meaning.specs.Bits.{Bits, IsValue, AreValues}
-use Rattle.clif_meaning.specs.Event.{types_of}
+use Rattle.clif_tables.specs.Callees.{types_of}
+use Rattle.clif_meaning.specs.Event.{Answer, CallShape, Event, Exception, IsAnswerTo, Results, payload_types}
 use Rattle.clif_meaning.specs.Instruction.{Edge}
 use Rattle.clif_meaning.specs.Machine.{Control, At, HasReturned, HasTrapped, IsStuck, state_after}
 use Rattle.clif_meaning.specs.Memory.{Memory}
 use Rattle.clif_meaning.specs.Outcome.{Outcome, Gives, Goes, Returns, Traps, Calls, NoStep, outcome_of}
 use Rattle.clif_meaning.specs.FunctionView.{FunctionView, Placed}
-use Rattle.clif_meaning.specs.FunctionMachine.{FunctionRun, FunctionState, blank_state, carry_out, enter_block, follow_edge, function_machine, same_value, start_at, step_at, value_bits}
-use Rattle.clif_meaning.specs.Typing.{EdgeMatches, value_types_at}
+use Rattle.clif_meaning.specs.FunctionMachine.{ByMaps, Collector, FunctionRun, FunctionState, OverSet, blank_state, call_outside, carry_out, enter_block, follow_edge, function_machine, give_results, same_value, start_at, step_at, take_answer, value_bits, values_after}
+use Rattle.clif_meaning.specs.Store.{assigned}
+use Rattle.clif_meaning.specs.Typing.{EachEdgeMatches, EdgeMatches, call_shape, value_types_at}
 use Rattle.clif_meaning.specs.World.{World}
 use Rattle.clif_value_laws.specs.ValuesFit.{AliasesTyped, EntryHas, FunctionFits, HoldValues, IsPlacedTyped}
 use Rattle.clif_value_laws.specs.Laws.{FunctionRunsFit, FunctionStepsFit, OfNextPlaced}
 use Rattle.clif_value_laws.proofs.Outcomes.{GivesValues, typed_gives}
-use Rattle.clif_value_laws.proofs.Holding.{zeros_hold, assigned_front, assigned_hold, edge_fits}
+use Rattle.clif_value_laws.proofs.Holding.{FitAt, all_fit, none_fit, zeros_hold, assigned_front, assigned_hold, edge_fits}
 
 values_equal : (a b : ℕ) → same_value a b ≡ true → a ≡ b
 values_equal a b same = eqb-true a b same
@@ -26,14 +29,14 @@ values_equal a b same = eqb-true a b same
 abbrev pub GivesFitting : FunctionView → Placed → Type 0
 GivesFitting function placed =
     (world : World) (bits : ℕ → Bits) (memory : Memory) → HoldValues function.value_type bits
-    → GivesValues (map function.value_type placed.results) (types_of function.signature.returns)
+    → GivesValues (map function.value_type placed.results) (types_of function.signature.returns) (call_shape placed.instruction.operation)
     (outcome_of world placed.instruction.operation placed.instruction.controlling
     (map function.value_type placed.instruction.operands) (map bits placed.instruction.operands) memory)
 
 -- and what its edges pass does
 pub record WorksFitting (function : FunctionView) (placed : Placed) : Type 0 where
   pub gives : GivesFitting function placed
-  pub edges : AllByRecursion (EdgeMatches function.value_type (value_types_at function) [] []) placed.instruction.edges
+  pub edges : EachEdgeMatches function.value_type (value_types_at function) (call_shape placed.instruction.operation) placed.instruction.edges
 
 pub typed_works : (function : FunctionView) (placed : Placed) → IsPlacedTyped function placed → WorksFitting function placed
 typed_works function placed typed = record {
@@ -74,27 +77,73 @@ module _ (run : FunctionRun) where
     operands_hold state fits value =
         subst (λ (ty : «Type»). IsValue ty (value_bits run state value)) (aliases value) (fits.values (run.function.resolved value))
 
-    followed : (state : FunctionState) (given : List Bits) (edges : List (Edge ℕ ℕ)) (k : ℕ)
-        → AllByRecursion (EdgeMatches run.function.value_type (value_types_at run.function) [] []) edges → FunctionFits run state
+    followed : (state : FunctionState) (results payload : List «Type») (given : List Bits) (edges : List (Edge ℕ ℕ)) (k : ℕ)
+        → FitAt results given → FitAt payload given
+        → AllByRecursion (EdgeMatches run.function.value_type (value_types_at run.function) results payload) edges → FunctionFits run state
         → FunctionFits run (follow_edge run state given (slice_get edges k))
-    followed state given [] k match fits = stuck state fits
-    followed state given (edge ∷ edges) zero match fits =
+    followed state results payload given [] k results_fit payload_fits match fits = stuck state fits
+    followed state results payload given (edge ∷ edges) zero results_fit payload_fits match fits =
         entered state edge.target _ (value_types_at run.function edge.target) [] fits (sym (append-nil (value_types_at run.function edge.target)))
-        (edge_fits run.function.value_type (value_bits run state) (operands_hold state fits) (value_types_at run.function) given edge match.0)
-    followed state given (edge ∷ edges) (suc k) match fits = followed state given edges k match.1 fits
+        (edge_fits run.function.value_type (value_bits run state) (operands_hold state fits) results payload given results_fit payload_fits
+        (value_types_at run.function) edge match.0)
+    followed state results payload given (edge ∷ edges) (suc k) results_fit payload_fits match fits =
+        followed state results payload given edges k results_fit payload_fits match.1 fits
+
+    -- what the collector moves keeps its type
+    moved : (events : List Event) (call : CallShape) (collector : Collector) (values : ℕ → Bits) → HoldValues run.function.value_type values
+        → HoldValues run.function.value_type (values_after run (run.world.moved events call) collector values)
+    moved events call ByMaps values holds value = holds value
+    moved events call (OverSet members) values holds value = by (members value && (run.function.resolved value == value))
+      where
+        by : (is_moved : Bool)
+            → IsValue (run.function.value_type value) (if is_moved then run.world.moved events call (run.function.value_type value) (values value) else values value)
+        by true = run.world.moved_fits events call (run.function.value_type value) (values value) (holds value)
+        by false = holds value
+
+    -- the results of a call get what it returns
+    given_back : (state : FunctionState) (results : List ℕ) (rest : List Placed) (types : List «Type») (bits : List Bits)
+        → (map run.function.value_type results ≡ types) ⊎ (map run.function.value_type results ≡ []) → AreValues types bits
+        → FunctionFits run state → FunctionFits run (give_results state results rest bits)
+    given_back state results rest types bits are fit fits = record { values = by results are; returned = tt }
+      where
+        by : (values : List ℕ) → (map run.function.value_type values ≡ types) ⊎ (map run.function.value_type values ≡ [])
+            → HoldValues run.function.value_type (assigned same_value values bits state.values)
+        by values (inl same) =
+            assigned_hold same_value values_equal run.function.value_type values bits state.values (subst (λ (ts : List «Type»). AreValues ts bits) (sym same) fit) fits.values
+        by [] (inr none) = fits.values
+        by (value ∷ values) (inr none) = let no_way : ⊥ = cc in absurd no_way
+
+    -- an answer comes
+    answered : (state : FunctionState) (call : CallShape) (edges : List (Edge ℕ ℕ)) (results : List ℕ) (rest : List Placed) (answer : Answer) → IsAnswerTo call answer
+        → (map run.function.value_type results ≡ types_of call.signature.returns) ⊎ (map run.function.value_type results ≡ [])
+        → EachEdgeMatches run.function.value_type (value_types_at run.function) (Some call) edges → FunctionFits run state
+        → FunctionFits run (take_answer run state edges results rest answer)
+    answered state call [] results rest (Results values) answers are match fits =
+        given_back state results rest (types_of call.signature.returns) values are answers fits
+    answered state call [] results rest (Exception edge payload) answers are match fits = stuck state fits
+    answered state call (normal ∷ edges) results rest (Results values) answers are match fits =
+        followed state (types_of call.signature.returns) [] values (normal ∷ []) 0 (all_fit (types_of call.signature.returns) values answers) (none_fit values) (match.0, tt) fits
+    answered state call (normal ∷ edges) results rest (Exception edge payload) answers are match fits =
+        followed state [] payload_types payload edges edge (none_fit payload) (all_fit payload_types payload answers.1) match.1 fits
 
     carried : (state : FunctionState) (placed : Placed) (rest : List Placed) (outcome : Outcome) → WorksFitting run.function placed
-        → GivesValues (map run.function.value_type placed.results) returns outcome
+        → GivesValues (map run.function.value_type placed.results) returns (call_shape placed.instruction.operation) outcome
         → FunctionFits run state → FunctionFits run (carry_out run state placed rest outcome)
     carried state placed rest (Gives values memory) works gives fits = record {
       values = assigned_hold same_value values_equal run.function.value_type placed.results values state.values gives fits.values;
       returned = tt;
     }
     carried state placed rest (Goes edge given memory) works gives fits =
-        followed (record state { memory = memory }) given placed.instruction.edges edge works.edges (with_memory state memory fits)
+        let plain : AllByRecursion (EdgeMatches run.function.value_type (value_types_at run.function) [] []) placed.instruction.edges =
+        subst (λ (made : Option CallShape). EachEdgeMatches run.function.value_type (value_types_at run.function) made placed.instruction.edges) gives works.edges in
+        followed (record state { memory = memory }) [] [] given placed.instruction.edges edge (none_fit given) (none_fit given) plain (with_memory state memory fits)
     carried state placed rest (Returns values) works gives fits = record { values = fits.values; returned = gives }
     carried state placed rest (Traps reason) works gives fits = record { values = fits.values; returned = tt }
-    carried state placed rest (Calls callee call arguments) works gives fits = absurd gives
+    carried state placed rest (Calls callee call arguments) works gives fits =
+        let after : FunctionState = call_outside run state placed.stack_map callee call arguments in
+        answered after call placed.instruction.edges placed.results rest (run.world.answer after.events call) (run.world.answers_fit after.events call) gives.1
+        (subst (λ (made : Option CallShape). EachEdgeMatches run.function.value_type (value_types_at run.function) made placed.instruction.edges) gives.0 works.edges)
+        (record { values = moved after.events call run.collector state.values fits.values; returned = fits.returned })
     carried state placed rest NoStep works gives fits = stuck state fits
 
     stepped : (state : FunctionState) (control : Control Placed) → OfNextPlaced (WorksFitting run.function) control → FunctionFits run state
@@ -130,25 +179,31 @@ module _ (run : FunctionRun) (aliases : AliasesTyped run.function) (items : (blo
   along state given None = tt
   along state given (Some edge) = items edge.target
 
-  left_carried : (state : FunctionState) (placed : Placed) (rest : List Placed) (outcome : Outcome) (results : List «Type»)
-      → GivesValues results (types_of run.function.signature.returns) outcome → AllByRecursion (WorksFitting run.function) rest
-      → AreLeft run (carry_out run state placed rest outcome).control
-  left_carried state placed rest (Gives values memory) results gives left = left
-  left_carried state placed rest (Goes edge given memory) results gives left = along (record state { memory = memory }) given (slice_get placed.instruction.edges edge)
-  left_carried state placed rest (Returns values) results gives left = tt
-  left_carried state placed rest (Traps reason) results gives left = tt
-  left_carried state placed rest (Calls callee call arguments) results gives left = absurd gives
-  left_carried state placed rest NoStep results gives left = tt
+  left_answered : (state : FunctionState) (edges : List (Edge ℕ ℕ)) (results : List ℕ) (rest : List Placed) (answer : Answer) → AllByRecursion (WorksFitting run.function) rest
+      → AreLeft run (take_answer run state edges results rest answer).control
+  left_answered state [] results rest (Results values) left = left
+  left_answered state [] results rest (Exception edge payload) left = tt
+  left_answered state (normal ∷ edges) results rest (Results values) left = items normal.target
+  left_answered state (normal ∷ edges) results rest (Exception edge payload) left = along state payload (slice_get edges edge)
 
-  left_stepped : (state : FunctionState) (control : Control Placed) → state.control ≡ control → FunctionFits run state → AreLeft run control
+  left_carried : (state : FunctionState) (placed : Placed) (rest : List Placed) (outcome : Outcome) → AllByRecursion (WorksFitting run.function) rest
+      → AreLeft run (carry_out run state placed rest outcome).control
+  left_carried state placed rest (Gives values memory) left = left
+  left_carried state placed rest (Goes edge given memory) left = along (record state { memory = memory }) given (slice_get placed.instruction.edges edge)
+  left_carried state placed rest (Returns values) left = tt
+  left_carried state placed rest (Traps reason) left = tt
+  left_carried state placed rest (Calls callee call arguments) left =
+      let after : FunctionState = call_outside run state placed.stack_map callee call arguments in
+      left_answered after placed.instruction.edges placed.results rest (run.world.answer after.events call) left
+  left_carried state placed rest NoStep left = tt
+
+  left_stepped : (state : FunctionState) (control : Control Placed) → state.control ≡ control → AreLeft run control
       → AreLeft run (step_at run state control).control
-  left_stepped state (At []) is fits left = tt
-  left_stepped state (At (placed ∷ rest)) is fits left =
-      left_carried state placed rest _ (map run.function.value_type placed.results)
-      (left.0.gives run.world (value_bits run state) state.memory (operands_hold run aliases state fits)) left.1
-  left_stepped state (HasReturned results) is fits left = subst (AreLeft run) (sym is) tt
-  left_stepped state (HasTrapped reason) is fits left = subst (AreLeft run) (sym is) tt
-  left_stepped state IsStuck is fits left = subst (AreLeft run) (sym is) tt
+  left_stepped state (At []) is left = tt
+  left_stepped state (At (placed ∷ rest)) is left = left_carried state placed rest _ left.1
+  left_stepped state (HasReturned results) is left = subst (AreLeft run) (sym is) tt
+  left_stepped state (HasTrapped reason) is left = subst (AreLeft run) (sym is) tt
+  left_stepped state IsStuck is left = subst (AreLeft run) (sym is) tt
 
   left_started : (entry : Option ℕ) → AreLeft run (start_at run entry).control
   left_started None = tt
@@ -169,7 +224,7 @@ module _ (run : FunctionRun) (aliases : AliasesTyped run.function) (items : (blo
       let before = both_after types has values n in
       let state : FunctionState = state_after (function_machine run) n in (
         stepped run aliases state state.control (next_of state.control before.1) before.0,
-        left_stepped state state.control refl before.0 before.1,
+        left_stepped state state.control refl before.1,
       )
 
   pub working_runs_fit : (types : List «Type») → EntryHas (value_types_at run.function) types run.function.entry → AreValues types run.world.arguments → (n : ℕ)

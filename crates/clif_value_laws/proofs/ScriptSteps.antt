@@ -1,12 +1,13 @@
 -- The script's machine keeps values of their types in its variables and names.
-use Rattle.std.proofs.Common.{◌≡◌, ℕ, zero, suc, List, [], ◌∷◌, ◌++◌, map, slice_get, sym, subst, true, ap₂, Some, None, Option}
-use Rattle.std.specs.Prelude.{◌==◌}
+use Rattle.std.proofs.Common.{◌≡◌, ℕ, zero, suc, List, [], ◌∷◌, ◌++◌, map, slice_get, sym, subst, true, false, Bool, ap₂, Some, None, Option, inl, inr}
+use Rattle.std.specs.Prelude.{◌==◌, ◌⊎◌, if◌then◌else◌}
 use Rattle.std.proofs.lemmas.Bool.{eqb-true, and_parts}
 use Rattle.std.proofs.lemmas.List.{append-nil}
 use Rattle.std.specs.List.{AllByRecursion}
 use Rattle.clif_types.specs.declared.types.«Type».{«Type»}
 use Rattle.clif_meaning.specs.Bits.{Bits, IsValue, AreValues}
-use Rattle.clif_meaning.specs.Event.{types_of}
+use Rattle.clif_tables.specs.Callees.{types_of}
+use Rattle.clif_meaning.specs.Event.{Answer, Callee, CallShape, Event, Exception, IsAnswerTo, Results, payload_types}
 use Rattle.clif_meaning.specs.Instruction.{Edge}
 use Rattle.clif_meaning.specs.Machine.{Control, At, HasReturned, HasTrapped, IsStuck, state_after}
 use Rattle.clif_meaning.specs.Memory.{Memory}
@@ -14,13 +15,14 @@ use Rattle.clif_meaning.specs.Name.{Name, answer_of, same_name}
 use Rattle.clif_meaning.specs.Outcome.{Outcome, Gives, Goes, Returns, Traps, Calls, NoStep}
 use Rattle.clif_meaning.specs.Premises.{OfNextItem}
 use Rattle.clif_meaning.specs.Program.{Item, Instruct, Use, Assign}
-use Rattle.clif_meaning.specs.ScriptMachine.{ScriptRun, ScriptState, blank_state, carry_out, enter_block, follow_edge, run_item, same_variable, script_machine, start_at, step_at}
-use Rattle.clif_meaning.specs.Typing.{EdgeMatches}
+use Rattle.clif_meaning.specs.ScriptMachine.{ScriptRun, ScriptState, blank_state, call_outside, carry_out, enter_block, follow_edge, give_results, run_item, same_variable, script_machine, start_at, step_at, take_answer}
+use Rattle.clif_meaning.specs.Store.{assigned, shown_memory}
+use Rattle.clif_meaning.specs.Typing.{EachEdgeMatches, EdgeMatches, call_shape}
 use Rattle.clif_meaning.proofs.EachStep.{each_step}
-use Rattle.clif_value_laws.specs.ValuesFit.{EntryHas, IsItemTyped, ScriptFits, name_types_at}
+use Rattle.clif_value_laws.specs.ValuesFit.{EntryHas, HoldValues, IsItemTyped, ScriptFits, name_types_at}
 use Rattle.clif_value_laws.specs.Laws.{ScriptRunsFit, ScriptStepsFit}
 use Rattle.clif_value_laws.proofs.Outcomes.{GivesValues, typed_gives}
-use Rattle.clif_value_laws.proofs.Holding.{zeros_hold, assigned_front, assigned_hold, edge_fits}
+use Rattle.clif_value_laws.proofs.Holding.{FitAt, all_fit, none_fit, zeros_hold, assigned_front, assigned_hold, edge_fits}
 
 -- the tests for equal names and for equal variables
 names_equal : (a b : Name) → same_name a b ≡ true → a ≡ b
@@ -47,34 +49,83 @@ module _ (run : ScriptRun) (returns : List «Type») where
     returned = tt;
   }
 
-  followed : (state : ScriptState) (given : List Bits) (edges : List (Edge Name Name)) (k : ℕ)
-      → AllByRecursion (EdgeMatches run.name_type (name_types_at run) [] []) edges → ScriptFits run returns state
+  followed : (state : ScriptState) (results payload : List «Type») (given : List Bits) (edges : List (Edge Name Name)) (k : ℕ)
+      → FitAt results given → FitAt payload given
+      → AllByRecursion (EdgeMatches run.name_type (name_types_at run) results payload) edges → ScriptFits run returns state
       → ScriptFits run returns (follow_edge run state given (slice_get edges k))
-  followed state given [] k match fits = stuck state fits
-  followed state given (edge ∷ edges) zero match fits =
+  followed state results payload given [] k results_fit payload_fits match fits = stuck state fits
+  followed state results payload given (edge ∷ edges) zero results_fit payload_fits match fits =
       entered state edge.target _ (name_types_at run edge.target) [] fits (sym (append-nil (name_types_at run edge.target)))
-      (edge_fits run.name_type state.names fits.names (name_types_at run) given edge match.0)
-  followed state given (edge ∷ edges) (suc k) match fits = followed state given edges k match.1 fits
+      (edge_fits run.name_type state.names fits.names results payload given results_fit payload_fits (name_types_at run) edge match.0)
+  followed state results payload given (edge ∷ edges) (suc k) results_fit payload_fits match fits =
+      followed state results payload given edges k results_fit payload_fits match.1 fits
 
-  carried : (state : ScriptState) (edges : List (Edge Name Name)) (results : List Name) (rest : List Item) (outcome : Outcome)
-      → GivesValues (map run.name_type results) returns outcome → AllByRecursion (EdgeMatches run.name_type (name_types_at run) [] []) edges
+  -- what the collector moves keeps its type
+  called : (state : ScriptState) (callee : Callee) (call : CallShape) (arguments : List Bits) → ScriptFits run returns state
+      → ScriptFits run returns (call_outside run state callee call arguments)
+  called state callee call arguments fits = record {
+    variables = λ variable. by (run.is_marked variable) (run.variable_type variable) (state.variables variable) (fits.variables variable);
+    names = λ name. by (run.is_tracked name) (run.name_type name) (state.names name) (fits.names name);
+    returned = fits.returned;
+  }
+    where
+      events : List Event
+      events = record { callee = callee; arguments = arguments; memory = shown_memory run.hidden state.memory } ∷ state.events
+
+      by : (is_moved : Bool) (ty : «Type») (bits : Bits) → IsValue ty bits → IsValue ty (if is_moved then run.world.moved events call ty bits else bits)
+      by true ty bits fit = run.world.moved_fits events call ty bits fit
+      by false ty bits fit = fit
+
+  -- the results of a call get what it returns
+  given_back : (state : ScriptState) (results : List Name) (rest : List Item) (types : List «Type») (values : List Bits)
+      → (map run.name_type results ≡ types) ⊎ (map run.name_type results ≡ []) → AreValues types values
+      → ScriptFits run returns state → ScriptFits run returns (give_results state results rest values)
+  given_back state results rest types values are fit fits = record { variables = fits.variables; names = by results are; returned = tt }
+    where
+      by : (names : List Name) → (map run.name_type names ≡ types) ⊎ (map run.name_type names ≡ []) → HoldValues run.name_type (assigned same_name names values state.names)
+      by names (inl same) =
+          assigned_hold same_name names_equal run.name_type names values state.names (subst (λ (ts : List «Type»). AreValues ts values) (sym same) fit) fits.names
+      by [] (inr none) = fits.names
+      by (name ∷ names) (inr none) = let no_way : ⊥ = cc in absurd no_way
+
+  -- an answer comes
+  answered : (state : ScriptState) (call : CallShape) (edges : List (Edge Name Name)) (results : List Name) (rest : List Item) (answer : Answer) → IsAnswerTo call answer
+      → (map run.name_type results ≡ types_of call.signature.returns) ⊎ (map run.name_type results ≡ [])
+      → EachEdgeMatches run.name_type (name_types_at run) (Some call) edges → ScriptFits run returns state
+      → ScriptFits run returns (take_answer run state edges results rest answer)
+  answered state call [] results rest (Results values) answers are match fits =
+      given_back state results rest (types_of call.signature.returns) values are answers fits
+  answered state call [] results rest (Exception edge payload) answers are match fits = stuck state fits
+  answered state call (normal ∷ edges) results rest (Results values) answers are match fits =
+      followed state (types_of call.signature.returns) [] values (normal ∷ []) 0 (all_fit (types_of call.signature.returns) values answers) (none_fit values) (match.0, tt) fits
+  answered state call (normal ∷ edges) results rest (Exception edge payload) answers are match fits =
+      followed state [] payload_types payload edges edge (none_fit payload) (all_fit payload_types payload answers.1) match.1 fits
+
+  carried : (state : ScriptState) (edges : List (Edge Name Name)) (results : List Name) (rest : List Item) (made : Option CallShape) (outcome : Outcome)
+      → GivesValues (map run.name_type results) returns made outcome → EachEdgeMatches run.name_type (name_types_at run) made edges
       → ScriptFits run returns state → ScriptFits run returns (carry_out run state edges results rest outcome)
-  carried state edges results rest (Gives values memory) gives match fits = record {
+  carried state edges results rest made (Gives values memory) gives match fits = record {
     variables = fits.variables;
     names = assigned_hold same_name names_equal run.name_type results values state.names gives fits.names;
     returned = tt;
   }
-  carried state edges results rest (Goes edge given memory) gives match fits =
-      followed (record state { memory = memory }) given edges edge match (with_memory state memory fits)
-  carried state edges results rest (Returns values) gives match fits = record { variables = fits.variables; names = fits.names; returned = gives }
-  carried state edges results rest (Traps reason) gives match fits = record { variables = fits.variables; names = fits.names; returned = tt }
-  carried state edges results rest (Calls callee call arguments) gives match fits = absurd gives
-  carried state edges results rest NoStep gives match fits = stuck state fits
+  carried state edges results rest made (Goes edge given memory) gives match fits =
+      let plain : AllByRecursion (EdgeMatches run.name_type (name_types_at run) [] []) edges =
+      subst (λ (call : Option CallShape). EachEdgeMatches run.name_type (name_types_at run) call edges) gives match in
+      followed (record state { memory = memory }) [] [] given edges edge (none_fit given) (none_fit given) plain (with_memory state memory fits)
+  carried state edges results rest made (Returns values) gives match fits = record { variables = fits.variables; names = fits.names; returned = gives }
+  carried state edges results rest made (Traps reason) gives match fits = record { variables = fits.variables; names = fits.names; returned = tt }
+  carried state edges results rest made (Calls callee call arguments) gives match fits =
+      let after : ScriptState = call_outside run state callee call arguments in
+      answered after call edges results rest (run.world.answer after.events call) (run.world.answers_fit after.events call) gives.1
+      (subst (λ (shape : Option CallShape). EachEdgeMatches run.name_type (name_types_at run) shape edges) gives.0 match)
+      (called state callee call arguments fits)
+  carried state edges results rest made NoStep gives match fits = stuck state fits
 
   item_fits : (state : ScriptState) (item : Item) (rest : List Item) → IsItemTyped run returns item → ScriptFits run returns state
       → ScriptFits run returns (run_item run state item rest)
   item_fits state (Instruct place instruction results) rest typed fits =
-      carried state instruction.edges results rest _
+      carried state instruction.edges results rest (call_shape instruction.operation) _
       (typed_gives run.name_type (name_types_at run) returns instruction results run.world state.names state.memory typed fits.names)
       typed.takes.edges fits
   item_fits state (Use variable name) rest typed fits = record {

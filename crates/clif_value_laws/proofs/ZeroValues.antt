@@ -22,9 +22,10 @@ use Rattle.clif_ssa.specs.Structure.{IsNeededZero}
 use Rattle.clif_ssa.specs.Zeros.{HasZero, HasZeros, IsStep, ZeroAt, ZeroStep, insts_of_zero, insts_of_zeros, kind_of_zero, steps_of_kind, zero_row, zero_steps}
 use Rattle.clif_ssa.proofs.ZeroTable.{none_some, same_some, step_there}
 use Rattle.clif_meaning.specs.Bits.{Bits, IsValue, value_of_bytes}
-use Rattle.clif_meaning.specs.Event.{types_of}
+use Rattle.clif_tables.specs.Callees.{types_of}
 use Rattle.clif_meaning.specs.Memory.{Memory}
 use Rattle.clif_meaning.specs.Outcome.{float_type, low_bits_at, outcome_of, pooled_type}
+use Rattle.clif_meaning.specs.Typing.{call_shape}
 use Rattle.clif_meaning.specs.View.{constant_at, controlling_of, operation_of, placed_of, view_of}
 use Rattle.clif_meaning.specs.World.{World}
 use Rattle.clif_meaning.proofs.SampleWorld.{pow_pos}
@@ -37,7 +38,7 @@ use Rattle.clif_value_laws.proofs.Outcomes.{GivesValues}
 abbrev ShapeFits : Body → InstructionData → List ℕ → Type 0
 ShapeFits f shape results =
     (world : World) (bits : ℕ → Bits) (memory : Memory) → HoldValues (view_of f).value_type bits
-    → GivesValues (map (view_of f).value_type results) (types_of f.signature.returns)
+    → GivesValues (map (view_of f).value_type results) (types_of f.signature.returns) (call_shape (operation_of f.tables shape))
     (outcome_of world (operation_of f.tables shape) (controlling_of f shape results) (map (view_of f).value_type (operands shape)) (map bits (operands shape)) memory)
 
 -- so does a step of a zero

@@ -5,7 +5,7 @@ use Rattle.clif_ir.specs.Body.{Body, inst_at}
 use Rattle.clif_check.specs.WellTyped.{IsWellTyped, insts_in_order, types_at}
 use Rattle.clif_meaning.specs.Acceptance.{Accepted, verdict_on}
 use Rattle.clif_meaning.specs.Bits.{AreValues}
-use Rattle.clif_meaning.specs.Event.{types_of}
+use Rattle.clif_tables.specs.Callees.{types_of}
 use Rattle.clif_meaning.specs.FunctionMachine.{Collector, FunctionRun, function_machine}
 use Rattle.clif_meaning.specs.FunctionView.{Placed}
 use Rattle.clif_meaning.specs.Machine.{state_after}

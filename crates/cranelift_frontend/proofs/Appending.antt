@@ -6,7 +6,7 @@ use Rattle.clif_types.specs.declared.types.«Type».{«Type»}
 use Rattle.clif_instructions.specs.declared.block_call.BlockCall.{BlockCall}
 use Rattle.clif_instructions.specs.declared.inst_list.InsertAt.{InsertAt}
 use Rattle.clif_instructions.specs.declared.instructions.InstructionData.{InstructionData}
-use Rattle.clif_instructions.specs.declared.instructions.InstructionData.TheVariants.{Jump, Brif, BranchTable}
+use Rattle.clif_instructions.specs.declared.instructions.InstructionData.TheVariants.{Jump, Brif, BranchTable, TryCall, TryCallIndirect}
 use Rattle.clif_ir.specs.Body.{Body, inst_at}
 use Rattle.clif_ir.specs.Changes.{with_inst, inst_node}
 use Rattle.clif_ir.specs.declared.function.InstNode.{InstNode}
@@ -25,12 +25,16 @@ pub none_of_plain : (shape : InstructionData) → is_branch shape ≡ false → 
 none_of_plain (Jump destination) plain = no_test plain
 none_of_plain (Brif arg blocks) plain = no_test plain
 none_of_plain (BranchTable arg table) plain = no_test plain
+none_of_plain (TryCall function args table) plain = no_test plain
+none_of_plain (TryCallIndirect args table) plain = no_test plain
 none_of_plain _ plain = refl
 
 pub none_of_inner : (shape : InstructionData) → is_terminator shape ≡ false → destinations shape ≡ []
 none_of_inner (Jump destination) goes_on = no_test goes_on
 none_of_inner (Brif arg blocks) goes_on = no_test goes_on
 none_of_inner (BranchTable arg table) goes_on = no_test goes_on
+none_of_inner (TryCall function args table) goes_on = no_test goes_on
+none_of_inner (TryCallIndirect args table) goes_on = no_test goes_on
 none_of_inner _ goes_on = refl
 
 -- the targets of edges that may be made aren't sealed

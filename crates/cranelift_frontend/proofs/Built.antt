@@ -10,9 +10,11 @@ use Rattle.clif_instructions.specs.declared.instructions.InstructionData.{Instru
 use Rattle.clif_ir.specs.Body.{inst_at, value_at}
 use Rattle.clif_ir.specs.Changes.{HasNoRoom, inserted_in}
 use Rattle.clif_ir.proofs.Changes.{no_room_few}
-use Rattle.clif_ir.proofs.KeepsInst.{length-result_types}
+use Rattle.clif_ir.proofs.KeepsInst.{length-types_of_results}
 use Rattle.clif_ir.specs.Consistent.{IsConsistent}
-use Rattle.clif_instructions.specs.Instruction.{destinations, is_branch, is_terminator, operands, result_count, result_type_of, result_types}
+use Rattle.clif_instructions.specs.Instruction.{destinations, is_branch, is_call, is_terminator, operands, result_type_of}
+use Rattle.clif_inst_builder.proofs.NoCalls.{plain_types}
+use Rattle.clif_tables.specs.Callees.{count_of_results, types_of_results}
 use Rattle.clif_instructions.specs.Edges.{targets}
 use Rattle.clif_ssa.specs.Ssa.{SealedStays, SsaState}
 use Rattle.clif_ssa.specs.Structure.{LooksOnce}
@@ -67,7 +69,7 @@ module _ (old new : FunctionBuilder) (shape : InstructionData) (ty : «Type») (
     (fails : new.failed ≡ is_err r) (appends : IfOk r (Appends old new block shape ty))
     (declares : IfOk r (λ inst. IsDeclared old.ctx.now.ssa inst (targets (destinations shape)) new.ctx.now.ssa))
     (ssa : is_branch shape ≡ false → new.ctx.now.ssa ≡ old.ctx.now.ssa) (variables : new.ctx.now.variables ≡ old.ctx.now.variables)
-    (full : r ≡ Err Full → HasNoRoom old.func.now (result_count shape)) (never_failed : r ≢ Err Failed) (looks_once : LooksOnce old.ctx.now.ssa → LooksOnce new.ctx.now.ssa) where
+    (full : r ≡ Err Full → HasNoRoom old.func.now (count_of_results old.func.now.tables shape)) (never_failed : r ≢ Err Failed) (looks_once : LooksOnce old.ctx.now.ssa → LooksOnce new.ctx.now.ssa) where
   appends_at : IfSome old.position (λ block. IfOk r (Appends old new block shape ty))
   appends_at = subst (λ (o : Option ℕ). IfSome o (λ b. IfOk r (Appends old new b shape ty))) (sym at) appends
 
@@ -94,7 +96,7 @@ module _ (old new : FunctionBuilder) (shape : InstructionData) (ty : «Type») (
         position = position;
         srcloc = srcloc;
         full = full;
-        full_table = λ few is. no_room_few old.func.now (result_count shape) consistent.values_fit few (full is);
+        full_table = λ few is. no_room_few old.func.now (count_of_results old.func.now.tables shape) consistent.values_fit few (full is);
         failed = (λ is. absurd (never_failed is), λ failed. let no_way : ⊥ = cc in absurd no_way);
         unchanged = λ failed. let no_way : ⊥ = cc in absurd no_way;
         fails = fails;
@@ -124,10 +126,12 @@ none_appended : {A : Type 0} (o : Option ℕ) (P : ℕ → A → Type 0) (e : Bu
 none_appended None P e = tt
 none_appended (Some block) P e = tt
 
-pub builds_value_refused : (old new : FunctionBuilder) (shape : InstructionData) (ty : «Type») (e : BuildError) → is_branch shape ≡ false → result_types shape ty ≡ result_type_of shape ty ∷ []
+pub builds_value_refused : (old new : FunctionBuilder) (shape : InstructionData) (ty : «Type») (e : BuildError) → is_branch shape ≡ false → types_of_results old.func.now.tables shape ty ≡ result_type_of shape ty ∷ []
     → Builds old new shape ty (Err e) → BuildsValue old new shape ty (Err e)
 builds_value_refused old new shape ty e no_branch one built =
-    let few : result_count shape ≤ 1 = let long : length (result_types shape ty) ≡ 1 = ap (λ (ts : List «Type»). length ts) one in omega (arith, long, length-result_types shape ty) in
+    let few : count_of_results old.func.now.tables shape ≤ 1 =
+    let long : length (types_of_results old.func.now.tables shape ty) ≡ 1 = ap (λ (ts : List «Type»). length ts) one in
+    omega (arith, long, length-types_of_results old.func.now.tables shape ty) in
     record {
       loans = built.loans;
       appends = none_appended old.position (λ block value. AppendsValue old new block shape ty value) e;
@@ -151,7 +155,7 @@ builds_value_refused old new shape ty e no_branch one built =
       fills = tt;
     }
 
-pub builds_pair_refused : (old new : FunctionBuilder) (shape : InstructionData) (ty : «Type») (e : BuildError) → is_branch shape ≡ false → result_count shape ≡ 2
+pub builds_pair_refused : (old new : FunctionBuilder) (shape : InstructionData) (ty : «Type») (e : BuildError) → is_branch shape ≡ false → count_of_results old.func.now.tables shape ≡ 2
     → Builds old new shape ty (Err e) → BuildsPair old new shape ty (Err e)
 builds_pair_refused old new shape ty e no_branch two built =
     record {
@@ -186,7 +190,7 @@ builds_pair_refused old new shape ty e no_branch two built =
 -- its result is answered
 module _ (old new : FunctionBuilder) (shape : InstructionData) (ty : «Type») (inst value : ℕ)
     (current : HasCurrent old) (built : Builds old new shape ty (Ok inst)) (no_branch : is_branch shape ≡ false)
-    (one : result_types shape ty ≡ result_type_of shape ty ∷ []) (goes_on : is_terminator shape ≡ false) (is : value ≡ length old.func.now.values)
+    (one : types_of_results old.func.now.tables shape ty ≡ result_type_of shape ty ∷ []) (goes_on : is_terminator shape ≡ false) (is : value ≡ length old.func.now.values)
     (exists : value < length new.func.now.values) where
   numbers : numbers_of new inst ≡ numbers_with old value
   numbers =
@@ -240,17 +244,17 @@ both_below xs a b bound are each =
     let here : (k : ℕ) → k < 2 → slice_index (a ∷ b ∷ []) k < bound = subst (λ (ys : List ℕ). (k : ℕ) → k < length ys → slice_index ys k < bound) are each in
     (here 0 (omega arith), here 1 (omega arith))
 
-pub pair_count : (old new : FunctionBuilder) (shape : InstructionData) (ty : «Type») (inst : ℕ) → HasCurrent old → Builds old new shape ty (Ok inst) → result_count shape ≡ 2
+pub pair_count : (old new : FunctionBuilder) (shape : InstructionData) (ty : «Type») (inst : ℕ) → HasCurrent old → Builds old new shape ty (Ok inst) → count_of_results old.func.now.tables shape ≡ 2
     → length (inst_at new.func.now inst).results ≡ 2
 pair_count old new shape ty inst current built two =
     ap (λ (xs : List ℕ). length xs)
     (appended_range _ old.func.now old.ctx.now new.func.now new.ctx.now current.0 shape ty inst (at_current old (λ block. Appends old new block shape ty inst) current built.appends))
-    ∙ range_count (length (inserted_in old.func.now current.0).values) (length (result_types shape ty)) ∙ length-result_types shape ty ∙ two
+    ∙ range_count (length (inserted_in old.func.now current.0).values) (length (types_of_results old.func.now.tables shape ty)) ∙ length-types_of_results old.func.now.tables shape ty ∙ two
 
 -- its two results are answered
 module _ (old new : FunctionBuilder) (shape : InstructionData) (ty : «Type») (inst : ℕ) (pair : ℕ × ℕ)
     (current : HasCurrent old) (built : Builds old new shape ty (Ok inst)) (no_branch : is_branch shape ≡ false)
-    (two : result_count shape ≡ 2) (goes_on : is_terminator shape ≡ false) (are : (inst_at new.func.now inst).results ≡ pair.0 ∷ pair.1 ∷ [])
+    (no_call : is_call shape ≡ false) (two : count_of_results old.func.now.tables shape ≡ 2) (goes_on : is_terminator shape ≡ false) (are : (inst_at new.func.now inst).results ≡ pair.0 ∷ pair.1 ∷ [])
     (exist : (pair.0 < length new.func.now.values) × (pair.1 < length new.func.now.values)) where
   appended : Appends old new current.0 shape ty inst
   appended = at_current old (λ block. Appends old new block shape ty inst) current built.appends
@@ -263,7 +267,7 @@ module _ (old new : FunctionBuilder) (shape : InstructionData) (ty : «Type») (
   next : pair.0 ∷ pair.1 ∷ [] ≡ length old.func.now.values ∷ (length old.func.now.values + 1) ∷ []
   next =
       sym are ∙ appended_range _ old.func.now old.ctx.now new.func.now new.ctx.now current.0 shape ty inst appended
-      ∙ ap₂ range_with_len (values-inserted old.func.now current.0) (length-result_types shape ty ∙ two)
+      ∙ ap₂ range_with_len (values-inserted old.func.now current.0) (length-types_of_results old.func.now.tables shape ty ∙ two)
 
   first : pair.0 ≡ length old.func.now.values
   first = same pair.0 (length old.func.now.values) (pair.1 ∷ []) ((length old.func.now.values + 1) ∷ []) next
@@ -304,7 +308,8 @@ module _ (old new : FunctionBuilder) (shape : InstructionData) (ty : «Type») (
     types = built.types;
     typed =
         ap (map (λ (value : ℕ). (value_at new.func.now value).ty)) (sym are)
-        ∙ appended-types-of _ old.func.now old.ctx.now new.func.now new.ctx.now current.0 shape ty inst appended;
+        ∙ appended-types-of _ old.func.now old.ctx.now new.func.now new.ctx.now current.0 shape ty inst appended
+        ∙ plain_types old.func.now.tables shape ty no_call;
     fills = fills_none_begun old.ctx.now new.ctx.now current.0 (λ b.
         appended.status b
         ∙ ap (λ s. if b == current.0 then s else status_of old.ctx.now b) (status_after_none shape (status_of old.ctx.now current.0) goes_on));

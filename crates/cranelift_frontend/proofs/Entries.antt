@@ -5,7 +5,7 @@ use Rattle.std.specs.Prelude.{◌≤◌, slice_get, Option, true, is_err, Result
 use Rattle.clif_types.specs.declared.error.BuildError.{BuildError}
 use Rattle.clif_types.specs.declared.error.BuildError.TheVariants.{Failed}
 use Rattle.clif_types.specs.Signature.{SignatureShape}
-use Rattle.clif_tables.specs.Entries.{TableEntry, AStackSlot, count_for, with_entry}
+use Rattle.clif_tables.specs.Entries.{TableEntry, AStackSlot, ADynamicStackSlot, AGlobalValue, ASignature, AFunction, count_for, with_entry}
 use Rattle.clif_tables.specs.Lists.{TableLists}
 use Rattle.clif_ir.specs.Body.{Body}
 use Rattle.clif_ir.specs.Changes.{with_tables}
@@ -17,13 +17,16 @@ use Rattle.clif_ssa.specs.Structure.{Remembers, StayAlike}
 use Rattle.clif_ssa.proofs.Pooled.{KeepsConstants}
 use Rattle.clif_ssa.proofs.StructuredLaws.{blocks_structured}
 use Rattle.clif_simulation.proofs.Further.{carries_tables}
+use Rattle.clif_simulation.proofs.Growing.{entries_kept}
+use Rattle.clif_ir.proofs.KeepsTables.{entry_stays}
+use Rattle.clif_ir.specs.Consistent.{IsConsistent}
 use Rattle.cranelift_frontend.specs.declared.builder.FunctionBuilder.{FunctionBuilder}
 use Rattle.cranelift_frontend.specs.declared.context.BlockStatus.TheVariants.{Filled}
 use Rattle.cranelift_frontend.specs.Builder.{HasCurrent, SameLoans}
 use Rattle.cranelift_frontend.specs.Context.{ContextState, status_of}
 use Rattle.cranelift_frontend.specs.Calls.{answered}
 use Rattle.cranelift_frontend.specs.Entries.{MakesEntry}
-use Rattle.cranelift_frontend.specs.Growth.{Grows, TypesStay}
+use Rattle.cranelift_frontend.specs.Growth.{EntriesStay, Grows, TypesStay}
 use Rattle.cranelift_frontend.specs.Ledger.{LedgerAgrees, ledger_of, tables_of_calls}
 use Rattle.cranelift_frontend.specs.Order.{IsInOrder, IsKept}
 use Rattle.cranelift_frontend.specs.StandsFor.{StandsIn}
@@ -78,6 +81,14 @@ jump_tables_aside : (t : TableLists) (entry : TableEntry) → (with_entry t entr
 jump_tables_aside t (AStackSlot slot) = refl
 jump_tables_aside t _ = refl
 
+-- the entries that instructions name stay
+pub entries_stay : (t : TableLists) (entry : TableEntry) → EntriesStay t (with_entry t entry)
+entries_stay t (AStackSlot slot) = entry_stays t (with_entry t (AStackSlot slot)) (grind (arith, common_steps)) (omega arith) (omega arith) (omega arith)
+entries_stay t (ADynamicStackSlot slot) = entry_stays t (with_entry t (ADynamicStackSlot slot)) (omega arith) (omega arith) (omega arith) (omega arith)
+entries_stay t (AGlobalValue value) = entry_stays t (with_entry t (AGlobalValue value)) (omega arith) (omega arith) (omega arith) (omega arith)
+entries_stay t (ASignature signature) = entry_stays t (with_entry t (ASignature signature)) (omega arith) (omega arith) (grind (arith, common_steps)) (omega arith)
+entries_stay t (AFunction function) = entry_stays t (with_entry t (AFunction function)) (omega arith) (omega arith) (omega arith) (grind (arith, common_steps))
+
 entry_keeps : (f : Body) (entry : TableEntry) → KeepsConstants f (with_tables f (with_entry f.tables entry))
 entry_keeps f entry constant bytes here = ap (λ (constants : List (List ℕ)). slice_get constants constant) (constants_aside f.tables entry) ∙ here
 
@@ -107,13 +118,13 @@ entry_agrees calls f c p entry number agrees is =
     (λ d. refl) (λ d. refl) (λ d. refl) is_tabled.structured
     (answers-one new g (length calls) (AnEntry entry (count_for ledger.tables entry)) number numbered tt))
 
-pub entry_stands : (declared : SignatureShape) (calls : List AnsweredCall) (f : Body) (c : ContextState) (p : Option ℕ) (entry : TableEntry) (number : ℕ) → StandsIn declared calls f c p
+pub entry_stands : (declared : SignatureShape) (calls : List AnsweredCall) (f : Body) (c : ContextState) (p : Option ℕ) (entry : TableEntry) (number : ℕ) → IsConsistent f → StandsIn declared calls f c p
     → LedgerAgrees (calls ++ made entry number ∷ []) (ledger_of (calls ++ made entry number ∷ [])) (with_more f entry) c p
     → StandsIn declared (calls ++ made entry number ∷ []) (with_more f entry) c p
-entry_stands declared calls f c p entry number stands ledger = record {
+entry_stands declared calls f c p entry number consistent stands ledger = record {
   signature = stands.signature;
   ledger = ledger;
-  carries = carries_tables calls f c.ssa stands.carries entry number (with_entry f.tables entry) (constants_aside f.tables entry);
+  carries = carries_tables calls f c.ssa stands.carries entry number (with_entry f.tables entry) consistent (entries_kept f.tables entry);
   begun = stands.begun;
   callers_alone = λ d.
       alone_after calls (made entry number) f (with_more f entry) c c stands.carries.own stands.carries.holds.parameters
@@ -151,12 +162,12 @@ module _ (entry : TableEntry) (f g : Body) (c d : ContextState) (p q : Option �
   ledger_made (Ok n) calls is number agrees =
       now (λ h e r. LedgerAgrees (calls ++ made entry n ∷ []) (ledger_of (calls ++ made entry n ∷ [])) h e r) is (entry_agrees calls f c p entry n agrees number)
 
-  stands_made : (r : Result ℕ BuildError) (declared : SignatureShape) (calls : List AnsweredCall) → OnOk r (g ≡ with_more f entry) → IfOk r (λ number. number ≡ count_for f.tables entry)
+  stands_made : (r : Result ℕ BuildError) (declared : SignatureShape) (calls : List AnsweredCall) → IsConsistent f → OnOk r (g ≡ with_more f entry) → IfOk r (λ number. number ≡ count_for f.tables entry)
       → StandsIn declared calls f c p → IfOk r (λ number. StandsIn declared (calls ++ made entry number ∷ []) g d q)
-  stands_made (Err e) declared calls is number stands = tt
-  stands_made (Ok n) declared calls is number stands =
+  stands_made (Err e) declared calls consistent is number stands = tt
+  stands_made (Ok n) declared calls consistent is number stands =
       now (λ h e r. StandsIn declared (calls ++ made entry n ∷ []) h e r) is
-      (entry_stands declared calls f c p entry n stands (entry_agrees calls f c p entry n stands.ledger number))
+      (entry_stands declared calls f c p entry n consistent stands (entry_agrees calls f c p entry n stands.ledger number))
 
 -- what an answer other than an error makes of the function
 module _ (entry : TableEntry) (f g : Body) where
@@ -166,7 +177,7 @@ module _ (entry : TableEntry) (f g : Body) where
 
   grows_made : (r : Result ℕ BuildError) → OnOk r (g ≡ with_more f entry) → OnOk r (Grows f g)
   grows_made (Err e) is = tt
-  grows_made (Ok n) is = subst (Grows f) (sym is) (omega arith, omega arith, omega arith, refl, refl, slots entry, jump_tables_aside f.tables entry)
+  grows_made (Ok n) is = subst (Grows f) (sym is) (omega arith, omega arith, omega arith, refl, refl, slots entry, jump_tables_aside f.tables entry, entries_stay f.tables entry)
     where
       slots : (e : TableEntry) → length f.tables.stack_slots ≤ length (with_entry f.tables e).stack_slots
       slots (AStackSlot slot) = grind (arith, common_steps)
@@ -190,9 +201,9 @@ current_made entry old new (Ok n) position context is current = (
 )
 
 -- a call on a builder that hasn't failed
-pub entry_made : (entry : TableEntry) (old new : FunctionBuilder) (answer : Result ℕ BuildError) → old.failed ≡ false → SameLoans old new → new.position ≡ old.position → new.srcloc ≡ old.srcloc
+pub entry_made : (entry : TableEntry) (old new : FunctionBuilder) (answer : Result ℕ BuildError) → old.failed ≡ false → IsConsistent old.func.now → SameLoans old new → new.position ≡ old.position → new.srcloc ≡ old.srcloc
     → new.ctx.now ≡ old.ctx.now → new.failed ≡ is_err answer → MakesIn entry old.func.now new.func.now answer → MakesEntry entry old new answer
-entry_made entry old new answer fine loans position srcloc context fails makes =
+entry_made entry old new answer fine consistent loans position srcloc context fails makes =
     let ssa : new.ctx.now.ssa ≡ old.ctx.now.ssa = ap (λ (c : ContextState). c.ssa) context in
     record {
       call = calls.made old new answer loans position srcloc fine makes.never_failed fails (same_looks old.ctx.now.ssa new.ctx.now.ssa ssa)
@@ -204,7 +215,7 @@ entry_made entry old new answer fine loans position srcloc context fails makes =
       full = (λ is. (fine, makes.full.0 is), λ both. makes.full.1 both.1);
       told = told_by old new answer (λ _. Unit {0}) (made entry)
           (λ cs agrees _. ledger_made entry old.func.now new.func.now old.ctx.now new.ctx.now old.position new.position context position answer cs makes.ok makes.number agrees)
-          (λ signature cs stands _ _. stands_made entry old.func.now new.func.now old.ctx.now new.ctx.now old.position new.position context position answer signature cs makes.ok makes.number stands);
+          (λ signature cs stands _ _. stands_made entry old.func.now new.func.now old.ctx.now new.ctx.now old.position new.position context position answer signature cs consistent makes.ok makes.number stands);
       grows = grows_made entry old.func.now new.func.now answer makes.ok;
       remembers = λ x b. remembers_made entry old.func.now new.func.now answer x b old.ctx.now.ssa new.ctx.now.ssa makes.ok ssa;
       current = current_made entry old new answer position context makes.ok;

@@ -9,7 +9,7 @@ use Rattle.clif_ir.specs.declared.function.ValueOrigin.TheVariants as source
 use Rattle.clif_instructions.specs.declared.instructions.InstructionData.{InstructionData}
 use Rattle.clif_ir.specs.Body.{Body, inst_at, no_value, value_at}
 use Rattle.clif_ir.specs.Changes.{inserted_in, result_nodes, with_block, with_layout, with_param}
-use Rattle.clif_instructions.specs.Instruction.{result_types}
+use Rattle.clif_tables.specs.Callees.{types_of_results}
 use Rattle.clif_instructions.specs.Members.{stands_in}
 use Rattle.clif_simulation.specs.Carries.{with_params}
 use Rattle.clif_ssa.specs.Constructs.{OnlyConstructs}
@@ -105,12 +105,12 @@ pub appended-types : (place : ℕ) {E : Type 0} (r : Result ℕ E) (f : Body) (c
     → IfOk r (AppendsIn place f c g d block shape ty) → OnOk r (TypesStay f g)
 appended-types place (Err e) f c g d block shape ty appends = tt
 appended-types place (Ok inst) f c g d block shape ty appends =
-    types-more f g (result_nodes (length (inserted_in f block).insts) 0 (result_types shape ty))
-    (ap (λ (h : Body). h.values) appends.function ∙ ap (λ (xs : List ValueNode). xs ++ result_nodes (length (inserted_in f block).insts) 0 (result_types shape ty)) (same-inserted f block))
+    types-more f g (result_nodes (length (inserted_in f block).insts) 0 (types_of_results f.tables shape ty))
+    (ap (λ (h : Body). h.values) appends.function ∙ ap (λ (xs : List ValueNode). xs ++ result_nodes (length (inserted_in f block).insts) 0 (types_of_results f.tables shape ty)) (same-inserted f block))
 
 -- its one result has its type
 pub appended-typed : (place : ℕ) (f : Body) (c : ContextState) (g : Body) (d : ContextState) (block : ℕ) (shape : InstructionData) (ty result : «Type») (inst value : ℕ)
-    → AppendsIn place f c g d block shape ty inst → result_types shape ty ≡ result ∷ [] → value ≡ length f.values → (value_at g value).ty ≡ result
+    → AppendsIn place f c g d block shape ty inst → types_of_results f.tables shape ty ≡ result ∷ [] → value ≡ length f.values → (value_at g value).ty ≡ result
 appended-typed place f c g d block shape ty result inst value appends one number =
     ap (λ (xs : List ValueNode). (slice_index_or xs value no_value).ty)
     (ap (λ (h : Body). h.values) appends.function
@@ -121,11 +121,11 @@ appended-typed place f c g d block shape ty result inst value appends one number
 
 -- the types of its results
 pub appended-types-of : (place : ℕ) (f : Body) (c : ContextState) (g : Body) (d : ContextState) (block : ℕ) (shape : InstructionData) (ty : «Type») (inst : ℕ)
-    → AppendsIn place f c g d block shape ty inst → map (λ (value : ℕ). (value_at g value).ty) (inst_at g inst).results ≡ result_types shape ty
+    → AppendsIn place f c g d block shape ty inst → map (λ (value : ℕ). (value_at g value).ty) (inst_at g inst).results ≡ types_of_results f.tables shape ty
 appended-types-of place f c g d block shape ty inst appends =
     ap (map (λ (value : ℕ). (value_at g value).ty)) (appended_range _ f c g d block shape ty inst appends)
-    ∙ ap (λ (h : Body). map (λ (value : ℕ). (value_at h value).ty) (range_with_len (length (inserted_in f block).values) (length (result_types shape ty)))) appends.function
-    ∙ types-from (inserted_in f block).values (length (inserted_in f block).insts) 0 (result_types shape ty)
+    ∙ ap (λ (h : Body). map (λ (value : ℕ). (value_at h value).ty) (range_with_len (length (inserted_in f block).values) (length (types_of_results f.tables shape ty)))) appends.function
+    ∙ types-from (inserted_in f block).values (length (inserted_in f block).insts) 0 (types_of_results f.tables shape ty)
   where
     here : (values : List ValueNode) (node : ValueNode) (nodes : List ValueNode) → slice_index_or (values ++ node ∷ nodes) (length values) no_value ≡ node
     here [] node nodes = refl

@@ -1,5 +1,5 @@
 -- What goes on existing as calls are made.
-use Rattle.std.proofs.Common.{◌≡◌, ◌≢◌, ℕ, ◌+◌, ◌<◌, List, [], ◌∷◌, length, refl, ap, arith, sym, ◌∙◌, subst, inl, inr}
+use Rattle.std.proofs.Common.{◌≡◌, ◌≢◌, ℕ, ◌+◌, ◌<◌, ◌≤◌, List, [], ◌∷◌, length, refl, ap, arith, sym, ◌∙◌, subst, inl, inr}
 use Rattle.std.specs.Prelude.{slice_index_or, Option, Some, None, IfSome, Result, Ok, Err, OnOk, IfOk, Bool, true, false, if◌then◌else◌, ◌==◌}
 use Rattle.std.proofs.lemmas.Bool.{cases_eq}
 use Rattle.std.proofs.lemmas.Grind.{common_steps}
@@ -13,7 +13,8 @@ use Rattle.clif_ir.specs.declared.function.InstNode.{InstNode}
 use Rattle.clif_tables.specs.Lists.{TableLists}
 use Rattle.clif_ir.specs.Body.{Body, inst_at}
 use Rattle.clif_ir.specs.Changes.{HasNoRoom, inserted_in, with_block, with_layout, with_inst, with_param, inst_node}
-use Rattle.clif_instructions.specs.Instruction.{is_terminator, result_types}
+use Rattle.clif_instructions.specs.Instruction.{is_terminator}
+use Rattle.clif_tables.specs.Callees.{types_of_results}
 use Rattle.clif_instructions.specs.Members.{stands_in}
 use Rattle.cranelift_frontend.specs.declared.context.BlockStatus.{BlockStatus}
 use Rattle.cranelift_frontend.specs.declared.context.BlockStatus.TheVariants.{Empty, Partial, Filled}
@@ -21,36 +22,46 @@ use Rattle.cranelift_frontend.specs.Context.{ContextState, begun, status_of, Fil
 use Rattle.cranelift_frontend.specs.declared.builder.FunctionBuilder.{FunctionBuilder}
 use Rattle.cranelift_frontend.specs.Builder.{Appends, AppendsIn, AppendsPair, AppendsValue, HasCurrent, status_after, with_appended}
 use Rattle.cranelift_frontend.specs.Construction.{IsUse, IsSealingOf}
-use Rattle.cranelift_frontend.specs.Growth.{Grows}
-use Rattle.clif_ssa.specs.Constructs.{OnlyConstructs}
+use Rattle.cranelift_frontend.specs.Growth.{EntriesStay, Grows}
+use Rattle.clif_ir.proofs.KeepsTables.{entry_stays}
+use Rattle.clif_ssa.specs.Constructs.{OnlyConstructs, PoolsZeros}
+
+-- the entries that instructions name stay where constants of zeros are pooled
+pools-stay : (t u : TableLists) → PoolsZeros t u → EntriesStay t u
+pools-stay t u pools =
+    let slots : length u.stack_slots ≡ length t.stack_slots = ap (λ (v : TableLists). length v.stack_slots) pools.same in
+    let signatures : length u.signatures ≡ length t.signatures = ap (λ (v : TableLists). length v.signatures) pools.same in
+    let functions : length u.functions ≡ length t.functions = ap (λ (v : TableLists). length v.functions) pools.same in
+    let constants : length t.constants ≤ length u.constants = grind (arith, common_steps, pools.behind) in
+    entry_stays t u (omega (arith, slots)) constants (omega (arith, signatures)) (omega (arith, functions))
 
 pub Grows-same : (f g : Body) → g ≡ f → Grows f g
-Grows-same f g same = subst (λ h. Grows f h) (sym same) (omega arith, omega arith, omega arith, refl, refl, omega arith, refl)
+Grows-same f g same = subst (λ h. Grows f h) (sym same) (omega arith, omega arith, omega arith, refl, refl, omega arith, refl, λ entry here. here)
 
 pub Grows-then : (f g h : Body) → Grows f g → Grows g h → Grows f h
-Grows-then f g h first next = (omega (arith, first.0, next.0), omega (arith, first.1, next.1), omega (arith, first.2, next.2), next.3 ∙ first.3, next.4 ∙ first.4, omega (arith, first.5, next.5), next.6 ∙ first.6)
+Grows-then f g h first next = (omega (arith, first.0, next.0), omega (arith, first.1, next.1), omega (arith, first.2, next.2), next.3 ∙ first.3, next.4 ∙ first.4, omega (arith, first.5, next.5), next.6 ∙ first.6, λ entry here. next.7 entry (first.7 entry here))
 
 pub Grows-with_block : (f : Body) → Grows f (with_block f)
-Grows-with_block f = (omega arith, omega arith, grind (arith, common_steps), refl, refl, omega arith, refl)
+Grows-with_block f = (omega arith, omega arith, grind (arith, common_steps), refl, refl, omega arith, refl, λ entry here. here)
 
 pub Grows-inserted : (f : Body) (b : ℕ) → Grows f (inserted_in f b)
 Grows-inserted f b = by_test (stands_in b f.layout)
   where
     by_test : (c : Bool) → Grows f (if c then f else with_layout f b)
-    by_test true = (omega arith, omega arith, omega arith, refl, refl, omega arith, refl)
-    by_test false = (omega arith, omega arith, omega arith, refl, refl, omega arith, refl)
+    by_test true = (omega arith, omega arith, omega arith, refl, refl, omega arith, refl, λ entry here. here)
+    by_test false = (omega arith, omega arith, omega arith, refl, refl, omega arith, refl, λ entry here. here)
 
 pub Grows-with_inst : (f : Body) (b : ℕ) (at : InsertAt) (shape : InstructionData) (types : List «Type») (loc : ℕ) → Grows f (with_inst f b at shape types loc)
-Grows-with_inst f b at shape types loc = (grind (arith, common_steps), grind (arith, common_steps), grind (arith, common_steps), refl, refl, omega arith, refl)
+Grows-with_inst f b at shape types loc = (grind (arith, common_steps), grind (arith, common_steps), grind (arith, common_steps), refl, refl, omega arith, refl, λ entry here. here)
 
 pub Grows-with_param : (f : Body) (b : ℕ) (ty : «Type») → Grows f (with_param f b ty)
-Grows-with_param f b ty = (grind (arith, common_steps), omega arith, grind (arith, common_steps), refl, refl, omega arith, refl)
+Grows-with_param f b ty = (grind (arith, common_steps), omega arith, grind (arith, common_steps), refl, refl, omega arith, refl, λ entry here. here)
 
 -- what the construction of SSA form makes of a function
 pub Grows-constructs : (f g : Body) → OnlyConstructs f g → Grows f g
 Grows-constructs f g only =
     let slots : length g.tables.stack_slots ≡ length f.tables.stack_slots = ap (λ (t : TableLists). length t.stack_slots) only.tables.same in
-    (only.values, only.insts, omega (arith, only.block_count), ap (λ (h : Body). h.name) only.same, ap (λ (h : Body). h.signature) only.same, omega (arith, slots), ap (λ (t : TableLists). t.jump_tables) only.tables.same)
+    (only.values, only.insts, omega (arith, only.block_count), ap (λ (h : Body). h.name) only.same, ap (λ (h : Body). h.signature) only.same, omega (arith, slots), ap (λ (t : TableLists). t.jump_tables) only.tables.same, pools-stay f.tables g.tables only.tables)
 
 -- a block that enters the layout changes no value and no instruction
 pub values-inserted : (f : Body) (b : ℕ) → length (inserted_in f b).values ≡ length f.values
@@ -71,7 +82,7 @@ insts-inserted f b = by_test (stands_in b f.layout)
 appended_grows : (place : ℕ) (f : Body) (c : ContextState) (g : Body) (d : ContextState) (block : ℕ) (shape : InstructionData) (ty : «Type») (inst : ℕ)
     → AppendsIn place f c g d block shape ty inst → Grows f g
 appended_grows place f c g d block shape ty inst appends =
-    subst (Grows f) (sym appends.function) (Grows-then f (inserted_in f block) (with_appended f block shape ty place) (Grows-inserted f block) (Grows-with_inst (inserted_in f block) block Back shape (result_types shape ty) place))
+    subst (Grows f) (sym appends.function) (Grows-then f (inserted_in f block) (with_appended f block shape ty place) (Grows-inserted f block) (Grows-with_inst (inserted_in f block) block Back shape (types_of_results f.tables shape ty) place))
 
 appended_exists : (place : ℕ) (f : Body) (c : ContextState) (g : Body) (d : ContextState) (block : ℕ) (shape : InstructionData) (ty : «Type») (inst : ℕ)
     → AppendsIn place f c g d block shape ty inst → inst < length g.insts
@@ -162,10 +173,10 @@ current_appended r old new shape ty current position appends none =
 
 -- the node of an instruction that was appended
 appended_node : (place : ℕ) (f : Body) (c : ContextState) (g : Body) (d : ContextState) (block : ℕ) (shape : InstructionData) (ty : «Type») (inst : ℕ)
-    → AppendsIn place f c g d block shape ty inst → inst_at g inst ≡ inst_node (inserted_in f block) block shape (result_types shape ty) place
+    → AppendsIn place f c g d block shape ty inst → inst_at g inst ≡ inst_node (inserted_in f block) block shape (types_of_results f.tables shape ty) place
 appended_node place f c g d block shape ty inst appends =
     let at : Body = inserted_in f block in
-    let node : InstNode = inst_node at block shape (result_types shape ty) place in
+    let node : InstNode = inst_node at block shape (types_of_results f.tables shape ty) place in
     let made : inst_at g inst ≡ inst_at (with_appended f block shape ty place) inst = ap (λ (h : Body). inst_at h inst) appends.function in
     let at_end : inst ≡ length at.insts = appends.number ∙ sym (insts-inserted f block) in
     let last : inst_at (with_appended f block shape ty place) inst ≡ node = grind (arith, common_steps, at_end) in
@@ -173,26 +184,26 @@ appended_node place f c g d block shape ty inst appends =
 
 -- its results have the next numbers of values
 pub appended_range : (place : ℕ) (f : Body) (c : ContextState) (g : Body) (d : ContextState) (block : ℕ) (shape : InstructionData) (ty : «Type») (inst : ℕ)
-    → AppendsIn place f c g d block shape ty inst → (inst_at g inst).results ≡ range_with_len (length (inserted_in f block).values) (length (result_types shape ty))
+    → AppendsIn place f c g d block shape ty inst → (inst_at g inst).results ≡ range_with_len (length (inserted_in f block).values) (length (types_of_results f.tables shape ty))
 appended_range place f c g d block shape ty inst appends = ap (λ (n : InstNode). n.results) (appended_node _ f c g d block shape ty inst appends)
 
 -- its result
 pub appended_results : (place : ℕ) (f : Body) (c : ContextState) (g : Body) (d : ContextState) (block : ℕ) (shape : InstructionData) (ty result : «Type») (inst : ℕ)
-    → AppendsIn place f c g d block shape ty inst → result_types shape ty ≡ result ∷ [] → (inst_at g inst).results ≡ length f.values ∷ []
+    → AppendsIn place f c g d block shape ty inst → types_of_results f.tables shape ty ≡ result ∷ [] → (inst_at g inst).results ≡ length f.values ∷ []
 appended_results place f c g d block shape ty result inst appends types =
     let at : Body = inserted_in f block in
-    let results : range_with_len (length at.values) (length (result_types shape ty)) ≡ length at.values ∷ [] = ap (λ (ts : List «Type»). range_with_len (length at.values) (length ts)) types in
+    let results : range_with_len (length at.values) (length (types_of_results f.tables shape ty)) ≡ length at.values ∷ [] = ap (λ (ts : List «Type»). range_with_len (length at.values) (length ts)) types in
     ap (λ (n : InstNode). n.results) (appended_node _ f c g d block shape ty inst appends) ∙ results ∙ ap (λ n. n ∷ []) (values-inserted f block)
 
 -- where it has none
 pub appended_no_results : (place : ℕ) (f : Body) (c : ContextState) (g : Body) (d : ContextState) (block : ℕ) (shape : InstructionData) (ty : «Type») (inst : ℕ)
-    → AppendsIn place f c g d block shape ty inst → result_types shape ty ≡ [] → (inst_at g inst).results ≡ []
+    → AppendsIn place f c g d block shape ty inst → types_of_results f.tables shape ty ≡ [] → (inst_at g inst).results ≡ []
 appended_no_results place f c g d block shape ty inst appends types =
     ap (λ (n : InstNode). n.results) (appended_node _ f c g d block shape ty inst appends)
     ∙ ap (λ (ts : List «Type»). range_with_len (length (inserted_in f block).values) (length ts)) types
 
 pub current_results : (old new : FunctionBuilder) (shape : InstructionData) (ty result : «Type») (inst : ℕ) → HasCurrent old
-    → IfSome old.position (λ block. Appends old new block shape ty inst) → result_types shape ty ≡ result ∷ [] → (inst_at new.func.now inst).results ≡ length old.func.now.values ∷ []
+    → IfSome old.position (λ block. Appends old new block shape ty inst) → types_of_results old.func.now.tables shape ty ≡ result ∷ [] → (inst_at new.func.now inst).results ≡ length old.func.now.values ∷ []
 current_results old new shape ty result inst current appends types =
     appended_results _ old.func.now old.ctx.now new.func.now new.ctx.now current.0 shape ty result inst (at_current old (λ block. Appends old new block shape ty inst) current appends) types
 

@@ -31,6 +31,7 @@ use Rattle.clif_ir.specs.Body.{Body, inst_at, no_inst, no_value, value_at}
 use Rattle.clif_ir.specs.Changes.{inserted_in, with_inst, inst_node}
 use Rattle.clif_ir.specs.Consistent.{IsConsistent}
 use Rattle.clif_instructions.specs.Instruction.{destinations, is_branch, is_terminator, result_types}
+use Rattle.clif_tables.specs.Callees.{given_by_call, types_of, types_of_results}
 use Rattle.clif_instructions.specs.Edges.{targets}
 use Rattle.clif_meaning.specs.Name.{Name}
 use Rattle.clif_meaning.specs.Instruction.{Edge, Instruction, Operation, Iconst, Compute}
@@ -51,6 +52,7 @@ use Rattle.cranelift_frontend.proofs.LedgerLists.{map-some}
 use Rattle.cranelift_frontend.proofs.LedgerKept.{concluded, named-value}
 use Rattle.cranelift_frontend.proofs.LedgerBuilt.{agrees-built, agrees-ended, node-there}
 use Rattle.cranelift_frontend.proofs.Sorts.{EndsBlock, StaysInBlock, same_opcode, sort_of}
+use Rattle.clif_simulation.proofs.OperationTypes.{operation_results}
 
 -- SHAPES ----------------------------------------------------------------------------------------------------------
 
@@ -76,11 +78,11 @@ names-none calls (edge ∷ edges) (call ∷ made) none names = let no_way : ⊥ 
 
 -- the program's instruction has results of the same types, and ends its block where the shape does
 pub same_types : (calls : List AnsweredCall) (f : Body) (instruction : Instruction Name Name) (shape : InstructionData) (ty : «Type») → HasShape calls f instruction shape ty
-    → program.result_types instruction.operation instruction.controlling ≡ result_types shape ty
+    → program.result_types instruction.operation instruction.controlling ≡ types_of_results f.tables shape ty
 same_types calls f instruction shape ty has =
     ap (λ (o : Operation). program.result_types o instruction.controlling) has.operation
-    ∙ ap (λ (o : Opcode). map (result_type instruction.controlling) (row_of o).results) (same_opcode f.tables shape)
-    ∙ ap (result_types shape) has.controlling ∙ sym has.typed
+    ∙ operation_results f.tables shape instruction.controlling
+    ∙ ap (λ (types : List «Type»). types ++ types_of (given_by_call f.tables shape)) (ap (result_types shape) has.controlling ∙ sym has.typed)
 
 pub same_end : (calls : List AnsweredCall) (f : Body) (instruction : Instruction Name Name) (shape : InstructionData) (ty : «Type») → HasShape calls f instruction shape ty
     → meaning.is_terminator instruction.operation ≡ is_terminator shape
@@ -92,10 +94,10 @@ same_end calls f instruction shape ty has =
 module _ (place : ℕ) (calls : List AnsweredCall) (f g : Body) (c d : ContextState) (p : Option ℕ) (block : ℕ) (table : Option ℕ) (instruction : Instruction Name Name) (shape : InstructionData) (ty : «Type») (inst : ℕ)
     (agrees : LedgerAgrees calls (ledger_of calls) f c p) (at : p ≡ Some block) (exists : block < length f.blocks) (consistent : IsConsistent f)
     (has : HasShape calls f instruction shape ty) (appends : AppendsIn place f c g d block shape ty inst) (variables : d.variables ≡ c.variables) where
-  function_of : (types : List «Type») → result_types shape ty ≡ types → g ≡ with_inst (inserted_in f block) block Back shape types place
+  function_of : (types : List «Type») → types_of_results f.tables shape ty ≡ types → g ≡ with_inst (inserted_in f block) block Back shape types place
   function_of types is = appends.function ∙ ap (λ (ts : List «Type»). with_inst (inserted_in f block) block Back shape ts place) is
 
-  results-of : (types : List «Type») → result_types shape ty ≡ types → (inst_at g inst).results ≡ range_with_len (length (inserted_in f block).values) (length types)
+  results-of : (types : List «Type») → types_of_results f.tables shape ty ≡ types → (inst_at g inst).results ≡ range_with_len (length (inserted_in f block).values) (length types)
   results-of types is =
       ap (λ (n : InstNode). n.results)
       (get_or_from_slice_get g.insts inst (inst_node (inserted_in f block) block shape types place) no_inst
@@ -115,7 +117,7 @@ module _ (place : ℕ) (calls : List AnsweredCall) (f g : Body) (c d : ContextSt
   staying : StaysInBlock shape → d.ssa ≡ c.ssa → Agrees instruction (inst_at g inst).results
   staying known ssa =
       let names : List Name = instruction.operands in
-      let types : List «Type» = result_types shape ty in
+      let types : List «Type» = types_of_results f.tables shape ty in
       let results : List ℕ = range_with_len (length (inserted_in f block).values) (length types) in
       subst (Agrees instruction) (sym (results-of types refl))
       (subst (λ (i : Instruction Name Name). Agrees i results) (sym (same-plain known.no_edges))
@@ -125,7 +127,7 @@ module _ (place : ℕ) (calls : List AnsweredCall) (f g : Body) (c d : ContextSt
       (same_end calls f instruction shape ty has ∙ known.goes_on) (same_types calls f instruction shape ty has))))
 
   -- a terminator, with its edges
-  ending : EndsBlock shape ty → status_of c block ≢ Filled → All (CanLeadIn f c) (destinations shape) → IsDeclared c.ssa inst (targets (destinations shape)) d.ssa
+  ending : EndsBlock f.tables shape ty → status_of c block ≢ Filled → All (CanLeadIn f c) (destinations shape) → IsDeclared c.ssa inst (targets (destinations shape)) d.ssa
       → Agrees instruction (inst_at g inst).results
   ending known open_in may declared =
       subst (Agrees instruction) (sym (results-of [] known.none))
@@ -138,9 +140,9 @@ pub shaped-ledger : (place : ℕ) (calls : List AnsweredCall) (f g : Body) (c d 
     → HasShape calls f instruction shape ty → All (CanLeadIn f c) (destinations shape) → AppendsIn place f c g d block shape ty inst
     → IsDeclared c.ssa inst (targets (destinations shape)) d.ssa → (is_branch shape ≡ false → d.ssa ≡ c.ssa) → d.variables ≡ c.variables
     → LedgerAgrees (calls ++ built table instruction (inst ∷ (inst_at g inst).results) ∷ []) (ledger_of (calls ++ built table instruction (inst ∷ (inst_at g inst).results) ∷ [])) g d p
-shaped-ledger place calls f g c d p block table instruction shape ty inst agrees at exists open_in consistent has may appends declared ssa variables = by (sort_of shape ty)
+shaped-ledger place calls f g c d p block table instruction shape ty inst agrees at exists open_in consistent has may appends declared ssa variables = by (sort_of f.tables shape ty)
   where
-    by : StaysInBlock shape ⊎ EndsBlock shape ty
+    by : StaysInBlock shape ⊎ EndsBlock f.tables shape ty
         → LedgerAgrees (calls ++ built table instruction (inst ∷ (inst_at g inst).results) ∷ []) (ledger_of (calls ++ built table instruction (inst ∷ (inst_at g inst).results) ∷ [])) g d p
     by (inl known) = staying _ calls f g c d p block table instruction shape ty inst agrees at exists consistent has appends variables known (ssa known.no_branch)
     by (inr known) = ending _ calls f g c d p block table instruction shape ty inst agrees at exists consistent has appends variables known open_in may declared
@@ -174,7 +176,7 @@ named-type calls f c p agrees name value names =
     ap or_invalid named.1 ∙ sym (ap (λ (n : ValueNode). n.ty) (get_or_from_slice_get f.values value node.0 no_value node.1) ∙ node.2)
 
 pub iconst-shape : (calls : List AnsweredCall) (f : Body) (ty : «Type») (imm : ℤ) → HasShape calls f (plain (Compute (Iconst imm)) ty []) (UnaryImm imm) ty
-iconst-shape calls f ty imm = record { operation = refl; controlling = refl; typed = refl; operands_numbered = refl; edges = tt }
+iconst-shape calls f ty imm = record { operation = refl; controlling = refl; typed = refl; calls_nothing = refl; operands_numbered = refl; edges = tt }
 
 pub unary-shape : (calls : List AnsweredCall) (f : Body) (c : ContextState) (p : Option ℕ) → LedgerAgrees calls (ledger_of calls) f c p
     → (opcode : UnaryOpcode) (a : Name) (x : ℕ) → NamesValue calls a x
@@ -184,6 +186,7 @@ unary-shape calls f c p agrees opcode a x first =
       operation = refl;
       typed = refl;
       controlling = named-type calls f c p agrees a x first;
+      calls_nothing = refl;
       operands_numbered = ap (λ (o : Option ℕ). o ∷ []) first.number;
       edges = tt;
     }
@@ -196,6 +199,7 @@ binary-shape calls f c p agrees opcode a b x y first second =
       operation = refl;
       typed = refl;
       controlling = named-type calls f c p agrees a x first;
+      calls_nothing = refl;
       operands_numbered =
           ap (λ (o : Option ℕ). o ∷ number_of calls b ∷ []) first.number ∙ ap (λ (o : Option ℕ). Some x ∷ o ∷ []) second.number;
       edges = tt;
@@ -204,7 +208,7 @@ binary-shape calls f c p agrees opcode a b x y first second =
 pub convert-shape : (calls : List AnsweredCall) (f : Body) (opcode : ConvertOpcode) (ty : «Type») (a : Name) (x : ℕ) → NamesValue calls a x
     → HasShape calls f (plain (Compute (operation.Convert opcode)) ty (a ∷ [])) (Convert opcode x) ty
 convert-shape calls f opcode ty a x names =
-    record { operation = refl; controlling = refl; typed = refl; operands_numbered = ap (λ (o : Option ℕ). o ∷ []) names.number; edges = tt }
+    record { operation = refl; controlling = refl; typed = refl; calls_nothing = refl; operands_numbered = ap (λ (o : Option ℕ). o ∷ []) names.number; edges = tt }
 
 pub select-shape : (calls : List AnsweredCall) (f : Body) (c : ContextState) (p : Option ℕ) → LedgerAgrees calls (ledger_of calls) f c p
     → (condition a b : Name) (n x y : ℕ) → NamesValue calls condition n → NamesValue calls a x → NamesValue calls b y
@@ -214,6 +218,7 @@ select-shape calls f c p agrees condition a b n x y tested first second =
       operation = refl;
       typed = refl;
       controlling = named-type calls f c p agrees a x first;
+      calls_nothing = refl;
       operands_numbered =
           ap (λ (o : Option ℕ). o ∷ number_of calls a ∷ number_of calls b ∷ []) tested.number
           ∙ ap (λ (o : Option ℕ). Some n ∷ o ∷ number_of calls b ∷ []) first.number
@@ -228,27 +233,27 @@ two-operands calls a b x y first second =
 
 pub float-shape : (calls : List AnsweredCall) (f : Body) (opcode : FloatConstOpcode) (bits : ℕ)
     → HasShape calls f (plain (Compute (operation.FloatConst opcode bits)) type.Invalid []) (UnaryIeee opcode bits) type.Invalid
-float-shape calls f F16const bits = record { operation = refl; controlling = refl; typed = refl; operands_numbered = refl; edges = tt }
-float-shape calls f F32const bits = record { operation = refl; controlling = refl; typed = refl; operands_numbered = refl; edges = tt }
-float-shape calls f F64const bits = record { operation = refl; controlling = refl; typed = refl; operands_numbered = refl; edges = tt }
+float-shape calls f F16const bits = record { operation = refl; controlling = refl; typed = refl; calls_nothing = refl; operands_numbered = refl; edges = tt }
+float-shape calls f F32const bits = record { operation = refl; controlling = refl; typed = refl; calls_nothing = refl; operands_numbered = refl; edges = tt }
+float-shape calls f F64const bits = record { operation = refl; controlling = refl; typed = refl; calls_nothing = refl; operands_numbered = refl; edges = tt }
 
 pub compare-shape : (calls : List AnsweredCall) (f : Body) (c : ContextState) (p : Option ℕ) → LedgerAgrees calls (ledger_of calls) f c p
     → (condition : IntCC) (a b : Name) (x y : ℕ) → NamesValue calls a x → NamesValue calls b y
     → HasShape calls f (plain (Compute (operation.Compare condition)) (or_invalid (type_of (ledger_of calls) a)) (a ∷ b ∷ [])) (IntCompare condition (x ∷ y ∷ [])) (value_at f x).ty
 compare-shape calls f c p agrees condition a b x y first second =
-    record { operation = refl; controlling = named-type calls f c p agrees a x first; typed = refl; operands_numbered = two-operands calls a b x y first second; edges = tt }
+    record { operation = refl; controlling = named-type calls f c p agrees a x first; typed = refl; calls_nothing = refl; operands_numbered = two-operands calls a b x y first second; edges = tt }
 
 pub concat-shape : (calls : List AnsweredCall) (f : Body) (c : ContextState) (p : Option ℕ) → LedgerAgrees calls (ledger_of calls) f c p
     → (a b : Name) (x y : ℕ) → NamesValue calls a x → NamesValue calls b y
     → HasShape calls f (plain (Compute operation.Concat) (or_invalid (type_of (ledger_of calls) a)) (a ∷ b ∷ [])) (Concat (x ∷ y ∷ [])) (value_at f x).ty
 concat-shape calls f c p agrees a b x y first second =
-    record { operation = refl; controlling = named-type calls f c p agrees a x first; typed = refl; operands_numbered = two-operands calls a b x y first second; edges = tt }
+    record { operation = refl; controlling = named-type calls f c p agrees a x first; typed = refl; calls_nothing = refl; operands_numbered = two-operands calls a b x y first second; edges = tt }
 
 pub split-shape : (calls : List AnsweredCall) (f : Body) (c : ContextState) (p : Option ℕ) → LedgerAgrees calls (ledger_of calls) f c p
     → (a : Name) (x : ℕ) → NamesValue calls a x
     → HasShape calls f (plain (Compute operation.Split) (or_invalid (type_of (ledger_of calls) a)) (a ∷ [])) (Split x) (value_at f x).ty
 split-shape calls f c p agrees a x names =
-    record { operation = refl; controlling = named-type calls f c p agrees a x names; typed = refl; operands_numbered = ap (λ (o : Option ℕ). o ∷ []) names.number; edges = tt }
+    record { operation = refl; controlling = named-type calls f c p agrees a x names; typed = refl; calls_nothing = refl; operands_numbered = ap (λ (o : Option ℕ). o ∷ []) names.number; edges = tt }
 
 -- a constant that is there has its bytes in the instruction's operation
 pooled-operation : (f : Body) (opcode : PooledConstOpcode) (bytes : List ℕ) (constant : ℕ) → slice_get f.tables.constants constant ≡ Some bytes
@@ -259,28 +264,28 @@ pooled-operation f opcode bytes constant found =
 pub f128const-shape : (calls : List AnsweredCall) (f : Body) (bytes : List ℕ) (constant : ℕ) → slice_get f.tables.constants constant ≡ Some bytes
     → HasShape calls f (plain (Compute (operation.PooledConst F128const bytes)) type.Invalid []) (UnaryConst F128const constant) type.Invalid
 f128const-shape calls f bytes constant found =
-    record { operation = pooled-operation f F128const bytes constant found; controlling = refl; typed = refl; operands_numbered = refl; edges = tt }
+    record { operation = pooled-operation f F128const bytes constant found; controlling = refl; typed = refl; calls_nothing = refl; operands_numbered = refl; edges = tt }
 
 pub vconst-shape : (calls : List AnsweredCall) (f : Body) (ty : «Type») (bytes : List ℕ) (constant : ℕ) → slice_get f.tables.constants constant ≡ Some bytes
     → HasShape calls f (plain (Compute (operation.PooledConst Vconst bytes)) ty []) (UnaryConst Vconst constant) ty
 vconst-shape calls f ty bytes constant found =
-    record { operation = pooled-operation f Vconst bytes constant found; controlling = refl; typed = refl; operands_numbered = refl; edges = tt }
+    record { operation = pooled-operation f Vconst bytes constant found; controlling = refl; typed = refl; calls_nothing = refl; operands_numbered = refl; edges = tt }
 
 pub load-shape : (calls : List AnsweredCall) (f : Body) (flags : MemFlagsShape) (ty : «Type») (a : Name) (x : ℕ) (offset : ℤ) → NamesValue calls a x
     → HasShape calls f (plain (operation.Load flags offset) ty (a ∷ [])) (Load flags x offset) ty
 load-shape calls f flags ty a x offset names =
-    record { operation = refl; controlling = refl; typed = refl; operands_numbered = ap (λ (o : Option ℕ). o ∷ []) names.number; edges = tt }
+    record { operation = refl; controlling = refl; typed = refl; calls_nothing = refl; operands_numbered = ap (λ (o : Option ℕ). o ∷ []) names.number; edges = tt }
 
 pub store-shape : (calls : List AnsweredCall) (f : Body) (c : ContextState) (p : Option ℕ) → LedgerAgrees calls (ledger_of calls) f c p
     → (flags : MemFlagsShape) (a b : Name) (x y : ℕ) (offset : ℤ) → NamesValue calls a x → NamesValue calls b y
     → HasShape calls f (plain (operation.Store flags offset) (or_invalid (type_of (ledger_of calls) a)) (a ∷ b ∷ [])) (Store flags (x ∷ y ∷ []) offset) type.Invalid
 store-shape calls f c p agrees flags a b x y offset first second =
-    record { operation = refl; controlling = named-type calls f c p agrees a x first; typed = refl; operands_numbered = two-operands calls a b x y first second; edges = tt }
+    record { operation = refl; controlling = named-type calls f c p agrees a x first; typed = refl; calls_nothing = refl; operands_numbered = two-operands calls a b x y first second; edges = tt }
 
 pub stack-shape : (calls : List AnsweredCall) (f : Body) (opcode : StackOpcode) (ty : «Type») (slot : ℕ) (offset : ℤ)
     → HasShape calls f (plain (operation.Stack opcode slot offset) ty []) (StackLoad opcode slot offset) ty
-stack-shape calls f stack.StackAddr ty slot offset = record { operation = refl; controlling = refl; typed = refl; operands_numbered = refl; edges = tt }
-stack-shape calls f stack.StackLoad ty slot offset = record { operation = refl; controlling = refl; typed = refl; operands_numbered = refl; edges = tt }
+stack-shape calls f stack.StackAddr ty slot offset = record { operation = refl; controlling = refl; typed = refl; calls_nothing = refl; operands_numbered = refl; edges = tt }
+stack-shape calls f stack.StackLoad ty slot offset = record { operation = refl; controlling = refl; typed = refl; calls_nothing = refl; operands_numbered = refl; edges = tt }
 
 pub stack_store-shape : (calls : List AnsweredCall) (f : Body) (c : ContextState) (p : Option ℕ) → LedgerAgrees calls (ledger_of calls) f c p
     → (a : Name) (x slot : ℕ) (offset : ℤ) → NamesValue calls a x
@@ -289,12 +294,13 @@ stack_store-shape calls f c p agrees a x slot offset names = record {
   operation = refl;
   controlling = named-type calls f c p agrees a x names;
   typed = refl;
+  calls_nothing = refl;
   operands_numbered = ap (λ (o : Option ℕ). o ∷ []) names.number;
   edges = tt;
 }
 
 pub trap-shape : (calls : List AnsweredCall) (f : Body) (code : TrapCode) → HasShape calls f (plain (operation.Trap code) type.Invalid []) (Trap code) type.Invalid
-trap-shape calls f code = record { operation = refl; controlling = refl; typed = refl; operands_numbered = refl; edges = tt }
+trap-shape calls f code = record { operation = refl; controlling = refl; typed = refl; calls_nothing = refl; operands_numbered = refl; edges = tt }
 
 pub cond_trap-shape : (calls : List AnsweredCall) (f : Body) (c : ContextState) (p : Option ℕ) → LedgerAgrees calls (ledger_of calls) f c p
     → (opcode : CondTrapOpcode) (a : Name) (x : ℕ) (code : TrapCode) → NamesValue calls a x
@@ -303,13 +309,14 @@ cond_trap-shape calls f c p agrees opcode a x code names = record {
   operation = refl;
   controlling = named-type calls f c p agrees a x names;
   typed = refl;
+  calls_nothing = refl;
   operands_numbered = ap (λ (o : Option ℕ). o ∷ []) names.number;
   edges = tt;
 }
 
 pub jump-shape : (calls : List AnsweredCall) (f : Body) (edge : Edge Name Name) (made : BlockCall) → NamesEdge calls edge made
     → HasShape calls f (record { operation = operation.Jump; controlling = type.Invalid; operands = []; edges = edge ∷ [] }) (Jump made) type.Invalid
-jump-shape calls f edge made names = record { operation = refl; controlling = refl; typed = refl; operands_numbered = refl; edges = (names, tt) }
+jump-shape calls f edge made names = record { operation = refl; controlling = refl; typed = refl; calls_nothing = refl; operands_numbered = refl; edges = (names, tt) }
 
 pub brif-shape : (calls : List AnsweredCall) (f : Body) (c : ContextState) (p : Option ℕ) → LedgerAgrees calls (ledger_of calls) f c p
     → (condition : Name) (value : ℕ) (taken other : Edge Name Name) (block_then block_else : BlockCall) (blocks : List BlockCall) → blocks ≡ block_then ∷ block_else ∷ []
@@ -321,6 +328,7 @@ brif-shape calls f c p agrees condition value taken other block_then block_else 
       operation = refl;
       typed = refl;
       controlling = named-type calls f c p agrees condition value names;
+      calls_nothing = refl;
       operands_numbered = ap (λ (o : Option ℕ). o ∷ []) names.number;
       edges = subst (NamesEdges calls (taken ∷ other ∷ [])) (sym same) (first, (second, tt));
     }
@@ -338,10 +346,11 @@ table-shape calls f index value edges table names named = record {
   operation = ap (λ (count : ℕ). operation.BrTable (count - 1)) (edges-count calls edges table named);
   typed = refl;
   controlling = refl;
+  calls_nothing = refl;
   operands_numbered = ap (λ (o : Option ℕ). o ∷ []) names.number;
   edges = named;
 }
 
 pub return-shape : (calls : List AnsweredCall) (f : Body) (names : List Name) (values : List ℕ) → map (number_of calls) names ≡ map Some values
     → HasShape calls f (plain operation.Return type.Invalid names) (MultiAry values) type.Invalid
-return-shape calls f names values numbered = record { operation = refl; controlling = refl; typed = refl; operands_numbered = numbered; edges = tt }
+return-shape calls f names values numbered = record { operation = refl; controlling = refl; typed = refl; calls_nothing = refl; operands_numbered = numbered; edges = tt }

@@ -10,11 +10,12 @@ use Rattle.clif_instructions.specs.declared.block_call.BlockCall.{BlockCall}
 use Rattle.clif_ir.specs.declared.function.InstNode.{InstNode}
 use Rattle.clif_instructions.specs.declared.inst_list.InsertAt.TheVariants.{Back}
 use Rattle.clif_instructions.specs.declared.instructions.InstructionData.{InstructionData}
-use Rattle.clif_instructions.specs.declared.instructions.InstructionData.TheVariants.{Jump, Brif, BranchTable}
+use Rattle.clif_instructions.specs.declared.instructions.InstructionData.TheVariants.{Jump, Brif, BranchTable, TryCall, TryCallIndirect}
 use Rattle.clif_ir.specs.Body.{Body, block_at, empty_body, inst_at, no_inst}
 use Rattle.clif_ir.specs.Changes.{inserted_in, inst_node, with_block, with_cold, with_inst, with_layout_after}
 use Rattle.clif_ir.specs.Consistent.{IsConsistent}
-use Rattle.clif_instructions.specs.Instruction.{destinations, is_branch, is_terminator, result_types}
+use Rattle.clif_instructions.specs.Instruction.{destinations, is_branch, is_terminator}
+use Rattle.clif_tables.specs.Callees.{types_of_results}
 use Rattle.clif_instructions.specs.Members.{stands_in}
 use Rattle.clif_instructions.specs.Edges.{targets}
 use Rattle.clif_paths.proofs.Tables.{updated-same}
@@ -398,6 +399,8 @@ inner_plain : (shape : InstructionData) → is_terminator shape ≡ false → is
 inner_plain (Jump destination) goes_on = let no_way : ⊥ = cc in absurd no_way
 inner_plain (Brif arg blocks) goes_on = let no_way : ⊥ = cc in absurd no_way
 inner_plain (BranchTable arg table) goes_on = let no_way : ⊥ = cc in absurd no_way
+inner_plain (TryCall function args table) goes_on = let no_way : ⊥ = cc in absurd no_way
+inner_plain (TryCallIndirect args table) goes_on = let no_way : ⊥ = cc in absurd no_way
 inner_plain _ goes_on = refl
 
 -- an instruction is appended
@@ -410,10 +413,10 @@ order-appended place f g c d block shape ty inst consistent exists open_in appen
     sets t is = subst (λ (u : Bool). SetsStatus c d block (if u then Filled else begun (status_of c block))) is appends.status
 
     by : (t : Bool) → is_terminator shape ≡ t → IsInOrder g d
-    by true is = order-ended _ f g c d block shape (result_types shape ty) inst order consistent exists open_in appends.function (sets true is) variables appends.number may declared
+    by true is = order-ended _ f g c d block shape (types_of_results f.tables shape ty) inst order consistent exists open_in appends.function (sets true is) variables appends.number may declared
     by false is =
         order-made f g c d block (begun (status_of c block)) order exists (sets false is)
-        (appends-make _ f g c d block shape (result_types shape ty) (begun (status_of c block)) order consistent exists appends.function (sets false is) (begun-not-empty (status_of c block))
+        (appends-make _ f g c d block shape (types_of_results f.tables shape ty) (begun (status_of c block)) order consistent exists appends.function (sets false is) (begun-not-empty (status_of c block))
         (λ filled. ap begun filled) (ssa (inner_plain shape is)) variables)
 
 pub order-built : (place : ℕ) {E : Type 0} (r : Result ℕ E) (f g : Body) (c d : ContextState) (block : ℕ) (shape : InstructionData) (ty : «Type») → IsConsistent f → block < length f.blocks → status_of c block ≢ Filled

@@ -6,7 +6,8 @@ use Rattle.clif_types.specs.declared.types.«Type».{«Type»}
 use Rattle.clif_instructions.specs.declared.instructions.InstructionData.{InstructionData}
 use Rattle.clif_instructions.specs.declared.inst_list.InsertAt.TheVariants.{Back}
 use Rattle.clif_ir.specs.Body.{Body, resolved}
-use Rattle.clif_instructions.specs.Instruction.{destinations, result_types}
+use Rattle.clif_instructions.specs.Instruction.{destinations}
+use Rattle.clif_tables.specs.Callees.{types_of_results}
 use Rattle.clif_instructions.specs.Edges.{targets}
 use Rattle.clif_ir.specs.Changes.{with_block, with_inst, inserted_in}
 use Rattle.clif_ir.specs.Consistent.{IsConsistent}
@@ -99,7 +100,7 @@ appended_in : (place : ℕ) (y e : ℕ) (f g : Body) (c d : ContextState) (b : �
     → Remembers y e f c.ssa g d.ssa
 appended_in place y e f g c d b shape ty inst known appends same = record {
   recorded = λ v is. same y e ∙ is;
-  alike = subst (λ h. StayAlike f h) (sym appends.function) (appended_alike f b shape (result_types shape ty) place known);
+  alike = subst (λ h. StayAlike f h) (sym appends.function) (appended_alike f b shape (types_of_results f.tables shape ty) place known);
 }
 
 pub remembers_appended : (place : ℕ) {E : Type 0} (r : Result ℕ E) (y e : ℕ) (f g : Body) (c d : ContextState) (b : ℕ) (shape : InstructionData) (ty : «Type») → IsConsistent f

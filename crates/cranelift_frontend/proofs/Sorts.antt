@@ -6,8 +6,9 @@ use Rattle.clif_opcodes.specs.declared.opcodes.FloatConstOpcode.TheVariants.{F16
 use Rattle.clif_opcodes.specs.declared.opcodes.PooledConstOpcode.TheVariants.{F128const, Vconst}
 use Rattle.clif_opcodes.specs.declared.opcodes.StackOpcode.TheVariants as stack
 use Rattle.clif_instructions.specs.declared.instructions.InstructionData.{InstructionData}
-use Rattle.clif_instructions.specs.declared.instructions.InstructionData.TheVariants.{UnaryIeee, UnaryConst, StackLoad, Jump, Brif, BranchTable, MultiAry, Trap}
-use Rattle.clif_instructions.specs.Instruction.{destinations, is_branch, is_terminator, opcode_of, result_types}
+use Rattle.clif_instructions.specs.declared.instructions.InstructionData.TheVariants.{UnaryIeee, UnaryConst, StackLoad, Jump, Brif, BranchTable, MultiAry, Trap, TryCall, TryCallIndirect}
+use Rattle.clif_instructions.specs.Instruction.{destinations, is_branch, is_terminator, opcode_of}
+use Rattle.clif_tables.specs.Callees.{types_of_results}
 use Rattle.clif_tables.specs.Lists.{TableLists}
 use Rattle.clif_meaning.specs.Instruction.{operation_opcode}
 use Rattle.clif_meaning.specs.View.{operation_of}
@@ -19,24 +20,26 @@ pub record StaysInBlock (shape : InstructionData) : Type 0 where
   pub goes_on : is_terminator shape ≡ false
 
 -- it ends its block
-pub record EndsBlock (shape : InstructionData) (ty : «Type») : Type 0 where
+pub record EndsBlock (tables : TableLists) (shape : InstructionData) (ty : «Type») : Type 0 where
   pub ends : is_terminator shape ≡ true
-  pub none : result_types shape ty ≡ []
+  pub none : types_of_results tables shape ty ≡ []
 
-pub sort_of : (shape : InstructionData) (ty : «Type») → StaysInBlock shape ⊎ EndsBlock shape ty
-sort_of (Jump destination) ty = inr (record { ends = refl; none = refl })
-sort_of (Brif arg blocks) ty = inr (record { ends = refl; none = refl })
-sort_of (BranchTable arg table) ty = inr (record { ends = refl; none = refl })
-sort_of (MultiAry args) ty = inr (record { ends = refl; none = refl })
-sort_of (Trap code) ty = inr (record { ends = refl; none = refl })
-sort_of (UnaryIeee F16const bits) ty = inl (record { no_edges = refl; no_branch = refl; goes_on = refl })
-sort_of (UnaryIeee F32const bits) ty = inl (record { no_edges = refl; no_branch = refl; goes_on = refl })
-sort_of (UnaryIeee F64const bits) ty = inl (record { no_edges = refl; no_branch = refl; goes_on = refl })
-sort_of (UnaryConst F128const constant) ty = inl (record { no_edges = refl; no_branch = refl; goes_on = refl })
-sort_of (UnaryConst Vconst constant) ty = inl (record { no_edges = refl; no_branch = refl; goes_on = refl })
-sort_of (StackLoad stack.StackAddr slot offset) ty = inl (record { no_edges = refl; no_branch = refl; goes_on = refl })
-sort_of (StackLoad stack.StackLoad slot offset) ty = inl (record { no_edges = refl; no_branch = refl; goes_on = refl })
-sort_of _ ty = inl (record { no_edges = refl; no_branch = refl; goes_on = refl })
+pub sort_of : (tables : TableLists) (shape : InstructionData) (ty : «Type») → StaysInBlock shape ⊎ EndsBlock tables shape ty
+sort_of tables (Jump destination) ty = inr (record { ends = refl; none = refl })
+sort_of tables (Brif arg blocks) ty = inr (record { ends = refl; none = refl })
+sort_of tables (BranchTable arg table) ty = inr (record { ends = refl; none = refl })
+sort_of tables (MultiAry args) ty = inr (record { ends = refl; none = refl })
+sort_of tables (Trap code) ty = inr (record { ends = refl; none = refl })
+sort_of tables (TryCall function args table) ty = inr (record { ends = refl; none = refl })
+sort_of tables (TryCallIndirect args table) ty = inr (record { ends = refl; none = refl })
+sort_of tables (UnaryIeee F16const bits) ty = inl (record { no_edges = refl; no_branch = refl; goes_on = refl })
+sort_of tables (UnaryIeee F32const bits) ty = inl (record { no_edges = refl; no_branch = refl; goes_on = refl })
+sort_of tables (UnaryIeee F64const bits) ty = inl (record { no_edges = refl; no_branch = refl; goes_on = refl })
+sort_of tables (UnaryConst F128const constant) ty = inl (record { no_edges = refl; no_branch = refl; goes_on = refl })
+sort_of tables (UnaryConst Vconst constant) ty = inl (record { no_edges = refl; no_branch = refl; goes_on = refl })
+sort_of tables (StackLoad stack.StackAddr slot offset) ty = inl (record { no_edges = refl; no_branch = refl; goes_on = refl })
+sort_of tables (StackLoad stack.StackLoad slot offset) ty = inl (record { no_edges = refl; no_branch = refl; goes_on = refl })
+sort_of tables _ ty = inl (record { no_edges = refl; no_branch = refl; goes_on = refl })
 
 -- a shape and its operation have one opcode
 pub same_opcode : (tables : TableLists) (shape : InstructionData) → operation_opcode (operation_of tables shape) ≡ opcode_of shape

@@ -14,7 +14,8 @@ use Rattle.clif_ir.specs.declared.function.BlockNode.{BlockNode}
 use Rattle.clif_instructions.specs.declared.inst_list.InsertAt.TheVariants.{Back}
 use Rattle.clif_ir.specs.Body.{Body, block_at}
 use Rattle.clif_ir.specs.Changes.{inserted_in}
-use Rattle.clif_instructions.specs.Instruction.{is_terminator, result_types}
+use Rattle.clif_instructions.specs.Instruction.{is_terminator}
+use Rattle.clif_tables.specs.Callees.{types_of_results}
 use Rattle.clif_meaning.specs.Name.{Name}
 use Rattle.clif_meaning.specs.Instruction.{Argument, CallPayload, CallResult, Edge, Known}
 use Rattle.clif_meaning.specs.Ledger.{BlockState}
@@ -172,7 +173,7 @@ module _ (place : ℕ) (declared : SignatureShape) (calls : List AnsweredCall) (
         alone_after calls call f g c d stands.carries.own stands.carries.holds.parameters (same_callers calls call f c.ssa stands.carries no_block no_parameter) b
         (alone-still stands.carries.own stands.carries.own f g c d block (status_after shape (status_of c block)) (ap (λ (h : Body). h.layout) appends.function) appends.status
         (appended_not_empty shape (status_of c block)) b refl
-        (ap (λ (h : Body). (block_at h b).params) appends.function ∙ inst_params (inserted_in f block) block Back shape (result_types shape ty) place b
+        (ap (λ (h : Body). (block_at h b).params) appends.function ∙ inst_params (inserted_in f block) block Back shape (types_of_results f.tables shape ty) place b
         ∙ ap (λ (blocks : List BlockNode). (block_at (record f { blocks = blocks }) b).params) (inserted_same f block).blocks))
         (stands.callers_alone b);
   }

@@ -27,7 +27,7 @@ use Rattle.clif_simulation.proofs.ParameterCalls.{Makes, alone_still, carries_pa
 use Rattle.cranelift_frontend.specs.declared.context.BlockStatus.TheVariants.{Empty}
 use Rattle.cranelift_frontend.specs.Context.{ContextState, status_of}
 use Rattle.cranelift_frontend.specs.Ledger.{LedgerAgrees, NamesBlock, ledger_of}
-use Rattle.clif_meaning.specs.Event.{types_of}
+use Rattle.clif_tables.specs.Callees.{types_of}
 use Rattle.cranelift_frontend.specs.Growth.{Grows, NoRoomFor}
 use Rattle.cranelift_frontend.specs.StandsFor.{StandsIn}
 use Rattle.cranelift_frontend.proofs.Growing.{Grows-same, Grows-then, Grows-with_param}

@@ -11,7 +11,8 @@ use Rattle.clif_ir.specs.Body.{Body, inst_at}
 use Rattle.clif_ir.specs.Changes.{inserted_in, inst_node, with_inst}
 use Rattle.clif_ir.specs.Consistent.{IsConsistent}
 use Rattle.clif_instructions.specs.declared.inst_list.InsertAt.TheVariants.{Back}
-use Rattle.clif_instructions.specs.Instruction.{destinations, is_branch, operands, result_types}
+use Rattle.clif_instructions.specs.Instruction.{destinations, is_branch, operands}
+use Rattle.clif_tables.specs.Callees.{types_of_results}
 use Rattle.clif_instructions.specs.Members.{stands_in}
 use Rattle.clif_instructions.specs.Edges.{targets}
 use Rattle.clif_ssa.specs.Ssa.{predecessors_of, record_of, sealed_of, SsaState}
@@ -98,48 +99,49 @@ module _ (place : ℕ) (declared : SignatureShape) (calls : List AnsweredCall) (
   branch =
       let all = all_named calls instruction.operands (operands shape) has.operands_numbered in
       let edges = edges_named calls (name-number calls (ledger_of calls) f c p stands.ledger) instruction.edges (destinations shape) has.edges in
-      record { operation = sym has.operation; arguments = all.0; edges = edges.0; earlier = all.1; edges_earlier = edges.1 }
+      record { operation = sym has.operation; calls_nothing = has.calls_nothing; arguments = all.0; edges = edges.0; earlier = all.1; edges_earlier = edges.1 }
 
   plainly : destinations shape ≡ [] → SameInstruction calls f.tables shape instruction
   plainly none = record {
     operation = branch.operation;
+    calls_nothing = branch.calls_nothing;
     arguments = branch.arguments;
     no_edges = ap (map edge_of) none;
     edges = none_named calls instruction.edges (subst (NamesEdges calls instruction.edges) none has.edges);
     earlier = branch.earlier;
   }
 
-  finished : (types : List «Type») → result_types shape ty ≡ types → Carries (calls ++ call ∷ []) (with_inst (inserted_in f block) block Back shape types place) d.ssa
+  finished : (types : List «Type») → types_of_results f.tables shape ty ≡ types → Carries (calls ++ call ∷ []) (with_inst (inserted_in f block) block Back shape types place) d.ssa
       → StandsIn declared (calls ++ call ∷ []) g d p
   finished types is carries =
       stands_built place declared calls f g c d p stands block shape ty inst appends call tt tt kept
       (subst (λ (ts : List «Type»). Carries (calls ++ call ∷ []) (with_inst (inserted_in f block) block Back shape ts place) d.ssa) (sym is) carries)
 
   -- the types of the program's results, and the type at which the instruction is made
-  program_types : program.result_types instruction.operation instruction.controlling ≡ result_types shape ty
+  program_types : program.result_types instruction.operation instruction.controlling ≡ types_of_results f.tables shape ty
   program_types = same_types calls f instruction shape ty has
 
-  controlled_at : (types : List «Type») → result_types shape ty ≡ types
+  controlled_at : (types : List «Type») → types_of_results f.tables shape ty ≡ types
       → controlling_of (with_inst (inserted_in f block) block Back shape types place) shape (inst_node (inserted_in f block) block shape types place).results ≡ instruction.controlling
   controlled_at types is =
       made_controlling calls f c.ssa stands.carries consistent block here.0 here.1 unfilled there shape table instruction place numbers types ty (sym is) operands_exist ∙ sym has.controlling
 
   -- its results have the next numbers of values
-  numbered : (k : ℕ) → k < length (result_types shape ty) → slice_get (inst ∷ (inst_at g inst).results) (suc k) ≡ Some (length (inserted_in f block).values + k)
+  numbered : (k : ℕ) → k < length (types_of_results f.tables shape ty) → slice_get (inst ∷ (inst_at g inst).results) (suc k) ≡ Some (length (inserted_in f block).values + k)
   numbered k below =
       ap (λ (rs : List ℕ). slice_get rs k) (appended_range _ f c g d block shape ty inst appends)
-      ∙ range_at (length (inserted_in f block).values) (length (result_types shape ty)) k below
+      ∙ range_at (length (inserted_in f block).values) (length (types_of_results f.tables shape ty)) k below
 
   -- its block goes on
   stands_plain : StaysInBlock shape → d.ssa ≡ c.ssa → StandsIn declared (calls ++ call ∷ []) g d p
   stands_plain known same =
-      let types : List «Type» = result_types shape ty in
+      let types : List «Type» = types_of_results f.tables shape ty in
       let carries = carries_plain calls f c.ssa stands.carries consistent block here.0 here.1 unfilled there shape table instruction place numbers (plainly known.no_edges)
       types program_types (controlled_at types refl) numbered in
       finished types refl (subst (Carries (calls ++ call ∷ []) (with_inst (inserted_in f block) block Back shape types place)) (sym same) carries)
 
   -- it ends its block
-  stands_end : EndsBlock shape ty → All (CanLeadIn f c) (destinations shape) → IsDeclared c.ssa inst (targets (destinations shape)) d.ssa → StandsIn declared (calls ++ call ∷ []) g d p
+  stands_end : EndsBlock f.tables shape ty → All (CanLeadIn f c) (destinations shape) → IsDeclared c.ssa inst (targets (destinations shape)) d.ssa → StandsIn declared (calls ++ call ∷ []) g d p
   stands_end known edges declares =
       finished [] known.none
       (carries_branch calls f c.ssa stands.carries consistent block here.0 here.1 unfilled there shape table instruction place numbers branch [] (program_types ∙ known.none) (controlled_at [] known.none) (λ k below. absurd (omega (arith, below)))
@@ -162,9 +164,9 @@ pub shaped_stands : (place : ℕ) (declared : SignatureShape) (calls : List Answ
     → All (CanLeadIn f c) (destinations shape) → IsDeclared c.ssa inst (targets (destinations shape)) d.ssa → (is_branch shape ≡ false → d.ssa ≡ c.ssa)
     → LedgerAgrees (calls ++ built table instruction (inst ∷ (inst_at g inst).results) ∷ []) (ledger_of (calls ++ built table instruction (inst ∷ (inst_at g inst).results) ∷ [])) g d p
     → StandsIn declared (calls ++ built table instruction (inst ∷ (inst_at g inst).results) ∷ []) g d p
-shaped_stands place declared calls f g c d p table instruction shape ty inst block stands consistent has exist at there open_block appends edges declares same kept = by (sort_of shape ty)
+shaped_stands place declared calls f g c d p table instruction shape ty inst block stands consistent has exist at there open_block appends edges declares same kept = by (sort_of f.tables shape ty)
   where
-    by : StaysInBlock shape ⊎ EndsBlock shape ty → StandsIn declared (calls ++ built table instruction (inst ∷ (inst_at g inst).results) ∷ []) g d p
+    by : StaysInBlock shape ⊎ EndsBlock f.tables shape ty → StandsIn declared (calls ++ built table instruction (inst ∷ (inst_at g inst).results) ∷ []) g d p
     by (inl known) = stands_plain _ declared calls f g c d p table instruction shape ty inst block stands consistent has exist at there open_block appends kept known (same known.no_branch)
     by (inr known) = stands_end _ declared calls f g c d p table instruction shape ty inst block stands consistent has exist at there open_block appends kept known edges declares
 

@@ -1,6 +1,7 @@
 -- Tables change that the calls of a list don't make: the agreement with the ledger is kept, and the builder stands for the same
 -- calls.
-use Rattle.std.proofs.Common.{◌≡◌, ◌≢◌, ◌<◌, ℕ, List, length, refl, sym, ◌∙◌, ap, subst, arith, false, inl, inr}
+use Rattle.std.proofs.Common.{◌≡◌, ◌≢◌, ◌<◌, ◌≤◌, ℕ, List, length, refl, sym, ◌∙◌, ap, subst, arith, false, inl, inr}
+use Rattle.std.proofs.lemmas.Grind.{common_steps}
 use Rattle.std.specs.Prelude.{Option, Some, true, is_err, slice_get, Result, Ok, Err, IfOk, OnOk, OnErr, All}
 use Rattle.clif_types.specs.declared.error.BuildError.{BuildError}
 use Rattle.clif_types.specs.declared.error.BuildError.TheVariants.{Failed, Full, Memory}
@@ -19,12 +20,14 @@ use Rattle.clif_ssa.specs.Ssa.{SsaState, record_of}
 use Rattle.clif_ssa.specs.Structure.{Remembers}
 use Rattle.clif_ssa.proofs.Pooled.{KeepsConstants, is_pooled}
 use Rattle.clif_simulation.proofs.Further.{carries_pooled}
+use Rattle.clif_simulation.proofs.Growing.{KeepsEntries, entries_pooled}
+use Rattle.clif_ir.proofs.KeepsTables.{entry_stays}
 use Rattle.cranelift_frontend.specs.declared.builder.FunctionBuilder.{FunctionBuilder}
 use Rattle.cranelift_frontend.specs.declared.context.BlockStatus.TheVariants.{Filled}
 use Rattle.cranelift_frontend.specs.Builder.{CanLead, CanLeadIn, HasCurrent, SameLoans}
 use Rattle.cranelift_frontend.specs.Context.{ContextState, status_of}
 use Rattle.cranelift_frontend.specs.Entries.{CreatesJumpTable, MakesEdge, MayServe, PoolsConstant, SetsTables, TakesJumpTable, table_edges}
-use Rattle.cranelift_frontend.specs.Growth.{Grows, GrowsBesideTables, TypesStay}
+use Rattle.cranelift_frontend.specs.Growth.{EntriesStay, Grows, GrowsBesideTables, TypesStay}
 use Rattle.cranelift_frontend.specs.Ledger.{LedgerAgrees, ledger_of, tables_of_calls}
 use Rattle.cranelift_frontend.specs.StandsFor.{StandsIn}
 use Rattle.cranelift_frontend.proofs.Calls as calls
@@ -37,6 +40,8 @@ use Rattle.cranelift_frontend.proofs.LedgerLists.{get-front, get-last}
 pub record AreAside (f : Body) (lists : TableLists) : Type 0 where
   pub of_calls : tables_of_calls lists ≡ tables_of_calls f.tables
   pub constants : KeepsConstants f (with_tables f lists)
+  pub entries : KeepsEntries f.tables lists
+  pub stay : EntriesStay f.tables lists
 
 module _ (f : Body) (lists : TableLists) (aside : AreAside f lists) where
   agrees_aside : (calls : List AnsweredCall) (ledger : Ledger) (c : ContextState) (p : Option ℕ) → LedgerAgrees calls ledger f c p
@@ -51,7 +56,7 @@ module _ (f : Body) (lists : TableLists) (aside : AreAside f lists) where
   stands_aside declared calls c p consistent stands = record {
     signature = stands.signature;
     ledger = agrees_aside calls (ledger_of calls) c p stands.ledger;
-    carries = carries_pooled calls f c.ssa lists consistent aside.constants stands.carries;
+    carries = carries_pooled calls f c.ssa lists consistent aside.entries stands.carries;
     begun = stands.begun;
     callers_alone = λ d. elim (stands.callers_alone d) [
       | inl alone ↦ inl alone
@@ -65,21 +70,44 @@ module _ (f : Body) (lists : TableLists) (aside : AreAside f lists) where
 -- WHICH TABLES ------------------------------------------------------------------------------------------------------------
 
 pub pooled_aside : (f : Body) (bytes : List ℕ) → AreAside f (with_constant f.tables bytes)
-pooled_aside f bytes = record {
-  of_calls = refl;
-  constants = λ constant found here.
-      let pooled = is_pooled f.tables.constants bytes in
-      ap (λ (constants : List (List ℕ)). slice_get constants constant) pooled.behind ∙ get-front f.tables.constants pooled.more constant found here;
-}
+pooled_aside f bytes =
+    let lists : TableLists = with_constant f.tables bytes in
+    let pooled = is_pooled f.tables.constants bytes in
+    let more : length f.tables.constants ≤ length lists.constants = grind (arith, common_steps, pooled.behind) in
+    let keeps : KeepsConstants f (with_tables f lists) = λ constant found here.
+    ap (λ (constants : List (List ℕ)). slice_get constants constant) pooled.behind ∙ get-front f.tables.constants pooled.more constant found here in
+    record {
+      of_calls = refl;
+      constants = keeps;
+      entries = entries_pooled f.tables lists keeps refl refl;
+      stay = entry_stays f.tables lists (omega arith) more (omega arith) (omega arith);
+    }
+
+-- the other tables stay
+beside_jump_tables : (f : Body) (lists : TableLists) → tables_of_calls lists ≡ tables_of_calls f.tables → lists.constants ≡ f.tables.constants → AreAside f lists
+beside_jump_tables f lists same constants =
+    let keeps : KeepsConstants f (with_tables f lists) = λ constant found here. ap (λ (pool : List (List ℕ)). slice_get pool constant) constants ∙ here in
+    let slots : length lists.stack_slots ≡ length f.tables.stack_slots = ap (λ (t : TableLists). length t.stack_slots) same in
+    let signatures : lists.signatures ≡ f.tables.signatures = ap (λ (t : TableLists). t.signatures) same in
+    let functions : lists.functions ≡ f.tables.functions = ap (λ (t : TableLists). t.functions) same in
+    let pool_count : length lists.constants ≡ length f.tables.constants = ap (λ (pool : List (List ℕ)). length pool) constants in
+    let signature_count : length lists.signatures ≡ length f.tables.signatures = ap (λ (t : TableLists). length t.signatures) same in
+    let function_count : length lists.functions ≡ length f.tables.functions = ap (λ (t : TableLists). length t.functions) same in
+    record {
+      of_calls = same;
+      constants = keeps;
+      entries = entries_pooled f.tables lists keeps signatures functions;
+      stay = entry_stays f.tables lists (omega (arith, slots)) (omega (arith, pool_count)) (omega (arith, signature_count)) (omega (arith, function_count));
+    }
 
 pub created_aside : (f : Body) (edges : List BlockCall) → AreAside f (with_jump_table f.tables edges)
-created_aside f edges = record { of_calls = refl; constants = λ constant found here. here }
+created_aside f edges = beside_jump_tables f (with_jump_table f.tables edges) refl refl
 
 pub served_aside : (f : Body) (table : ℕ) → AreAside f (with_table_served f.tables table)
-served_aside f table = record { of_calls = refl; constants = λ constant found here. here }
+served_aside f table = beside_jump_tables f (with_table_served f.tables table) refl refl
 
 pub same_aside : (f : Body) → AreAside f f.tables
-same_aside f = record { of_calls = refl; constants = λ constant found here. here }
+same_aside f = beside_jump_tables f f.tables refl refl
 
 -- THE BUILDER -----------------------------------------------------------------------------------------------------------
 
@@ -122,7 +150,7 @@ set_tables {A} lists old new answer aside fine loans position srcloc context fai
       stands = λ signature cs stands.
           on_ok lists f g (λ h. StandsIn signature cs h new.ctx.now new.position) answer ok
           (parts (λ h e r. StandsIn signature cs h e r) (stands_aside f lists aside signature cs old.ctx.now old.position consistent stands));
-      grows = on_ok lists f g (GrowsBesideTables f) answer ok (omega arith, omega arith, omega arith, refl, refl, omega (arith, slots));
+      grows = on_ok lists f g (GrowsBesideTables f) answer ok (omega arith, omega arith, omega arith, refl, refl, omega (arith, slots), aside.stay);
       remembers = λ x b.
           on_ok lists f g (λ h. Remembers x b f old.ctx.now.ssa h new.ctx.now.ssa) answer ok
           (record { recorded = λ v here. ap (λ (u : SsaState). record_of u x b) ssa ∙ here; alike = λ u v alike. alike });
@@ -160,7 +188,7 @@ constant_pooled bytes old new answer fine loans position srcloc context fails co
     let f : Body = old.func.now in
     record {
       sets = set_tables (with_constant f.tables bytes) old new answer (pooled_aside f bytes) fine loans position srcloc context fails consistent pools.never_failed pools.ok pools.err;
-      grows = on_ok (with_constant f.tables bytes) f new.func.now (Grows f) answer pools.ok (omega arith, omega arith, omega arith, refl, refl, omega arith, refl);
+      grows = on_ok (with_constant f.tables bytes) f new.func.now (Grows f) answer pools.ok (omega arith, omega arith, omega arith, refl, refl, omega arith, refl, (pooled_aside f bytes).stay);
       number = pools.number;
       found = found_pooled bytes f new.func.now answer pools.ok pools.number;
       full = (λ is. let new = pools.full.0 is in (fine, new.0, new.1), λ all. pools.full.1 (all.1, all.2));
@@ -243,7 +271,7 @@ pub edge_made : (block : ℕ) (args : List BlockArg) (old new : FunctionBuilder)
     → IfOk answer (λ edge. (edge.block ≡ block) × (edge.args ≡ args)) → MakesEdge block args old new answer
 edge_made block args old new answer fine loans position srcloc context fails consistent same only_memory edge = record {
   sets = set_tables old.func.now.tables old new answer (same_aside old.func.now) fine loans position srcloc context fails consistent (calls.by_memory answer only_memory) (on_any answer same) (err_any answer same);
-  grows = on_any answer (subst (Grows old.func.now) (sym same) (omega arith, omega arith, omega arith, refl, refl, omega arith, refl));
+  grows = on_any answer (subst (Grows old.func.now) (sym same) (omega arith, omega arith, omega arith, refl, refl, omega arith, refl, λ entry here. here));
   edge = parts answer edge;
   never_full = not_full answer only_memory;
 }

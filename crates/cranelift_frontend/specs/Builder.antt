@@ -8,7 +8,8 @@ use Rattle.clif_ir.specs.Consistent.{EdgeExists}
 use Rattle.clif_instructions.specs.declared.block_call.BlockCall.{BlockCall}
 use Rattle.clif_instructions.specs.declared.inst_list.InsertAt.TheVariants.{Back}
 use Rattle.clif_instructions.specs.declared.instructions.InstructionData.{InstructionData}
-use Rattle.clif_instructions.specs.Instruction.{is_terminator, result_types}
+use Rattle.clif_instructions.specs.Instruction.{is_terminator}
+use Rattle.clif_tables.specs.Callees.{types_of_results}
 use Rattle.clif_ir.specs.Changes.{inserted_in, with_inst}
 use Rattle.clif_ssa.specs.Zeros.{steps_before}
 use Rattle.clif_records.specs.Tables.{is_yes}
@@ -104,7 +105,7 @@ CanLead b edge = CanLeadIn b.func.now b.ctx.now edge
 
 -- a function with an instruction at the end of a block, which is in the layout then
 abbrev pub with_appended : Body → ℕ → InstructionData → «Type» → ℕ → Body
-with_appended f block shape ty place = with_inst (inserted_in f block) block Back shape (result_types shape ty) place
+with_appended f block shape ty place = with_inst (inserted_in f block) block Back shape (types_of_results f.tables shape ty) place
 
 -- the status of a block to which an instruction was appended
 abbrev pub status_after : InstructionData → BlockStatus → BlockStatus

@@ -6,7 +6,8 @@ use Rattle.clif_types.specs.declared.error.BuildError.TheVariants.{Full, Failed}
 use Rattle.clif_types.specs.declared.types.«Type».{«Type»}
 use Rattle.clif_types.specs.Signature.{SignatureShape}
 use Rattle.clif_ir.specs.Body.{inst_at, value_at}
-use Rattle.clif_instructions.specs.Instruction.{destinations, is_branch, is_terminator, result_count, result_type_of, result_types}
+use Rattle.clif_instructions.specs.Instruction.{destinations, is_branch, is_terminator, result_type_of, result_types}
+use Rattle.clif_tables.specs.Callees.{count_of_results}
 use Rattle.clif_ir.specs.Changes.{HasNoRoom}
 use Rattle.clif_instructions.specs.Edges.{targets}
 use Rattle.clif_instructions.specs.declared.instructions.InstructionData.{InstructionData}
@@ -52,8 +53,8 @@ pub record Builds (old new : FunctionBuilder) (shape : InstructionData) (ty : «
   pub variables : new.ctx.now.variables ≡ old.ctx.now.variables
   pub position : new.position ≡ old.position
   pub srcloc : new.srcloc ≡ old.srcloc
-  pub full : answer ≡ Err Full → HasNoRoom old.func.now (result_count shape)
-  pub full_table : result_count shape ≤ 1 → answer ≡ Err Full → HasFullTable old
+  pub full : answer ≡ Err Full → HasNoRoom old.func.now (count_of_results old.func.now.tables shape)
+  pub full_table : count_of_results old.func.now.tables shape ≤ 1 → answer ≡ Err Full → HasFullTable old
   pub failed : (answer ≡ Err Failed) ↔ IsTrue old.failed
   pub unchanged : IsTrue old.failed → new ≡ old
   pub fails : new.failed ≡ is_err answer

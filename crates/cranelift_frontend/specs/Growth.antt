@@ -1,21 +1,30 @@
 -- What goes on existing, and goes on standing for one value, as calls are made. Source: own.
 use Rattle.std.specs.Prelude.{◌≡◌, ◌<◌, ◌≤◌, ◌+◌, ◌-◌, ◌^◌, ℕ, List, [], ◌∷◌, length}
+use Rattle.clif_instructions.specs.Instruction.{EntryRef}
+use Rattle.clif_tables.specs.Lists.{TableLists}
 use Rattle.clif_ir.specs.Body.{Body, resolved, value_at}
+use Rattle.clif_ir.specs.Consistent.{EntryExists}
 use Rattle.clif_ssa.specs.Structure.{HasRecordOf, Remembers}
 use Rattle.cranelift_frontend.specs.declared.builder.FunctionBuilder.{FunctionBuilder}
 
--- no table of the function is shorter, and its name and its signature stay; jump tables may change
+-- each entry of a table that an instruction may name is still there
+abbrev pub EntriesStay : TableLists → TableLists → Type 0
+EntriesStay t u = (entry : EntryRef) → EntryExists t entry → EntryExists u entry
+
+-- no table of the function is shorter, and its name, its signature and the entries that instructions name stay; jump tables may
+-- change
 abbrev pub GrowsBesideTables : Body → Body → Type 0
 GrowsBesideTables f g =
     (length f.values ≤ length g.values) × (length f.insts ≤ length g.insts) × (length f.blocks ≤ length g.blocks)
     × (g.name ≡ f.name) × (g.signature ≡ f.signature) × (length f.tables.stack_slots ≤ length g.tables.stack_slots)
+    × EntriesStay f.tables g.tables
 
--- no table of the function is shorter, and its name, its signature and its jump tables stay
+-- no table of the function is shorter, and its name, its signature, its jump tables and the entries that instructions name stay
 abbrev pub Grows : Body → Body → Type 0
 Grows f g =
     (length f.values ≤ length g.values) × (length f.insts ≤ length g.insts) × (length f.blocks ≤ length g.blocks)
     × (g.name ≡ f.name) × (g.signature ≡ f.signature) × (length f.tables.stack_slots ≤ length g.tables.stack_slots)
-    × (g.tables.jump_tables ≡ f.tables.jump_tables)
+    × (g.tables.jump_tables ≡ f.tables.jump_tables) × EntriesStay f.tables g.tables
 
 -- each value keeps its type
 abbrev pub TypesStay : Body → Body → Type 0

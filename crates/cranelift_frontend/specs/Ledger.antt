@@ -8,6 +8,7 @@ use Rattle.clif_instructions.specs.declared.block_call.BlockArg.TheVariants as a
 use Rattle.clif_instructions.specs.declared.block_call.BlockCall.{BlockCall}
 use Rattle.clif_instructions.specs.Instruction.{destinations, operands, result_types}
 use Rattle.clif_meaning.specs.Instruction.{Argument, CallPayload, CallResult, Edge, Instruction, Known}
+use Rattle.clif_meaning.specs.Typing.{call_shape}
 use Rattle.clif_meaning.specs.View.{made_at, operation_of}
 use Rattle.clif_tables.specs.Lists.{TableLists}
 use Rattle.clif_ir.specs.declared.function.ValueNode.{ValueNode}
@@ -81,6 +82,8 @@ pub record HasShape (calls : List AnsweredCall) (f : Body) (instruction : Instru
   -- its results have the types that they have at that type: the two differ only where an operand tells the type, and the
   -- results' types follow from the one that is given
   pub typed : result_types shape ty ≡ result_types shape (made_at f shape ty)
+  -- no call of a list makes an outside call so far
+  pub calls_nothing : call_shape instruction.operation ≡ None
   pub operands_numbered : map (number_of calls) instruction.operands ≡ map Some (operands shape)
   pub edges : NamesEdges calls instruction.edges (destinations shape)
 

@@ -9,7 +9,7 @@ ghost use Rattle.cranelift_frontend.specs.Builder.{SameLoans, HasCurrent};
 ghost use Rattle.clif_ir.specs.Body.{block_at, value_at};
 ghost use Rattle.clif_ir.specs.Changes.{inserted_in, with_cold, with_layout_after, with_param};
 ghost use Rattle.clif_instructions.specs.Members.{Stands};
-ghost use Rattle.clif_meaning.specs.Event.{types_of};
+ghost use Rattle.clif_tables.specs.Callees.{types_of};
 ghost use Rattle.clif_meaning.specs.Name.{Name};
 ghost use Rattle.clif_meaning.specs.Request.{AnsweredCall, AppendBlockParams, EnsureInsertedBlock, InsertBlockAfter, SetColdBlock};
 ghost use Rattle.clif_types.specs.Signature.{SignatureShape};

@@ -22,6 +22,7 @@ impl<'a> FunctionBuilder<'a> {
         if self.failed {
             return Err(BuildError::Failed);
         }
+        self.func.law_consistent();
         let made = self.func.create_sized_stack_slot(slot);
         self.failed = made.is_err();
         made
@@ -39,6 +40,7 @@ impl<'a> FunctionBuilder<'a> {
         if self.failed {
             return Err(BuildError::Failed);
         }
+        self.func.law_consistent();
         let made = self.func.create_dynamic_stack_slot(slot);
         self.failed = made.is_err();
         made
@@ -53,6 +55,7 @@ impl<'a> FunctionBuilder<'a> {
         if self.failed {
             return Err(BuildError::Failed);
         }
+        self.func.law_consistent();
         let made = self.func.create_global_value(value);
         self.failed = made.is_err();
         made
@@ -68,6 +71,7 @@ impl<'a> FunctionBuilder<'a> {
         if self.failed {
             return Err(BuildError::Failed);
         }
+        self.func.law_consistent();
         let made = self.func.import_signature(signature);
         self.failed = made.is_err();
         made
@@ -84,6 +88,7 @@ impl<'a> FunctionBuilder<'a> {
         if self.failed {
             return Err(BuildError::Failed);
         }
+        self.func.law_consistent();
         let made = self.func.import_function(function);
         self.failed = made.is_err();
         made

@@ -3,8 +3,9 @@ ghost use Rattle.std.specs.Prelude.{◌≡◌, ◌≢◌, ◌<◌, ◌∷◌, []
 ghost use Rattle.std.proofs.Math.Nat.{lt_of_lt_of_le};
 ghost use Rattle.clif_ir.specs.Body.{value_at};
 ghost use Rattle.clif_ir.specs.Changes.{HasNoRoom};
-ghost use Rattle.clif_ir.specs.Consistent.{EntryExists};
-ghost use Rattle.clif_instructions.specs.Instruction.{entries_of, operands, destinations, is_branch, result_count};
+ghost use Rattle.clif_ir.specs.Consistent.{EntryExists, ValueExists};
+ghost use Rattle.clif_instructions.specs.Instruction.{contexts, entries_of, operands, destinations, is_branch};
+ghost use Rattle.clif_tables.specs.Callees.{count_of_results};
 ghost use Rattle.clif_instructions.specs.Edges.{targets};
 ghost use Rattle.clif_ssa.specs.Ssa.{NamesExist};
 ghost use Rattle.clif_ssa.specs.Structure.{LooksOnce};
@@ -17,7 +18,7 @@ ghost use Rattle.std.proofs.lemmas.Option.{slice_get_within as pooled_below};
 use crate::builder::FunctionBuilder;
 use crate::context::{BlockStatus, FunctionBuilderContext};
 use crate::frontend::begin_block;
-use clif_inst_builder::InstBuilderBase;
+use clif_inst_builder::{InstBuilderBase, both_values};
 use clif_instructions::inst_list::InsertAt;
 use clif_ir::{Function, InstructionData, JumpTableData};
 use clif_types::{Block, BuildError, Constant, Inst, JumpTable, SourceLoc, Type, Value};
@@ -76,8 +77,8 @@ impl<'a> InstBuilderBase for FunctionBuilder<'a> {
     ghost others_exist = { λ old new shape ty value built other here.
         lt_of_lt_of_le here built.grows.0 };
 
-    ghost slots_stay = { λ old new shape ty value built slot here.
-        lt_of_lt_of_le here built.grows.5 };
+    ghost entries_stay = { λ old new shape ty value built entry here.
+        built.grows.7 entry here };
 
     ghost pooled_exists = { λ old new bytes constant pooled.
         pooled_below new.func.now.tables.constants constant bytes pooled.found };
@@ -167,14 +168,6 @@ impl<'a> InstBuilderBase for FunctionBuilder<'a> {
     }
 }
 
-// The two values of a list.
-fn both_values(values: &[Value]) -> (Value, Value)
-    requires { length values.now ≡ 2 }
-    ensures { values.now ≡ result.0 ∷ result.1 ∷ [] }
-{
-    (values[0], values[1])
-}
-
 // Appends an instruction with a source place to a block, which is filled then if the instruction is a terminator; a branch becomes a
 // predecessor of its targets.
 fn append(
@@ -188,6 +181,7 @@ fn append(
     requires block_exists { block < length func.old.blocks }
     requires named { NamesExist func.old ctx.old.ssa }
     requires operands_exist { EachIndex (operands shape) (λ k. slice_index (operands shape) k < length func.old.values) }
+    requires contexts_exist { All (ValueExists func.old) (contexts shape) }
     requires edges { All (CanLeadIn func.old ctx.old) (destinations shape) }
     requires entries_exist { All (EntryExists func.old.tables) (entries_of shape) }
     ensures appends { IfOk result (AppendsIn srcloc func.old ctx.old func.new ctx.new block shape ctrl_type) }
@@ -196,7 +190,7 @@ fn append(
     ensures names { NamesExist func.new ctx.new.ssa }
     ensures looks_once { LooksOnce ctx.old.ssa → LooksOnce ctx.new.ssa }
     ensures variables { ctx.new.variables ≡ ctx.old.variables }
-    ensures full { result ≡ Err BuildError.Full → HasNoRoom func.old (result_count shape) }
+    ensures full { result ≡ Err BuildError.Full → HasNoRoom func.old (count_of_results func.old.tables shape) }
     ensures never_failed { result ≢ Err BuildError.Failed }
 {
     begin_block(func, ctx, block)?;

@@ -7,6 +7,8 @@ mod branches;
 #[cfg(test)]
 mod by_calls;
 #[cfg(test)]
+mod calls;
+#[cfg(test)]
 mod entities;
 #[cfg(test)]
 mod forms;

@@ -43,7 +43,7 @@ returns-in_err-inst c =
     (made-refused between c.append.new.builder c.args.answers.now c.append.result c.in_err-inst.field-0.0 p.0 c.from_residual-in_err-inst.result c.in_err-inst.was p.1 p.2
     done.loans (answered-sound _ c.pool.result _ c.pool.ensures.sets.call.fails c.in_ok-constant.was) done.failed
     (constant-allowed between c.args.answers.now c.args.opcode c.args.ty c.args.bytes.now opens (sym c.has_bytes.ensures ∙ c.if-not-has_bytes.false))
-    (λ full. full-either between.func.now (done.full_table (constant-count c.args.opcode c.in_ok-constant.constant) full)))
+    (λ full. full-either between.func.now (done.full_table (constant-count between.func.now.tables c.args.opcode c.in_ok-constant.constant) full)))
 
 pub returns : goal.returns
 returns c =

@@ -5,7 +5,7 @@ use Rattle.clif_replay.proofs.Making.{answered-sound, made-answer, made-misused,
 use Rattle.std.specs.Prelude.{Err, None}
 use Rattle.clif_replay.proofs.ReadyLaws.{answers-exist, ready-more, value-exists}
 use Rattle.clif_replay.proofs.Conditions.{has-current}
-use Rattle.clif_replay.proofs.Planning.{destinations-lead, entries-exist, instruction-named, operands-exist, opens-planned, plan-same, planned-full}
+use Rattle.clif_replay.proofs.Planning.{contexts-exist, destinations-lead, entries-exist, instruction-named, operands-exist, opens-planned, plan-same, planned-full}
 use Rattle.clif_replay.proofs.make_instructions.make_instruction.Goals as goal
 
 pub checked-requires : goal.checked-requires
@@ -25,6 +25,9 @@ append-requires-clause-current c = has-current c.requires.calls c.args.builder.n
 
 pub append-requires-clause-operands_exist : goal.append-requires-clause-operands_exist
 append-requires-clause-operands_exist c = operands-exist c.requires.calls c.args.builder.now c.args.answers.now c.requires.ready c.args.plan.now _ _ c.in_ok-planned.ensures.found
+
+pub append-requires-clause-contexts_exist : goal.append-requires-clause-contexts_exist
+append-requires-clause-contexts_exist c = contexts-exist c.args.builder.now c.args.answers.now c.args.plan.now _ _ c.in_ok-planned.ensures.found
 
 pub append-requires-clause-edges : goal.append-requires-clause-edges
 append-requires-clause-edges c = destinations-lead c.requires.calls c.args.builder.now c.args.answers.now c.requires.ready c.args.plan.now _ _ c.in_ok-planned.ensures.found

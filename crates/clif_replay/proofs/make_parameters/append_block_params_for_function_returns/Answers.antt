@@ -4,7 +4,7 @@ use Rattle.clif_replay.proofs.Making.{answered-sound, made-answer, made-misuse, 
 use Rattle.std.specs.Prelude.{length}
 use Rattle.clif_types.specs.Signature.{SignatureShape}
 use Rattle.clif_ir.specs.Body.{Body}
-use Rattle.clif_meaning.specs.Event.{types_of}
+use Rattle.clif_tables.specs.Callees.{types_of}
 use Rattle.clif_meaning.specs.Request.{AppendBlockParams}
 use Rattle.cranelift_frontend.specs.Context.{ContextState, status_of}
 use Rattle.clif_replay.specs.Ready.{IsReadyAfter}

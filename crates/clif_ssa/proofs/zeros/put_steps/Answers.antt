@@ -2,7 +2,7 @@ use Rattle.std.proofs.Common.{arith, sym, subst, ◌^◌, ◌<◌, ◌≤◌, �
 use Rattle.std.proofs.lemmas.Result.{err_from_is_err_and}
 use Rattle.clif_ssa.specs.Limits.{IsFull}
 use Rattle.clif_ssa.specs.Zeros.{zero_steps}
-use Rattle.clif_ssa.proofs.PuttingSteps.{row_some, row_none, all_put, place_small, place_stands, step_edges, step_entries, step_fits, full_before, step_full, step_more, step_operands}
+use Rattle.clif_ssa.proofs.PuttingSteps.{row_some, row_none, all_put, place_small, place_stands, step_edges, step_entries, step_fits, full_before, step_contexts, step_full, step_more, step_operands}
 use Rattle.clif_ssa.proofs.zeros.put_steps.Goals as goal
 
 pub insert_inst-requires-clause-place_exists : goal.insert_inst-requires-clause-place_exists
@@ -17,6 +17,11 @@ insert_inst-requires-clause-operands_exist c =
 pub insert_inst-requires-clause-edges_exist : goal.insert_inst-requires-clause-edges_exist
 insert_inst-requires-clause-edges_exist c =
     step_edges c.args.func.now c.loop-shape.func c.args.block c.args.ty c.loop-shape.place c.loop-shape.invariant.1 c.args.constant c.requires.pooled c.in-Some.shape c.in-Some.result
+    (row_some _ _ _ _ _ _ _ _ c.zero_step.ensures c.in-Some.is c.latest_value.ensures)
+
+pub insert_inst-requires-clause-contexts_exist : goal.insert_inst-requires-clause-contexts_exist
+insert_inst-requires-clause-contexts_exist c =
+    step_contexts c.args.func.now c.loop-shape.func c.args.block c.args.ty c.loop-shape.place c.loop-shape.invariant.1 c.args.constant c.requires.pooled c.in-Some.shape c.in-Some.result
     (row_some _ _ _ _ _ _ _ _ c.zero_step.ensures c.in-Some.is c.latest_value.ensures)
 
 pub insert_inst-requires-clause-entries_exist : goal.insert_inst-requires-clause-entries_exist

@@ -2,7 +2,7 @@ use Rattle.std.proofs.Common.{rules, ◌≡◌, ◌-◌, ◌^◌, ◌∙◌, sym
 use Rattle.std.proofs.lemmas.Grind.{common_steps}
 use Rattle.clif_types.specs.Signature.{SignatureShape}
 use Rattle.clif_ir.specs.Body.{Body}
-use Rattle.clif_meaning.specs.Event.{types_of}
+use Rattle.clif_tables.specs.Callees.{types_of}
 use Rattle.cranelift_frontend.specs.Growth.{Grows}
 use Rattle.cranelift_frontend.proofs.StandingParameters.{Grows-params, no-room, params-next, same-signature}
 use Rattle.cranelift_frontend.proofs.blocks.append_function_returns.Goals as goal

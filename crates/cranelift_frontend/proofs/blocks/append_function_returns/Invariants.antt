@@ -1,6 +1,6 @@
 use Rattle.std.proofs.Common.{◌≡◌, take}
 use Rattle.clif_simulation.specs.Carries.{with_params}
-use Rattle.clif_meaning.specs.Event.{types_of}
+use Rattle.clif_tables.specs.Callees.{types_of}
 use Rattle.cranelift_frontend.proofs.blocks.append_function_returns.Given as goal
 
 abbrev pub invariant-loop-index : goal.invariant-loop-index

@@ -1,7 +1,8 @@
 use Rattle.std.proofs.Common.{◌≡◌, ℕ, false, List, [], sym, ap, subst, arith, ◌∙◌}
 use Rattle.std.specs.Prelude.{Contains}
 use Rattle.clif_ir.specs.Body.{Body}
-use Rattle.clif_instructions.specs.Instruction.{destinations, result_types}
+use Rattle.clif_instructions.specs.Instruction.{destinations}
+use Rattle.clif_tables.specs.Callees.{types_of_results}
 use Rattle.clif_instructions.specs.Edges.{targets}
 use Rattle.clif_instructions.specs.declared.block_call.BlockCall.{BlockCall}
 use Rattle.clif_instructions.specs.declared.inst_list.InsertAt.TheVariants.{Back}
@@ -21,12 +22,12 @@ named_still s t f same named = subst (NamesExist f) (sym same) named
 pub returns-in_err-set_status-clause-names : goal.returns-in_err-set_status-clause-names
 returns-in_err-set_status-clause-names c =
     named_still c.begin_block.new.ctx.ssa c.set_status.new.self.ssa c.insert_inst.new.self c.set_status.ensures.ssa
-    (names_appended c.insert_inst.result c.begin_block.new.func c.insert_inst.new.self c.begin_block.new.ctx.ssa c.args.block Back c.args.shape (result_types c.args.shape c.args.ctrl_type) c.args.srcloc
+    (names_appended c.insert_inst.result c.begin_block.new.func c.insert_inst.new.self c.begin_block.new.ctx.ssa c.args.block Back c.args.shape (types_of_results c.begin_block.new.func.tables c.args.shape c.args.ctrl_type) c.args.srcloc
     c.insert_inst.ensures.ok c.insert_inst.ensures.err (c.begin_block.ensures.names c.requires.named))
 
 pub declare_successors-requires-clause-unsealed : goal.declare_successors-requires-clause-unsealed
 declare_successors-requires-clause-unsealed c = λ b here.
-    let node = inserted_node c.begin_block.new.func c.insert_inst.new.self c.args.block Back c.args.shape (result_types c.args.shape c.args.ctrl_type) c.args.srcloc c.in_ok-inst.inst c.in_ok-inst.ensures.ok c.in_ok-inst.ensures.number in
+    let node = inserted_node c.begin_block.new.func c.insert_inst.new.self c.args.block Back c.args.shape (types_of_results c.begin_block.new.func.tables c.args.shape c.args.ctrl_type) c.args.srcloc c.in_ok-inst.inst c.in_ok-inst.ensures.ok c.in_ok-inst.ensures.number in
     let edges : c.branch_destination.result.now ≡ destinations c.args.shape = c.branch_destination.ensures ∙ ap destinations (c.inst_data.ensures.exact ∙ node.0) in
     subst (λ (s : SsaState). is_yes (sealed_of s b) ≡ false) (sym (c.set_status.ensures.ssa ∙ c.begin_block.ensures.ssa))
     (lead_unsealed c.args.func.now c.args.ctx.now (destinations c.args.shape) c.requires.edges b (subst (λ (es : List BlockCall). Contains (targets es) b) edges here))
@@ -41,22 +42,22 @@ declare_successors-requires-clause-new_branch c =
 pub returns-in_err-declare_successors-clause-ssa :
     goal.returns-in_err-declare_successors-clause-ssa
 returns-in_err-declare_successors-clause-ssa c = λ plain.
-    let node = inserted_node c.begin_block.new.func c.insert_inst.new.self c.args.block Back c.args.shape (result_types c.args.shape c.args.ctrl_type) c.args.srcloc c.in_ok-inst.inst c.in_ok-inst.ensures.ok c.in_ok-inst.ensures.number in
+    let node = inserted_node c.begin_block.new.func c.insert_inst.new.self c.args.block Back c.args.shape (types_of_results c.begin_block.new.func.tables c.args.shape c.args.ctrl_type) c.args.srcloc c.in_ok-inst.inst c.in_ok-inst.ensures.ok c.in_ok-inst.ensures.number in
     let edges : c.branch_destination.result.now ≡ destinations c.args.shape = c.branch_destination.ensures ∙ ap destinations (c.inst_data.ensures.exact ∙ node.0) in
     c.declare_successors.ensures.none (edges ∙ none_of_plain c.args.shape plain) ∙ c.set_status.ensures.ssa ∙ c.begin_block.ensures.ssa
 
 pub returns-in_err-declare_successors-clause-names :
     goal.returns-in_err-declare_successors-clause-names
 returns-in_err-declare_successors-clause-names c =
-    let node = inserted_node c.begin_block.new.func c.insert_inst.new.self c.args.block Back c.args.shape (result_types c.args.shape c.args.ctrl_type) c.args.srcloc c.in_ok-inst.inst c.in_ok-inst.ensures.ok c.in_ok-inst.ensures.number in
+    let node = inserted_node c.begin_block.new.func c.insert_inst.new.self c.args.block Back c.args.shape (types_of_results c.begin_block.new.func.tables c.args.shape c.args.ctrl_type) c.args.srcloc c.in_ok-inst.inst c.in_ok-inst.ensures.ok c.in_ok-inst.ensures.number in
     c.declare_successors.ensures.names c.insert_inst.new.self node.1 (named_still c.begin_block.new.ctx.ssa c.set_status.new.self.ssa c.insert_inst.new.self c.set_status.ensures.ssa
-    (names_appended c.insert_inst.result c.begin_block.new.func c.insert_inst.new.self c.begin_block.new.ctx.ssa c.args.block Back c.args.shape (result_types c.args.shape c.args.ctrl_type) c.args.srcloc
+    (names_appended c.insert_inst.result c.begin_block.new.func c.insert_inst.new.self c.begin_block.new.ctx.ssa c.args.block Back c.args.shape (types_of_results c.begin_block.new.func.tables c.args.shape c.args.ctrl_type) c.args.srcloc
     c.insert_inst.ensures.ok c.insert_inst.ensures.err (c.begin_block.ensures.names c.requires.named)))
 
 pub returns-clause-declares : goal.returns-clause-declares
 returns-clause-declares c =
     let inst : ℕ = c.in_ok-inst.inst in
-    let node = inserted_node c.begin_block.new.func c.insert_inst.new.self c.args.block Back c.args.shape (result_types c.args.shape c.args.ctrl_type) c.args.srcloc inst c.in_ok-inst.ensures.ok c.in_ok-inst.ensures.number in
+    let node = inserted_node c.begin_block.new.func c.insert_inst.new.self c.args.block Back c.args.shape (types_of_results c.begin_block.new.func.tables c.args.shape c.args.ctrl_type) c.args.srcloc inst c.in_ok-inst.ensures.ok c.in_ok-inst.ensures.number in
     elim c.if-ends.branch [
       | then-ends+in_ok-set_status+in_ok-declare_successors w ↦
           let edges : w.branch_destination.result.now ≡ destinations c.args.shape = w.branch_destination.ensures ∙ ap destinations (w.inst_data.ensures.exact ∙ node.0) in
@@ -72,7 +73,7 @@ returns-clause-declares c =
 
 pub returns-clause-ssa : goal.returns-clause-ssa
 returns-clause-ssa c = λ plain.
-    let node = inserted_node c.begin_block.new.func c.insert_inst.new.self c.args.block Back c.args.shape (result_types c.args.shape c.args.ctrl_type) c.args.srcloc c.in_ok-inst.inst c.in_ok-inst.ensures.ok c.in_ok-inst.ensures.number in
+    let node = inserted_node c.begin_block.new.func c.insert_inst.new.self c.args.block Back c.args.shape (types_of_results c.begin_block.new.func.tables c.args.shape c.args.ctrl_type) c.args.srcloc c.in_ok-inst.inst c.in_ok-inst.ensures.ok c.in_ok-inst.ensures.number in
     elim c.if-ends.branch [
       | then-ends+in_ok-set_status+in_ok-declare_successors w ↦
           let edges : w.branch_destination.result.now ≡ destinations c.args.shape = w.branch_destination.ensures ∙ ap destinations (w.inst_data.ensures.exact ∙ node.0) in
@@ -82,9 +83,9 @@ returns-clause-ssa c = λ plain.
 
 pub returns-clause-names : goal.returns-clause-names
 returns-clause-names c =
-    let node = inserted_node c.begin_block.new.func c.insert_inst.new.self c.args.block Back c.args.shape (result_types c.args.shape c.args.ctrl_type) c.args.srcloc c.in_ok-inst.inst c.in_ok-inst.ensures.ok c.in_ok-inst.ensures.number in
+    let node = inserted_node c.begin_block.new.func c.insert_inst.new.self c.args.block Back c.args.shape (types_of_results c.begin_block.new.func.tables c.args.shape c.args.ctrl_type) c.args.srcloc c.in_ok-inst.inst c.in_ok-inst.ensures.ok c.in_ok-inst.ensures.number in
     let named : NamesExist c.insert_inst.new.self c.begin_block.new.ctx.ssa =
-    names_appended c.insert_inst.result c.begin_block.new.func c.insert_inst.new.self c.begin_block.new.ctx.ssa c.args.block Back c.args.shape (result_types c.args.shape c.args.ctrl_type) c.args.srcloc
+    names_appended c.insert_inst.result c.begin_block.new.func c.insert_inst.new.self c.begin_block.new.ctx.ssa c.args.block Back c.args.shape (types_of_results c.begin_block.new.func.tables c.args.shape c.args.ctrl_type) c.args.srcloc
     c.insert_inst.ensures.ok c.insert_inst.ensures.err (c.begin_block.ensures.names c.requires.named) in
     elim c.if-ends.branch [
       | then-ends+in_ok-set_status+in_ok-declare_successors w ↦

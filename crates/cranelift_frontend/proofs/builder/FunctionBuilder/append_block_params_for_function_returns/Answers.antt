@@ -1,7 +1,7 @@
 use Rattle.cranelift_frontend.proofs.Calls.{told, made}
 use Rattle.std.proofs.Common.{inl, refl}
 use Rattle.clif_meaning.specs.Request.{AppendBlockParams}
-use Rattle.clif_meaning.specs.Event.{types_of}
+use Rattle.clif_tables.specs.Callees.{types_of}
 use Rattle.cranelift_frontend.proofs.Framed.{filled-same, more-types}
 use Rattle.cranelift_frontend.proofs.Named.{kept_by, names_grow}
 use Rattle.cranelift_frontend.proofs.Ordered.{order-more}

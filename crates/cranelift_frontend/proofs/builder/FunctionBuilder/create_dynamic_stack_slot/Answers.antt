@@ -8,7 +8,7 @@ returns-then-self c = entry_refused (ADynamicStackSlot c.args.slot) c.args.self.
 
 pub returns : goal.returns
 returns c =
-    entry_made (ADynamicStackSlot c.args.slot) c.args.self.now _ c.create_dynamic_stack_slot-made.result c.if-self.false (record { func = refl; ctx = refl }) refl refl refl
+    entry_made (ADynamicStackSlot c.args.slot) c.args.self.now _ c.create_dynamic_stack_slot-made.result c.if-self.false c.law_consistent.ensures (record { func = refl; ctx = refl }) refl refl refl
     c.is_err-self.ensures.value c.create_dynamic_stack_slot-made.ensures
 
 pub invariant_of-self : goal.invariant_of-self

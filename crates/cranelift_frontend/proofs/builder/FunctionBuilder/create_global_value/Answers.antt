@@ -8,7 +8,7 @@ returns-then-self c = entry_refused (AGlobalValue c.args.value) c.args.self.now 
 
 pub returns : goal.returns
 returns c =
-    entry_made (AGlobalValue c.args.value) c.args.self.now _ c.create_global_value-made.result c.if-self.false (record { func = refl; ctx = refl }) refl refl refl
+    entry_made (AGlobalValue c.args.value) c.args.self.now _ c.create_global_value-made.result c.if-self.false c.law_consistent.ensures (record { func = refl; ctx = refl }) refl refl refl
     c.is_err-self.ensures.value c.create_global_value-made.ensures
 
 pub invariant_of-self : goal.invariant_of-self

@@ -8,7 +8,7 @@ returns-then-self c = entry_refused (AStackSlot c.args.slot) c.args.self.now c.i
 
 pub returns : goal.returns
 returns c =
-    entry_made (AStackSlot c.args.slot) c.args.self.now _ c.create_sized_stack_slot-made.result c.if-self.false (record { func = refl; ctx = refl }) refl refl refl
+    entry_made (AStackSlot c.args.slot) c.args.self.now _ c.create_sized_stack_slot-made.result c.if-self.false c.law_consistent.ensures (record { func = refl; ctx = refl }) refl refl refl
     c.is_err-self.ensures.value c.create_sized_stack_slot-made.ensures
 
 pub invariant_of-self : goal.invariant_of-self

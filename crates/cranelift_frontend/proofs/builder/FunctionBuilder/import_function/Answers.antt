@@ -8,7 +8,7 @@ returns-then-self c = entry_refused (AFunction c.args.function) c.args.self.now 
 
 pub returns : goal.returns
 returns c =
-    entry_made (AFunction c.args.function) c.args.self.now _ c.import_function-made.result c.if-self.false (record { func = refl; ctx = refl }) refl refl refl
+    entry_made (AFunction c.args.function) c.args.self.now _ c.import_function-made.result c.if-self.false c.law_consistent.ensures (record { func = refl; ctx = refl }) refl refl refl
     c.is_err-self.ensures.value c.import_function-made.ensures
 
 pub invariant_of-self : goal.invariant_of-self

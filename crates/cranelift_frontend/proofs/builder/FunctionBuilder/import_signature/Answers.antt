@@ -8,7 +8,7 @@ returns-then-self c = entry_refused (ASignature c.args.signature) c.args.self.no
 
 pub returns : goal.returns
 returns c =
-    entry_made (ASignature c.args.signature) c.args.self.now _ c.import_signature-made.result c.if-self.false (record { func = refl; ctx = refl }) refl refl refl
+    entry_made (ASignature c.args.signature) c.args.self.now _ c.import_signature-made.result c.if-self.false c.law_consistent.ensures (record { func = refl; ctx = refl }) refl refl refl
     c.is_err-self.ensures.value c.import_signature-made.ensures
 
 pub invariant_of-self : goal.invariant_of-self

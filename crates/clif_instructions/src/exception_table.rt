@@ -1,10 +1,10 @@
 //! Exception tables.
-ghost use Rattle.std.specs.Prelude.{◌≡◌, ◌++◌, ◌∷◌, [], slice_index_or, OnOk, OnErr, IfOk};
-ghost use Rattle.clif_instructions.specs.Edges.{with_argument_to, with_target_changed};
-ghost use Rattle.clif_tables.specs.Targets.{exception_shape, item_edges, kept_item};
+ghost use Rattle.std.specs.Prelude.{◌≡◌, ◌<◌, ◌++◌, ◌∷◌, [], length, slice_index_or, OnOk, OnErr, IfOk};
+ghost use Rattle.clif_instructions.specs.Edges.{edge_at, with_argument_to, with_passed_at, with_target_changed};
+ghost use Rattle.clif_instructions.specs.ExceptionTables.{exception_shape, item_edges, kept_item};
 
-use clif_instructions::block_call::BlockCall;
-use clif_instructions::edges::{append_to_edges, redirect_edges};
+use crate::block_call::BlockCall;
+use crate::edges::{append_to_edges, redirect_edges, set_argument_at};
 use clif_types::{Block, BuildError, SigRef, Value};
 use std::alloc::Global;
 use std::marker::Model;
@@ -32,7 +32,7 @@ pub struct ExceptionTableData {
 }
 
 /// An item of an exception table without its edge.
-#[derive(Clone, Copy)]
+#[derive(Clone, Copy, Debug, PartialEq, Eq)]
 pub enum ExceptionItem {
     /// Where an exception with this tag goes: to the next edge.
     Tag(u32),
@@ -42,23 +42,35 @@ pub enum ExceptionItem {
     Context(Value),
 }
 
-/// What a call that may throw goes to, as a table keeps it: all edges in one list.
+// What a call that may throw goes to: all edges in one list.
 #[derive(Drop)]
-pub struct ExceptionTargets {
+struct Targets {
     sig: SigRef,
     edges: Vec<BlockCall>,
     items: Vec<ExceptionItem>,
 }
 
+/// What a call that may throw goes to, as a table and an instruction keep it, in memory of its own.
+///
+/// Contracts see it as its signature, the list of its edges, the normal one first, and the list of its items.
+#[derive(Drop)]
+pub struct ExceptionTargets {
+    targets: Box<Targets>,
+}
+
 impl Model for ExceptionTargets {
     ghost use Rattle.std.specs.Prelude.{◌<◌, length};
-    ghost use Rattle.clif_tables.specs.Targets.{ExceptionShape};
+    ghost use Rattle.clif_instructions.specs.ExceptionTables.{ExceptionShape};
 
     ghost Value = { ExceptionShape };
 
-    ghost view = { λ t. record { sig = t.sig; edges = t.edges.items; items = t.items.items } };
+    ghost view = { λ t. record {
+      sig = t.targets.value.sig;
+      edges = t.targets.value.edges.items;
+      items = t.targets.value.items.items;
+    } };
 
-    ghost invariant = { λ t. 0 < length t.edges.items };
+    ghost invariant = { λ t. 0 < length t.targets.value.edges.items };
 }
 
 // Puts an item at the end of the edges and items of a table.
@@ -86,11 +98,8 @@ fn push_item(
 }
 
 impl ExceptionTargets {
-    // How a table is kept. The only error is `Memory`.
-    pub(crate) fn new(
-        alloc: Global,
-        table: ExceptionTableData,
-    ) -> Result<ExceptionTargets, BuildError>
+    /// The table of this signature, normal edge and items. The only error is `Memory`.
+    pub fn new(alloc: Global, table: ExceptionTableData) -> Result<ExceptionTargets, BuildError>
         ensures ok { IfOk result (λ kept. kept ≡ exception_shape table) }
         ensures only_memory { OnErr result (result ≡ Err BuildError.Memory) }
     {
@@ -105,35 +114,38 @@ impl ExceptionTargets {
         for item in given {
             push_item(&mut edges, &mut items, item)?;
         }
-        Ok(ExceptionTargets { sig, edges, items })
+        let targets = Targets { sig, edges, items };
+        Ok(ExceptionTargets {
+            targets: Box::new(alloc, targets)?,
+        })
     }
 
     /// The signature of the call.
     pub fn signature(&self) -> SigRef
         ensures { result ≡ self.now.sig }
     {
-        self.sig
+        self.targets.sig
     }
 
     /// Where the call goes when it returns.
     pub fn normal_return(&self) -> &BlockCall
         ensures { result.now ≡ slice_index_or self.now.edges 0 result.now }
     {
-        &self.edges[0]
+        &self.targets.edges[0]
     }
 
     /// All edges as they are printed: the normal one, and then those of the items.
     pub fn all_branches(&self) -> &[BlockCall]
         ensures { result.now ≡ self.now.edges }
     {
-        self.edges.as_slice()
+        self.targets.edges.as_slice()
     }
 
     /// The items, in order. Each tag and each default has the next edge after the normal one.
     pub fn items(&self) -> &[ExceptionItem]
         ensures { result.now ≡ self.now.items }
     {
-        self.items.as_slice()
+        self.targets.items.as_slice()
     }
 
     /// Puts a value at the end of what each edge passes that goes to `block`. The only error is `Memory`, and
@@ -143,13 +155,22 @@ impl ExceptionTargets {
         ensures err { OnErr result (self.new ≡ self.old) }
         ensures only_memory { OnErr result (result ≡ Err BuildError.Memory) }
     {
-        append_to_edges(self.edges.as_mut_slice(), block, value)
+        append_to_edges(self.targets.edges.as_mut_slice(), block, value)
     }
 
     /// Makes each edge that goes to `from` go to `to`. What it passes stays.
-    pub(crate) fn change_target(&mut self, from: Block, to: Block)
+    pub fn change_target(&mut self, from: Block, to: Block)
         ensures { self.new ≡ record self.old { edges = with_target_changed from to self.old.edges } }
     {
-        redirect_edges(self.edges.as_mut_slice(), from, to);
+        redirect_edges(self.targets.edges.as_mut_slice(), from, to);
+    }
+
+    /// Makes the edge at `edge` pass `value` at `place`, in place of what it passed there.
+    pub(crate) fn set_argument(&mut self, edge: usize, place: usize, value: Value)
+        requires edge_exists { edge < length self.old.edges }
+        requires place_exists { place < length (edge_at self.old.edges edge).args }
+        ensures { self.new ≡ record self.old { edges = with_passed_at edge place value self.old.edges } }
+    {
+        set_argument_at(self.targets.edges.as_mut_slice(), edge, place, value);
     }
 }

@@ -1,11 +1,11 @@
 -- The edges and items of exception tables. Source: own, after the crate's documentation of them.
 use Rattle.std.specs.Prelude.{ℕ, List, [], ◌∷◌, map, flat_map}
 use Rattle.clif_instructions.specs.declared.block_call.BlockCall.{BlockCall}
-use Rattle.clif_tables.specs.declared.exception_table.ExceptionItem.{ExceptionItem}
-use Rattle.clif_tables.specs.declared.exception_table.ExceptionItem.TheVariants as kept
-use Rattle.clif_tables.specs.declared.exception_table.ExceptionTableItem.{ExceptionTableItem}
-use Rattle.clif_tables.specs.declared.exception_table.ExceptionTableItem.TheVariants as given
-use Rattle.clif_tables.specs.declared.exception_table.ExceptionTableData.{ExceptionTableData}
+use Rattle.clif_instructions.specs.declared.exception_table.ExceptionItem.{ExceptionItem}
+use Rattle.clif_instructions.specs.declared.exception_table.ExceptionItem.TheVariants as kept
+use Rattle.clif_instructions.specs.declared.exception_table.ExceptionTableItem.{ExceptionTableItem}
+use Rattle.clif_instructions.specs.declared.exception_table.ExceptionTableItem.TheVariants as given
+use Rattle.clif_instructions.specs.declared.exception_table.ExceptionTableData.{ExceptionTableData}
 
 -- an exception table as it is kept: the signature of its calls, its edges, the normal one first, and its items, of which each
 -- tag and each default has the next edge
@@ -33,3 +33,13 @@ exception_edges table = table.normal ∷ flat_map item_edges table.items.items
 -- how a table is kept
 abbrev pub exception_shape : ExceptionTableData → ExceptionShape
 exception_shape table = record { sig = table.sig; edges = exception_edges table; items = map kept_item table.items.items }
+
+-- the value that an item names beside its edge, if it names one: a context
+abbrev pub item_context : ExceptionItem → List ℕ
+item_context (kept.Tag tag) = []
+item_context kept.Default = []
+item_context (kept.Context value) = value ∷ []
+
+-- the contexts of a table, in order
+abbrev pub contexts_of : ExceptionShape → List ℕ
+contexts_of table = flat_map item_context table.items

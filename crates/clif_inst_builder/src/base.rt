@@ -1,0 +1,156 @@
+//! What makes an instruction of any shape.
+ghost use Rattle.std.specs.Prelude.{◌≡◌, ◌∷◌, [], length, Err, All};
+ghost use Rattle.clif_instructions.specs.Instruction.{AConstant, contexts, entries_of, operands, destinations};
+ghost use Rattle.clif_inst_builder.specs.Shapes.{AfterPooling, AfterTaking, AfterValue, GivesPair, GivesValue, LikeIsValue};
+
+use clif_instructions::instructions::InstructionData;
+use clif_instructions::jump_table::JumpTableData;
+use clif_types::{BuildError, Constant, Inst, JumpTable, Type, Value};
+use std::alloc::Global;
+
+/// What makes an instruction of any shape at the end of the current block.
+pub trait InstBuilderBase {
+    ghost use Rattle.std.specs.Prelude.{ℕ, List, Result, Err};
+    ghost use Rattle.clif_types.specs.declared.error.BuildError.{BuildError};
+    ghost use Rattle.clif_types.specs.declared.types.«Type».{«Type»};
+    ghost use Rattle.clif_instructions.specs.declared.block_call.BlockCall.{BlockCall};
+    ghost use Rattle.clif_instructions.specs.declared.instructions.InstructionData.{InstructionData};
+    ghost use Rattle.clif_instructions.specs.Instruction.{EntryRef, AConstant};
+
+    // there is a current block, which may get an instruction
+    ghost can_build: { Self → Type 0 };
+
+    // the function has this value
+    ghost has_value: { Self → ℕ → Type 0 };
+
+    // the function has this entry of a table
+    ghost has_entry: { Self → EntryRef → Type 0 };
+
+    // an edge may be made: its target exists and isn't sealed, and the function has what it passes
+    ghost can_lead: { Self → BlockCall → Type 0 };
+
+    // the type of a value
+    ghost type_of: { Self → ℕ → «Type» };
+
+    // what `pool_constant` makes of the builder, by the bytes and its result
+    ghost pools: { Self → Self → List ℕ → Result ℕ BuildError → Type 0 };
+
+    // there is a jump table of this number that serves no instruction so far, and its edges may be made
+    ghost has_jump_table: { Self → ℕ → Type 0 };
+
+    // what `take_jump_table` makes of the builder, by the table and its result
+    ghost takes: { Self → Self → ℕ → Result (List BlockCall) BuildError → Type 0 };
+
+    // what `build` makes of the builder, by its result
+    ghost builds: { Self → Self → InstructionData → «Type» → Result ℕ BuildError → Type 0 };
+
+    // what `build_value` makes of it
+    ghost builds_value: { Self → Self → InstructionData → «Type» → Result ℕ BuildError → Type 0 };
+
+    // what `build_like` makes of it
+    ghost builds_like: { Self → Self → InstructionData → ℕ → Result ℕ BuildError → Type 0 };
+
+    // what `build_pair` makes of it
+    ghost builds_pair: { Self → Self → InstructionData → ℕ → Result (ℕ × ℕ) BuildError → Type 0 };
+
+    /// The type of a value.
+    fn value_type(&self, value: Value) -> Type
+        requires exists { has_value self.now value }
+        ensures { result ≡ type_of self.now value };
+
+    /// The allocator of what an instruction holds.
+    fn allocator(&self) -> Global;
+
+    /// The constant of these bytes, the lowest first. It is made if there is none: equal bytes are one constant.
+    fn pool_constant(&mut self, bytes: &[u8]) -> Result<Constant, BuildError>
+        ensures pooled { pools self.old self.new bytes.now result };
+
+    /// Takes the edges of a jump table for the instruction that it serves from now on.
+    fn take_jump_table(&mut self, table: JumpTable) -> Result<JumpTableData, BuildError>
+        requires serves { has_jump_table self.old table }
+        ensures taken { takes self.old self.new table result };
+
+    /// Appends an instruction; `ctrl_type` is its controlling type.
+    ///
+    /// A terminator fills the block. A branch becomes a predecessor of the target of each edge, once.
+    fn build(&mut self, shape: InstructionData, ctrl_type: Type) -> Result<Inst, BuildError>
+        requires current { can_build self.old }
+        requires operands_exist { All (has_value self.old) (operands shape) }
+        requires contexts_exist { All (has_value self.old) (contexts shape) }
+        requires edges { All (can_lead self.old) (destinations shape) }
+        requires entries_exist { All (has_entry self.old) (entries_of shape) }
+        ensures built { builds self.old self.new shape ctrl_type result };
+
+    /// Appends an instruction that has one result and goes on behind it, and returns the result's value.
+    fn build_value(&mut self, shape: InstructionData, ctrl_type: Type) -> Result<Value, BuildError>
+        requires current { can_build self.old }
+        requires operands_exist { All (has_value self.old) (operands shape) }
+        requires entries_exist { All (has_entry self.old) (entries_of shape) }
+        requires value { GivesValue shape }
+        ensures built { builds_value self.old self.new shape ctrl_type result };
+
+    /// The same, with the type of `like` as the controlling type.
+    fn build_like(&mut self, shape: InstructionData, like: Value) -> Result<Value, BuildError>
+        requires current { can_build self.old }
+        requires operands_exist { All (has_value self.old) (operands shape) }
+        requires entries_exist { All (has_entry self.old) (entries_of shape) }
+        requires value { GivesValue shape }
+        requires like_exists { has_value self.old like }
+        ensures built { builds_like self.old self.new shape like result };
+
+    /// Appends an instruction that has two results and goes on behind it, with the type of `like` as the controlling
+    /// type, and returns the values of the results in order.
+    fn build_pair(
+        &mut self,
+        shape: InstructionData,
+        like: Value,
+    ) -> Result<(Value, Value), BuildError>
+        requires current { can_build self.old }
+        requires operands_exist { All (has_value self.old) (operands shape) }
+        requires entries_exist { All (has_entry self.old) (entries_of shape) }
+        requires pair { GivesPair shape }
+        requires like_exists { has_value self.old like }
+        ensures built { builds_pair self.old self.new shape like result };
+
+    /// Fails, since memory was refused for what an instruction was to hold.
+    fn refuse(&mut self) -> BuildError
+        ensures refused { (shape : InstructionData) (ty : «Type») →
+            builds self.old self.new shape ty (Err result) };
+
+    // after a value was built one can build on, with this value, and with the values and entries that there were before
+    ghost builds_on: { AfterValue builds_value (λ old new value. can_build new) };
+
+    ghost built_exists: { AfterValue builds_value (λ old new value. has_value new value) };
+
+    ghost others_exist: { AfterValue builds_value
+        (λ old new value. (x : ℕ) → has_value old x → has_value new x) };
+
+    ghost entries_stay: { AfterValue builds_value
+        (λ old new value. (entry : EntryRef) → has_entry old entry → has_entry new entry) };
+
+    // after a constant was pooled it is there, and one can build as before
+    ghost pooled_exists: { AfterPooling pools
+        (λ old new constant. has_entry new (AConstant constant)) };
+
+    ghost pooled_builds: { AfterPooling pools (λ old new constant. can_build old → can_build new) };
+
+    // after the edges of a table were taken they may be made, the values are there, and one can build as before
+    ghost taken_leads: { AfterTaking takes
+        (λ old new table edges. has_jump_table old table → All (can_lead new) edges) };
+
+    ghost taken_values: { AfterTaking takes
+        (λ old new table edges. (x : ℕ) → has_value old x → has_value new x) };
+
+    ghost taken_builds: { AfterTaking takes
+        (λ old new table edges. can_build old → can_build new) };
+
+    ghost like_is_value: { LikeIsValue builds_like builds_value type_of };
+}
+
+/// The two values of a list.
+pub fn both_values(values: &[Value]) -> (Value, Value)
+    requires { length values.now ≡ 2 }
+    ensures { values.now ≡ result.0 ∷ result.1 ∷ [] }
+{
+    (values[0], values[1])
+}
