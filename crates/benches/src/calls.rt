@@ -5,9 +5,9 @@ ghost use Rattle.clif_records.specs.Tables.{is_yes};
 ghost use Rattle.cranelift_frontend.specs.Builder.{HasCurrent};
 ghost use Rattle.benches.specs.Variables.{eight, refused, word};
 
-use clif_types::types::I32;
+use clif_types::types::{I32, I64};
 use cranelift_frontend::{
-    Block, BuildError, EntityRef, FunctionBuilder, InstBuilder, Value, Variable,
+    Block, BuildError, EntityRef, FunctionBuilder, InstBuilder, IntCC, TrapCode, Value, Variable,
 };
 
 /// Why a function wasn't built.
@@ -164,6 +164,77 @@ pub fn sum(builder: &mut FunctionBuilder<'_>, x: Value, y: Value) -> Result<Valu
     exists(builder, x)?;
     exists(builder, y)?;
     Ok(builder.ins().iadd(x, y)?)
+}
+
+/// A comparison.
+pub fn less(builder: &mut FunctionBuilder<'_>, x: Value, y: Value) -> Result<Value, Fault>
+    ensures { builder.new.ctx.now.variables ≡ builder.old.ctx.now.variables }
+{
+    open(builder)?;
+    exists(builder, x)?;
+    exists(builder, y)?;
+    Ok(builder.ins().icmp(IntCC::UnsignedLessThan, x, y)?)
+}
+
+/// One of two values.
+pub fn choose(
+    builder: &mut FunctionBuilder<'_>,
+    condition: Value,
+    x: Value,
+    y: Value,
+) -> Result<Value, Fault>
+    ensures { builder.new.ctx.now.variables ≡ builder.old.ctx.now.variables }
+{
+    open(builder)?;
+    exists(builder, condition)?;
+    exists(builder, x)?;
+    exists(builder, y)?;
+    Ok(builder.ins().select(condition, x, y)?)
+}
+
+/// A value with zero bits above, of type I64.
+pub fn widen(builder: &mut FunctionBuilder<'_>, x: Value) -> Result<Value, Fault>
+    ensures { builder.new.ctx.now.variables ≡ builder.old.ctx.now.variables }
+{
+    open(builder)?;
+    exists(builder, x)?;
+    Ok(builder.ins().uextend(I64, x)?)
+}
+
+/// The low bits of a value, of type I32.
+pub fn narrow(builder: &mut FunctionBuilder<'_>, x: Value) -> Result<Value, Fault>
+    ensures { builder.new.ctx.now.variables ≡ builder.old.ctx.now.variables }
+{
+    open(builder)?;
+    exists(builder, x)?;
+    Ok(builder.ins().ireduce(I32, x)?)
+}
+
+/// The other bits.
+pub fn inverse(builder: &mut FunctionBuilder<'_>, x: Value) -> Result<Value, Fault>
+    ensures { builder.new.ctx.now.variables ≡ builder.old.ctx.now.variables }
+{
+    open(builder)?;
+    exists(builder, x)?;
+    Ok(builder.ins().bnot(x)?)
+}
+
+/// A float.
+pub fn float(builder: &mut FunctionBuilder<'_>) -> Result<Value, Fault>
+    ensures { builder.new.ctx.now.variables ≡ builder.old.ctx.now.variables }
+{
+    open(builder)?;
+    Ok(builder.ins().f64const(0x3ff0_0000_0000_0000)?)
+}
+
+/// A trap where a value is zero.
+pub fn guard(builder: &mut FunctionBuilder<'_>, x: Value) -> Result<(), Fault>
+    ensures { builder.new.ctx.now.variables ≡ builder.old.ctx.now.variables }
+{
+    open(builder)?;
+    exists(builder, x)?;
+    builder.ins().trapz(x, TrapCode::User(1))?;
+    Ok(())
 }
 
 /// Ends the current block with a jump.

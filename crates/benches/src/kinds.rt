@@ -3,7 +3,8 @@ ghost use Rattle.std.specs.Prelude.{◌≡◌};
 ghost use Rattle.benches.specs.Variables.{eight};
 
 use crate::calls::{
-    Fault, assign, branch, constant, create, enter, give_back, jump, read, seal, sum,
+    Fault, assign, branch, choose, constant, create, enter, float, give_back, guard, inverse, jump,
+    less, narrow, read, seal, sum, widen,
 };
 use cranelift_frontend::{Block, FunctionBuilder};
 
@@ -22,6 +23,10 @@ pub enum Kind {
     Diamonds,
     /// A loop of one block.
     Loops,
+    /// Instructions of several formats in one block.
+    Mixed,
+    /// A sum in one block; when the function is finished, constants are put around each instruction.
+    Rewritten,
 }
 
 // A variable gets the sum of itself and another one.
@@ -33,6 +38,23 @@ fn add(builder: &mut FunctionBuilder<'_>, number: usize) -> Result<(), Fault>
     let y = read(builder, number / 8)?;
     let total = sum(builder, x, y)?;
     assign(builder, number, total)
+}
+
+// A variable gets what instructions of several formats make of itself and another one.
+fn mix(builder: &mut FunctionBuilder<'_>, number: usize) -> Result<(), Fault>
+    requires { builder.old.ctx.now.variables ≡ eight }
+    ensures { builder.new.ctx.now.variables ≡ builder.old.ctx.now.variables }
+{
+    let x = read(builder, number)?;
+    let y = read(builder, number / 8)?;
+    let condition = less(builder, x, y)?;
+    let chosen = choose(builder, condition, x, y)?;
+    let wide = widen(builder, chosen)?;
+    let turned = inverse(builder, wide)?;
+    let _float = float(builder)?;
+    guard(builder, y)?;
+    let mixed = narrow(builder, turned)?;
+    assign(builder, number, mixed)
 }
 
 // A jump to a new block, which is entered, and sealed where it is asked for.
@@ -102,7 +124,7 @@ fn turn(builder: &mut FunctionBuilder<'_>, kind: Kind, number: usize) -> Result<
     ensures { builder.new.ctx.now.variables ≡ builder.old.ctx.now.variables }
 {
     match kind {
-        Kind::Block => add(builder, number),
+        Kind::Block | Kind::Rewritten => add(builder, number),
         Kind::Chain => {
             add(builder, number)?;
             go_on(builder, true)
@@ -114,6 +136,7 @@ fn turn(builder: &mut FunctionBuilder<'_>, kind: Kind, number: usize) -> Result<
         Kind::Far => go_on(builder, true),
         Kind::Diamonds => diamond(builder, number),
         Kind::Loops => loop_once(builder, number),
+        Kind::Mixed => mix(builder, number),
     }
 }
 

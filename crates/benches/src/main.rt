@@ -1,14 +1,17 @@
 //! `benches KIND TURNS` builds a function of a kind over the builder's calls, and prints how many blocks and
-//! instructions it has. tools/bench measures it.
+//! instructions it has; of the kind `mixed` it makes the text too, and prints its length. A function of the kind
+//! `rewritten` is rewritten when it is finished. tools/bench measures it.
 #![tactic(auto)]
 
 ghost use Rattle.std.specs.Prelude.{◌≡◌};
 
 mod calls;
 mod kinds;
+mod rewriting;
 
 use crate::calls::{Fault, declare_all};
 use crate::kinds::{Kind, make};
+use crate::rewriting::surround_all;
 use cranelift_frontend::{
     CallConv, FinalizeError, Function, FunctionBuilder, FunctionBuilderContext, PointerWidth,
     Signature, TargetFrontendConfig, UserFuncName,
@@ -26,16 +29,30 @@ const CONFIG: TargetFrontendConfig = TargetFrontendConfig {
 
 fn main(rt: HostRuntime) -> ExitCode {
     let Some((kind, turns)) = arguments(&rt) else {
-        let _ = rt.eprintln("usage: benches block|chain|chain_late|far|diamonds|loops TURNS");
+        let _ = rt.eprintln(
+            "usage: benches block|chain|chain_late|far|diamonds|loops|mixed|rewritten TURNS",
+        );
         return ExitCode::from(2);
     };
-    match counts(rt.alloc(), kind, turns) {
-        Some((blocks, insts)) => {
-            let _ = println!(rt; "{blocks} {insts}");
-            ExitCode::from(0)
-        }
-        None => ExitCode::from(1),
+    let alloc = rt.alloc();
+    let Some(mut func) = built(alloc, kind, turns) else {
+        return ExitCode::from(1);
+    };
+    if kind == Kind::Rewritten && !surround_all(&mut func) {
+        return ExitCode::from(1);
     }
+    let blocks = func.block_count();
+    let insts = func.inst_count();
+    if kind == Kind::Mixed {
+        let Ok(text) = format!(in alloc; "{}", func.display()) else {
+            return ExitCode::from(1);
+        };
+        let bytes = text.len();
+        let _ = println!(rt; "{blocks} {insts} {bytes}");
+    } else {
+        let _ = println!(rt; "{blocks} {insts}");
+    }
+    ExitCode::from(0)
 }
 
 fn arguments<R: Env + AllocGlobal>(rt: &R) -> Option<(Kind, usize)> {
@@ -53,12 +70,14 @@ fn kind_named(name: &str) -> Option<Kind> {
         "far" => Some(Kind::Far),
         "diamonds" => Some(Kind::Diamonds),
         "loops" => Some(Kind::Loops),
+        "mixed" => Some(Kind::Mixed),
+        "rewritten" => Some(Kind::Rewritten),
         _ => None,
     }
 }
 
-// How many blocks and instructions the function has, if it was built.
-fn counts(alloc: Global, kind: Kind, turns: usize) -> Option<(usize, usize)> {
+// The function, if it was built.
+fn built(alloc: Global, kind: Kind, turns: usize) -> Option<Function> {
     let mut ctx = FunctionBuilderContext::new(alloc);
     let signature = Signature::new(alloc, CallConv::SystemV);
     let mut func = Function::with_name_signature(alloc, UserFuncName::user(0, 0), signature);
@@ -69,5 +88,5 @@ fn counts(alloc: Global, kind: Kind, turns: usize) -> Option<(usize, usize)> {
     if made.is_err() || finished.is_err() {
         return None;
     }
-    Some((func.block_count(), func.inst_count()))
+    Some(func)
 }

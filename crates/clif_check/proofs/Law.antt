@@ -15,42 +15,16 @@ use Rattle.clif_instructions.specs.declared.instructions.InstructionData.{Instru
 use Rattle.clif_instructions.specs.declared.instructions.InstructionData.TheVariants.{UnaryImm, UnaryIeee, UnaryConst, Unary, Binary, IntCompare, Concat, Split, Convert, Ternary, Load, Store, StackLoad, StackStore, Jump, Brif, BranchTable, MultiAry, Trap, CondTrap, Call, CallIndirect, TryCall, TryCallIndirect}
 use Rattle.clif_instructions.specs.Instruction.{operands, typing_of}
 use Rattle.clif_tables.specs.Lists.{TableLists}
-use Rattle.clif_ir.specs.declared.function.InstNode.{InstNode}
+use Rattle.clif_nodes.specs.declared.nodes.InstNode.{InstNode}
 use Rattle.clif_ir.specs.Body.{Body, inst_at, block_at}
 use Rattle.clif_tables.specs.Callees.{types_of}
 use Rattle.clif_meaning.specs.Instruction.{operation_typing}
 use Rattle.clif_meaning.specs.Typing as premise
 use Rattle.clif_meaning.specs.View.{operation_of, placed_of}
+use Rattle.clif_meaning.proofs.OperationTypes.{operation_typed}
 use Rattle.clif_check.specs.declared.error.CheckErrorKind.{CheckErrorKind}
 use Rattle.clif_check.specs.declared.error.CheckErrorKind.TheVariants as kind
 use Rattle.clif_check.specs.WellTyped.{AgreesWithPremise, FitCallee, FitReturns, HasOperands, IsRight, callee_types, controlling_type, fixed_operands, type_at, types_at}
-
--- an instruction and its operation have one row of the typing table
-same_row : (tables : TableLists) (shape : InstructionData) → operation_typing (operation_of tables shape) ≡ typing_of shape
-same_row tables (UnaryImm imm) = refl
-same_row tables (UnaryIeee opcode bits) = refl
-same_row tables (UnaryConst opcode constant) = refl
-same_row tables (Unary opcode arg) = refl
-same_row tables (Binary opcode args) = refl
-same_row tables (IntCompare cond args) = refl
-same_row tables (Concat args) = refl
-same_row tables (Split arg) = refl
-same_row tables (Convert opcode arg) = refl
-same_row tables (Ternary args) = refl
-same_row tables (Load flags arg offset) = refl
-same_row tables (Store flags args offset) = refl
-same_row tables (StackLoad opcode slot offset) = refl
-same_row tables (StackStore arg slot offset) = refl
-same_row tables (Jump destination) = refl
-same_row tables (Brif arg blocks) = refl
-same_row tables (BranchTable arg table) = refl
-same_row tables (MultiAry args) = refl
-same_row tables (Trap code) = refl
-same_row tables (CondTrap opcode arg code) = refl
-same_row tables (Call function args) = refl
-same_row tables (CallIndirect sig args) = refl
-same_row tables (TryCall function args table) = refl
-same_row tables (TryCallIndirect args table) = refl
 
 -- what returns has no operands but those that it returns
 no_others : {X : Type 0} → others.Nothing ≡ others.Returned → X
@@ -143,8 +117,8 @@ premised f node right =
     fits f (types_of f.signature.returns) (callee_types f.tables node.shape) (controlling_type f node) (typing_of node.shape).others (typing_of node.shape).operands
     (operands node.shape) has.kinds (right kind.Arguments) (right kind.Return) in
     record {
-      made_at = subst (λ (row : Row). IsMade f node row) (sym (same_row f.tables node.shape)) has.made_at;
-      operands = subst (λ (row : Row). Takes f node row) (sym (same_row f.tables node.shape)) takes;
+      made_at = subst (λ (row : Row). IsMade f node row) (sym (operation_typed f.tables node.shape)) has.made_at;
+      operands = subst (λ (row : Row). Takes f node row) (sym (operation_typed f.tables node.shape)) takes;
       edges = right kind.Edge;
     }
 
@@ -152,11 +126,11 @@ checked : (f : Body) (node : InstNode) → Premise f node → (kind : CheckError
 checked f node holds = by
   where
     takes : Takes f node (typing_of node.shape)
-    takes = subst (λ (row : Row). Takes f node row) (same_row f.tables node.shape) holds.operands
+    takes = subst (λ (row : Row). Takes f node row) (operation_typed f.tables node.shape) holds.operands
 
     by : (kind : CheckErrorKind) → IsRight f node kind
     by kind.Operand = record {
-      made_at = subst (λ (row : Row). IsMade f node row) (same_row f.tables node.shape) holds.made_at;
+      made_at = subst (λ (row : Row). IsMade f node row) (operation_typed f.tables node.shape) holds.made_at;
       kinds = fit_fixed f (types_of f.signature.returns) (callee_types f.tables node.shape) (controlling_type f node) (typing_of node.shape).others
           (typing_of node.shape).operands (operands node.shape) (returns_alone node.shape) takes;
     }

@@ -14,7 +14,7 @@ use Rattle.clif_instructions.specs.declared.instructions.InstructionData.{Instru
 use Rattle.clif_instructions.specs.ExceptionTables.{ExceptionShape}
 use Rattle.clif_instructions.specs.Instruction.{operands, typing_of}
 use Rattle.clif_tables.specs.Lists.{TableLists}
-use Rattle.clif_ir.specs.declared.function.InstNode.{InstNode}
+use Rattle.clif_nodes.specs.declared.nodes.InstNode.{InstNode}
 use Rattle.clif_ir.specs.Body.{Body, value_at, inst_at, block_at}
 use Rattle.clif_tables.specs.Callees.{types_of}
 use Rattle.clif_meaning.specs.Typing.{argument_type, argument_types, call_shape, EdgeMatches, EachEdgeMatches}

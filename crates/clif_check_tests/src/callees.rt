@@ -1,15 +1,9 @@
 //! Calls as plain data, where functions, signatures, blocks and values are told by their numbers.
 #![tactic(auto)]
 
-ghost use Rattle.std.specs.Prelude.{IsTrue, All, flat_map};
-ghost use Rattle.clif_instructions.specs.ExceptionTables.{item_context};
-ghost use Rattle.clif_instructions.specs.Instruction.{contexts};
-ghost use Rattle.clif_ir.specs.Consistent.{ValueExists};
-
 use crate::steps::{Arg, edge, push_types, v, values};
 use clif_ir::{
-    ExceptionItem, ExceptionTableData, ExceptionTableItem, ExceptionTargets, Function,
-    InstructionData,
+    ExceptionTableData, ExceptionTableItem, ExceptionTargets, Function, InstructionData,
 };
 use clif_types::{
     CallConv, EntityRef, ExtFuncData, ExternalName, FuncRef, SigRef, Signature, Type,
@@ -134,31 +128,4 @@ pub fn import_function(rt: &impl Abort, func: &mut Function, sig: u32) -> Result
         patchable: false,
     })?;
     Ok(())
-}
-
-// Whether the value exists that an item names, if it names one.
-fn has_context(func: &Function, item: ExceptionItem) -> bool
-    ensures { IsTrue result → All (ValueExists func.now) (item_context item) }
-{
-    match item {
-        ExceptionItem::Context(value) => value.index() < func.value_count(),
-        ExceptionItem::Tag(_) | ExceptionItem::Default => true,
-    }
-}
-
-// Whether the values exist that items name.
-fn has_contexts_of(func: &Function, items: &[ExceptionItem]) -> bool
-    ensures { IsTrue result → All (ValueExists func.now) (flat_map item_context items.now) }
-{
-    items.iter().all(|item| has_context(func, *item))
-}
-
-/// Whether the contexts of an instruction exist.
-pub fn has_contexts(func: &Function, shape: &InstructionData) -> bool
-    ensures { IsTrue result → All (ValueExists func.now) (contexts shape.now) }
-{
-    match shape.exception_targets() {
-        Some(exception) => has_contexts_of(func, exception.items()),
-        None => true,
-    }
 }

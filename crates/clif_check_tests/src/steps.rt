@@ -4,9 +4,9 @@
 ghost use Rattle.std.specs.Prelude.{◌<◌, length, IsTrue, EachIndex, All, slice_index};
 ghost use Rattle.clif_ir.specs.Consistent.{EdgeExists, PassedExists};
 
-use crate::callees::{Call, call_of, has_contexts, import_function, import_signature};
+use crate::callees::{Call, call_of, import_function, import_signature};
 use clif_check::{CheckErrorKind, check};
-use clif_instructions::inst_list::InsertAt;
+use clif_instructions::insert_at::InsertAt;
 use clif_ir::{
     BinaryOpcode, BlockArg, BlockCall, CondTrapOpcode, ConvertOpcode, FloatConstOpcode, Function,
     InstructionData, UnaryOpcode, ValueList,
@@ -215,7 +215,7 @@ fn put(
     let shape = shape_of(rt, func.allocator(), plain)?;
     assert!(rt; has_operands(func, shape.arguments()));
     assert!(rt; has_edges(func, shape.branch_destination()));
-    assert!(rt; has_contexts(func, &shape));
+    assert!(rt; func.has_contexts(&shape));
     assert!(rt; func.has_entries(&shape));
     func.insert_inst(block, InsertAt::Back, shape, ty, SourceLoc::new(0))?;
     Ok(())

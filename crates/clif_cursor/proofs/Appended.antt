@@ -6,20 +6,20 @@ use Rattle.std.proofs.lemmas.Grind.{common_steps}
 use Rattle.clif_types.specs.declared.error.BuildError.{BuildError}
 use Rattle.clif_types.specs.declared.error.BuildError.TheVariants.{Full, Failed}
 use Rattle.clif_types.specs.declared.types.«Type».{«Type»}
-use Rattle.clif_instructions.specs.declared.inst_list.InsertAt.TheVariants.{Back}
+use Rattle.clif_instructions.specs.declared.insert_at.InsertAt.TheVariants.{Back}
 use Rattle.clif_instructions.specs.declared.instructions.InstructionData.{InstructionData}
-use Rattle.clif_instructions.specs.Instruction.{is_terminator, result_type_of, result_types}
+use Rattle.clif_instructions.specs.Instruction.{is_terminator, result_type_of}
 use Rattle.clif_tables.specs.Callees.{count_of_results, types_of_results}
 use Rattle.clif_instructions.proofs.Lists.{at_set}
 use Rattle.clif_inst_builder.specs.Shapes.{GivesPair, GivesValue}
 use Rattle.clif_inst_builder.proofs.NoCalls.{one_type, plain_types, two_results as two_of}
-use Rattle.clif_ir.specs.declared.function.BlockNode.{BlockNode}
-use Rattle.clif_ir.specs.declared.function.InstNode.{InstNode}
-use Rattle.clif_ir.specs.declared.function.ValueNode.{ValueNode}
-use Rattle.clif_ir.specs.declared.function.ValueOrigin.TheVariants.{Result as OfInst}
+use Rattle.clif_nodes.specs.declared.nodes.InstNode.{InstNode}
+use Rattle.clif_nodes.specs.declared.nodes.ValueNode.{ValueNode}
+use Rattle.clif_nodes.specs.declared.nodes.ValueOrigin.TheVariants.{Result as OfInst}
 use Rattle.std.proofs.Math.ListN.{get_or-append}
-use Rattle.clif_ir.specs.Body.{Body, block_at, empty_block, inst_at, no_value, value_at}
-use Rattle.clif_ir.specs.Changes.{HasNoRoom, inst_node, result_nodes, with_inst}
+use Rattle.clif_ir.specs.Body.{Body, block_at, inst_at, value_at}
+use Rattle.clif_nodes.specs.Nodes.{BlockNode, empty_block, no_value, result_nodes}
+use Rattle.clif_ir.specs.Changes.{HasNoRoom, inst_node, with_inst}
 use Rattle.clif_ir.proofs.KeepsInst.{length-types_of_results}
 use Rattle.clif_cursor.specs.declared.cursor.FuncCursor.{FuncCursor}
 use Rattle.clif_cursor.specs.Cursor.{Appends, Builds, BuildsPair, BuildsValue, CanAppend, IsOpen, IsThere, TypesStay, ends_block, is_filled, with_appended}

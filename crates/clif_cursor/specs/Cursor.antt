@@ -1,18 +1,18 @@
 -- What a cursor makes of a function. Source: own, after the crate's documentation of `FuncCursor`.
-use Rattle.std.specs.Prelude.{◌≡◌, ◌≢◌, ◌<◌, ◌≤◌, ◌+◌, ◌-◌, ℕ, Bool, false, length, map, slice_get, List, [], ◌∷◌, All, Option, None, Some, Result, Err, IfOk, OnOk, OnErr, IsOk}
+use Rattle.std.specs.Prelude.{◌≡◌, ◌≢◌, ◌<◌, ◌≤◌, ◌+◌, ◌-◌, ℕ, Bool, false, length, map, slice_get, List, [], ◌∷◌, Option, None, Some, Result, Err, IfOk, OnOk, OnErr, IsOk}
 use Rattle.clif_types.specs.declared.error.BuildError.{BuildError}
 use Rattle.clif_types.specs.declared.error.BuildError.TheVariants.{Full, Failed}
 use Rattle.clif_types.specs.declared.types.«Type».{«Type»}
-use Rattle.clif_instructions.specs.declared.block_call.BlockCall.{BlockCall}
-use Rattle.clif_instructions.specs.declared.inst_list.InsertAt.TheVariants.{Back}
+use Rattle.clif_instructions.specs.declared.insert_at.InsertAt.TheVariants.{Back}
 use Rattle.clif_instructions.specs.declared.instructions.InstructionData.{InstructionData}
-use Rattle.clif_instructions.specs.Instruction.{is_terminator, result_type_of, result_types}
+use Rattle.clif_instructions.specs.Instruction.{EntryRef, is_terminator, result_type_of, result_types}
 use Rattle.clif_tables.specs.Callees.{count_of_results, types_of_results}
-use Rattle.clif_tables.specs.Lists.{unserved, with_constant, with_table_served}
+use Rattle.clif_tables.specs.Lists.{with_constant}
 use Rattle.clif_tables.specs.Makes.{Pools}
 use Rattle.clif_ir.specs.Body.{Body, block_at, inst_at, value_at}
 use Rattle.clif_ir.specs.Changes.{HasNoRoom, with_inst, with_tables}
-use Rattle.clif_ir.specs.Consistent.{EdgeExists}
+use Rattle.clif_ir.specs.Consistent.{EdgeExists, EntryExists, ValueExists}
+use Rattle.clif_inst_builder.specs.Served.{CanServe, TableKind, unserved_in}
 use Rattle.clif_cursor.specs.declared.cursor.FuncCursor.{FuncCursor}
 
 -- whether an instruction, if there is one, ends its block
@@ -92,21 +92,19 @@ pub record PoolsConstant (old new : FuncCursor) (bytes : List ℕ) (answer : Res
   pub exists : IfOk answer (λ constant. constant < length new.func.now.tables.constants)
   pub current : CanAppend old → OnOk answer (CanAppend new)
 
--- the edges of the jump table with this number, if there is one that serves no instruction so far
-abbrev pub table_edges : Body → ℕ → Option (List BlockCall)
-table_edges f table = unserved (slice_get f.tables.jump_tables table)
+-- there is a table of this kind and number that serves no instruction so far, and an instruction may name what it holds
+abbrev pub MayServe : {T : Type 0} → TableKind T → FuncCursor → ℕ → Type 0
+MayServe {T} kind c table =
+    CanServe kind c.func.now.tables (EdgeExists c.func.now) (ValueExists c.func.now) (EntryExists c.func.now.tables) table
 
--- there is such a table, and its edges may be made
-abbrev pub MayServe : FuncCursor → ℕ → Type 0
-MayServe c table =
-    (edges : List BlockCall) × (table_edges c.func.now table ≡ Some edges) × All (EdgeExists c.func.now) edges
-
--- The answer is the edges of a jump table, which serves an instruction from now on. Nothing else changes, and it can't fail.
-pub record TakesJumpTable (old new : FuncCursor) (table : ℕ) (answer : Result (List BlockCall) BuildError) : Type 0 where
+-- The answer is what a table holds, which serves an instruction from now on. Nothing else changes, and it can't fail.
+pub record Takes {T : Type 0} (kind : TableKind T) (old new : FuncCursor) (table : ℕ) (answer : Result T BuildError) : Type 0 where
   pub there : IsThere old new
-  pub function : new.func.now ≡ with_tables old.func.now (with_table_served old.func.now.tables table)
-  pub edges : IfOk answer (λ edges. table_edges old.func.now table ≡ Some edges)
-  pub leads : MayServe old table → IfOk answer (λ edges. All (EdgeExists new.func.now) edges)
+  pub function : new.func.now ≡ with_tables old.func.now (kind.with_served old.func.now.tables table)
+  pub held : IfOk answer (λ held. unserved_in kind old.func.now.tables table ≡ Some held)
+  pub can_be_named : MayServe kind old table
+      → IfOk answer (kind.CanBeNamed (EdgeExists new.func.now) (ValueExists new.func.now) (EntryExists new.func.now.tables))
   pub current : CanAppend old → OnOk answer (CanAppend new)
   pub same_values : length new.func.now.values ≡ length old.func.now.values
+  pub entries : (entry : EntryRef) → EntryExists old.func.now.tables entry → EntryExists new.func.now.tables entry
   pub never_err : IsOk answer

@@ -5,12 +5,15 @@ ghost use Rattle.std.proofs.Math.Nat.{lt_of_lt_of_le};
 ghost use Rattle.clif_tables.specs.Lists.{TableLists};
 ghost use Rattle.clif_ir.specs.Body.{value_at};
 ghost use Rattle.clif_ir.specs.Consistent.{EdgeExists, EntryExists};
-ghost use Rattle.clif_cursor.specs.Cursor.{CanAppend, Builds, BuildsPair, BuildsValue, is_filled, MayServe, PoolsConstant, TakesJumpTable};
+ghost use Rattle.clif_inst_builder.specs.Served.{exception_tables, jump_tables};
+ghost use Rattle.clif_cursor.specs.Cursor.{CanAppend, Builds, BuildsPair, BuildsValue, is_filled, MayServe, PoolsConstant, Takes};
 
 use clif_inst_builder::{InstBuilderBase, both_values};
-use clif_instructions::inst_list::InsertAt;
-use clif_ir::{Function, InstructionData, JumpTableData};
-use clif_types::{Block, BuildError, Constant, Inst, JumpTable, SourceLoc, Type, Value};
+use clif_instructions::insert_at::InsertAt;
+use clif_ir::{ExceptionTargets, Function, InstructionData, JumpTableData};
+use clif_types::{
+    Block, BuildError, Constant, ExceptionTable, Inst, JumpTable, SourceLoc, Type, Value,
+};
 use std::alloc::Global;
 
 /// Appends instructions to a block of a function, one after the other.
@@ -105,9 +108,13 @@ impl<'f> InstBuilderBase for FuncCursor<'f> {
 
     ghost pools = { PoolsConstant };
 
-    ghost has_jump_table = { MayServe };
+    ghost has_jump_table = { MayServe jump_tables };
 
-    ghost takes = { TakesJumpTable };
+    ghost takes = { Takes jump_tables };
+
+    ghost has_exception_table = { MayServe exception_tables };
+
+    ghost takes_exception = { Takes exception_tables };
 
     ghost builds = { Builds };
 
@@ -136,12 +143,24 @@ impl<'f> InstBuilderBase for FuncCursor<'f> {
     ghost pooled_builds = { λ old new bytes constant pooled current.
         pooled.current current };
 
-    ghost taken_leads = { λ old new table edges taken serves. taken.leads serves };
+    ghost taken_leads = { λ old new table edges taken serves. taken.can_be_named serves };
 
     ghost taken_values = { λ old new table edges taken value here.
         subst (λ n. value < n) (sym taken.same_values) here };
 
     ghost taken_builds = { λ old new table edges taken current. taken.current current };
+
+    ghost exception_can_be_named = { λ old new table exception taken serves.
+        taken.can_be_named serves };
+
+    ghost exception_values = { λ old new table exception taken value here.
+        subst (λ n. value < n) (sym taken.same_values) here };
+
+    ghost exception_entries = { λ old new table exception taken entry here.
+        taken.entries entry here };
+
+    ghost exception_builds = { λ old new table exception taken current.
+        taken.current current };
 
     fn value_type(&self, value: Value) -> Type {
         self.func.value_type(value)
@@ -160,6 +179,16 @@ impl<'f> InstBuilderBase for FuncCursor<'f> {
             unreachable!();
         };
         Ok(edges)
+    }
+
+    fn take_exception_table(
+        &mut self,
+        table: ExceptionTable,
+    ) -> Result<ExceptionTargets, BuildError> {
+        let Some(exception) = self.func.take_exception_table(table) else {
+            unreachable!();
+        };
+        Ok(exception)
     }
 
     fn build(&mut self, shape: InstructionData, ctrl_type: Type) -> Result<Inst, BuildError> {

@@ -1,16 +1,18 @@
 //! Instructions that a cursor appends.
 #![tactic(auto)]
 
-ghost use Rattle.std.specs.Prelude.{◌≡◌, ◌<◌, length, OnOk};
+ghost use Rattle.std.specs.Prelude.{◌≡◌, ◌<◌, length, IfOk, OnOk, Some};
 ghost use Rattle.clif_ir.specs.Body.{value_at};
+ghost use Rattle.clif_inst_builder.specs.Served.{exception_tables, unserved_in};
 ghost use Rattle.clif_cursor.specs.Cursor.{CanAppend};
+ghost use Rattle.clif_cursor_tests.specs.Tables.{to_block};
 
 use clif_cursor::{FuncCursor, InstBuilder};
-use clif_ir::Function;
+use clif_ir::{BlockArg, BlockCall, ExceptionTableData, Function};
 use clif_types::types::{I8, I64};
 use clif_types::{
-    AbiParam, Block, BuildError, CallConv, EntityRef, ExtFuncData, ExternalName, FuncRef, Inst,
-    MemFlagsData, SigRef, Signature, SourceLoc, Type, UserFuncName, Value,
+    AbiParam, Block, BuildError, CallConv, EntityRef, ExceptionTable, ExtFuncData, ExternalName,
+    FuncRef, Inst, MemFlagsData, SigRef, Signature, SourceLoc, Type, UserFuncName, Value,
 };
 use std::alloc::{AllocError, Global};
 use std::process::Abort;
@@ -124,6 +126,66 @@ fn calls(rt: HostRuntime) -> Result<(), Fail> {
     call_both(&mut cursor, sig, function, x)?;
     let text =
         "function %sample() system_v {\n    sig0 = () -> i64, i8 fast\n    fn0 = colocated %g sig0\n\nblock0(v0: i64):\n    v1, v2 = call fn0(v0)\n    v3, v4 = call_indirect sig0, v0()\n}\n";
+    let shown = func.display();
+    let found = format!(in rt.alloc(); "{shown}")?;
+    assert!(rt; found.as_str() == text);
+    Ok(())
+}
+
+// Makes a table by which a call goes to `after` with what it gave, and nothing catches an exception.
+fn table_to(
+    alloc: Global,
+    func: &mut Function,
+    sig: SigRef,
+    after: Block,
+) -> Result<ExceptionTable, BuildError>
+    ensures { IfOk result (λ table. unserved_in exception_tables func.new.tables table
+        ≡ Some (to_block sig after)) }
+{
+    let normal = BlockCall::new(alloc, after, &[BlockArg::TryCallRet(0)])?;
+    let items = Vec::new(alloc);
+    let data = ExceptionTableData { sig, normal, items };
+    func.create_exception_table(data)
+}
+
+// Ends `block` with a try call of a function, which goes to `after`.
+fn ends_with_try(
+    rt: &impl Abort,
+    alloc: Global,
+    func: &mut Function,
+    callee: (SigRef, FuncRef),
+    x: Value,
+    blocks: [Block; 2],
+) -> Result<(), Fail> {
+    let (sig, function) = callee;
+    let [block, after] = blocks;
+    let table = table_to(alloc, func, sig, after)?;
+    assert!(rt; block.index() < func.block_count());
+    let mut cursor = FuncCursor::new(func, block);
+    assert!(rt; after.index() < cursor.func().block_count());
+    assert!(rt; !cursor.is_filled());
+    assert!(rt; x.index() < cursor.func().value_count());
+    assert!(rt; sig.index() < cursor.func().tables().signature_count());
+    assert!(rt; function.index() < cursor.func().tables().function_count());
+    cursor.ins().try_call(function, &[x], table)?;
+    assert!(rt; cursor.func().tables().exception_table(table).is_none());
+    Ok(())
+}
+
+// A try call takes its table, which serves nothing else.
+#[test]
+fn try_calls(rt: HostRuntime) -> Result<(), Fail> {
+    let mut func = sample(rt.alloc())?;
+    let callee = imports(&rt, rt.alloc(), &mut func)?;
+    let block = func.create_block()?;
+    let after = func.create_block()?;
+    func.ensure_block_inserted(block)?;
+    func.ensure_block_inserted(after)?;
+    let x = func.append_block_param(block, I64)?;
+    func.append_block_param(after, I64)?;
+    ends_with_try(&rt, rt.alloc(), &mut func, callee, x, [block, after])?;
+    let text =
+        "function %sample() system_v {\n    sig0 = () -> i64, i8 fast\n    fn0 = colocated %g sig0\n\nblock0(v0: i64):\n    try_call fn0(v0), sig0, block1(ret0), []\n\nblock1(v1: i64):\n}\n";
     let shown = func.display();
     let found = format!(in rt.alloc(); "{shown}")?;
     assert!(rt; found.as_str() == text);

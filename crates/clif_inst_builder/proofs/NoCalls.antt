@@ -8,17 +8,11 @@ use Rattle.clif_instructions.specs.declared.instructions.InstructionData.TheVari
 use Rattle.clif_instructions.specs.Instruction.{contexts, is_call, result_count, result_type_of, result_types}
 use Rattle.clif_tables.specs.Callees.{count_of_results, given_by_call, types_of, types_of_results}
 use Rattle.clif_tables.specs.Lists.{TableLists}
+use Rattle.clif_tables.proofs.Given.{no_call_gives}
 use Rattle.clif_inst_builder.specs.Shapes.{GivesPair, GivesValue}
 
 not_so : {X : Type 0} → true ≡ false → X
 not_so {X} same = let no_way : ⊥ = cc in absurd no_way
-
-pub gives_nothing : (t : TableLists) (shape : InstructionData) → is_call shape ≡ false → given_by_call t shape ≡ []
-gives_nothing t (Call function args) no_call = not_so no_call
-gives_nothing t (CallIndirect sig args) no_call = not_so no_call
-gives_nothing t (TryCall function args table) no_call = refl
-gives_nothing t (TryCallIndirect args table) no_call = refl
-gives_nothing t _ no_call = refl
 
 pub no_contexts : (shape : InstructionData) → is_call shape ≡ false → contexts shape ≡ []
 no_contexts (Call function args) no_call = refl
@@ -30,11 +24,11 @@ no_contexts _ no_call = refl
 -- its results are those of its row of the typing table
 pub plain_types : (t : TableLists) (shape : InstructionData) (ty : «Type») → is_call shape ≡ false → types_of_results t shape ty ≡ result_types shape ty
 plain_types t shape ty no_call =
-    ap (λ (given : List AbiParam). result_types shape ty ++ types_of given) (gives_nothing t shape no_call) ∙ append-nil (result_types shape ty)
+    ap (λ (given : List AbiParam). result_types shape ty ++ types_of given) (no_call_gives t shape no_call) ∙ append-nil (result_types shape ty)
 
 pub plain_count : (t : TableLists) (shape : InstructionData) → is_call shape ≡ false → count_of_results t shape ≡ result_count shape
 plain_count t shape no_call =
-    let none : length (given_by_call t shape) ≡ 0 = ap (λ (given : List AbiParam). length given) (gives_nothing t shape no_call) in
+    let none : length (given_by_call t shape) ≡ 0 = ap (λ (given : List AbiParam). length given) (no_call_gives t shape no_call) in
     omega (arith, none)
 
 pub one_type : (t : TableLists) (shape : InstructionData) (ty : «Type») → GivesValue shape → types_of_results t shape ty ≡ result_type_of shape ty ∷ []

@@ -15,8 +15,9 @@ use Rattle.clif_opcodes.specs.declared.opcodes.ConvertOpcode.{ConvertOpcode}
 use Rattle.clif_opcodes.specs.declared.opcodes.PooledConstOpcode.{PooledConstOpcode}
 use Rattle.clif_opcodes.specs.declared.opcodes.StackOpcode.{StackOpcode}
 use Rattle.clif_opcodes.specs.declared.opcodes.UnaryOpcode.{UnaryOpcode}
+use Rattle.clif_instructions.specs.ExceptionTables.{ExceptionShape}
 use Rattle.clif_instructions.specs.declared.instructions.InstructionData.{InstructionData}
-use Rattle.clif_instructions.specs.declared.instructions.InstructionData.TheVariants.{UnaryImm, UnaryIeee, UnaryConst, Unary, Binary, IntCompare, Concat, Split, Convert, Ternary, Load, Store, StackLoad, StackStore, Jump, Brif, BranchTable, MultiAry, Trap, CondTrap, Call, CallIndirect}
+use Rattle.clif_instructions.specs.declared.instructions.InstructionData.TheVariants.{UnaryImm, UnaryIeee, UnaryConst, Unary, Binary, IntCompare, Concat, Split, Convert, Ternary, Load, Store, StackLoad, StackStore, Jump, Brif, BranchTable, MultiAry, Trap, CondTrap, Call, CallIndirect, TryCall, TryCallIndirect}
 use Rattle.clif_instructions.specs.Instruction.{destinations, is_branch, is_call, is_terminator, result_count, result_type_of, result_types}
 
 -- an edge to a block that passes these arguments
@@ -94,6 +95,12 @@ call function args = Call function args
 abbrev pub call_indirect : ℕ → ℕ → List ℕ → InstructionData
 call_indirect sig callee args = CallIndirect sig (callee ∷ args)
 
+abbrev pub try_call : ℕ → List ℕ → ExceptionShape → InstructionData
+try_call function args exception = TryCall function args exception
+
+abbrev pub try_call_indirect : ℕ → List ℕ → ExceptionShape → InstructionData
+try_call_indirect callee args exception = TryCallIndirect (callee ∷ args) exception
+
 -- an instruction of this shape has one result, calls nothing, goes nowhere and ends no block
 pub record GivesValue (shape : InstructionData) : Type 0 where
   pub no_call : is_call shape ≡ false
@@ -134,15 +141,24 @@ PoolsThenBuilds {B} pools builds_value old new shape bytes ty answer =
 abbrev pub AfterPooling : {B : Type 0} → (B → B → List ℕ → Result ℕ BuildError → Type 0) → (B → B → ℕ → Type 0) → Type 0
 AfterPooling {B} pools P = (old new : B) (bytes : List ℕ) (constant : ℕ) → pools old new bytes (Ok constant) → P old new constant
 
--- The edges of a jump table are taken, and then the instruction that it serves is built, of its shape; or the edges aren't taken,
--- with the error that is answered.
-abbrev pub TakesThenBuilds : {B : Type 0} → (B → B → ℕ → Result (List BlockCall) BuildError → Type 0)
+-- What a table holds is taken, and then the instruction that it serves is built, of its shape; or it isn't taken, with the error
+-- that is answered.
+abbrev pub TakesThenBuilds : {B T : Type 0} → (B → B → ℕ → Result T BuildError → Type 0)
     → (B → B → InstructionData → «Type» → Result ℕ BuildError → Type 0)
-    → (old new : B) → (List BlockCall → InstructionData) → ℕ → «Type» → Result ℕ BuildError → Type 0
-TakesThenBuilds {B} takes builds old new shape table ty answer =
-    ((between : B) × (edges : List BlockCall) × takes old between table (Ok edges) × builds between new (shape edges) ty answer)
+    → (old new : B) → (T → InstructionData) → ℕ → «Type» → Result ℕ BuildError → Type 0
+TakesThenBuilds {B} {T} takes builds old new shape table ty answer =
+    ((between : B) × (held : T) × takes old between table (Ok held) × builds between new (shape held) ty answer)
     ⊎ ((error : BuildError) × takes old new table (Err error) × (answer ≡ Err error))
 
--- this holds of any builders, table and edges between which the edges were taken
-abbrev pub AfterTaking : {B : Type 0} → (B → B → ℕ → Result (List BlockCall) BuildError → Type 0) → (B → B → ℕ → List BlockCall → Type 0) → Type 0
-AfterTaking {B} takes P = (old new : B) (table : ℕ) (edges : List BlockCall) → takes old new table (Ok edges) → P old new table edges
+-- The same, unless memory is refused first for what the instruction is to hold beside it: the builder fails then as by an
+-- instruction of any shape, and the table isn't taken.
+abbrev pub GrowsThenTakes : {B T : Type 0} → (B → B → ℕ → Result T BuildError → Type 0)
+    → (B → B → InstructionData → «Type» → Result ℕ BuildError → Type 0)
+    → (old new : B) → (T → InstructionData) → ℕ → «Type» → Result ℕ BuildError → Type 0
+GrowsThenTakes {B} {T} takes builds old new shape table ty answer =
+    TakesThenBuilds takes builds old new shape table ty answer
+    ⊎ ((error : BuildError) × ((any : InstructionData) → builds old new any ty (Err error)) × (answer ≡ Err error))
+
+-- this holds of any builders, table and what it held, between which that was taken
+abbrev pub AfterTaking : {B T : Type 0} → (B → B → ℕ → Result T BuildError → Type 0) → (B → B → ℕ → T → Type 0) → Type 0
+AfterTaking {B} {T} takes P = (old new : B) (table : ℕ) (held : T) → takes old new table (Ok held) → P old new table held

@@ -1,11 +1,13 @@
 //! What makes an instruction of any shape.
 ghost use Rattle.std.specs.Prelude.{◌≡◌, ◌∷◌, [], length, Err, All};
 ghost use Rattle.clif_instructions.specs.Instruction.{AConstant, contexts, entries_of, operands, destinations};
+ghost use Rattle.clif_inst_builder.specs.Served.{exception_tables, jump_tables};
 ghost use Rattle.clif_inst_builder.specs.Shapes.{AfterPooling, AfterTaking, AfterValue, GivesPair, GivesValue, LikeIsValue};
 
+use clif_instructions::exception_table::ExceptionTargets;
 use clif_instructions::instructions::InstructionData;
 use clif_instructions::jump_table::JumpTableData;
-use clif_types::{BuildError, Constant, Inst, JumpTable, Type, Value};
+use clif_types::{BuildError, Constant, ExceptionTable, Inst, JumpTable, Type, Value};
 use std::alloc::Global;
 
 /// What makes an instruction of any shape at the end of the current block.
@@ -14,6 +16,7 @@ pub trait InstBuilderBase {
     ghost use Rattle.clif_types.specs.declared.error.BuildError.{BuildError};
     ghost use Rattle.clif_types.specs.declared.types.«Type».{«Type»};
     ghost use Rattle.clif_instructions.specs.declared.block_call.BlockCall.{BlockCall};
+    ghost use Rattle.clif_instructions.specs.ExceptionTables.{ExceptionShape};
     ghost use Rattle.clif_instructions.specs.declared.instructions.InstructionData.{InstructionData};
     ghost use Rattle.clif_instructions.specs.Instruction.{EntryRef, AConstant};
 
@@ -40,6 +43,13 @@ pub trait InstBuilderBase {
 
     // what `take_jump_table` makes of the builder, by the table and its result
     ghost takes: { Self → Self → ℕ → Result (List BlockCall) BuildError → Type 0 };
+
+    // there is an exception table of this number that serves no instruction so far, its edges may be made, and its
+    // contexts and its signature exist
+    ghost has_exception_table: { Self → ℕ → Type 0 };
+
+    // what `take_exception_table` makes of the builder, by the table and its result
+    ghost takes_exception: { Self → Self → ℕ → Result ExceptionShape BuildError → Type 0 };
 
     // what `build` makes of the builder, by its result
     ghost builds: { Self → Self → InstructionData → «Type» → Result ℕ BuildError → Type 0 };
@@ -69,6 +79,14 @@ pub trait InstBuilderBase {
     fn take_jump_table(&mut self, table: JumpTable) -> Result<JumpTableData, BuildError>
         requires serves { has_jump_table self.old table }
         ensures taken { takes self.old self.new table result };
+
+    /// Takes what an exception table holds for the instruction that it serves from now on.
+    fn take_exception_table(
+        &mut self,
+        table: ExceptionTable,
+    ) -> Result<ExceptionTargets, BuildError>
+        requires serves { has_exception_table self.old table }
+        ensures taken { takes_exception self.old self.new table result };
 
     /// Appends an instruction; `ctrl_type` is its controlling type.
     ///
@@ -134,15 +152,30 @@ pub trait InstBuilderBase {
 
     ghost pooled_builds: { AfterPooling pools (λ old new constant. can_build old → can_build new) };
 
-    // after the edges of a table were taken they may be made, the values are there, and one can build as before
-    ghost taken_leads: { AfterTaking takes
-        (λ old new table edges. has_jump_table old table → All (can_lead new) edges) };
+    // after a jump table was taken its edges may be made, the values are there, and one can build as before
+    ghost taken_leads: { AfterTaking takes (λ old new table edges. has_jump_table old table
+        → jump_tables.CanBeNamed (can_lead new) (has_value new) (has_entry new) edges) };
 
     ghost taken_values: { AfterTaking takes
         (λ old new table edges. (x : ℕ) → has_value old x → has_value new x) };
 
     ghost taken_builds: { AfterTaking takes
         (λ old new table edges. can_build old → can_build new) };
+
+    // after an exception table was taken what it holds may be named, the values and entries are there, and one can build
+    // as before
+    ghost exception_can_be_named: { AfterTaking takes_exception
+        (λ old new table exception. has_exception_table old table
+        → exception_tables.CanBeNamed (can_lead new) (has_value new) (has_entry new) exception) };
+
+    ghost exception_values: { AfterTaking takes_exception
+        (λ old new table exception. (x : ℕ) → has_value old x → has_value new x) };
+
+    ghost exception_entries: { AfterTaking takes_exception
+        (λ old new table exception. (entry : EntryRef) → has_entry old entry → has_entry new entry) };
+
+    ghost exception_builds: { AfterTaking takes_exception
+        (λ old new table exception. can_build old → can_build new) };
 
     ghost like_is_value: { LikeIsValue builds_like builds_value type_of };
 }

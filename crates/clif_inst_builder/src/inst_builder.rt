@@ -4,7 +4,7 @@ ghost use Rattle.clif_types.specs.Types.{bytes_of, is_int, is_type};
 ghost use Rattle.clif_instructions.specs.Instruction.{AFunctionRef, ASignatureRef, ASlot};
 ghost use Rattle.clif_opcodes.specs.Kinds.{is_met};
 ghost use Rattle.clif_opcodes.specs.declared.kinds.Demand.{Demand};
-ghost use Rattle.clif_inst_builder.specs.Shapes.{PoolsThenBuilds, TakesThenBuilds, binary, branch_table, brif_to, call, call_indirect, concat, cond_trap, convert, edge_to, int_compare, jump, load, multi_ary, split, stack, stack_store, store, ternary, trap, unary, unary_const, unary_ieee, unary_imm};
+ghost use Rattle.clif_inst_builder.specs.Shapes.{GrowsThenTakes, PoolsThenBuilds, TakesThenBuilds, binary, branch_table, brif_to, call, call_indirect, concat, cond_trap, convert, edge_to, int_compare, jump, load, multi_ary, split, stack, stack_store, store, ternary, trap, try_call, try_call_indirect, unary, unary_const, unary_ieee, unary_imm};
 
 use crate::base::InstBuilderBase;
 use clif_instructions::block_call::{BlockArg, BlockCall};
@@ -15,8 +15,8 @@ use clif_opcodes::{
     UnaryOpcode,
 };
 use clif_types::{
-    Block, BuildError, FuncRef, Inst, IntCC, JumpTable, MemFlagsData, SigRef, StackSlot, TrapCode,
-    Type, Value,
+    Block, BuildError, ExceptionTable, FuncRef, Inst, IntCC, JumpTable, MemFlagsData, SigRef,
+    StackSlot, TrapCode, Type, Value,
 };
 use std::alloc::Global;
 
@@ -567,6 +567,67 @@ pub trait InstBuilder: InstBuilderBase {
                     InstructionData::CallIndirect { sig_ref, args },
                     Type::Invalid,
                 )
+            }
+            Err(_) => Err(self.refuse()),
+        }
+    }
+
+    /// `try_call function(x, ..), sig, normal, [items]`: calls a function that was imported, with these arguments, by the
+    /// signature of an exception table. When the call returns it goes along the table's normal edge, which may pass what
+    /// the call gave; when it throws, along the edge of an item, which may pass the exception. The instruction has no
+    /// results.
+    ///
+    /// The table served no instruction before, and serves this one from now on. No target of its edges is sealed. The
+    /// current block is filled afterwards.
+    final fn try_call(
+        &mut self,
+        function: FuncRef,
+        args: &[Value],
+        exception: ExceptionTable,
+    ) -> Result<Inst, BuildError>
+        requires current { Self.can_build self.old }
+        requires args_exist { All (Self.has_value self.old) args.now }
+        requires function_exists { Self.has_entry self.old (AFunctionRef function) }
+        requires serves { Self.has_exception_table self.old exception }
+        ensures built { GrowsThenTakes Self.takes_exception Self.builds self.old self.new
+            (try_call function args.now) exception Type.Invalid result }
+    {
+        match ValueList::from_slice(self.allocator(), args) {
+            Ok(args) => {
+                let func_ref = function;
+                let exception = self.take_exception_table(exception)?;
+                let shape = InstructionData::TryCall {
+                    func_ref,
+                    args,
+                    exception,
+                };
+                self.build(shape, Type::Invalid)
+            }
+            Err(_) => Err(self.refuse()),
+        }
+    }
+
+    /// `try_call_indirect callee(x, ..), sig, normal, [items]`: calls what is at an address, with these arguments, by the
+    /// signature of an exception table. It goes on as after [`InstBuilder::try_call`], and the table serves it in the
+    /// same way.
+    final fn try_call_indirect(
+        &mut self,
+        callee: Value,
+        args: &[Value],
+        exception: ExceptionTable,
+    ) -> Result<Inst, BuildError>
+        requires current { Self.can_build self.old }
+        requires callee_exists { Self.has_value self.old callee }
+        requires args_exist { All (Self.has_value self.old) args.now }
+        requires serves { Self.has_exception_table self.old exception }
+        ensures built { GrowsThenTakes Self.takes_exception Self.builds self.old self.new
+            (try_call_indirect callee args.now) exception Type.Invalid result }
+    {
+        match callee_and_args(self.allocator(), callee, args) {
+            Ok(args) => {
+                let exception = self.take_exception_table(exception)?;
+                let shape = InstructionData::TryCallIndirect { args, exception };
+                self.build(shape, Type::Invalid)
             }
             Err(_) => Err(self.refuse()),
         }

@@ -1,4 +1,3 @@
 pub mod Lists
 pub mod Members
 pub mod EdgeLoops
-pub mod Runs

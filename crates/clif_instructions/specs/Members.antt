@@ -1,8 +1,8 @@
 -- Words for lists: what stands in them, at which place, and what is taken out or put in. Source: own.
 use Rattle.std.specs.Prelude.{◌≡◌, ◌≢◌, ℕ, ◌==◌, ◌+◌, ◌<◌, ◌≤◌, List, [], ◌∷◌, ◌++◌, length, Option, None, if◌then◌else◌, slice_get, slice_index, Bool}
 use Rattle.std.specs.List.{list_any, insert}
-use Rattle.clif_instructions.specs.declared.inst_list.InsertAt.{InsertAt}
-use Rattle.clif_instructions.specs.declared.inst_list.InsertAt.TheVariants.{Behind, Back}
+use Rattle.clif_instructions.specs.declared.insert_at.InsertAt.{InsertAt}
+use Rattle.clif_instructions.specs.declared.insert_at.InsertAt.TheVariants.{Behind, Back}
 
 -- a number stands in a list
 abbrev pub Stands : ℕ → List ℕ → Type 0

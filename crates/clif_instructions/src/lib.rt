@@ -10,7 +10,7 @@ pub mod block_call;
 pub mod edges;
 pub mod exception_table;
 pub mod immediates;
-pub mod inst_list;
+pub mod insert_at;
 pub mod instructions;
 pub mod jump_table;
 pub mod value_list;

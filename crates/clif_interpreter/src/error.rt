@@ -63,6 +63,7 @@ impl Cause {
     pub fn is_limit(self) -> bool {
         match self {
             Cause::Fault(fault) => fault.is_limit(),
+            Cause::OutsideCall => true,
             _ => false,
         }
     }

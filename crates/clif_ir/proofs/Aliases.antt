@@ -1,11 +1,12 @@
 -- Laws of the way along aliases.
 use Rattle.std.proofs.Common.{◌≡◌, ℕ, zero, suc, ◌+◌, ◌<◌, ◌≤◌, List, length, ◌++◌, refl, ap, arith, sym, ◌∙◌, inl, inr, set, ◌≢◌, get_or-set_same, get_or-set_other, [], ◌∷◌}
 use Rattle.std.specs.Prelude.{Option, Some, None, is_some, true, cond}
-use Rattle.clif_ir.specs.declared.function.ValueNode.{ValueNode}
+use Rattle.clif_nodes.specs.declared.nodes.ValueNode.{ValueNode}
 use Rattle.std.proofs.Math.ListN.{get_or-append}
 use Rattle.std.proofs.lemmas.List.Sums.{count_by-le-length, sum_by-cons}
 use Rattle.std.proofs.lemmas.Grind.{common_steps}
-use Rattle.clif_ir.specs.Body.{follow, follow_link, alias_of, alias_of_origin, no_value}
+use Rattle.clif_ir.specs.Body.{follow, follow_link, alias_of, alias_of_origin}
+use Rattle.clif_nodes.specs.Nodes.{no_value}
 use Rattle.clif_ir.specs.Consistent.{alias_count}
 use Rattle.std.proofs.lemmas.Bool.{cases_eq}
 use Rattle.clif_instructions.proofs.Lists.{below_or_not}

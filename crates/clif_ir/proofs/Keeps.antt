@@ -7,8 +7,8 @@ use Rattle.clif_instructions.specs.declared.block_call.BlockArg.TheVariants as a
 use Rattle.clif_instructions.specs.declared.block_call.BlockCall.{BlockCall}
 use Rattle.std.proofs.Math.ListN.{get_or-append}
 use Rattle.std.proofs.lemmas.Grind.{common_steps}
-use Rattle.clif_ir.specs.declared.function.ValueOrigin.{ValueOrigin}
-use Rattle.clif_ir.specs.declared.function.ValueOrigin.TheVariants.{Result, Param, Alias}
+use Rattle.clif_nodes.specs.declared.nodes.ValueOrigin.{ValueOrigin}
+use Rattle.clif_nodes.specs.declared.nodes.ValueOrigin.TheVariants.{Result, Param, Alias}
 use Rattle.clif_ir.specs.Body.{Body, value_at, inst_at, block_at, alias_of_origin}
 use Rattle.clif_ir.specs.Consistent.{IsConsistent, IsOrigin, PassedExists, EdgeExists, ValueExists}
 use Rattle.clif_instructions.specs.Members.{Stands, Once}

@@ -1,16 +1,14 @@
 -- A parameter that becomes another name of a value keeps a function consistent.
-use Rattle.std.proofs.Common.{◌≡◌, ◌≢◌, ℕ, ◌+◌, ◌^◌, ◌<◌, List, length, refl, ap, arith, sym, ◌∙◌, subst}
-use Rattle.std.specs.Prelude.{slice_index, slice_index_or}
+use Rattle.std.proofs.Common.{◌≡◌, ◌≢◌, ℕ, ◌<◌, length, refl, ap, arith, sym, ◌∙◌, subst}
+use Rattle.std.specs.Prelude.{slice_index}
 use Rattle.std.proofs.lemmas.Grind.{common_steps}
-use Rattle.clif_ir.specs.declared.function.BlockNode.{BlockNode}
-use Rattle.clif_ir.specs.declared.function.BlockPlace.{BlockPlace}
-use Rattle.clif_ir.specs.declared.function.ValueNode.{ValueNode}
-use Rattle.clif_ir.specs.declared.function.ValueOrigin.TheVariants.{Result, Param, Alias}
-use Rattle.clif_ir.specs.Body.{Body, value_at, inst_at, block_at, empty_block, no_value, alias_of_origin, resolved}
+use Rattle.clif_nodes.specs.declared.nodes.ValueNode.{ValueNode}
+use Rattle.clif_nodes.specs.declared.nodes.ValueOrigin.TheVariants.{Result, Param, Alias}
+use Rattle.clif_ir.specs.Body.{Body, value_at, inst_at, block_at, alias_of_origin, resolved}
+use Rattle.clif_nodes.specs.Nodes.{BlockNode, empty_block, no_value}
 use Rattle.clif_ir.specs.Changes.{with_alias, home_of}
 use Rattle.clif_instructions.specs.Members.{without, Stands, Once}
 use Rattle.clif_ir.specs.Consistent.{IsConsistent, IsOrigin}
-use Rattle.clif_ir.specs.Whole.{IsPlaced, no_place}
 use Rattle.clif_instructions.proofs.Lists.{at_set}
 use Rattle.clif_ir.proofs.Keeps.{larger_edges, larger_values, larger_origin, leads_inside}
 use Rattle.clif_instructions.proofs.Members.{Stands-without, without-stood, Once-without}
@@ -85,23 +83,6 @@ with_alias_consistent f v original b known exists is_param there apart =
       aliases_end = ways_end-set f.values v target node (leads_inside f known) exists (ap alias_of_origin is_param)
           (resolved-no_alias f.values original known.aliases_end there) apart refl known.aliases_end;
       edges_without_results = known.edges_without_results;
-      signatures_exist = known.signatures_exist;
+      named_exist = known.named_exist;
       entries_exist = known.entries_exist;
-    }
-
-pub with_alias_placed : (f : Body) (v original b : ℕ) (slots : List ℕ) (places : List BlockPlace) → IsConsistent f → v < length f.values → (value_at f v).origin ≡ Param b
-    → IsPlaced f slots places → IsPlaced (with_alias f v original) slots places
-with_alias_placed f v original b slots places known exists is_param placed =
-    let g : Body = with_alias f v original in
-    let home : ℕ = home_of (value_at f v).origin in
-    let b_exists : b < length f.blocks = (subst (IsOrigin f v) is_param (known.origins v exists)).0 in
-    let at_home : home ≡ b = ap home_of is_param in
-    let changed : BlockNode = record (block_at f home) { params = without v (block_at f home).params } in
-    let same_insts : (c : ℕ) → (block_at g c).insts ≡ (block_at f c).insts =
-    λ c. at_set (λ (m : BlockNode). m.insts ≡ (block_at f c).insts) f.blocks home changed c empty_block (omega (arith, at_home, b_exists)) (λ same. ap (λ d. (block_at f d).insts) (sym same)) (λ _. refl) in
-    record {
-      slot_count = placed.slot_count;
-      place_count = grind (arith, common_steps, placed.place_count);
-      fronts_fit = placed.fronts_fit;
-      slots_right = λ c. subst (λ xs. (k : ℕ) → k < length xs → slice_index slots (slice_index xs k) + (slice_index_or places c no_place).front ≡ k + 2 ^ 32) (sym (same_insts c)) (placed.slots_right c);
     }

@@ -3,14 +3,14 @@ use Rattle.std.proofs.Common.{◌≡◌, ℕ, ◌+◌, ◌-◌, ◌^◌, ◌<◌
 use Rattle.std.specs.Prelude.{slice_index}
 use Rattle.std.proofs.Math.ListN.{get_or-append}
 use Rattle.std.proofs.lemmas.Grind.{common_steps}
-use Rattle.clif_ir.specs.Body.{Body, value_at, inst_at, block_at, empty_block}
+use Rattle.clif_ir.specs.Body.{Body, value_at, inst_at, block_at}
+use Rattle.clif_nodes.specs.Nodes.{BlockNode, empty_block}
 use Rattle.clif_ir.specs.Changes.{with_block}
 use Rattle.clif_ir.specs.Consistent.{IsConsistent}
 use Rattle.clif_instructions.specs.Members.{Stands, Once}
 use Rattle.clif_instructions.proofs.Lists.{at_push}
 use Rattle.clif_ir.proofs.Keeps.{larger_edges, larger_origin}
-use Rattle.clif_ir.specs.declared.function.BlockNode.{BlockNode}
-use Rattle.clif_ir.specs.declared.function.ValueOrigin.TheVariants.{Param}
+use Rattle.clif_nodes.specs.declared.nodes.ValueOrigin.TheVariants.{Param}
 
 pub with_block_consistent : (f : Body) → IsConsistent f → length f.blocks < 2 ^ 32 - 1 → IsConsistent (with_block f)
 with_block_consistent f known room =
@@ -44,6 +44,6 @@ with_block_consistent f known room =
       layout_once = known.layout_once;
       aliases_end = known.aliases_end;
       edges_without_results = known.edges_without_results;
-      signatures_exist = known.signatures_exist;
+      named_exist = known.named_exist;
       entries_exist = known.entries_exist;
     }

@@ -1,22 +1,21 @@
 -- An instruction whose edges pass one value more keeps a function consistent.
-use Rattle.std.proofs.Common.{◌≡◌, ◌≢◌, ℕ, ◌<◌, List, [], ◌∷◌, ◌++◌, length, refl, ap, arith, sym, ◌∙◌, subst, Bool, true, false}
+use Rattle.std.proofs.Common.{◌≡◌, ◌≢◌, ℕ, ◌<◌, [], ◌∷◌, ◌++◌, length, refl, ap, arith, sym, ◌∙◌, subst, Bool, true, false}
 use Rattle.std.specs.Prelude.{slice_index, All, ◌==◌, if◌then◌else◌}
 use Rattle.std.proofs.lemmas.Grind.{common_steps}
 use Rattle.std.proofs.lemmas.List.Elements.{All-map, All-weaker, All-push}
 use Rattle.clif_instructions.specs.declared.block_call.BlockArg.TheVariants.{Value}
 use Rattle.clif_instructions.specs.declared.block_call.BlockCall.{BlockCall}
-use Rattle.clif_ir.specs.declared.function.BlockPlace.{BlockPlace}
-use Rattle.clif_ir.specs.declared.function.InstNode.{InstNode}
-use Rattle.clif_ir.specs.declared.function.ValueOrigin.TheVariants.{Result}
+use Rattle.clif_nodes.specs.declared.nodes.InstNode.{InstNode}
+use Rattle.clif_nodes.specs.declared.nodes.ValueOrigin.TheVariants.{Result}
 use Rattle.clif_instructions.specs.declared.instructions.InstructionData.{InstructionData}
 use Rattle.clif_instructions.specs.declared.instructions.InstructionData.TheVariants.{Jump, Brif, BranchTable, TryCall, TryCallIndirect}
 use Rattle.clif_instructions.specs.Edges.{appended_to, with_argument_to}
 use Rattle.clif_instructions.specs.Instruction.{contexts, entries_of, operands, destinations, with_argument}
-use Rattle.clif_ir.specs.Body.{Body, inst_at, value_at, block_at, no_inst}
+use Rattle.clif_ir.specs.Body.{Body, inst_at, value_at, block_at}
+use Rattle.clif_nodes.specs.Nodes.{no_inst}
 use Rattle.clif_ir.specs.Changes.{with_branch_argument}
 use Rattle.clif_ir.specs.Consistent.{IsConsistent, PassedExists, EdgeExists, EntryExists, ValueExists}
 use Rattle.clif_instructions.specs.Members.{Stands}
-use Rattle.clif_ir.specs.Whole.{IsPlaced}
 use Rattle.clif_instructions.proofs.Lists.{at_set}
 use Rattle.clif_ir.proofs.Keeps.{larger_origin}
 
@@ -112,7 +111,7 @@ with_branch_argument_consistent f i b v known exists inside =
       layout_exists = known.layout_exists;
       layout_once = known.layout_once;
       aliases_end = known.aliases_end;
-      signatures_exist = known.signatures_exist;
+      named_exist = known.named_exist;
       entries_exist = λ j.
           at_set (λ (m : InstNode). All (EntryExists f.tables) (entries_of m.shape)) f.insts i node j no_inst exists
           (λ _. subst (All (EntryExists f.tables)) (sym (entries-with_argument b v shape)) (known.entries_exist i))
@@ -121,14 +120,4 @@ with_branch_argument_consistent f i b v known exists inside =
           at_set (λ (m : InstNode). destinations m.shape ≢ [] → m.results ≡ []) f.insts i node j no_inst exists
           (λ _ branch. known.edges_without_results i (λ none. branch (destinations-with_argument b v shape ∙ ap (with_argument_to b v) none)))
           (λ _. known.edges_without_results j);
-    }
-
-pub with_branch_argument_placed : (f : Body) (i b v : ℕ) (slots : List ℕ) (places : List BlockPlace) → IsPlaced f slots places → IsPlaced (with_branch_argument f i b v) slots places
-with_branch_argument_placed f i b v slots places placed =
-    let count : length (with_branch_argument f i b v).insts ≡ length f.insts = grind (arith, common_steps) in
-    record {
-      slot_count = placed.slot_count ∙ sym count;
-      place_count = placed.place_count;
-      fronts_fit = λ c. omega (arith, count, placed.fronts_fit c);
-      slots_right = placed.slots_right;
     }

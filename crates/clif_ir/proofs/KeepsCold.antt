@@ -1,15 +1,13 @@
 -- A block that becomes cold keeps a function consistent.
-use Rattle.std.proofs.Common.{◌≡◌, ℕ, ◌+◌, ◌^◌, ◌<◌, List, length, refl, ap, arith, sym, subst}
-use Rattle.std.specs.Prelude.{slice_index, slice_index_or, true}
+use Rattle.std.proofs.Common.{◌≡◌, ℕ, ◌<◌, length, refl, ap, arith, sym, subst}
+use Rattle.std.specs.Prelude.{slice_index, true}
 use Rattle.std.proofs.lemmas.Grind.{common_steps}
-use Rattle.clif_ir.specs.declared.function.BlockNode.{BlockNode}
-use Rattle.clif_ir.specs.declared.function.BlockPlace.{BlockPlace}
-use Rattle.clif_ir.specs.declared.function.ValueOrigin.TheVariants.{Param}
-use Rattle.clif_ir.specs.Body.{Body, value_at, inst_at, block_at, empty_block}
+use Rattle.clif_nodes.specs.declared.nodes.ValueOrigin.TheVariants.{Param}
+use Rattle.clif_ir.specs.Body.{Body, value_at, inst_at, block_at}
+use Rattle.clif_nodes.specs.Nodes.{BlockNode, empty_block}
 use Rattle.clif_ir.specs.Changes.{with_cold}
 use Rattle.clif_ir.specs.Consistent.{IsConsistent}
 use Rattle.clif_instructions.specs.Members.{Stands, Once}
-use Rattle.clif_ir.specs.Whole.{IsPlaced, no_place}
 use Rattle.clif_instructions.proofs.Lists.{at_set}
 use Rattle.clif_ir.proofs.Keeps.{larger_edges, larger_origin}
 
@@ -51,16 +49,6 @@ with_cold_consistent f b known exists =
       layout_once = known.layout_once;
       aliases_end = known.aliases_end;
       edges_without_results = known.edges_without_results;
-      signatures_exist = known.signatures_exist;
+      named_exist = known.named_exist;
       entries_exist = known.entries_exist;
-    }
-
-pub with_cold_placed : (f : Body) (b : ℕ) (slots : List ℕ) (places : List BlockPlace) → b < length f.blocks → IsPlaced f slots places → IsPlaced (with_cold f b) slots places
-with_cold_placed f b slots places exists placed =
-    record {
-      slot_count = placed.slot_count;
-      place_count = grind (arith, common_steps, placed.place_count);
-      fronts_fit = placed.fronts_fit;
-      slots_right = λ c.
-          subst (λ xs. (k : ℕ) → k < length xs → slice_index slots (slice_index xs k) + (slice_index_or places c no_place).front ≡ k + 2 ^ 32) (sym (cold_insts f b exists c)) (placed.slots_right c);
     }

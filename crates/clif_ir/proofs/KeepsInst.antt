@@ -7,19 +7,19 @@ use Rattle.std.proofs.Math.Seq.{get_or-append_right}
 use Rattle.std.proofs.lemmas.Grind.{common_steps}
 use Rattle.std.proofs.lemmas.List.FromFn.{length-range_with_len, get_or-range_with_len}
 use Rattle.clif_types.specs.declared.types.«Type».{«Type»}
-use Rattle.clif_ir.specs.declared.function.BlockNode.{BlockNode}
-use Rattle.clif_ir.specs.declared.function.InstNode.{InstNode}
-use Rattle.clif_ir.specs.declared.function.ValueNode.{ValueNode}
-use Rattle.clif_ir.specs.declared.function.ValueOrigin.TheVariants.{Result, Param}
-use Rattle.clif_instructions.specs.declared.inst_list.InsertAt.{InsertAt}
+use Rattle.clif_nodes.specs.declared.nodes.InstNode.{InstNode}
+use Rattle.clif_nodes.specs.declared.nodes.ValueNode.{ValueNode}
+use Rattle.clif_nodes.specs.declared.nodes.ValueOrigin.TheVariants.{Result, Param}
+use Rattle.clif_instructions.specs.declared.insert_at.InsertAt.{InsertAt}
 use Rattle.clif_instructions.specs.declared.instructions.InstructionData.{InstructionData}
 use Rattle.clif_instructions.specs.declared.instructions.InstructionData.TheVariants.{Jump, Brif, BranchTable, TryCall, TryCallIndirect}
 use Rattle.clif_instructions.specs.Instruction.{contexts, entries_of, operands, destinations}
 use Rattle.clif_tables.specs.Callees.{count_of_results, types_of_results}
 use Rattle.clif_tables.specs.Lists.{TableLists}
-use Rattle.clif_ir.specs.Body.{Body, value_at, inst_at, block_at, empty_block, no_value, no_inst, alias_of_origin, resolved}
+use Rattle.clif_ir.specs.Body.{Body, value_at, inst_at, block_at, alias_of_origin, resolved}
+use Rattle.clif_nodes.specs.Nodes.{BlockNode, empty_block, no_value, no_inst, result_nodes}
 use Rattle.clif_instructions.specs.Members.{IsPlaceOf, put_at, Stands, Once}
-use Rattle.clif_ir.specs.Changes.{with_inst, inst_node, result_nodes}
+use Rattle.clif_ir.specs.Changes.{with_inst, inst_node}
 use Rattle.clif_ir.specs.Consistent.{IsConsistent, IsOrigin, EdgeExists, EntryExists, ValueExists, alias_count}
 use Rattle.clif_instructions.proofs.Lists.{at_push, at_set, at_append}
 use Rattle.clif_ir.proofs.Keeps.{larger_edges, larger_values, leads_inside, larger_origin}
@@ -159,7 +159,7 @@ with_inst_consistent f b at shape types loc known exists fits operands_exist edg
       layout_once = known.layout_once;
       aliases_end = ways_end-append f.values nodes (leads_inside f known) (alias_count-result_nodes i0 0 types)
           (λ v behind. ap (λ (m : ValueNode). alias_of_origin m.origin) (get_or-append_right f.values nodes v no_value behind) ∙ alias_of-result_nodes i0 0 types (v - n)) known.aliases_end;
-      signatures_exist = known.signatures_exist;
+      named_exist = known.named_exist;
       entries_exist = λ i.
           at_push (λ m. All (EntryExists f.tables) (entries_of m.shape)) f.insts node i no_inst
           (λ _. known.entries_exist i)

@@ -9,10 +9,10 @@ use Rattle.std.proofs.lemmas.Bool.{cases_eq}
 use Rattle.std.proofs.lemmas.List.Elements.{All-weaker, Contains-append_left, Contains-append_right, Contains-append_cases, Contains-push}
 use Rattle.std.proofs.lemmas.Map.Lookups.{CmpEqualImpliesEq}
 use Rattle.std.proofs.lemmas.Map.Views.{All-insert_key}
-use Rattle.clif_ir.specs.declared.function.ValueNode.{ValueNode}
-use Rattle.clif_ir.specs.Body.{no_value, alias_of, alias_of_origin}
+use Rattle.clif_nodes.specs.declared.nodes.ValueNode.{ValueNode}
+use Rattle.clif_ir.specs.Body.{alias_of, alias_of_origin}
+use Rattle.clif_nodes.specs.Nodes.{no_value, result_nodes}
 use Rattle.clif_ir.specs.Whole.{IsListed}
-use Rattle.clif_ir.specs.Changes.{result_nodes}
 use Rattle.clif_types.specs.declared.types.«Type».{«Type»}
 use Rattle.clif_ir.proofs.KeepsInst.{alias_of-result_nodes}
 use Rattle.clif_instructions.proofs.Lists.{at_append, at_past, at_set}

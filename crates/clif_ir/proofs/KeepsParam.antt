@@ -4,10 +4,10 @@ use Rattle.std.specs.Prelude.{slice_index, None}
 use Rattle.std.proofs.Math.ListN.{get_or-append}
 use Rattle.std.proofs.lemmas.Grind.{common_steps}
 use Rattle.clif_types.specs.declared.types.«Type».{«Type»}
-use Rattle.clif_ir.specs.declared.function.BlockNode.{BlockNode}
-use Rattle.clif_ir.specs.declared.function.ValueNode.{ValueNode}
-use Rattle.clif_ir.specs.declared.function.ValueOrigin.TheVariants.{Param}
-use Rattle.clif_ir.specs.Body.{Body, value_at, inst_at, block_at, empty_block, no_value, alias_of_origin}
+use Rattle.clif_nodes.specs.declared.nodes.ValueNode.{ValueNode}
+use Rattle.clif_nodes.specs.declared.nodes.ValueOrigin.TheVariants.{Param}
+use Rattle.clif_ir.specs.Body.{Body, value_at, inst_at, block_at, alias_of_origin}
+use Rattle.clif_nodes.specs.Nodes.{BlockNode, empty_block, no_value}
 use Rattle.clif_ir.specs.Changes.{with_param}
 use Rattle.clif_ir.specs.Consistent.{IsConsistent, IsOrigin}
 use Rattle.clif_instructions.specs.Members.{Stands, Once}
@@ -77,6 +77,6 @@ with_param_consistent f b ty known exists room =
       layout_once = known.layout_once;
       aliases_end = ways_end-append f.values (node ∷ []) (leads_inside f known) refl (λ v behind. at_push (λ (m : ValueNode). alias_of_origin m.origin ≡ None) f.values node v no_value (λ here. absurd (omega (arith, here, behind))) (λ _. refl) (λ _. refl)) known.aliases_end;
       edges_without_results = known.edges_without_results;
-      signatures_exist = known.signatures_exist;
+      named_exist = known.named_exist;
       entries_exist = known.entries_exist;
     }

@@ -4,18 +4,17 @@ use Rattle.std.specs.Prelude.{slice_index, All, ◌==◌, if◌then◌else◌}
 use Rattle.std.proofs.lemmas.Grind.{common_steps}
 use Rattle.std.proofs.lemmas.List.Elements.{All-map, All-weaker}
 use Rattle.clif_instructions.specs.declared.block_call.BlockCall.{BlockCall}
-use Rattle.clif_ir.specs.declared.function.BlockPlace.{BlockPlace}
-use Rattle.clif_ir.specs.declared.function.InstNode.{InstNode}
-use Rattle.clif_ir.specs.declared.function.ValueOrigin.TheVariants.{Result}
+use Rattle.clif_nodes.specs.declared.nodes.InstNode.{InstNode}
+use Rattle.clif_nodes.specs.declared.nodes.ValueOrigin.TheVariants.{Result}
 use Rattle.clif_instructions.specs.declared.instructions.InstructionData.{InstructionData}
 use Rattle.clif_instructions.specs.declared.instructions.InstructionData.TheVariants.{Jump, Brif, BranchTable, TryCall, TryCallIndirect}
 use Rattle.clif_instructions.specs.Edges.{redirected, with_target_changed}
 use Rattle.clif_instructions.specs.Instruction.{contexts, entries_of, operands, destinations, with_targets_changed}
-use Rattle.clif_ir.specs.Body.{Body, inst_at, value_at, block_at, no_inst}
+use Rattle.clif_ir.specs.Body.{Body, inst_at, value_at, block_at}
+use Rattle.clif_nodes.specs.Nodes.{no_inst}
 use Rattle.clif_ir.specs.Changes.{with_shape, with_branch_target}
 use Rattle.clif_ir.specs.Consistent.{IsConsistent, EdgeExists, EntryExists, ValueExists}
 use Rattle.clif_instructions.specs.Members.{Stands}
-use Rattle.clif_ir.specs.Whole.{IsPlaced}
 use Rattle.clif_instructions.proofs.Lists.{at_set}
 use Rattle.clif_ir.proofs.Keeps.{larger_origin}
 
@@ -73,24 +72,13 @@ with_shape_consistent f i shape known exists fits =
       layout_exists = known.layout_exists;
       layout_once = known.layout_once;
       aliases_end = known.aliases_end;
-      signatures_exist = known.signatures_exist;
+      named_exist = known.named_exist;
       entries_exist = λ j.
           at_set (λ (m : InstNode). All (EntryExists f.tables) (entries_of m.shape)) f.insts i node j no_inst exists
           (λ _. fits.entries_exist) (λ _. known.entries_exist j);
       edges_without_results = λ j.
           at_set (λ (m : InstNode). destinations m.shape ≢ [] → m.results ≡ []) f.insts i node j no_inst exists
           (λ _. fits.edges_without_results) (λ _. known.edges_without_results j);
-    }
-
-pub with_shape_placed : (f : Body) (i : ℕ) (shape : InstructionData) (slots : List ℕ) (places : List BlockPlace) → IsPlaced f slots places
-    → IsPlaced (with_shape f i shape) slots places
-with_shape_placed f i shape slots places placed =
-    let count : length (with_shape f i shape).insts ≡ length f.insts = grind (arith, common_steps) in
-    record {
-      slot_count = placed.slot_count ∙ sym count;
-      place_count = placed.place_count;
-      fronts_fit = λ c. omega (arith, count, placed.fronts_fit c);
-      slots_right = placed.slots_right;
     }
 
 -- the shape with other targets, by format

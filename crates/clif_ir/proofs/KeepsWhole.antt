@@ -1,19 +1,23 @@
 -- What a function keeps, put together after a change.
-use Rattle.std.proofs.Common.{◌≡◌, ℕ, List, subst, ap}
-use Rattle.clif_ir.specs.declared.function.BlockPlace.{BlockPlace}
+use Rattle.std.proofs.Common.{◌≡◌, List, length, subst, sym, ◌∙◌, ap}
+use Rattle.clif_nodes.specs.declared.inst_links.InstLinks.{InstLinks}
+use Rattle.clif_nodes.specs.declared.nodes.BlockData.{BlockData}
 use Rattle.clif_ir.specs.declared.function.Function.TheInside.{Inside}
 use Rattle.clif_ir.specs.Body.{Body}
 use Rattle.clif_ir.specs.Consistent.{IsConsistent}
-use Rattle.clif_ir.specs.Whole.{body_of, IsPlaced, IsLinked, IsListed, IsWhole}
-use Rattle.clif_ir.proofs.KeepsPlaces.{placed_with}
-use Rattle.clif_ir.proofs.Links.{linked_with}
+use Rattle.clif_ir.specs.Whole.{AreThreaded, IsLinked, IsListed, IsWhole, body_of}
 
--- the fields make the body, the slots and the places of which the parts are known
-pub whole_with : (g : Body) (slots : List ℕ) (places : List BlockPlace) (f : Inside) → g ≡ body_of f → slots ≡ f.inst_slots.items → places ≡ f.block_places.items
-    → IsConsistent g → IsPlaced g slots places → IsLinked g.layout places f.first_block f.last_block → IsListed f.values.items f.aliases.keys → IsWhole f
-whole_with g slots places f same_body same_slots same_places consistent placed linked listed = record {
+-- the fields make the body, the rows of the blocks and the links of which the parts are known
+pub whole_with : (g : Body) (rows : List BlockData) (links : List InstLinks) (f : Inside) → g ≡ body_of f → rows ≡ f.blocks.items → links ≡ f.inst_links.items
+    → IsConsistent g → AreThreaded g.blocks rows links → length links ≡ length g.insts → length f.block_places.items ≡ length rows
+    → IsLinked g.layout f.block_places.items f.first_block f.last_block → IsListed f.values.items f.aliases.keys → IsWhole f
+whole_with g rows links f same_body same_rows same_links consistent threaded link_count place_count linked listed = record {
   consistent = subst IsConsistent same_body consistent;
   listed = listed;
-  placed = placed_with g (body_of f) slots f.inst_slots.items places f.block_places.items same_body same_slots same_places placed;
-  linked = linked_with g.layout (body_of f).layout places f.block_places.items f.first_block f.last_block (ap (λ (b : Body). b.layout) same_body) same_places linked;
+  threaded =
+      subst (λ ls. AreThreaded (body_of f).blocks f.blocks.items ls) same_links
+      (subst (λ rs. AreThreaded (body_of f).blocks rs links) same_rows (subst (λ (h : Body). AreThreaded h.blocks rows links) same_body threaded));
+  link_count = sym (ap (λ (ls : List InstLinks). length ls) same_links) ∙ link_count ∙ ap (λ (h : Body). length h.insts) same_body;
+  place_count = place_count ∙ ap (λ (rs : List BlockData). length rs) same_rows;
+  linked = subst (λ l. IsLinked l f.block_places.items f.first_block f.last_block) (ap (λ (h : Body). h.layout) same_body) linked;
 }

@@ -1,4 +1,5 @@
 pub mod Aliases
+pub mod FlatLists
 pub mod Changes
 pub mod Keeps
 pub mod KeepsBlock
@@ -6,6 +7,8 @@ pub mod KeepsParam
 pub mod Inserting
 pub mod KeepsInst
 pub mod KeepsPlaces
+pub mod KeepsThreads
+pub mod Rows
 pub mod KeepsAlias
 pub mod KeepsListed
 pub mod KeepsBranch
@@ -15,6 +18,8 @@ pub mod Leading
 pub mod KeepsCold
 pub mod Orders
 pub mod Links
+pub mod Neighbours
+pub mod Threads
 pub mod Linking
 pub mod KeepsWhole
 pub mod KeepsTables

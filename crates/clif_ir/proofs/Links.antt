@@ -2,10 +2,11 @@
 use Rattle.std.proofs.Common.{◌≡◌, ℕ, zero, suc, ◌+◌, ◌-◌, ◌<◌, ◌≤◌, List, [], ◌∷◌, length, set, refl, ap, arith, sym, ◌∙◌, subst, true}
 use Rattle.std.specs.Prelude.{slice_index, slice_index_or, slice_get, Option, Some, None}
 use Rattle.std.proofs.lemmas.Grind.{common_steps}
-use Rattle.clif_ir.specs.declared.function.BlockPlace.{BlockPlace}
+use Rattle.clif_nodes.specs.declared.nodes.BlockPlace.{BlockPlace}
 use Rattle.clif_ir.specs.Changes.{put_behind}
 use Rattle.clif_instructions.specs.Members.{Stands, Once, next_in, stands_in}
-use Rattle.clif_ir.specs.Whole.{IsLinked, chain, last_after, linked_after, no_place}
+use Rattle.clif_ir.specs.Whole.{IsLinked, chain}
+use Rattle.clif_nodes.specs.Places.{last_after, linked_after, no_place}
 use Rattle.clif_instructions.proofs.Lists.{at_set}
 use Rattle.clif_ir.proofs.Orders.{Once-length, put_behind-new, put_behind-test, put_behind-first, put_behind-next_after, put_behind-next_new, put_behind-next_old, put_behind-last, put_behind-stands}
 use Rattle.clif_instructions.proofs.Members.{next_in-at, test-from_Stands}
@@ -40,7 +41,7 @@ pub linked_behind : (layout : List ℕ) (places : List BlockPlace) (first last :
     → Stands a layout → (Stands b layout → ⊥) → IsLinked layout places first last
     → IsLinked (put_behind b a layout) (linked_after places b a) first (last_after last (slice_index_or places a no_place).next b)
 linked_behind layout places first last b a inside_b inside_a stands outside linked =
-    let new : BlockPlace = record (slice_index_or places b no_place) { next = (slice_index_or places a no_place).next; is_inserted = true } in
+    let new : BlockPlace = record { next = (slice_index_or places a no_place).next; is_inserted = true } in
     let before : BlockPlace = record (slice_index_or places a no_place) { next = Some b } in
     let inside : a < length (set places b new) = grind (arith, common_steps, inside_a) in
     record {

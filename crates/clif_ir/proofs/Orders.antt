@@ -5,7 +5,7 @@ use Rattle.std.proofs.lemmas.Bool.{cases_eq}
 use Rattle.std.proofs.lemmas.Option.{slice_get_within, get_or_from_slice_get}
 use Rattle.clif_ir.specs.Changes.{put_behind}
 use Rattle.clif_instructions.specs.Members.{Stands, Once, next_in, stands_in, without}
-use Rattle.clif_ir.specs.Whole.{last_after}
+use Rattle.clif_nodes.specs.Places.{last_after}
 use Rattle.clif_ir.proofs.Keeps.{Stands-cons}
 use Rattle.clif_instructions.proofs.Members.{if_true, if_false, Once-tail, Once-without, without-stood, same_answers, Stands-from_test, test-from_Stands}
 

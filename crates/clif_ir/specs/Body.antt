@@ -1,15 +1,13 @@
 -- A function as contracts see it: tables by number, and the order of the blocks. Source: own.
-use Rattle.std.specs.Prelude.{ℕ, zero, suc, List, [], length, slice_index_or, Option, Some, None, false}
-use Rattle.clif_types.specs.declared.types.«Type».TheVariants.{Invalid}
+use Rattle.std.specs.Prelude.{ℕ, zero, suc, List, [], length, slice_index_or, Option, Some, None}
 use Rattle.clif_types.specs.Signature.{SignatureShape}
 use Rattle.clif_types.specs.declared.extname.UserFuncName.{UserFuncName}
-use Rattle.clif_instructions.specs.declared.instructions.InstructionData.TheVariants.{MultiAry}
 use Rattle.clif_tables.specs.Lists.{TableLists, no_entries}
-use Rattle.clif_ir.specs.declared.function.ValueOrigin.{ValueOrigin}
-use Rattle.clif_ir.specs.declared.function.ValueOrigin.TheVariants.{Result, Param, Alias}
-use Rattle.clif_ir.specs.declared.function.ValueNode.{ValueNode}
-use Rattle.clif_ir.specs.declared.function.InstNode.{InstNode}
-use Rattle.clif_ir.specs.declared.function.BlockNode.{BlockNode}
+use Rattle.clif_nodes.specs.declared.nodes.ValueOrigin.{ValueOrigin}
+use Rattle.clif_nodes.specs.declared.nodes.ValueOrigin.TheVariants.{Result, Param, Alias}
+use Rattle.clif_nodes.specs.declared.nodes.ValueNode.{ValueNode}
+use Rattle.clif_nodes.specs.declared.nodes.InstNode.{InstNode}
+use Rattle.clif_nodes.specs.Nodes.{BlockNode, empty_block, no_value, no_inst}
 
 pub record Body : Type 0 where
   pub name : UserFuncName
@@ -29,18 +27,6 @@ pub record Body : Type 0 where
 abbrev pub empty_body : UserFuncName → SignatureShape → Body
 empty_body name signature =
     record { name = name; signature = signature; values = []; insts = []; blocks = []; layout = []; tables = no_entries }
-
--- a block as it is made
-abbrev pub empty_block : BlockNode
-empty_block = record { params = []; insts = []; is_cold = false }
-
--- what stands for a value that isn't there
-abbrev pub no_value : ValueNode
-no_value = record { ty = Invalid; origin = Param 0 }
-
--- what stands for an instruction that isn't there
-abbrev pub no_inst : InstNode
-no_inst = record { shape = MultiAry []; results = []; block = 0; srcloc = 0 }
 
 abbrev pub value_at : Body → ℕ → ValueNode
 value_at f v = slice_index_or f.values v no_value

@@ -4,13 +4,13 @@ use Rattle.std.specs.List.{range_with_len}
 use Rattle.clif_types.specs.declared.types.«Type».{«Type»}
 use Rattle.clif_instructions.specs.declared.instructions.InstructionData.{InstructionData}
 use Rattle.clif_tables.specs.Lists.{TableLists}
-use Rattle.clif_ir.specs.declared.function.ValueOrigin.{ValueOrigin}
-use Rattle.clif_ir.specs.declared.function.ValueOrigin.TheVariants.{Result, Param, Alias}
-use Rattle.clif_ir.specs.declared.function.ValueNode.{ValueNode}
-use Rattle.clif_ir.specs.declared.function.InstNode.{InstNode}
-use Rattle.clif_instructions.specs.declared.inst_list.InsertAt.{InsertAt}
+use Rattle.clif_nodes.specs.declared.nodes.ValueOrigin.{ValueOrigin}
+use Rattle.clif_nodes.specs.declared.nodes.ValueOrigin.TheVariants.{Result, Param, Alias}
+use Rattle.clif_nodes.specs.declared.nodes.InstNode.{InstNode}
+use Rattle.clif_instructions.specs.declared.insert_at.InsertAt.{InsertAt}
 use Rattle.clif_instructions.specs.Instruction.{with_argument, with_targets_changed, with_edge_argument, with_operand}
-use Rattle.clif_ir.specs.Body.{Body, empty_block, block_at, inst_at, value_at, resolved}
+use Rattle.clif_ir.specs.Body.{Body, block_at, inst_at, value_at, resolved}
+use Rattle.clif_nodes.specs.Nodes.{empty_block, result_nodes}
 use Rattle.clif_instructions.specs.Members.{put_at, without, stands_in}
 
 -- with a new empty block
@@ -45,11 +45,6 @@ with_param f b ty =
       values = f.values ++ record { ty = ty; origin = Param b } ∷ [];
       blocks = slice_set f.blocks b (record (block_at f b) { params = (block_at f b).params ++ length f.values ∷ [] });
     }
-
--- the results of instruction `i`, from its result `k` on
-abbrev pub result_nodes : ℕ → ℕ → List «Type» → List ValueNode
-result_nodes i k [] = []
-result_nodes i k (ty ∷ types) = record { ty = ty; origin = Result i k } ∷ result_nodes i (k + 1) types
 
 -- There is no room for an instruction with so many results: the table of instructions holds 2^32 - 1 entries, or that of
 -- values does, or it has fewer numbers left than there are results.

@@ -1,11 +1,11 @@
 -- What every function keeps.
 -- Source: own, after the crate's documentation of its data flow graph and its layout.
 use Rattle.std.specs.Prelude.{◌≡◌, ◌≢◌, ℕ, ◌<◌, ◌^◌, List, [], length, slice_index, None, is_some, count_by, All}
-use Rattle.clif_tables.specs.Entries.{SignaturesExist}
+use Rattle.clif_tables.specs.Entries.{NamedExist}
 use Rattle.clif_tables.specs.Lists.{TableLists}
-use Rattle.clif_ir.specs.declared.function.ValueOrigin.{ValueOrigin}
-use Rattle.clif_ir.specs.declared.function.ValueOrigin.TheVariants.{Result, Param, Alias}
-use Rattle.clif_ir.specs.declared.function.ValueNode.{ValueNode}
+use Rattle.clif_nodes.specs.declared.nodes.ValueOrigin.{ValueOrigin}
+use Rattle.clif_nodes.specs.declared.nodes.ValueOrigin.TheVariants.{Result, Param, Alias}
+use Rattle.clif_nodes.specs.declared.nodes.ValueNode.{ValueNode}
 use Rattle.clif_ir.specs.Body.{Body, value_at, inst_at, block_at, alias_of, alias_of_origin, follow}
 use Rattle.clif_instructions.specs.declared.block_call.BlockCall.{BlockCall}
 use Rattle.clif_instructions.specs.declared.block_call.BlockArg.{BlockArg}
@@ -76,7 +76,7 @@ pub record IsConsistent (f : Body) : Type 0 where
   pub layout_once : Once f.layout
   -- along aliases one reaches a value that is none, in no more steps than there are aliases
   pub aliases_end : (v : ℕ) → v < length f.values → alias_of f.values (follow (alias_count f.values) f.values v) ≡ None
-  -- what tables name exists
-  pub signatures_exist : SignaturesExist f.tables
+  -- what the entries of tables name exists
+  pub named_exist : NamedExist f.tables
   -- an instruction with edges has no results
   pub edges_without_results : (i : ℕ) → destinations (inst_at f i).shape ≢ [] → (inst_at f i).results ≡ []

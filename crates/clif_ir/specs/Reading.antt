@@ -2,9 +2,9 @@
 use Rattle.std.specs.Prelude.{ℕ, ◌<◌, List, [], length, Option, Some, None, slice_get, ◌-◌}
 use Rattle.clif_ir.specs.declared.function.ValueDef.{ValueDef}
 use Rattle.clif_ir.specs.declared.function.ValueDef.TheVariants as def
-use Rattle.clif_ir.specs.declared.function.ValueOrigin.{ValueOrigin}
-use Rattle.clif_ir.specs.declared.function.ValueOrigin.TheVariants.{Result, Param, Alias}
-use Rattle.clif_ir.specs.declared.function.ValueNode.{ValueNode}
+use Rattle.clif_nodes.specs.declared.nodes.ValueOrigin.{ValueOrigin}
+use Rattle.clif_nodes.specs.declared.nodes.ValueOrigin.TheVariants.{Result, Param, Alias}
+use Rattle.clif_nodes.specs.declared.nodes.ValueNode.{ValueNode}
 use Rattle.clif_instructions.specs.declared.block_call.BlockCall.{BlockCall}
 use Rattle.clif_instructions.specs.Edges.{targets}
 use Rattle.clif_instructions.specs.Instruction.{destinations}

@@ -1,18 +1,19 @@
 -- How the fields of a function make the record that contracts see, and what they keep beside it.
 -- Source: own. No contract of another crate speaks of it.
-use Rattle.std.specs.Prelude.{◌≡◌, ℕ, ◌+◌, ◌-◌, ◌^◌, ◌<◌, ◌≤◌, zero, suc, List, [], ◌∷◌, length, slice_index, slice_index_or, slice_get, slice_set, Option, Some, None, true, false, All, Contains}
-use Rattle.clif_ir.specs.declared.function.BlockPlace.{BlockPlace}
-use Rattle.clif_instructions.specs.declared.inst_list.InsertAt.{InsertAt}
-use Rattle.clif_instructions.specs.declared.inst_list.InsertAt.TheVariants.{Behind, Back}
+use Rattle.std.specs.Prelude.{◌≡◌, ℕ, ◌+◌, ◌-◌, ◌<◌, zero, suc, List, [], ◌∷◌, length, slice_index, slice_index_or, slice_get, Option, Some, None, All, Contains}
+use Rattle.clif_instructions.specs.declared.insert_at.InsertAt.{InsertAt}
+use Rattle.clif_instructions.specs.declared.insert_at.InsertAt.TheVariants.{Behind, Back}
+use Rattle.clif_instructions.specs.Members.{next_in, place_of, stands_in}
+use Rattle.clif_nodes.specs.declared.inst_links.InstLinks.{InstLinks}
+use Rattle.clif_nodes.specs.declared.nodes.BlockData.{BlockData}
+use Rattle.clif_nodes.specs.declared.nodes.BlockPlace.{BlockPlace}
+use Rattle.clif_nodes.specs.declared.nodes.ValueNode.{ValueNode}
+use Rattle.clif_nodes.specs.Links.{blocks_of, links_at}
+use Rattle.clif_nodes.specs.Nodes.{BlockNode, empty_block, no_data}
+use Rattle.clif_nodes.specs.Places.{no_place}
 use Rattle.clif_ir.specs.declared.function.Function.TheInside.{Inside}
-use Rattle.clif_ir.specs.declared.function.ValueNode.{ValueNode}
-use Rattle.clif_ir.specs.Body.{Body, empty_block, alias_of}
+use Rattle.clif_ir.specs.Body.{Body, alias_of}
 use Rattle.clif_ir.specs.Consistent.{IsConsistent}
-use Rattle.clif_instructions.specs.Members.{next_in, stands_in}
-
--- the place of a block as it is made
-abbrev pub no_place : BlockPlace
-no_place = record { front = 0; next = None; is_inserted = false }
 
 -- the blocks from `at` on, along at most so many links
 unfoldable pub chain : ℕ → List BlockPlace → Option ℕ → List ℕ
@@ -27,50 +28,37 @@ body_of f =
       signature = f.signature;
       values = f.values.items;
       insts = f.insts.items;
-      blocks = f.blocks.items;
+      blocks = blocks_of f.inst_links.items f.blocks.items;
       layout = chain (length f.block_places.items) f.block_places.items f.first_block;
       tables = f.tables;
     }
 
--- the places as block `b` is put behind block `after`
-abbrev pub linked_after : List BlockPlace → ℕ → ℕ → List BlockPlace
-linked_after places b after =
-    slice_set (slice_set places b (record (slice_index_or places b no_place) { next = (slice_index_or places after no_place).next; is_inserted = true })) after
-    (record (slice_index_or places after no_place) { next = Some b })
+-- the entry before place `k` of a list, if `k` isn't its front
+abbrev pub entry_before : List ℕ → ℕ → Option ℕ
+entry_before xs zero = None
+entry_before xs (suc k) = slice_get xs k
 
--- the last block as `b` is put behind a block that `next` followed
-abbrev pub last_after : Option ℕ → Option ℕ → ℕ → Option ℕ
-last_after last None b = Some b
-last_after last (Some next) b = last
+-- behind how many of so many instructions a place is
+abbrev pub count_before : InsertAt → ℕ → ℕ
+count_before (Behind count) len = count
+count_before Back len = len
 
--- the slot of an instruction that is put into a block of `len` instructions
-abbrev pub next_slot : InsertAt → ℕ → ℕ → ℕ
-next_slot (Behind count) front len = 2 ^ 32 - 1 - front + count
-next_slot Back front len = 2 ^ 32 + len - front
+-- the place right behind `previous`, or the front where it is none
+abbrev pub place_behind : Option ℕ → List ℕ → ℕ
+place_behind None xs = 0
+place_behind (Some previous) xs = place_of previous xs + 1
 
--- the place of a block as an instruction is put into it
-abbrev pub placed_at : InsertAt → BlockPlace → BlockPlace
-placed_at (Behind count) place = record place { front = place.front + 1 }
-placed_at Back place = place
+-- a block knows the first and the last of its instructions and how many they are, and each of them its neighbours
+pub record IsThread (insts : List ℕ) (block : BlockData) (links : List InstLinks) : Type 0 where
+  pub first_is : block.first_inst ≡ slice_get insts 0
+  pub last_is : block.last_inst ≡ slice_get insts (length insts - 1)
+  pub count_is : block.inst_count ≡ length insts
+  pub next_is : (k : ℕ) → k < length insts → (links_at links (slice_index insts k)).next ≡ slice_get insts (k + 1)
+  pub previous_is : (k : ℕ) → k < length insts → (links_at links (slice_index insts k)).previous ≡ entry_before insts k
 
--- how many instructions get lower slots as one is put there
-abbrev pub moved_count : InsertAt → ℕ
-moved_count (Behind count) = count
-moved_count Back = 0
-
--- the slots, with those of the first so many of these instructions lower by one
-unfoldable pub lowered : ℕ → List ℕ → List ℕ → List ℕ
-lowered zero insts slots = slots
-lowered (suc n) insts slots =
-    slice_set (lowered n insts slots) (slice_index insts n) (slice_index (lowered n insts slots) (slice_index insts n) - 1)
-
--- where each instruction stands
-pub record IsPlaced (f : Body) (slots : List ℕ) (places : List BlockPlace) : Type 0 where
-  pub slot_count : length slots ≡ length f.insts
-  pub place_count : length places ≡ length f.blocks
-  pub fronts_fit : (b : ℕ) → (slice_index_or places b no_place).front ≤ length f.insts
-  pub slots_right : (b k : ℕ) → k < length (slice_index_or f.blocks b empty_block).insts
-      → slice_index slots (slice_index (slice_index_or f.blocks b empty_block).insts k) + (slice_index_or places b no_place).front ≡ k + 2 ^ 32
+-- what is kept of each block is so with its instructions
+pub record AreThreaded (blocks : List BlockNode) (rows : List BlockData) (links : List InstLinks) : Type 0 where
+  pub thread : (b : ℕ) → IsThread (slice_index_or blocks b empty_block).insts (slice_index_or rows b no_data) links
 
 -- the links are those of the layout
 pub record IsLinked (layout : List ℕ) (places : List BlockPlace) (first last : Option ℕ) : Type 0 where
@@ -87,5 +75,7 @@ pub record IsListed (values : List ValueNode) (pairs : List (ℕ × ℕ)) : Type
 pub record IsWhole (f : Inside) : Type 0 where
   pub consistent : IsConsistent (body_of f)
   pub listed : IsListed f.values.items f.aliases.keys
-  pub placed : IsPlaced (body_of f) f.inst_slots.items f.block_places.items
+  pub threaded : AreThreaded (body_of f).blocks f.blocks.items f.inst_links.items
+  pub link_count : length f.inst_links.items ≡ length f.insts.items
+  pub place_count : length f.block_places.items ≡ length f.blocks.items
   pub linked : IsLinked (body_of f).layout f.block_places.items f.first_block f.last_block

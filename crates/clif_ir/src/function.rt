@@ -5,25 +5,13 @@ ghost use Rattle.clif_ir.specs.Consistent.{IsConsistent, EdgeExists};
 ghost use Rattle.clif_instructions.specs.Instruction.{operands, destinations};
 ghost use Rattle.clif_ir.specs.Reading.{def_of, DefExists, param_home};
 
-use clif_instructions::inst_list::InstList;
 use clif_instructions::instructions::InstructionData;
-use clif_instructions::value_list::ValueList;
+use clif_nodes::{BlockData, BlockPlace, InstLinks, InstNode, ValueNode, ValueOrigin};
 use clif_tables::Tables;
 use clif_types::{Block, EntityRef, Inst, Signature, SourceLoc, Type, UserFuncName, Value};
 use std::alloc::Global;
 use std::collections::BTreeSet;
 use std::marker::Model;
-
-/// Where a value comes from, as its table says it.
-#[derive(Clone, Copy, Debug, PartialEq, Eq)]
-pub enum ValueOrigin {
-    /// The result of an instruction, at this place among its results.
-    Result(Inst, u32),
-    /// A parameter of a block.
-    Param(Block),
-    /// Another name of a value.
-    Alias(Value),
-}
 
 /// What defines the value that a value stands for.
 #[derive(Clone, Copy, Debug, PartialEq, Eq)]
@@ -34,63 +22,23 @@ pub enum ValueDef {
     Param(Block, usize),
 }
 
-/// A value: its type and where it comes from.
-#[derive(Clone, Copy, Debug, PartialEq, Eq)]
-pub struct ValueNode {
-    pub ty: Type,
-    pub origin: ValueOrigin,
-}
-
-const _: () = prove!(size_of::<ValueNode>() == 16);
-
-/// An instruction with its results, its block and its source place.
-#[derive(Drop)]
-pub struct InstNode {
-    pub shape: InstructionData,
-    pub results: ValueList,
-    pub block: Block,
-    pub srcloc: SourceLoc,
-}
-
-const _: () = prove!(size_of::<InstNode>() == 80);
-
-/// A block: its parameters and its instructions, in order, and whether it is seldom reached.
-#[derive(Drop)]
-pub struct BlockNode {
-    pub params: ValueList,
-    pub insts: InstList,
-    pub is_cold: bool,
-}
-
-const _: () = prove!(size_of::<BlockNode>() == 40);
-
-/// Where a block stands: how many of its instructions were put behind so many and not at its back, the
-/// block after it in the layout, and whether it is in the layout.
-#[derive(Clone, Copy)]
-pub(crate) struct BlockPlace {
-    pub(crate) front: u32,
-    pub(crate) next: Option<Block>,
-    pub(crate) is_inserted: bool,
-}
-
 /// A function: blocks with parameters, instructions and values.
 ///
-/// Contracts see it as a record of lists. The layout is kept as links from each block to the next, so
-/// that a block is put behind any other in a step. Beside these it keeps what makes some questions
-/// cheap, and what no contract speaks of: where each instruction stands, and the pairs of a value and
-/// an alias of it, in order. An instruction at place `k` of a block into which `n` instructions were put
-/// elsewhere than at its back has the slot 2^32 + `k` - `n`, so that only those before a new one change
-/// their slots, and none does as instructions are put at either end.
+/// Contracts see it as a record of lists. The layout is kept as links from each block to the next, and the
+/// instructions of a block as links from each to the one before it and the one after it, so that a block is
+/// put behind any other in a step, and so is an instruction before or behind any other. Beside these it keeps
+/// what makes some questions cheap, and what no contract speaks of: the ends and the number of each block's
+/// instructions, and the pairs of a value and an alias of it, in order.
 pub struct Function {
     pub(crate) alloc: Global,
     pub(crate) name: UserFuncName,
     pub(crate) signature: Signature,
     pub(crate) values: Vec<ValueNode>,
     pub(crate) insts: Vec<InstNode>,
-    pub(crate) blocks: Vec<BlockNode>,
+    pub(crate) blocks: Vec<BlockData>,
     pub(crate) first_block: Option<Block>,
     pub(crate) last_block: Option<Block>,
-    pub(crate) inst_slots: Vec<u64>,
+    pub(crate) inst_links: Vec<InstLinks>,
     pub(crate) block_places: Vec<BlockPlace>,
     pub(crate) aliases: BTreeSet<(Value, Value)>,
     pub(crate) tables: Tables,
@@ -120,7 +68,7 @@ impl Drop for Function {
             blocks: _,
             first_block: _,
             last_block: _,
-            inst_slots: _,
+            inst_links: _,
             block_places: _,
             aliases: _,
             tables: _,
@@ -142,7 +90,7 @@ impl Function {
             blocks: Vec::new(alloc),
             first_block: None,
             last_block: None,
-            inst_slots: Vec::new(alloc),
+            inst_links: Vec::new(alloc),
             block_places: Vec::new(alloc),
             aliases: BTreeSet::new(alloc),
             tables: Tables::new(alloc),

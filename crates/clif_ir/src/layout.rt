@@ -1,58 +1,17 @@
 //! The order of the blocks, and of the instructions in them.
-ghost use Rattle.std.specs.Prelude.{◌≡◌, [], ◌<◌, ◌-◌, ◌↔◌, length, IfSome, IsTrue, Some, slice_get, slice_index, slice_index_or, slice_set, true, ◌^◌, OnOk, OnErr};
+ghost use Rattle.std.specs.Prelude.{◌≡◌, [], ◌<◌, ◌≤◌, ◌-◌, ◌↔◌, length, IfSome, IsTrue, Some, slice_get, slice_index_or, slice_set, true, ◌^◌, OnOk, OnErr};
 ghost use Rattle.clif_ir.specs.Body.{Body, inst_at, block_at};
 ghost use Rattle.clif_ir.specs.Changes.{inserted_in, with_cold, with_layout, with_layout_after};
-ghost use Rattle.clif_instructions.specs.Members.{Stands, next_in, stands_in};
-ghost use Rattle.clif_ir.specs.Whole.{last_after, linked_after, no_place};
+ghost use Rattle.clif_instructions.specs.Members.{IsPlaceOf, Stands, next_in, stands_in};
+ghost use Rattle.clif_ir.specs.Reading.{place_in_block};
+ghost use Rattle.clif_ir.specs.Whole.{count_before, entry_before, place_behind};
+ghost use Rattle.clif_nodes.specs.Places.{last_after, linked_after, no_place};
 
-use crate::function::{BlockPlace, Function};
+use crate::function::Function;
+use clif_instructions::insert_at::InsertAt;
+use clif_nodes::inst_links::{next_of, previous_of};
+use clif_nodes::links::{last_after, link_after, mark_inserted, place_at};
 use clif_types::{Block, BuildError, EntityRef, Inst};
-
-// The place of a block, by its number.
-fn place_at(places: &[BlockPlace], block: Block) -> BlockPlace
-    requires { block < length places.now }
-    ensures { result ≡ slice_index_or places.now block no_place }
-{
-    places[block.index()]
-}
-
-// Puts a block behind another one in the links.
-fn link_after(places: &mut [BlockPlace], block: Block, after: Block)
-    requires block_exists { block < length places.old }
-    requires after_exists { after < length places.old }
-    ensures { places.new ≡ linked_after places.old block after }
-{
-    let own = places[block.index()];
-    let before = places[after.index()];
-    places[block.index()] = BlockPlace {
-        front: own.front,
-        next: before.next,
-        is_inserted: true,
-    };
-    places[after.index()] = BlockPlace {
-        front: before.front,
-        next: Some(block),
-        is_inserted: before.is_inserted,
-    };
-}
-
-// Marks a block as one of the layout.
-fn mark_inserted(places: &mut [BlockPlace], block: Block)
-    requires { block < length places.old }
-    ensures { places.new ≡ slice_set places.old block (record (slice_index_or places.old block no_place) { is_inserted = true }) }
-{
-    places[block.index()].is_inserted = true;
-}
-
-// The last block as `block` is put behind a block that `next` followed.
-fn last_after(last: Option<Block>, next: Option<Block>, block: Block) -> Option<Block>
-    ensures { result ≡ last_after last next block }
-{
-    match next {
-        None => Some(block),
-        Some(_) => last,
-    }
-}
 
 impl Function {
     /// The block in which an instruction stands. Each stands in one, from its making on.
@@ -69,7 +28,7 @@ impl Function {
         ensures exact { result ≡ slice_get (block_at self.now block).insts 0 }
         ensures exists { IfSome result (λ inst. inst < length self.now.insts) }
     {
-        self.blocks[block.index()].insts.get(0)
+        self.blocks[block.index()].first_inst.get()
     }
 
     /// The last instruction of a block, if it has any.
@@ -78,8 +37,7 @@ impl Function {
         ensures exact { result ≡ slice_get (block_at self.now block).insts (length (block_at self.now block).insts - 1) }
         ensures exists { IfSome result (λ inst. inst < length self.now.insts) }
     {
-        let insts = &self.blocks[block.index()].insts;
-        insts.get(insts.len().saturating_sub(1))
+        self.blocks[block.index()].last_inst.get()
     }
 
     /// How many instructions a block has.
@@ -87,20 +45,7 @@ impl Function {
         requires { block < length self.now.blocks }
         ensures { result ≡ length (block_at self.now block).insts }
     {
-        self.blocks[block.index()].insts.len()
-    }
-
-    // The place of an instruction among those of its block, by its slot.
-    pub(crate) fn inst_place(&self, inst: Inst) -> usize
-        requires { inst < length self.now.insts }
-        ensures inside { result < length (block_at self.now (inst_at self.now inst).block).insts }
-        ensures there { slice_index (block_at self.now (inst_at self.now inst).block).insts result ≡ inst }
-        ensures small { result < 2 ^ 64 - 1 }
-    {
-        let block = self.insts[inst.index()].block;
-        let front = self.block_places[block.index()].front;
-        let slot = self.inst_slots[inst.index()];
-        (slot - (0x1_0000_0000 - u64::from(front))) as usize
+        self.blocks[block.index()].inst_count as usize
     }
 
     /// The instruction after `inst` in its block, if `inst` isn't the last. It walks along nothing.
@@ -109,9 +54,54 @@ impl Function {
         ensures exact { result ≡ next_in (block_at self.now (inst_at self.now inst).block).insts inst }
         ensures exists { IfSome result (λ next. next < length self.now.insts) }
     {
-        let block = self.insts[inst.index()].block;
-        let place = self.inst_place(inst);
-        self.blocks[block.index()].insts.get(place + 1)
+        next_of(&self.inst_links, inst)
+    }
+
+    // The block of an instruction, and the instruction before it there, if it isn't the first.
+    pub(crate) fn place_before(&self, inst: Inst) -> (Block, Option<Inst>)
+        requires { inst < length self.now.insts }
+        ensures block { result.0 ≡ (inst_at self.now inst).block }
+        ensures exists { result.0 < length self.now.blocks }
+        ensures place { place_behind result.1 (block_at self.now result.0).insts ≡ place_in_block self.now inst }
+        ensures stands { IfSome result.1 (λ previous. Stands previous (block_at self.now result.0).insts) }
+    {
+        self.law_consistent();
+        (
+            self.insts[inst.index()].block,
+            previous_of(&self.inst_links, inst),
+        )
+    }
+
+    // The instruction right before a place of a block, if the place isn't its front.
+    pub(crate) fn inst_before_place(&self, block: Block, at: InsertAt) -> Option<Inst>
+        requires block_exists { block < length self.now.blocks }
+        requires place_exists { IsPlaceOf at (length (block_at self.now block).insts) }
+        ensures { result ≡ entry_before (block_at self.now block).insts (count_before at (length (block_at self.now block).insts)) }
+    {
+        match at {
+            InsertAt::Behind(count) => self.last_of_first(block, count),
+            InsertAt::Back => self.last_inst(block),
+        }
+    }
+
+    // The last of the first `count` instructions of a block, if there are any.
+    fn last_of_first(&self, block: Block, count: usize) -> Option<Inst>
+        requires block_exists { block < length self.now.blocks }
+        requires fits { count ≤ length (block_at self.now block).insts }
+        ensures { result ≡ entry_before (block_at self.now block).insts count }
+    {
+        self.law_consistent();
+        if count == 0 {
+            return None;
+        }
+        let mut inst = self.first_inst(block)?;
+        for place in 1..count {
+            let Some(next) = self.next_inst(inst) else {
+                unreachable!();
+            };
+            inst = next;
+        }
+        Some(inst)
     }
 
     /// The entry: the first block of the layout, if there is one.

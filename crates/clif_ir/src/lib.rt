@@ -8,14 +8,15 @@
 //! opcodes and numbers: the tests of `clif_ir_tests` do.
 #![tactic(auto)]
 
+pub mod contexts;
 pub mod dfg;
 pub mod entities;
 pub mod function;
 pub mod layout;
 pub mod rewrite;
+pub mod side_tables;
 pub mod successors;
 pub mod write;
-mod write_calls;
 
 pub use clif_instructions::block_call::{BlockArg, BlockArgs, BlockCall};
 pub use clif_instructions::exception_table::{
@@ -24,8 +25,10 @@ pub use clif_instructions::exception_table::{
 pub use clif_instructions::instructions::InstructionData;
 pub use clif_instructions::jump_table::JumpTableData;
 pub use clif_instructions::value_list::ValueList;
+pub use clif_nodes::{InstNode, ValueNode, ValueOrigin};
 pub use clif_opcodes::{
     BinaryOpcode, CondTrapOpcode, ConvertOpcode, FloatConstOpcode, PooledConstOpcode, UnaryOpcode,
 };
-pub use function::{BlockNode, Function, InstNode, ValueDef, ValueNode, ValueOrigin};
+pub use clif_tables::ValueLabelStart;
+pub use function::{Function, ValueDef};
 pub use successors::Successors;

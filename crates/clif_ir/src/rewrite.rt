@@ -13,7 +13,7 @@ ghost use Rattle.clif_ir.specs.Consistent.{EdgeExists, EntryExists, ValueExists}
 ghost use Rattle.clif_ir.specs.Reading.{place_in_block};
 
 use crate::function::Function;
-use clif_instructions::inst_list::InsertAt;
+use clif_instructions::insert_at::InsertAt;
 use clif_instructions::instructions::InstructionData;
 use clif_types::{Block, BuildError, EntityRef, Inst, SourceLoc, Type, Value};
 
@@ -53,8 +53,7 @@ impl Function {
 
     /// Makes an instruction and puts it right before the instruction `next` of a block.
     ///
-    /// It costs a step for each instruction of the block before the new one, and is otherwise as
-    /// [`Function::insert_inst`] says.
+    /// It walks along nothing, and is otherwise as [`Function::insert_inst`] says.
     pub fn insert_inst_before(
         &mut self,
         next: Inst,
@@ -76,14 +75,13 @@ impl Function {
         ensures never_failed { result ≢ Err BuildError.Failed }
         ensures err { OnErr result (self.new ≡ self.old) }
     {
-        let (block, place) = self.place_in_block(next);
-        self.insert_inst(block, InsertAt::Behind(place), shape, ctrl_type, srcloc)
+        let (block, previous) = self.place_before(next);
+        self.insert_inst_behind(block, previous, shape, ctrl_type, srcloc)
     }
 
     /// Makes an instruction and puts it right behind the instruction `previous` of a block.
     ///
-    /// It costs a step for each instruction of the block before the new one, and is otherwise as
-    /// [`Function::insert_inst`] says.
+    /// It walks along nothing, and is otherwise as [`Function::insert_inst`] says.
     pub fn insert_inst_after(
         &mut self,
         previous: Inst,
@@ -105,20 +103,8 @@ impl Function {
         ensures never_failed { result ≢ Err BuildError.Failed }
         ensures err { OnErr result (self.new ≡ self.old) }
     {
-        let (block, place) = self.place_in_block(previous);
-        self.insert_inst(block, InsertAt::Behind(place + 1), shape, ctrl_type, srcloc)
-    }
-
-    // The block of an instruction, and its place there.
-    fn place_in_block(&self, inst: Inst) -> (Block, usize)
-        requires { inst < length self.now.insts }
-        ensures block { result.0 ≡ (inst_at self.now inst).block }
-        ensures exists { result.0 < length self.now.blocks }
-        ensures place { result.1 ≡ place_in_block self.now inst }
-        ensures inside { result.1 < length (block_at self.now result.0).insts }
-        ensures small { result.1 < 2 ^ 64 - 1 }
-    {
         self.law_consistent();
-        (self.insts[inst.index()].block, self.inst_place(inst))
+        let block = self.insts[previous.index()].block;
+        self.insert_inst_behind(block, Some(previous), shape, ctrl_type, srcloc)
     }
 }

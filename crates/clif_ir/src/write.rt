@@ -12,13 +12,17 @@ ghost use Rattle.clif_ir.specs.Consistent.{EdgeExists};
 ghost use Rattle.clif_instructions.specs.Instruction.{operands, destinations};
 
 use crate::function::{Function, ValueDef};
-use crate::write_calls::{write_call, write_call_of_address, write_exceptions};
+use clif_inst_text::calls::{
+    is_call, write_call, write_call_of_address, write_exceptions, write_stack_map,
+};
+use clif_inst_text::operands::{
+    float_bits, write_offset, write_operands, write_place, write_table, write_values,
+};
 use clif_instructions::block_call::{BlockArg, BlockCall};
-use clif_instructions::immediates::{FloatBits, Imm64, Offset32, signed_at};
+use clif_instructions::immediates::{Imm64, signed_at};
 use clif_instructions::instructions::InstructionData;
-use clif_instructions::jump_table::JumpTableData;
-use clif_opcodes::{Control, FloatConstOpcode};
-use clif_types::{Block, EntityRef, Inst, StackSlot, Type, Value};
+use clif_opcodes::Control;
+use clif_types::{Block, EntityRef, Inst, Type, Value};
 use std::fmt;
 use std::fmt::Display;
 
@@ -74,11 +78,13 @@ fn write_block<W: fmt::Write>(
     }
     f.write_str(":\n")?;
     write_alias_lines(f, func, func.block_params(block))?;
-    let insts = &func.blocks[block.index()].insts;
-    for place in 0..insts.len() {
-        if let Some(inst) = insts.get(place) {
-            write_inst(f, func, inst)?;
-        }
+    let mut next = func.first_inst(block);
+    for _ in 0..func.block_inst_count(block) {
+        let Some(inst) = next else {
+            break;
+        };
+        write_inst(f, func, inst)?;
+        next = func.next_inst(inst);
     }
     Ok(())
 }
@@ -115,24 +121,12 @@ fn write_inst<W: fmt::Write>(f: &mut fmt::Formatter<W>, func: &Function, inst: I
         f.write_str(" = ")?;
     }
     write_operation(f, func, inst)?;
+    if is_call(func.inst_data(inst)) {
+        write_stack_map(f, func.stack_map(inst))?;
+    }
     write_comment(f, func, func.inst_data(inst))?;
     f.write_str("\n")?;
     write_alias_lines(f, func, results)
-}
-
-// Values, joined by `, `.
-pub(crate) fn write_values<W: fmt::Write>(
-    f: &mut fmt::Formatter<W>,
-    values: &[Value],
-) -> fmt::Result {
-    for (place, value) in values.iter().enumerate() {
-        if place > 0 {
-            f.write_str(", ")?;
-        }
-        let value = *value;
-        write!(f, "{value}")?;
-    }
-    Ok(())
 }
 
 // The name of an instruction, its type where one is printed, and its operands.
@@ -189,87 +183,6 @@ fn write_operation<W: fmt::Write>(
         InstructionData::CondTrap { code, .. } => write!(f, ", {code}"),
         _ => Ok(()),
     }
-}
-
-// The index of a `br_table`, its default edge, and in brackets its entries.
-fn write_table<W: fmt::Write>(
-    f: &mut fmt::Formatter<W>,
-    index: Value,
-    table: &JumpTableData,
-) -> fmt::Result {
-    write!(f, " {index}, ")?;
-    write_edge(f, table.default_block())?;
-    f.write_str(", [")?;
-    write_edges(f, table.as_slice())?;
-    f.write_str("]")
-}
-
-fn float_bits(opcode: FloatConstOpcode, bits: u64) -> FloatBits {
-    FloatBits { opcode, bits }
-}
-
-// A place from a stack slot on.
-fn write_place<W: fmt::Write>(
-    f: &mut fmt::Formatter<W>,
-    separator: &str,
-    slot: StackSlot,
-    offset: i32,
-) -> fmt::Result {
-    write!(f, "{separator}{slot}")?;
-    write_offset(f, offset)
-}
-
-fn write_offset<W: fmt::Write>(f: &mut fmt::Formatter<W>, offset: i32) -> fmt::Result {
-    let offset = Offset32(offset);
-    write!(f, "{offset}")
-}
-
-// The operands and then the edges, after a space and joined by `, `; nothing where there are none.
-fn write_operands<W: fmt::Write>(
-    f: &mut fmt::Formatter<W>,
-    shape: &InstructionData,
-) -> fmt::Result {
-    let operands = shape.arguments();
-    let edges = shape.branch_destination();
-    if operands.is_empty() && edges.is_empty() {
-        return Ok(());
-    }
-    f.write_str(" ")?;
-    write_values(f, operands)?;
-    if !operands.is_empty() && !edges.is_empty() {
-        f.write_str(", ")?;
-    }
-    write_edges(f, edges)
-}
-
-// Edges, joined by `, `.
-fn write_edges<W: fmt::Write>(f: &mut fmt::Formatter<W>, edges: &[BlockCall]) -> fmt::Result {
-    for (place, edge) in edges.iter().enumerate() {
-        if place > 0 {
-            f.write_str(", ")?;
-        }
-        write_edge(f, edge)?;
-    }
-    Ok(())
-}
-
-// The target of an edge, and in parentheses what it passes; without these where it passes nothing.
-pub(crate) fn write_edge<W: fmt::Write>(
-    f: &mut fmt::Formatter<W>,
-    edge: &BlockCall,
-) -> fmt::Result {
-    let block = edge.block;
-    write!(f, "{block}")?;
-    if edge.args.as_slice().is_empty() {
-        return Ok(());
-    }
-    let mut separator = "(";
-    for arg in edge.args.as_slice().iter() {
-        let arg = *arg;
-        write!(f, "{separator}{arg}")?;
-        separator = ", ";
-    }
-    f.write_str(")")
 }
 
 // The type of the first result of an instruction.

@@ -3,7 +3,7 @@
 
 use crate::steps::Step::{Alias, Create, Iconst, LayOut, Param, ReturnOne};
 use crate::steps::makes;
-use clif_instructions::inst_list::InsertAt::Back;
+use clif_instructions::insert_at::InsertAt::Back;
 use clif_types::types::I32;
 use std::test::Fail;
 

@@ -1,18 +1,13 @@
 //! Calls as plain data, where functions, signatures, blocks and values are told by their numbers.
 #![tactic(auto)]
 
-ghost use Rattle.std.specs.Prelude.{IsTrue, All, flat_map};
-ghost use Rattle.clif_instructions.specs.ExceptionTables.{item_context};
-ghost use Rattle.clif_instructions.specs.Instruction.{contexts};
-ghost use Rattle.clif_ir.specs.Consistent.{ValueExists};
-
 use crate::steps::insert;
 use crate::support::{b, push_types, v};
 use clif_instructions::block_call::{BlockArg, BlockCall};
 use clif_instructions::exception_table::{
-    ExceptionItem, ExceptionTableData, ExceptionTableItem, ExceptionTargets,
+    ExceptionTableData, ExceptionTableItem, ExceptionTargets,
 };
-use clif_instructions::inst_list::InsertAt;
+use clif_instructions::insert_at::InsertAt;
 use clif_instructions::instructions::InstructionData;
 use clif_instructions::value_list::ValueList;
 use clif_ir::function::Function;
@@ -198,31 +193,4 @@ pub fn put_calls(
         put_call(rt, func, block, *call)?;
     }
     Ok(())
-}
-
-// Whether the value exists that an item names, if it names one.
-fn has_context(func: &Function, item: ExceptionItem) -> bool
-    ensures { IsTrue result → All (ValueExists func.now) (item_context item) }
-{
-    match item {
-        ExceptionItem::Context(value) => value.index() < func.value_count(),
-        ExceptionItem::Tag(_) | ExceptionItem::Default => true,
-    }
-}
-
-// Whether the values exist that items name.
-fn has_contexts_of(func: &Function, items: &[ExceptionItem]) -> bool
-    ensures { IsTrue result → All (ValueExists func.now) (flat_map item_context items.now) }
-{
-    items.iter().all(|item| has_context(func, *item))
-}
-
-/// Whether the contexts of an instruction exist.
-pub fn has_contexts(func: &Function, shape: &InstructionData) -> bool
-    ensures { IsTrue result → All (ValueExists func.now) (contexts shape.now) }
-{
-    match shape.exception_targets() {
-        Some(exception) => has_contexts_of(func, exception.items()),
-        None => true,
-    }
 }

@@ -10,7 +10,7 @@ use crate::steps::Step::{Create, Iconst, Is, Jump, LayOut, Param, Return, Return
 use crate::steps::make_all;
 use crate::support::{b, prints, sample, v};
 use clif_instructions::exception_table::{ExceptionItem, ExceptionTargets};
-use clif_instructions::inst_list::InsertAt::Back;
+use clif_instructions::insert_at::InsertAt::Back;
 use clif_instructions::instructions::InstructionData;
 use clif_types::EntityRef;
 use clif_types::types::{F32, I32, I64};

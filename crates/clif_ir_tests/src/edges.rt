@@ -9,7 +9,7 @@ use crate::steps::Step::{
 use crate::steps::{makes, makes_of, runs};
 use crate::support::typed;
 use clif_instructions::block_call::{BlockArg, BlockArgs, BlockCall};
-use clif_instructions::inst_list::InsertAt::Back;
+use clif_instructions::insert_at::InsertAt::Back;
 use clif_instructions::instructions::InstructionData;
 use clif_opcodes::BinaryOpcode::{Iadd, Isub};
 use clif_types::TrapCode::User;

@@ -10,7 +10,7 @@ use crate::steps::Step::{
     Return, ReturnFour, ReturnTwo, Slot,
 };
 use crate::steps::makes;
-use clif_instructions::inst_list::InsertAt::Back;
+use clif_instructions::insert_at::InsertAt::Back;
 use clif_opcodes::BinaryOpcode::Isub;
 use clif_opcodes::CondTrapOpcode::{Trapnz, Trapz};
 use clif_opcodes::ConvertOpcode::{Sextend, Splat};

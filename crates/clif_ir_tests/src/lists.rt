@@ -1,12 +1,11 @@
-//! Lists of values and of instructions.
+//! Lists of values, and shapes.
 #![tactic(auto)]
 
 use crate::instructions::Plain::{
     Concat, CondTrap, Float, Icmp, Load, Split, Stack, StackStore, Store, Trap,
 };
 use crate::instructions::{Plain, shape_of};
-use crate::support::{i, is_place_of, v};
-use clif_instructions::inst_list::{InsertAt, InstList};
+use crate::support::v;
 use clif_instructions::instructions::InstructionData;
 use clif_instructions::value_list::ValueList;
 use clif_opcodes::CondTrapOpcode::{Trapnz, Trapz};
@@ -46,40 +45,6 @@ fn values(rt: HostRuntime) -> Result<(), Fail> {
     copies(&rt, &same, &list);
     removes(&rt, &mut list, v(&rt, 3), 1);
     has_values(&rt, &list, 5);
-    Ok(())
-}
-
-fn put(rt: &impl Abort, list: &mut InstList, at: InsertAt, number: u32) -> Result<(), Fail> {
-    assert!(rt; is_place_of(at, list.len()));
-    list.put(at, i(rt, number))?;
-    Ok(())
-}
-
-// Asserts which instruction stands at an index.
-fn has_at(rt: &impl Abort, list: &InstList, index: usize, number: Option<u32>) {
-    let expected = match number {
-        Some(number) => Some(i(rt, number)),
-        None => None,
-    };
-    assert!(rt; list.get(index) == expected);
-    if index < list.len() {
-        assert!(rt; Some(list.at(index)) == expected);
-    }
-}
-
-#[test]
-fn instructions_behind_others(rt: HostRuntime) -> Result<(), Fail> {
-    let mut list = InstList::new(rt.alloc());
-    put(&rt, &mut list, InsertAt::Back, 4)?;
-    put(&rt, &mut list, InsertAt::Behind(0), 7)?;
-    put(&rt, &mut list, InsertAt::Back, 1)?;
-    put(&rt, &mut list, InsertAt::Behind(2), 9)?;
-    assert!(rt; list.len() == 4);
-    has_at(&rt, &list, 0, Some(7));
-    has_at(&rt, &list, 1, Some(4));
-    has_at(&rt, &list, 2, Some(9));
-    has_at(&rt, &list, 3, Some(1));
-    has_at(&rt, &list, 4, None);
     Ok(())
 }
 

@@ -4,7 +4,7 @@
 use crate::steps::Step::{Create, Iconst, LayOut, ReturnTwo};
 use crate::steps::makes;
 use clif_instructions::immediates::{FloatBits, Imm64, Offset32, signed_at};
-use clif_instructions::inst_list::InsertAt::Back;
+use clif_instructions::insert_at::InsertAt::Back;
 use clif_opcodes::FloatConstOpcode;
 use clif_types::{Type, types};
 use std::alloc::Global;

@@ -8,7 +8,7 @@ use crate::steps::Step::{
 };
 use crate::steps::{Step, make_all};
 use crate::support::{PLACE, b, block_of, inst_of, prints, sample, value_of};
-use clif_instructions::inst_list::InsertAt::Back;
+use clif_instructions::insert_at::InsertAt::Back;
 use clif_instructions::instructions::InstructionData;
 use clif_ir::function::Function;
 use clif_opcodes::BinaryOpcode::Iadd;
@@ -273,6 +273,30 @@ fn neighbours(rt: HostRuntime) -> Result<(), Fail> {
         Rewrite::After(0, 3),
         Rewrite::Before(0, 4),
         Rewrite::Before(2, 5),
+    ];
+    rewrites(&rt, rt.alloc(), &steps, before, &changes, after)
+}
+
+// Before and behind each instruction of a block, as a pass goes along it.
+#[test]
+fn around_each(rt: HostRuntime) -> Result<(), Fail> {
+    let steps = [
+        Create,
+        LayOut(0),
+        Iconst(0, Back, I32, 1),
+        Iconst(0, Back, I32, 2),
+        Return(0),
+    ];
+    let before =
+        "function %sample() system_v {\nblock0:\n    v0 = iconst.i32 1\n    v1 = iconst.i32 2\n    return\n}\n";
+    let after =
+        "function %sample() system_v {\nblock0:\n    v2 = iconst.i32 10\n    v0 = iconst.i32 1\n    v3 = iconst.i32 11\n    v4 = iconst.i32 12\n    v1 = iconst.i32 2\n    v5 = iconst.i32 13\n    v6 = iconst.i32 14\n    return\n}\n";
+    let changes = [
+        Rewrite::Before(0, 10),
+        Rewrite::After(0, 11),
+        Rewrite::Before(1, 12),
+        Rewrite::After(1, 13),
+        Rewrite::Before(2, 14),
     ];
     rewrites(&rt, rt.alloc(), &steps, before, &changes, after)
 }

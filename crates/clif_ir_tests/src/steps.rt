@@ -1,7 +1,6 @@
 //! Functions that are made by tables of steps, where the conditions of each call are asserted.
 #![tactic(auto)]
 
-use crate::callees::has_contexts;
 use crate::facts::{Fact, holds};
 use crate::instructions::{Plain, shape_of};
 use crate::support::{
@@ -9,7 +8,7 @@ use crate::support::{
     value_of,
 };
 use clif_instructions::block_call::BlockCall;
-use clif_instructions::inst_list::InsertAt;
+use clif_instructions::insert_at::InsertAt;
 use clif_instructions::instructions::InstructionData;
 use clif_instructions::jump_table::JumpTableData;
 use clif_instructions::value_list::ValueList;
@@ -140,7 +139,7 @@ pub fn insert(
     let block = block_of(rt, func, block);
     assert!(rt; has_operands(func, shape.arguments()));
     assert!(rt; has_edges(func, shape.branch_destination()));
-    assert!(rt; has_contexts(func, &shape));
+    assert!(rt; func.has_contexts(&shape));
     assert!(rt; func.has_entries(&shape));
     assert!(rt; is_place_of(at, func.block_inst_count(block)));
     func.insert_inst(block, at, shape, ty, SourceLoc::new(PLACE))?;

@@ -8,8 +8,9 @@ ghost use Rattle.clif_instructions.specs.Members.{IsPlaceOf};
 ghost use Rattle.clif_ir.specs.Consistent.{EdgeExists, PassedExists};
 
 use clif_instructions::block_call::{BlockArg, BlockCall};
-use clif_instructions::inst_list::InsertAt;
-use clif_ir::function::{Function, ValueOrigin};
+use clif_instructions::insert_at::InsertAt;
+use clif_ir::ValueOrigin;
+use clif_ir::function::Function;
 use clif_types::{
     AbiParam, Block, CallConv, EntityRef, Inst, Signature, Type, UserFuncName, Value,
 };

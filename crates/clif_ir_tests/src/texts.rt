@@ -7,7 +7,7 @@ use crate::steps::Step::{
 };
 use crate::steps::{makes, makes_of};
 use crate::support::{prints, typed};
-use clif_instructions::inst_list::InsertAt::{Back, Behind};
+use clif_instructions::insert_at::InsertAt::{Back, Behind};
 use clif_ir::function::Function;
 use clif_opcodes::BinaryOpcode::{
     Band, Bor, Bxor, Iadd, Imul, Ishl, Isub, Sdiv, Srem, Sshr, Udiv, Urem, Ushr,

@@ -10,7 +10,7 @@ use crate::steps::Step::{
 };
 use crate::steps::{makes, runs};
 use crate::support::{PLACE, sample};
-use clif_instructions::inst_list::InsertAt::{Back, Behind};
+use clif_instructions::insert_at::InsertAt::{Back, Behind};
 use clif_ir::function::Function;
 use clif_opcodes::BinaryOpcode::Iadd;
 use clif_types::types::{I8, I32, I64};

@@ -8,7 +8,7 @@ use crate::instructions::Plain::{CondTrap, Float, Icmp, Load, Store};
 use crate::steps::Step::{Alias, Binary, Create, Iconst, LayOut, Param, Put, ReturnTwo};
 use crate::steps::make_all;
 use crate::support::sample;
-use clif_instructions::inst_list::InsertAt::Back;
+use clif_instructions::insert_at::InsertAt::Back;
 use clif_ir::function::Function;
 use clif_opcodes::BinaryOpcode::Iadd;
 use clif_opcodes::CondTrapOpcode::Trapz;

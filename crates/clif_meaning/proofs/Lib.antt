@@ -15,3 +15,4 @@ pub mod Ranges
 pub mod CallLists
 pub mod BranchRow
 pub mod EachStep
+pub mod OperationTypes

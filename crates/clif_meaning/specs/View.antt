@@ -5,7 +5,7 @@ use Rattle.clif_types.specs.declared.types.«Type».{«Type»}
 use Rattle.clif_types.specs.declared.types.«Type».TheVariants as type
 use Rattle.clif_instructions.specs.declared.instructions.InstructionData.{InstructionData}
 use Rattle.clif_instructions.specs.declared.instructions.InstructionData.TheVariants.{UnaryImm, UnaryIeee, UnaryConst, Unary, Binary, IntCompare, Concat, Split, Convert, Ternary, Load, Store, StackLoad, StackStore, Jump, Brif, BranchTable, MultiAry, Trap, CondTrap, Call, CallIndirect, TryCall, TryCallIndirect}
-use Rattle.clif_ir.specs.declared.function.InstNode.{InstNode}
+use Rattle.clif_nodes.specs.declared.nodes.InstNode.{InstNode}
 use Rattle.clif_instructions.specs.declared.block_call.BlockArg.{BlockArg}
 use Rattle.clif_instructions.specs.declared.block_call.BlockArg.TheVariants as arg
 use Rattle.clif_instructions.specs.declared.block_call.BlockCall.{BlockCall}
@@ -103,7 +103,8 @@ made_with body _ _ operands ty = type.Invalid
 abbrev pub made_at : Body → InstructionData → «Type» → «Type»
 made_at body shape ty = made_with body (typing_of shape).results (typing_of shape).control (operands shape) ty
 
--- an instruction with its results. There are no stack maps so far, and the contexts of a try call are no part of it.
+-- an instruction with its results. Neither the stack map that a function keeps for it is seen yet, which no call of the
+-- builder makes, nor the contexts of a try call.
 abbrev pub placed_of : Body → InstNode → Placed
 placed_of body node = record {
   instruction = record {

@@ -5,7 +5,7 @@ use Rattle.clif_types.specs.declared.target.PointerWidth.TheVariants.{U64}
 use Rattle.clif_opcodes.specs.declared.opcodes.BinaryOpcode.TheVariants as binary
 use Rattle.clif_instructions.specs.declared.instructions.InstructionData.TheVariants.{UnaryImm, Binary, MultiAry}
 use Rattle.clif_tables.specs.Lists.{no_entries}
-use Rattle.clif_ir.specs.declared.function.ValueOrigin.TheVariants.{Result, Alias}
+use Rattle.clif_nodes.specs.declared.nodes.ValueOrigin.TheVariants.{Result, Alias}
 use Rattle.clif_ir.specs.Body.{Body}
 use Rattle.clif_meaning.specs.World.{World}
 use Rattle.clif_meaning.specs.Headline.{function_behaviour, MeansTheSame}

@@ -14,12 +14,13 @@ use Rattle.clif_types.specs.declared.types.«Type».{«Type»}
 use Rattle.clif_types.specs.Signature.{SignatureShape}
 use Rattle.clif_types.specs.declared.types.«Type».TheVariants as type
 use Rattle.clif_types.specs.Types.{lanes_of}
-use Rattle.clif_ir.specs.declared.function.ValueNode.{ValueNode}
+use Rattle.clif_nodes.specs.declared.nodes.ValueNode.{ValueNode}
 use Rattle.clif_ir.specs.Consistent.{PassedExists}
 use Rattle.clif_instructions.specs.declared.block_call.BlockArg.{BlockArg}
 use Rattle.clif_instructions.specs.declared.block_call.BlockArg.TheVariants as arg
 use Rattle.clif_instructions.specs.declared.block_call.BlockCall.{BlockCall}
-use Rattle.clif_ir.specs.Body.{Body, no_value, value_at}
+use Rattle.clif_ir.specs.Body.{Body, value_at}
+use Rattle.clif_nodes.specs.Nodes.{no_value}
 use Rattle.clif_meaning.specs.Name as meaning
 use Rattle.clif_meaning.specs.Instruction.{Known}
 use Rattle.clif_meaning.specs.SameType.{lane_number, same_lane, same_type}

@@ -12,7 +12,7 @@ use Rattle.clif_instructions.specs.declared.block_call.BlockArg.{BlockArg}
 use Rattle.clif_instructions.specs.declared.block_call.BlockArg.TheVariants as arg
 use Rattle.clif_instructions.specs.declared.block_call.BlockCall.{BlockCall}
 use Rattle.clif_tables.specs.Lists.{unserved, with_jump_table}
-use Rattle.clif_ir.specs.declared.function.ValueNode.{ValueNode}
+use Rattle.clif_nodes.specs.declared.nodes.ValueNode.{ValueNode}
 use Rattle.clif_ir.specs.Body.{Body, inst_at}
 use Rattle.clif_ir.specs.Consistent.{EdgeExists, PassedExists}
 use Rattle.clif_inst_builder.specs.Shapes.{TakesThenBuilds, branch_table}
@@ -366,7 +366,7 @@ branch-ready shapes {declared} calls old new answers index value table inst read
     taken = branch.takes.sets.stands declared calls ready.stands
 
     edges : (edges : List (meaning.Edge named.Name named.Name)) × (unserved_edges (ledger_of calls) table ≡ Some edges) × NamesEdges calls edges branch.edges
-    edges = table-named calls old answers ready table branch.edges branch.takes.edges
+    edges = table-named calls old answers ready table branch.edges branch.takes.held
 
     stands : StandsFor declared (calls ++ call ∷ []) new
     stands =

@@ -6,8 +6,8 @@ use Rattle.std.proofs.lemmas.Grind.{common_steps}
 use Rattle.clif_types.specs.declared.types.«Type».{«Type»}
 use Rattle.clif_types.specs.declared.extfunc.AbiParam.{AbiParam}
 use Rattle.clif_types.specs.Signature.{SignatureShape}
-use Rattle.clif_ir.specs.declared.function.BlockNode.{BlockNode}
-use Rattle.clif_ir.specs.Body.{Body, block_at, empty_block}
+use Rattle.clif_ir.specs.Body.{Body, block_at}
+use Rattle.clif_nodes.specs.Nodes.{BlockNode, empty_block}
 use Rattle.clif_ir.specs.Changes.{with_param}
 use Rattle.clif_tables.specs.Callees.{types_of}
 use Rattle.clif_meaning.specs.Request.{AnsweredCall, Request}

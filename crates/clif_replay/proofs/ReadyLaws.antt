@@ -7,9 +7,10 @@ use Rattle.std.proofs.lemmas.List.{length-map, map_push}
 use Rattle.std.proofs.lemmas.List.Sums.{fold-append}
 use Rattle.clif_types.specs.declared.types.«Type».{«Type»}
 use Rattle.clif_types.specs.Signature.{SignatureShape}
-use Rattle.clif_ir.specs.declared.function.InstNode.{InstNode}
-use Rattle.clif_ir.specs.declared.function.ValueNode.{ValueNode}
-use Rattle.clif_ir.specs.Body.{inst_at, no_inst}
+use Rattle.clif_nodes.specs.declared.nodes.InstNode.{InstNode}
+use Rattle.clif_nodes.specs.declared.nodes.ValueNode.{ValueNode}
+use Rattle.clif_ir.specs.Body.{inst_at}
+use Rattle.clif_nodes.specs.Nodes.{no_inst}
 use Rattle.clif_meaning.specs.Request.{AnsweredCall, number_of, script_of}
 use Rattle.clif_meaning.specs.Ledger.{Answered, ABlock, AVariable, AValue, AnInstruction, AnEntry, AnEdge, AJumpTable, Ledger, answer_at, answered_edge, answers_to, edge_named, has_block, ledger_with, has_value, type_of, value_answer_type}
 use Rattle.clif_simulation.specs.Carries.{numbers_from}

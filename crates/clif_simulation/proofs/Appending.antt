@@ -7,9 +7,10 @@ use Rattle.std.proofs.Math.ListN.{get_or-append}
 use Rattle.std.proofs.lemmas.Grind.{common_steps}
 use Rattle.std.proofs.lemmas.List.{append-nil}
 use Rattle.clif_types.specs.declared.types.«Type».{«Type»}
-use Rattle.clif_ir.specs.declared.function.InstNode.{InstNode}
-use Rattle.clif_ir.specs.declared.function.ValueNode.{ValueNode}
-use Rattle.clif_ir.specs.Body.{Body, no_value, inst_at, block_at, value_at}
+use Rattle.clif_nodes.specs.declared.nodes.InstNode.{InstNode}
+use Rattle.clif_nodes.specs.declared.nodes.ValueNode.{ValueNode}
+use Rattle.clif_ir.specs.Body.{Body, inst_at, block_at, value_at}
+use Rattle.clif_nodes.specs.Nodes.{no_value}
 use Rattle.clif_ir.specs.Changes.{with_param}
 use Rattle.clif_paths.specs.Places.{Place}
 use Rattle.clif_paths.specs.State.{Naming, fresh}

@@ -12,8 +12,8 @@ use Rattle.clif_instructions.specs.Members.{Stands, stands_in}
 use Rattle.clif_instructions.specs.Instruction.{destinations}
 use Rattle.clif_ir.specs.Reading.{home_of_param, param_home}
 use Rattle.clif_instructions.specs.declared.block_call.BlockCall.{BlockCall}
-use Rattle.clif_ir.specs.declared.function.ValueOrigin.{ValueOrigin}
-use Rattle.clif_ir.specs.declared.function.ValueOrigin.TheVariants as origin
+use Rattle.clif_nodes.specs.declared.nodes.ValueOrigin.{ValueOrigin}
+use Rattle.clif_nodes.specs.declared.nodes.ValueOrigin.TheVariants as origin
 use Rattle.clif_ir.proofs.Aliases.{resolved-no_alias}
 use Rattle.clif_paths.specs.Places.{start, inside, Arm, Edges, Path, Follows, Visits, end_of}
 use Rattle.clif_paths.specs.State.{Naming, Definition}

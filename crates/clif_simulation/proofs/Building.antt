@@ -9,11 +9,10 @@ use Rattle.std.proofs.lemmas.List.Elements.{Contains-append_left, Contains-push,
 use Rattle.clif_types.specs.declared.types.«Type».{«Type»}
 use Rattle.clif_instructions.specs.declared.block_call.BlockArg.{BlockArg}
 use Rattle.clif_instructions.specs.declared.block_call.BlockCall.{BlockCall}
-use Rattle.clif_instructions.specs.declared.inst_list.InsertAt.TheVariants.{Back}
+use Rattle.clif_instructions.specs.declared.insert_at.InsertAt.TheVariants.{Back}
 use Rattle.clif_instructions.specs.declared.instructions.InstructionData.{InstructionData}
-use Rattle.clif_ir.specs.declared.function.InstNode.{InstNode}
-use Rattle.clif_ir.specs.declared.function.ValueNode.{ValueNode}
-use Rattle.clif_ir.specs.declared.function.BlockNode.{BlockNode}
+use Rattle.clif_nodes.specs.declared.nodes.InstNode.{InstNode}
+use Rattle.clif_nodes.specs.declared.nodes.ValueNode.{ValueNode}
 use Rattle.clif_instructions.specs.Instruction.{operands, destinations}
 use Rattle.clif_instructions.specs.Instruction as shapes
 use Rattle.clif_opcodes.specs.Kinds.{result_type}
@@ -21,7 +20,8 @@ use Rattle.clif_opcodes.specs.declared.kinds.ResultKind.{ResultKind}
 use Rattle.clif_tables.specs.Callees.{given_by_call, types_of, types_of_results}
 use Rattle.clif_instructions.specs.Edges.{targets}
 use Rattle.clif_tables.specs.Lists.{TableLists}
-use Rattle.clif_ir.specs.Body.{Body, no_value, inst_at}
+use Rattle.clif_ir.specs.Body.{Body, inst_at}
+use Rattle.clif_nodes.specs.Nodes.{BlockNode, no_value}
 use Rattle.clif_ir.specs.Consistent.{IsConsistent}
 use Rattle.clif_instructions.specs.Members.{Once}
 use Rattle.clif_ir.specs.Changes.{inserted_in, inst_node, with_inst}

@@ -2,8 +2,9 @@
 -- holds of its tables.
 use Rattle.std.proofs.Common.{◌≡◌, ℕ, suc, ◌<◌, ◌≤◌, ◌&&◌, Bool, true, List, [], ◌∷◌, length, slice_get, Option, Some, None, Contains, ◌⊎◌, inl, inr, refl, sym, ◌∙◌, ap, subst, arith}
 use Rattle.std.proofs.lemmas.List.{get_or_past}
-use Rattle.clif_ir.specs.Body.{Body, resolved, alias_of, alias_of_origin, no_value}
-use Rattle.clif_ir.specs.declared.function.ValueNode.{ValueNode}
+use Rattle.clif_ir.specs.Body.{Body, resolved, alias_of, alias_of_origin}
+use Rattle.clif_nodes.specs.Nodes.{no_value}
+use Rattle.clif_nodes.specs.declared.nodes.ValueNode.{ValueNode}
 use Rattle.clif_ir.specs.Consistent.{IsConsistent}
 use Rattle.clif_ir.proofs.Aliases.{follow_end, resolved-no_alias}
 use Rattle.clif_paths.specs.Places.{start, inside, Arm}

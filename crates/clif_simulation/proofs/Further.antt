@@ -3,8 +3,8 @@ use Rattle.std.proofs.Common.{◌≡◌, ℕ, zero, suc, ◌<◌, ◌==◌, List
 use Rattle.std.specs.Prelude.{◌||◌, slice_index_or, slice_set}
 use Rattle.clif_tables.specs.Entries.{TableEntry}
 use Rattle.clif_tables.specs.Lists.{TableLists}
-use Rattle.clif_ir.specs.Body.{Body, block_at, empty_block}
-use Rattle.clif_ir.specs.declared.function.BlockNode.{BlockNode}
+use Rattle.clif_ir.specs.Body.{Body, block_at}
+use Rattle.clif_nodes.specs.Nodes.{BlockNode, empty_block}
 use Rattle.clif_ir.specs.Consistent.{IsConsistent}
 use Rattle.clif_ir.specs.Changes.{inserted_in, put_behind, with_cold, with_layout_after, with_tables}
 use Rattle.clif_instructions.specs.Members.{stands_in}

@@ -9,9 +9,9 @@ use Rattle.clif_types.specs.declared.types.«Type».{«Type»}
 use Rattle.clif_instructions.specs.declared.block_call.BlockArg.{BlockArg}
 use Rattle.clif_instructions.specs.declared.block_call.BlockArg.TheVariants.{Value}
 use Rattle.clif_instructions.specs.declared.block_call.BlockCall.{BlockCall}
-use Rattle.clif_ir.specs.declared.function.InstNode.{InstNode}
-use Rattle.clif_ir.specs.declared.function.ValueNode.{ValueNode}
-use Rattle.clif_instructions.specs.declared.inst_list.InsertAt.{InsertAt}
+use Rattle.clif_nodes.specs.declared.nodes.InstNode.{InstNode}
+use Rattle.clif_nodes.specs.declared.nodes.ValueNode.{ValueNode}
+use Rattle.clif_instructions.specs.declared.insert_at.InsertAt.{InsertAt}
 use Rattle.clif_instructions.specs.declared.instructions.InstructionData.{InstructionData}
 use Rattle.clif_instructions.specs.declared.instructions.InstructionData.TheVariants.{UnaryConst, Jump, Brif, BranchTable, Call, CallIndirect, TryCall, TryCallIndirect}
 use Rattle.clif_instructions.specs.Edges.{appended_to, with_argument_to, targets}
@@ -21,7 +21,8 @@ use Rattle.clif_opcodes.specs.declared.kinds.Control.{Control}
 use Rattle.clif_opcodes.specs.declared.kinds.Control.TheVariants as control
 use Rattle.clif_opcodes.specs.declared.kinds.ResultKind.{ResultKind}
 use Rattle.clif_opcodes.specs.declared.kinds.ResultKind.TheVariants as kind
-use Rattle.clif_ir.specs.Body.{Body, no_value, inst_at, value_at}
+use Rattle.clif_ir.specs.Body.{Body, inst_at, value_at}
+use Rattle.clif_nodes.specs.Nodes.{no_value}
 use Rattle.clif_types.specs.Signature.{SignatureShape}
 use Rattle.clif_types.specs.declared.extfunc.ExtFuncData.{ExtFuncData}
 use Rattle.clif_tables.specs.Callees.{function_at, no_function, no_signature, signature_at}
@@ -351,7 +352,7 @@ insts_kept f g consistent on = record {
       let more = on.insts i below in
       let same = same_with g more.0 (inst_at f i).shape in
       ap (λ (node : InstNode). parts (operation_of g.tables node.shape) (controlling_of g node.shape node.results) (operands node.shape) (as_passed (own.passed i) 0 (edges_of node.shape)) node.results) more.1
-      ∙ parts_same (inst_at f i).results (same.operation g.tables ∙ operation_kept f.tables g.tables on.entries consistent.signatures_exist (inst_at f i).shape (consistent.entries_exist i))
+      ∙ parts_same (inst_at f i).results (same.operation g.tables ∙ operation_kept f.tables g.tables on.entries consistent.named_exist.signatures (inst_at f i).shape (consistent.entries_exist i))
       (same.controlling (inst_at f i).results
       ∙ controlling_kept f g on (inst_at f i).shape (inst_at f i).results (λ k h. (consistent.results_known i k h).0) (consistent.operands_exist i))
       same.operands_same

@@ -57,7 +57,6 @@ mod Layouts
 pub mod Extending
 pub mod Places
 pub mod ItemCalls
-pub mod OperationTypes
 pub mod Growing
 pub mod Carrying
 pub mod Staying

@@ -4,7 +4,7 @@ use Rattle.std.specs.List.{AllByRecursion}
 use Rattle.std.specs.Prelude.{All, slice_index}
 use Rattle.std.proofs.lemmas.List.Elements.{All-from_recursion}
 use Rattle.clif_instructions.specs.declared.block_call.BlockArg.{BlockArg}
-use Rattle.clif_ir.specs.declared.function.ValueOrigin.TheVariants.{Result, Param}
+use Rattle.clif_nodes.specs.declared.nodes.ValueOrigin.TheVariants.{Result, Param}
 use Rattle.clif_ir.specs.Body.{inst_at, value_at, block_at, alias_of, follow}
 use Rattle.clif_ir.specs.Consistent.{IsConsistent, IsOrigin, EdgeExists, EntryExists, ValueExists, PassedExists, alias_count}
 use Rattle.clif_instructions.specs.Members.{Once, Stands}
@@ -214,5 +214,5 @@ row_consistent = record {
   aliases_end = aliases_end;
   edges_without_results = edges_without_results;
   entries_exist = entries_exist;
-  signatures_exist = λ k function inside. absurd (omega (arith, inside));
+  named_exist = record { signatures = λ k function inside. absurd (omega (arith, inside)); slots = λ k map inside. absurd (omega (arith, inside)) };
 }

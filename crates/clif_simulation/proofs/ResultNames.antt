@@ -3,9 +3,8 @@ use Rattle.std.proofs.Common.{◌≡◌, ◌≢◌, ℕ, zero, suc, ◌+◌, ◌
 use Rattle.std.specs.Prelude.{slice_get, IsTrue}
 use Rattle.std.specs.List.{AllByRecursion, range_with_len}
 use Rattle.clif_types.specs.declared.types.«Type».{«Type»}
-use Rattle.clif_ir.specs.declared.function.ValueNode.{ValueNode}
-use Rattle.clif_ir.specs.Body.{no_value}
-use Rattle.clif_ir.specs.Changes.{result_nodes}
+use Rattle.clif_nodes.specs.declared.nodes.ValueNode.{ValueNode}
+use Rattle.clif_nodes.specs.Nodes.{no_value, result_nodes}
 use Rattle.clif_paths.specs.Blocks.{Blocks, state_of}
 use Rattle.clif_ssa.specs.SoundLaws.{AreNewNames}
 use Rattle.clif_meaning.specs.Name.{Name, answer_of}

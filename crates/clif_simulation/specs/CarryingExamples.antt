@@ -8,7 +8,7 @@ use Rattle.clif_instructions.specs.declared.block_call.BlockArg.TheVariants.{Val
 use Rattle.clif_instructions.specs.declared.block_call.BlockCall.{BlockCall}
 use Rattle.clif_instructions.specs.declared.instructions.InstructionData.TheVariants.{UnaryImm, Binary, Jump, Brif, MultiAry}
 use Rattle.clif_tables.specs.Lists.{no_entries}
-use Rattle.clif_ir.specs.declared.function.ValueOrigin.TheVariants.{Result, Param}
+use Rattle.clif_nodes.specs.declared.nodes.ValueOrigin.TheVariants.{Result, Param}
 use Rattle.clif_ir.specs.Body.{Body}
 use Rattle.clif_ir.specs.Consistent.{IsConsistent}
 use Rattle.clif_records.specs.declared.tables.Sealed.{Sealed}

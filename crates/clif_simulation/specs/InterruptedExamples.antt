@@ -6,7 +6,7 @@ use Rattle.clif_types.specs.declared.extname.UserFuncName.TheVariants.{Testcase}
 use Rattle.clif_instructions.specs.declared.block_call.BlockArg.TheVariants.{Value}
 use Rattle.clif_instructions.specs.declared.instructions.InstructionData.TheVariants.{Jump}
 use Rattle.clif_tables.specs.Lists.{no_entries}
-use Rattle.clif_ir.specs.declared.function.ValueOrigin.TheVariants.{Param}
+use Rattle.clif_nodes.specs.declared.nodes.ValueOrigin.TheVariants.{Param}
 use Rattle.clif_ir.specs.Body.{Body}
 use Rattle.clif_records.specs.declared.tables.Pending.{Pending}
 use Rattle.clif_records.specs.declared.tables.Sealed.TheVariants.{No, Yes}

@@ -4,7 +4,7 @@ use Rattle.std.specs.Prelude.{false, ℕ, zero, suc, List, [], ◌∷◌, pos}
 use Rattle.clif_types.specs.declared.extname.UserFuncName.TheVariants.{Testcase}
 use Rattle.clif_instructions.specs.declared.instructions.InstructionData.TheVariants.{UnaryImm}
 use Rattle.clif_tables.specs.Lists.{no_entries}
-use Rattle.clif_ir.specs.declared.function.ValueOrigin.TheVariants.{Result, Param}
+use Rattle.clif_nodes.specs.declared.nodes.ValueOrigin.TheVariants.{Result, Param}
 use Rattle.clif_ir.specs.Body.{Body}
 use Rattle.clif_records.specs.declared.tables.Pending.{Pending}
 use Rattle.clif_records.specs.declared.tables.Sealed.TheVariants.{No}

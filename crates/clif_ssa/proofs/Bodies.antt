@@ -7,11 +7,11 @@ use Rattle.std.proofs.lemmas.Grind.{common_steps}
 use Rattle.std.proofs.lemmas.Bool.{cases_eq}
 use Rattle.std.proofs.lemmas.Option.{slice_get-get_or, slice_get_past}
 use Rattle.clif_types.specs.declared.types.«Type».{«Type»}
-use Rattle.clif_ir.specs.declared.function.ValueNode.{ValueNode}
-use Rattle.clif_ir.specs.declared.function.ValueOrigin.{ValueOrigin}
-use Rattle.clif_ir.specs.declared.function.ValueOrigin.TheVariants.{Result, Param, Alias}
-use Rattle.clif_ir.specs.Body.{Body, block_at, resolved, value_at, no_value, follow, alias_of, alias_of_origin}
-use Rattle.clif_ir.specs.Changes.{result_nodes}
+use Rattle.clif_nodes.specs.declared.nodes.ValueNode.{ValueNode}
+use Rattle.clif_nodes.specs.declared.nodes.ValueOrigin.{ValueOrigin}
+use Rattle.clif_nodes.specs.declared.nodes.ValueOrigin.TheVariants.{Result, Param, Alias}
+use Rattle.clif_ir.specs.Body.{Body, block_at, resolved, value_at, follow, alias_of, alias_of_origin}
+use Rattle.clif_nodes.specs.Nodes.{no_value, result_nodes}
 use Rattle.clif_ir.specs.Reading.{home_of_node, home_of_param, param_home}
 use Rattle.clif_instructions.specs.Members.{place_of}
 use Rattle.clif_ir.specs.Consistent.{IsConsistent, IsOrigin, alias_count}

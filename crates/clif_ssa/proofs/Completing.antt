@@ -7,7 +7,7 @@ use Rattle.clif_ir.specs.Body.{Body, block_at, value_at, resolved}
 use Rattle.clif_ir.specs.Changes.{with_alias, with_layout, inserted_in}
 use Rattle.clif_ir.specs.Reading.{param_home}
 use Rattle.clif_instructions.specs.Members.{stands_in}
-use Rattle.clif_ir.specs.declared.function.ValueOrigin.TheVariants.{Alias}
+use Rattle.clif_nodes.specs.declared.nodes.ValueOrigin.TheVariants.{Alias}
 use Rattle.clif_paths.specs.Places.{start, Arm}
 use Rattle.clif_paths.specs.State.{pending, zero_of, Definition, Naming}
 use Rattle.clif_paths.specs.Blocks.{Blocks, front, with_zero_in, with_dropped, state_of, Carries}

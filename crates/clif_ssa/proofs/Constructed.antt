@@ -8,16 +8,16 @@ use Rattle.std.proofs.lemmas.Grind.{common_steps}
 use Rattle.std.proofs.lemmas.Bool.{cases_eq}
 use Rattle.std.proofs.lemmas.List.{append-nil}
 use Rattle.clif_types.specs.declared.types.«Type».{«Type»}
-use Rattle.clif_ir.specs.Body.{Body, value_at, inst_at, block_at, no_value, no_inst, empty_block, resolved}
+use Rattle.clif_ir.specs.Body.{Body, value_at, inst_at, block_at, resolved}
+use Rattle.clif_nodes.specs.Nodes.{BlockNode, no_value, no_inst, empty_block}
 use Rattle.clif_ir.specs.Changes.{with_param, with_alias, with_branch_argument, with_layout, inserted_in, home_of}
 use Rattle.clif_ir.specs.Consistent.{IsConsistent}
 use Rattle.clif_instructions.specs.Members.{Once, without, stands_in}
 use Rattle.clif_instructions.specs.Instruction.{with_argument}
 use Rattle.clif_ir.specs.Reading.{param_home}
-use Rattle.clif_ir.specs.declared.function.BlockNode.{BlockNode}
-use Rattle.clif_ir.specs.declared.function.InstNode.{InstNode}
-use Rattle.clif_ir.specs.declared.function.ValueNode.{ValueNode}
-use Rattle.clif_ir.specs.declared.function.ValueOrigin.TheVariants.{Param, Alias}
+use Rattle.clif_nodes.specs.declared.nodes.InstNode.{InstNode}
+use Rattle.clif_nodes.specs.declared.nodes.ValueNode.{ValueNode}
+use Rattle.clif_nodes.specs.declared.nodes.ValueOrigin.TheVariants.{Param, Alias}
 use Rattle.clif_instructions.proofs.Members.{if_true, if_false, Once-tail}
 use Rattle.clif_ssa.specs.Constructs.{Rises, StaysOrNames, MayPassMore, IsNewStep, ConstructsBlock, OnlyConstructs, TellsZeros}
 use Rattle.clif_ssa.specs.Ssa.{with_steps, with_zero, HasMore, HasSomeSteps}

@@ -6,11 +6,11 @@ use Rattle.std.proofs.lemmas.List.{reverse-append, append_assoc, append-nil}
 use Rattle.std.proofs.lemmas.List.Elements.{filter-append}
 use Rattle.clif_ir.specs.Body.{Body, value_at, inst_at, block_at}
 use Rattle.clif_instructions.specs.Instruction.{with_argument}
-use Rattle.clif_ir.specs.declared.function.BlockNode.{BlockNode}
-use Rattle.clif_ir.specs.declared.function.InstNode.{InstNode}
-use Rattle.clif_ir.specs.declared.function.ValueNode.{ValueNode}
-use Rattle.clif_ir.specs.declared.function.ValueOrigin.{ValueOrigin}
-use Rattle.clif_ir.specs.declared.function.ValueOrigin.TheVariants.{Param, Alias}
+use Rattle.clif_nodes.specs.Nodes.{BlockNode}
+use Rattle.clif_nodes.specs.declared.nodes.InstNode.{InstNode}
+use Rattle.clif_nodes.specs.declared.nodes.ValueNode.{ValueNode}
+use Rattle.clif_nodes.specs.declared.nodes.ValueOrigin.{ValueOrigin}
+use Rattle.clif_nodes.specs.declared.nodes.ValueOrigin.TheVariants.{Param, Alias}
 use Rattle.clif_instructions.specs.declared.instructions.InstructionData.{InstructionData}
 use Rattle.clif_instructions.proofs.Lists.{below_or_not}
 use Rattle.clif_ssa.specs.Constructs.{Rises, StaysOrNames, with_passed, in_turn, AreToldFrom, FitsZero, MayPassMore, IsNewStep, StandsWhole, ConstructsBlock, OnlyConstructs, TellsZeros, TellsMore}

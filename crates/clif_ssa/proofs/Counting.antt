@@ -5,15 +5,15 @@ use Rattle.std.proofs.lemmas.Bool.{cases_eq}
 use Rattle.std.proofs.lemmas.List.Elements.{Contains-push_cases}
 use Rattle.clif_types.specs.declared.types.«Type».{«Type»}
 use Rattle.clif_tables.specs.Lists.{TableLists}
-use Rattle.clif_ir.specs.Body.{Body, block_at, inst_at, empty_block}
+use Rattle.clif_ir.specs.Body.{Body, block_at, inst_at}
+use Rattle.clif_nodes.specs.Nodes.{BlockNode, empty_block}
 use Rattle.clif_ir.specs.Changes.{with_layout, inserted_in, with_block, with_inst}
 use Rattle.clif_instructions.specs.Members.{Stands, Once, place_of, stands_in, without}
 use Rattle.clif_instructions.specs.Instruction.{destinations}
 use Rattle.clif_ir.specs.Reading.{param_home}
 use Rattle.clif_instructions.specs.Edges.{targets}
-use Rattle.clif_ir.specs.declared.function.BlockNode.{BlockNode}
-use Rattle.clif_ir.specs.declared.function.InstNode.{InstNode}
-use Rattle.clif_instructions.specs.declared.inst_list.InsertAt.{InsertAt}
+use Rattle.clif_nodes.specs.declared.nodes.InstNode.{InstNode}
+use Rattle.clif_instructions.specs.declared.insert_at.InsertAt.{InsertAt}
 use Rattle.clif_instructions.specs.declared.instructions.InstructionData.{InstructionData}
 use Rattle.clif_instructions.proofs.Members.{if_true, if_false}
 use Rattle.clif_instructions.proofs.Lists.{at_push, at_past}

@@ -10,7 +10,7 @@ use Rattle.clif_instructions.specs.Instruction.{destinations}
 use Rattle.clif_ir.specs.Reading.{param_home}
 use Rattle.clif_instructions.specs.Edges.{targets}
 use Rattle.clif_instructions.specs.declared.block_call.BlockArg.TheVariants.{Value}
-use Rattle.clif_ir.specs.declared.function.InstNode.{InstNode}
+use Rattle.clif_nodes.specs.declared.nodes.InstNode.{InstNode}
 use Rattle.clif_paths.specs.Places.{Place, start, inside, Arm}
 use Rattle.clif_paths.specs.State.{fresh, Kind, unborn, born, pending, complete, zero_of, Definition, Naming}
 use Rattle.clif_paths.specs.Steps.{updated}

@@ -9,7 +9,7 @@ use Rattle.clif_ir.specs.Reading.{param_home}
 use Rattle.clif_instructions.specs.Members.{place_of}
 use Rattle.clif_instructions.specs.declared.block_call.BlockArg.{BlockArg}
 use Rattle.clif_instructions.specs.declared.block_call.BlockArg.TheVariants.{Value}
-use Rattle.clif_ir.specs.declared.function.InstNode.{InstNode}
+use Rattle.clif_nodes.specs.declared.nodes.InstNode.{InstNode}
 use Rattle.clif_instructions.proofs.Lists.{below_or_not}
 use Rattle.clif_paths.specs.Places.{Arm}
 use Rattle.clif_paths.specs.State.{Kind, unborn, born, pending, complete, zero_of, Definition}

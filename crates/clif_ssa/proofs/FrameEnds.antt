@@ -9,7 +9,7 @@ use Rattle.clif_ir.specs.Body.{Body, value_at, resolved, follow}
 use Rattle.clif_ir.specs.Changes.{with_alias, with_layout, inserted_in}
 use Rattle.clif_instructions.specs.Members.{Once, stands_in}
 use Rattle.clif_ir.specs.Reading.{param_home, home_of_node}
-use Rattle.clif_ir.specs.declared.function.InstNode.{InstNode}
+use Rattle.clif_nodes.specs.declared.nodes.InstNode.{InstNode}
 use Rattle.clif_ir.proofs.Aliases.{follow_end}
 use Rattle.clif_paths.specs.Places.{start, Arm}
 use Rattle.clif_paths.specs.State.{Definition}

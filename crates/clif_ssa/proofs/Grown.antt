@@ -4,9 +4,9 @@ use Rattle.std.specs.Prelude.{Option, Some, None, slice_get, cond}
 use Rattle.std.proofs.lemmas.Bool.{cases_eq}
 use Rattle.std.proofs.lemmas.Grind.{common_steps}
 use Rattle.clif_types.specs.declared.types.«Type».{«Type»}
-use Rattle.clif_ir.specs.declared.function.InstNode.{InstNode}
-use Rattle.clif_ir.specs.declared.function.ValueNode.{ValueNode}
-use Rattle.clif_ir.specs.declared.function.ValueOrigin.TheVariants.{Alias}
+use Rattle.clif_nodes.specs.declared.nodes.InstNode.{InstNode}
+use Rattle.clif_nodes.specs.declared.nodes.ValueNode.{ValueNode}
+use Rattle.clif_nodes.specs.declared.nodes.ValueOrigin.TheVariants.{Alias}
 use Rattle.clif_ir.specs.Body.{Body, value_at, resolved}
 use Rattle.clif_ir.specs.Changes.{with_param, with_alias, with_branch_argument, with_layout, inserted_in}
 use Rattle.clif_ir.specs.Reading.{home_of_node, home_of_param, param_home}

@@ -5,15 +5,15 @@ use Rattle.std.proofs.Math.ListN.{get_or-append}
 use Rattle.std.proofs.lemmas.Grind.{common_steps}
 use Rattle.std.proofs.lemmas.List.Sums.{sum_by-cons}
 use Rattle.clif_types.specs.declared.types.«Type».{«Type»}
-use Rattle.clif_ir.specs.Body.{Body, block_at, inst_at, empty_block, no_inst, resolved}
-use Rattle.clif_ir.specs.Changes.{with_inst, inst_node, result_nodes}
+use Rattle.clif_ir.specs.Body.{Body, block_at, inst_at, resolved}
+use Rattle.clif_nodes.specs.Nodes.{BlockNode, empty_block, no_inst, result_nodes}
+use Rattle.clif_ir.specs.Changes.{with_inst, inst_node}
 use Rattle.clif_instructions.specs.Members.{put_at, place_of}
 use Rattle.clif_ir.specs.Reading.{param_home}
 use Rattle.clif_ir.specs.Consistent.{alias_count}
-use Rattle.clif_ir.specs.declared.function.BlockNode.{BlockNode}
-use Rattle.clif_ir.specs.declared.function.ValueNode.{ValueNode}
-use Rattle.clif_ir.specs.declared.function.ValueOrigin.TheVariants.{Result}
-use Rattle.clif_instructions.specs.declared.inst_list.InsertAt.{InsertAt}
+use Rattle.clif_nodes.specs.declared.nodes.ValueNode.{ValueNode}
+use Rattle.clif_nodes.specs.declared.nodes.ValueOrigin.TheVariants.{Result}
+use Rattle.clif_instructions.specs.declared.insert_at.InsertAt.{InsertAt}
 use Rattle.clif_instructions.specs.declared.instructions.InstructionData.{InstructionData}
 use Rattle.clif_instructions.proofs.Lists.{at_set}
 use Rattle.clif_ir.proofs.Aliases.{ways_end-append}

@@ -5,12 +5,12 @@ use Rattle.std.proofs.lemmas.Grind.{common_steps}
 use Rattle.std.proofs.lemmas.Bool.{cases_eq}
 use Rattle.std.proofs.lemmas.Bool.Decides.{nat_tests}
 use Rattle.clif_types.specs.declared.types.«Type».{«Type»}
-use Rattle.clif_ir.specs.Body.{Body, value_at, block_at, empty_block, resolved}
+use Rattle.clif_ir.specs.Body.{Body, value_at, block_at, resolved}
+use Rattle.clif_nodes.specs.Nodes.{BlockNode, empty_block}
 use Rattle.clif_ir.specs.Changes.{with_alias, with_param, with_layout, inserted_in, home_of}
 use Rattle.clif_ir.specs.Consistent.{IsConsistent, IsOrigin}
 use Rattle.clif_instructions.specs.Members.{Stands, without, stands_in}
 use Rattle.clif_ir.specs.Reading.{param_home, home_of_param}
-use Rattle.clif_ir.specs.declared.function.BlockNode.{BlockNode}
 use Rattle.clif_instructions.proofs.Lists.{at_set}
 use Rattle.clif_records.specs.declared.tables.Pending.{Pending}
 use Rattle.clif_records.specs.Tables.{is_yes}

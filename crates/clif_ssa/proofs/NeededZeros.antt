@@ -9,15 +9,15 @@ use Rattle.std.proofs.lemmas.List.{append_assoc}
 use Rattle.clif_types.specs.declared.types.«Type».{«Type»}
 use Rattle.clif_types.specs.declared.extname.UserFuncName.{UserFuncName}
 use Rattle.clif_types.specs.Signature.{SignatureShape}
-use Rattle.clif_ir.specs.Body.{Body, empty_body, value_at, block_at, inst_at, empty_block, no_value, resolved}
-use Rattle.clif_ir.specs.Changes.{with_alias, with_param, with_inst, with_layout, inserted_in, result_nodes}
+use Rattle.clif_ir.specs.Body.{Body, empty_body, value_at, block_at, inst_at, resolved}
+use Rattle.clif_nodes.specs.Nodes.{BlockNode, empty_block, no_value, result_nodes}
+use Rattle.clif_ir.specs.Changes.{with_alias, with_param, with_inst, with_layout, inserted_in}
 use Rattle.clif_ir.specs.Reading.{param_home}
 use Rattle.clif_instructions.specs.Members.{stands_in}
 use Rattle.clif_instructions.specs.declared.instructions.InstructionData.{InstructionData}
-use Rattle.clif_ir.specs.declared.function.BlockNode.{BlockNode}
-use Rattle.clif_ir.specs.declared.function.ValueNode.{ValueNode}
-use Rattle.clif_ir.specs.declared.function.ValueOrigin.TheVariants.{Alias}
-use Rattle.clif_instructions.specs.declared.inst_list.InsertAt.TheVariants.{Back}
+use Rattle.clif_nodes.specs.declared.nodes.ValueNode.{ValueNode}
+use Rattle.clif_nodes.specs.declared.nodes.ValueOrigin.TheVariants.{Alias}
+use Rattle.clif_instructions.specs.declared.insert_at.InsertAt.TheVariants.{Back}
 use Rattle.clif_ir.proofs.Aliases.{follow_end, follow-inside}
 use Rattle.clif_instructions.proofs.Lists.{at_set, below_or_not}
 use Rattle.clif_paths.proofs.Tables.{updated-same, updated-other}

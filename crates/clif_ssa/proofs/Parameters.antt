@@ -5,13 +5,13 @@ use Rattle.std.proofs.lemmas.Grind.{common_steps}
 use Rattle.std.proofs.lemmas.Bool.{cases_eq}
 use Rattle.std.proofs.lemmas.List.Elements.{Contains-append_left, Contains-push_cases}
 use Rattle.clif_types.specs.declared.types.«Type».{«Type»}
-use Rattle.clif_ir.specs.Body.{Body, block_at, empty_block, resolved, alias_of}
+use Rattle.clif_ir.specs.Body.{Body, block_at, resolved, alias_of}
+use Rattle.clif_nodes.specs.Nodes.{BlockNode, empty_block}
 use Rattle.clif_ir.specs.Changes.{with_param}
 use Rattle.clif_ir.specs.Reading.{param_home, home_of_node}
 use Rattle.clif_instructions.specs.Members.{place_of}
-use Rattle.clif_ir.specs.declared.function.BlockNode.{BlockNode}
-use Rattle.clif_ir.specs.declared.function.ValueNode.{ValueNode}
-use Rattle.clif_ir.specs.declared.function.ValueOrigin.TheVariants.{Param}
+use Rattle.clif_nodes.specs.declared.nodes.ValueNode.{ValueNode}
+use Rattle.clif_nodes.specs.declared.nodes.ValueOrigin.TheVariants.{Param}
 use Rattle.clif_instructions.proofs.Lists.{at_set, at_push}
 use Rattle.clif_ir.proofs.Aliases.{ways_end-append, follow_end}
 use Rattle.clif_paths.specs.State.{pending, complete, Definition, Kind}

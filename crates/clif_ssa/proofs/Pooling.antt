@@ -6,7 +6,7 @@ use Rattle.clif_tables.specs.Constants.{number_of, with_constant}
 use Rattle.clif_tables.specs.Lists.{TableLists}
 use Rattle.clif_ir.specs.Body.{Body, value_at}
 use Rattle.clif_ir.specs.Changes.{with_param}
-use Rattle.clif_ir.specs.declared.function.ValueNode.{ValueNode}
+use Rattle.clif_nodes.specs.declared.nodes.ValueNode.{ValueNode}
 use Rattle.clif_records.specs.declared.tables.Pending.{Pending}
 use Rattle.clif_records.specs.declared.tables.Sealed.TheVariants.{No}
 use Rattle.clif_records.specs.Tables.{pending_of}

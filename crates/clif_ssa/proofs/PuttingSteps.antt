@@ -7,7 +7,7 @@ use Rattle.std.proofs.lemmas.List.FromFn.{length-range_with_len}
 use Rattle.clif_types.specs.declared.error.BuildError.{BuildError}
 use Rattle.clif_types.specs.declared.error.BuildError.TheVariants.{Full}
 use Rattle.clif_types.specs.declared.types.«Type».{«Type»}
-use Rattle.clif_instructions.specs.declared.inst_list.InsertAt.TheVariants.{Behind}
+use Rattle.clif_instructions.specs.declared.insert_at.InsertAt.TheVariants.{Behind}
 use Rattle.clif_instructions.specs.declared.instructions.InstructionData.{InstructionData}
 use Rattle.clif_ir.specs.Body.{Body, block_at}
 use Rattle.clif_ir.specs.Changes.{HasNoRoom, with_inst}

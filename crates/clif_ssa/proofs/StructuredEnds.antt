@@ -6,16 +6,17 @@ use Rattle.std.proofs.lemmas.Bool.{cases_eq}
 use Rattle.std.proofs.lemmas.List.{append_assoc}
 use Rattle.std.proofs.lemmas.List.Elements.{Contains-push_cases}
 use Rattle.clif_types.specs.declared.types.«Type».{«Type»}
-use Rattle.clif_ir.specs.Body.{Body, value_at, block_at, no_value, resolved}
+use Rattle.clif_ir.specs.Body.{Body, value_at, block_at, resolved}
+use Rattle.clif_nodes.specs.Nodes.{no_value}
 use Rattle.clif_ir.specs.Changes.{with_alias, with_layout, inserted_in, with_branch_argument}
 use Rattle.clif_instructions.specs.Members.{Once, stands_in, without}
 use Rattle.clif_instructions.specs.Instruction.{destinations}
 use Rattle.clif_ir.specs.Reading.{param_home}
 use Rattle.clif_instructions.specs.declared.block_call.BlockArg.{BlockArg}
 use Rattle.clif_instructions.specs.declared.block_call.BlockArg.TheVariants.{Value}
-use Rattle.clif_ir.specs.declared.function.InstNode.{InstNode}
-use Rattle.clif_ir.specs.declared.function.ValueNode.{ValueNode}
-use Rattle.clif_ir.specs.declared.function.ValueOrigin.TheVariants.{Alias}
+use Rattle.clif_nodes.specs.declared.nodes.InstNode.{InstNode}
+use Rattle.clif_nodes.specs.declared.nodes.ValueNode.{ValueNode}
+use Rattle.clif_nodes.specs.declared.nodes.ValueOrigin.TheVariants.{Alias}
 use Rattle.clif_instructions.proofs.Lists.{at_set}
 use Rattle.clif_instructions.proofs.Members.{Once-tail}
 use Rattle.clif_ssa.specs.Own.{Own}

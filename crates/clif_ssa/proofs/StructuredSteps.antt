@@ -6,12 +6,13 @@ use Rattle.std.proofs.lemmas.Bool.{cases_eq}
 use Rattle.std.proofs.lemmas.List.{append_assoc}
 use Rattle.std.proofs.lemmas.List.Elements.{Contains-push_cases}
 use Rattle.clif_types.specs.declared.types.«Type».{«Type»}
-use Rattle.clif_ir.specs.Body.{Body, block_at, no_value}
+use Rattle.clif_ir.specs.Body.{Body, block_at}
+use Rattle.clif_nodes.specs.Nodes.{no_value}
 use Rattle.clif_ir.specs.Changes.{with_param}
 use Rattle.clif_instructions.specs.Members.{Once, without}
 use Rattle.clif_ir.specs.Reading.{param_home}
 use Rattle.clif_instructions.proofs.Members.{Once-tail}
-use Rattle.clif_ir.specs.declared.function.ValueNode.{ValueNode}
+use Rattle.clif_nodes.specs.declared.nodes.ValueNode.{ValueNode}
 use Rattle.clif_ssa.specs.Own.{Own}
 use Rattle.clif_records.specs.declared.tables.Pending.{Pending}
 use Rattle.clif_records.specs.declared.tables.Sealed.{Sealed}

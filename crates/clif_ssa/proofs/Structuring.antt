@@ -10,7 +10,7 @@ use Rattle.clif_instructions.specs.Instruction.{destinations}
 use Rattle.clif_ir.specs.Reading.{param_home}
 use Rattle.clif_instructions.specs.Edges.{targets}
 use Rattle.clif_instructions.specs.declared.block_call.BlockArg.{BlockArg}
-use Rattle.clif_ir.specs.declared.function.InstNode.{InstNode}
+use Rattle.clif_nodes.specs.declared.nodes.InstNode.{InstNode}
 use Rattle.clif_ssa.specs.Own.{Own}
 use Rattle.clif_records.specs.declared.tables.Pending.{Pending}
 use Rattle.clif_records.specs.declared.tables.Sealed.{Sealed}

@@ -6,9 +6,9 @@ use Rattle.std.proofs.lemmas.Bool.{cases_eq}
 use Rattle.clif_types.specs.declared.extname.UserFuncName.{UserFuncName}
 use Rattle.clif_types.specs.Signature.{SignatureShape}
 use Rattle.clif_tables.specs.Lists.{TableLists}
-use Rattle.clif_ir.specs.Body.{Body, block_at, empty_block, resolved, empty_body}
+use Rattle.clif_ir.specs.Body.{Body, block_at, resolved, empty_body}
+use Rattle.clif_nodes.specs.Nodes.{BlockNode, empty_block}
 use Rattle.clif_ir.specs.Changes.{with_block}
-use Rattle.clif_ir.specs.declared.function.BlockNode.{BlockNode}
 use Rattle.clif_instructions.proofs.Lists.{at_push, at_past, below_or_not}
 use Rattle.clif_ir.proofs.Aliases.{follow_nothing}
 use Rattle.clif_paths.specs.Places.{Place, start, inside, Arm}

@@ -10,17 +10,17 @@ use Rattle.std.proofs.lemmas.List.Edits.{insert-append_right}
 use Rattle.std.proofs.lemmas.List.FromFn.{length-range_with_len}
 use Rattle.std.proofs.lemmas.List.Sums.{sum_by-cons}
 use Rattle.clif_types.specs.declared.types.«Type».{«Type»}
-use Rattle.clif_ir.specs.Body.{Body, block_at, inst_at, value_at, alias_of, empty_block, no_inst, no_value, resolved}
+use Rattle.clif_ir.specs.Body.{Body, block_at, inst_at, value_at, alias_of, resolved}
+use Rattle.clif_nodes.specs.Nodes.{BlockNode, empty_block, no_inst, no_value}
 use Rattle.clif_ir.specs.Reading.{param_home, home_of_node}
 use Rattle.clif_instructions.specs.Members.{place_of}
 use Rattle.clif_ir.specs.Consistent.{alias_count}
 use Rattle.clif_ir.specs.Changes.{with_inst, with_param}
-use Rattle.clif_instructions.specs.declared.inst_list.InsertAt.TheVariants.{Behind}
-use Rattle.clif_ir.specs.declared.function.BlockNode.{BlockNode}
-use Rattle.clif_ir.specs.declared.function.InstNode.{InstNode}
-use Rattle.clif_ir.specs.declared.function.ValueNode.{ValueNode}
-use Rattle.clif_ir.specs.declared.function.ValueOrigin.TheVariants.{Result, Param}
-use Rattle.clif_ir.proofs.Changes.{range_with_len_more}
+use Rattle.clif_instructions.specs.declared.insert_at.InsertAt.TheVariants.{Behind}
+use Rattle.clif_nodes.specs.declared.nodes.InstNode.{InstNode}
+use Rattle.clif_nodes.specs.declared.nodes.ValueNode.{ValueNode}
+use Rattle.clif_nodes.specs.declared.nodes.ValueOrigin.TheVariants.{Result, Param}
+use Rattle.clif_nodes.proofs.Results.{range_with_len_more}
 use Rattle.clif_instructions.proofs.Lists.{at_set}
 use Rattle.clif_ir.proofs.Aliases.{ways_end-append, follow_end}
 use Rattle.clif_paths.specs.Blocks.{Blocks}

@@ -14,7 +14,7 @@ use Rattle.clif_opcodes.specs.declared.opcodes.PooledConstOpcode.TheVariants.{F1
 use Rattle.clif_instructions.specs.Instruction.{contexts, entries_of, destinations, is_terminator, operands, with_argument}
 use Rattle.clif_tables.specs.Callees.{types_of_results}
 use Rattle.clif_tables.specs.Lists.{TableLists}
-use Rattle.clif_ir.specs.declared.function.InstNode.{InstNode}
+use Rattle.clif_nodes.specs.declared.nodes.InstNode.{InstNode}
 use Rattle.clif_instructions.specs.declared.instructions.InstructionData.TheVariants.{UnaryImm, UnaryIeee, UnaryConst, Convert}
 use Rattle.clif_types.specs.declared.types.LaneType.TheVariants as lane
 use Rattle.clif_types.specs.declared.types.«Type».TheVariants as type

@@ -4,13 +4,13 @@ use Rattle.std.specs.Prelude.{Option, Some, None, Contains, slice_index, cond}
 use Rattle.std.proofs.lemmas.Grind.{common_steps}
 use Rattle.std.proofs.lemmas.Bool.{cases_eq}
 use Rattle.clif_types.specs.declared.types.«Type».{«Type»}
-use Rattle.clif_ir.specs.Body.{Body, block_at, empty_block, value_at, resolved, alias_of, alias_of_origin}
+use Rattle.clif_ir.specs.Body.{Body, block_at, value_at, resolved, alias_of, alias_of_origin}
+use Rattle.clif_nodes.specs.Nodes.{BlockNode, empty_block}
 use Rattle.clif_ir.specs.Changes.{with_alias, home_of}
 use Rattle.clif_ir.specs.Reading.{param_home}
 use Rattle.clif_instructions.specs.Members.{place_of, without}
-use Rattle.clif_ir.specs.declared.function.BlockNode.{BlockNode}
-use Rattle.clif_ir.specs.declared.function.ValueNode.{ValueNode}
-use Rattle.clif_ir.specs.declared.function.ValueOrigin.TheVariants.{Alias}
+use Rattle.clif_nodes.specs.declared.nodes.ValueNode.{ValueNode}
+use Rattle.clif_nodes.specs.declared.nodes.ValueOrigin.TheVariants.{Alias}
 use Rattle.clif_instructions.proofs.Lists.{at_set}
 use Rattle.clif_ir.proofs.Aliases.{follow_end, resolved-no_alias, ways_end-set}
 use Rattle.clif_paths.specs.State.{Kind, born, unborn, pending, complete, zero_of, Definition}

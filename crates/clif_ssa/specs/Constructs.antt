@@ -5,10 +5,10 @@ use Rattle.std.specs.Prelude.{◌≡◌, ◌<◌, ◌≤◌, ◌+◌, ◌-◌, �
 use Rattle.std.specs.List.{filter, AllByRecursion}
 use Rattle.clif_ir.specs.Body.{Body, value_at, inst_at, block_at}
 use Rattle.clif_instructions.specs.Instruction.{with_argument}
-use Rattle.clif_ir.specs.declared.function.BlockNode.{BlockNode}
-use Rattle.clif_ir.specs.declared.function.InstNode.{InstNode}
-use Rattle.clif_ir.specs.declared.function.ValueNode.{ValueNode}
-use Rattle.clif_ir.specs.declared.function.ValueOrigin.TheVariants.{Param, Alias}
+use Rattle.clif_nodes.specs.Nodes.{BlockNode}
+use Rattle.clif_nodes.specs.declared.nodes.InstNode.{InstNode}
+use Rattle.clif_nodes.specs.declared.nodes.ValueNode.{ValueNode}
+use Rattle.clif_nodes.specs.declared.nodes.ValueOrigin.TheVariants.{Param, Alias}
 use Rattle.clif_instructions.specs.declared.instructions.InstructionData.{InstructionData}
 use Rattle.clif_types.specs.declared.types.«Type».{«Type»}
 use Rattle.clif_ssa.specs.Ssa.{no_srcloc}

@@ -12,7 +12,7 @@ use Rattle.clif_instructions.specs.Instruction.{destinations}
 use Rattle.clif_instructions.specs.Members.{without}
 use Rattle.clif_instructions.specs.declared.block_call.BlockArg.{BlockArg}
 use Rattle.clif_instructions.specs.declared.instructions.InstructionData.{InstructionData}
-use Rattle.clif_instructions.specs.declared.inst_list.InsertAt.TheVariants.{Back}
+use Rattle.clif_instructions.specs.declared.insert_at.InsertAt.TheVariants.{Back}
 use Rattle.clif_paths.specs.Places.{Place, start, Edges, same_place}
 use Rattle.clif_paths.specs.State.{Naming, Definition, State, born, fresh}
 use Rattle.clif_paths.specs.Steps.{updated, IsNewName}

@@ -4,9 +4,9 @@ use Rattle.std.specs.Prelude.{◌≡◌, ℕ, ◌-◌, ◌^◌, ◌<◌, ◌≤�
 use Rattle.clif_types.specs.declared.types.«Type».{«Type»}
 use Rattle.clif_ir.specs.Body.{Body, block_at, value_at}
 use Rattle.clif_ir.specs.Changes.{inserted_in, with_param, with_alias}
-use Rattle.clif_ir.specs.declared.function.InstNode.{InstNode}
-use Rattle.clif_ir.specs.declared.function.ValueNode.{ValueNode}
-use Rattle.clif_ir.specs.declared.function.ValueOrigin.TheVariants.{Result}
+use Rattle.clif_nodes.specs.declared.nodes.InstNode.{InstNode}
+use Rattle.clif_nodes.specs.declared.nodes.ValueNode.{ValueNode}
+use Rattle.clif_nodes.specs.declared.nodes.ValueOrigin.TheVariants.{Result}
 use Rattle.std.specs.List.{range_with_len}
 use Rattle.clif_ssa.specs.Zeros.{ZeroStep, zero_steps, steps_before, with_pooled, zeros_number}
 use Rattle.std.specs.Option.{option_to_list}

@@ -10,7 +10,7 @@ ghost use Rattle.clif_ssa.specs.Ssa.{with_steps, with_zero, zero_value, zeroed_i
 ghost use Rattle.clif_ssa.specs.Ssa.{HasSomeSteps, MayHaveSomeSteps};
 ghost use Rattle.clif_ssa.specs.Zeros.{float_type, kind_of_zero, zero_size, zero_steps, zeros_number, with_pooled, IsStepAt, IsZeroConstant, only_step, first_or_last_step};
 
-use clif_instructions::inst_list::InsertAt;
+use clif_instructions::insert_at::InsertAt;
 use clif_ir::{Function, InstructionData};
 use clif_opcodes::{ConvertOpcode, FloatConstOpcode, PooledConstOpcode};
 use clif_records::SideEffects;

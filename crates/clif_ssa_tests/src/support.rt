@@ -3,11 +3,10 @@
 #![tactic(auto)]
 
 ghost use Rattle.std.specs.Prelude.{◌≡◌, ◌<◌, length, IsTrue, EachIndex, All, OnOk, slice_index};
-ghost use Rattle.clif_instructions.specs.Instruction.{contexts};
-ghost use Rattle.clif_ir.specs.Consistent.{EdgeExists, ValueExists};
+ghost use Rattle.clif_ir.specs.Consistent.{EdgeExists};
 ghost use Rattle.clif_ssa.specs.Ssa.{Declares, NamesExist};
 
-use clif_instructions::inst_list::InsertAt;
+use clif_instructions::insert_at::InsertAt;
 use clif_ir::{BlockCall, Function, InstructionData};
 use clif_ssa::{SSABuilder, SideEffects, Variable};
 use clif_types::{
@@ -63,16 +62,6 @@ fn has_edges(func: &Function, edges: &[BlockCall]) -> bool
     ensures { IsTrue result → All (EdgeExists func.now) edges.now }
 {
     edges.iter().all(|edge| has_edge(func, edge))
-}
-
-// Whether an instruction has no contexts: it is no try call.
-fn has_no_contexts(_func: &Function, shape: &InstructionData) -> bool
-    ensures { IsTrue result → All (ValueExists _func.now) (contexts shape.now) }
-{
-    match shape.exception_targets() {
-        Some(_) => false,
-        None => true,
-    }
 }
 
 /// A function and a builder, where the function has what the builder names. Its methods assert what the
@@ -153,7 +142,7 @@ impl Fixture {
         let block = self.block(rt, block);
         assert!(rt; has_operands(&self.func, shape.arguments()));
         assert!(rt; has_edges(&self.func, shape.branch_destination()));
-        assert!(rt; has_no_contexts(&self.func, &shape));
+        assert!(rt; self.func.has_contexts(&shape));
         assert!(rt; self.func.has_entries(&shape));
         let inst = self
             .func

@@ -2,8 +2,6 @@
 use Rattle.std.proofs.Common.{◌≡◌, ℕ, None, ap, ◌∙◌, sym}
 use Rattle.std.specs.Prelude.{slice_get, unwrap_or}
 use Rattle.std.proofs.lemmas.Option.{unwrap_or-slice_get}
-use Rattle.clif_types.specs.Signature.{SignatureShape}
-use Rattle.clif_types.specs.declared.extfunc.ExtFuncData.{ExtFuncData}
 use Rattle.clif_tables.specs.Lists.{TableLists}
 use Rattle.clif_tables.specs.Callees.{function_at, no_function, no_signature, signature_at}
 

@@ -1,9 +1,11 @@
 -- What one call puts into a table of a function. Source: own, after the crate's documentation of its tables.
-use Rattle.std.specs.Prelude.{ℕ, ◌<◌, length, All}
+use Rattle.std.specs.Prelude.{ℕ, List, ◌<◌, length, All}
+use Rattle.std.specs.Map.{values_of}
 use Rattle.clif_types.specs.Signature.{SignatureShape}
 use Rattle.clif_types.specs.StackSlot.{StackSlotShape}
 use Rattle.clif_types.specs.declared.extfunc.ExtFuncData.{ExtFuncData}
 use Rattle.clif_types.specs.declared.globalvalue.GlobalValueData.{GlobalValueData}
+use Rattle.clif_types.specs.declared.stackmap.UserStackMapEntry.{UserStackMapEntry}
 use Rattle.clif_types.specs.declared.stackslot.DynamicStackSlotData.{DynamicStackSlotData}
 use Rattle.clif_tables.specs.Lists.{TableLists, with_stack_slot, with_dynamic_stack_slot, with_global_value, with_signature, with_function}
 
@@ -38,3 +40,16 @@ NamesEntries t _ = Unit {0}
 -- each function that is imported has a signature
 abbrev pub SignaturesExist : TableLists → Type 0
 SignaturesExist t = All (λ (function : ExtFuncData). function.signature < length t.signatures) t.functions
+
+-- each entry of a stack map names a stack slot that exists
+abbrev pub NamesSlots : TableLists → List UserStackMapEntry → Type 0
+NamesSlots t map = All (λ (entry : UserStackMapEntry). entry.slot < length t.stack_slots) map
+
+-- so does each entry of each stack map that is kept
+abbrev pub SlotsExist : TableLists → Type 0
+SlotsExist t = All (NamesSlots t) (values_of t.stack_maps)
+
+-- what the tables' own entries name exists
+pub record NamedExist (t : TableLists) : Type 0 where
+  pub signatures : SignaturesExist t
+  pub slots : SlotsExist t

@@ -5,3 +5,4 @@ pub mod Lends
 pub mod Lists
 pub mod Makes
 pub mod Preamble
+pub mod Sparse

@@ -1,18 +1,20 @@
 //! The tables together.
-ghost use Rattle.std.specs.Prelude.{◌≡◌, ◌<◌, ◌^◌, length, slice_get, option_copied};
+ghost use Rattle.std.specs.Prelude.{◌≡◌, ◌<◌, ◌^◌, length, slice_get, option_copied, OnErr, OnOk};
 ghost use Rattle.std.specs.Borrow.{sem};
 ghost use Rattle.clif_tables.specs.Makes.{Makes, Pools};
 ghost use Rattle.clif_tables.specs.Lends.{lends_regions};
-ghost use Rattle.clif_tables.specs.Lists.{no_entries, with_stack_slot, with_dynamic_stack_slot, with_global_value, with_signature, with_function, with_constant, with_jump_table, with_exception_table, with_exception_table_served, with_table_served, unserved};
+ghost use Rattle.clif_tables.specs.Lists.{no_entries, with_stack_slot, with_dynamic_stack_slot, with_global_value, with_signature, with_function, with_constant, with_jump_table, with_exception_table, with_exception_table_served, with_table_served, unserved, stack_map_at, with_stack_map, labels_at, with_labels_collected, with_label};
 
 use crate::constants::{ConstantData, ConstantPool};
+use crate::labels::{ValueLabelStart, ValueLabels};
 use crate::primary_map::PrimaryMap;
+use crate::stack_maps::StackMaps;
 use clif_instructions::exception_table::{ExceptionTableData, ExceptionTargets};
 use clif_instructions::jump_table::JumpTableData;
 use clif_types::{
     AliasRegionSet, BuildError, Constant, DynamicStackSlot, DynamicStackSlotData, EntityRef,
-    ExceptionTable, ExtFuncData, FuncRef, GlobalValue, GlobalValueData, JumpTable, SigRef,
-    Signature, StackSlot, StackSlotData,
+    ExceptionTable, ExtFuncData, FuncRef, GlobalValue, GlobalValueData, Inst, JumpTable, SigRef,
+    Signature, StackSlot, StackSlotData, UserStackMapEntry, Value,
 };
 use std::alloc::Global;
 use std::marker::Model;
@@ -32,6 +34,9 @@ pub struct Tables {
     pub(crate) constants: ConstantPool,
     jump_tables: PrimaryMap<JumpTable, Option<JumpTableData>>,
     exception_tables: PrimaryMap<ExceptionTable, Option<ExceptionTargets>>,
+    stack_maps: StackMaps,
+    // `None` while labels aren't collected
+    value_labels: Option<ValueLabels>,
 }
 
 impl Model for Tables {
@@ -49,6 +54,8 @@ impl Model for Tables {
       constants = t.constants;
       jump_tables = t.jump_tables;
       exception_tables = t.exception_tables;
+      stack_maps = t.stack_maps;
+      value_labels = t.value_labels;
     } };
 }
 
@@ -66,6 +73,8 @@ impl Drop for Tables {
             constants: _,
             jump_tables: _,
             exception_tables: _,
+            stack_maps: _,
+            value_labels: _,
         } = self;
     }
 }
@@ -86,6 +95,8 @@ impl Tables {
             constants: ConstantPool::new(alloc),
             jump_tables: PrimaryMap::new(alloc),
             exception_tables: PrimaryMap::new(alloc),
+            stack_maps: StackMaps::new(alloc),
+            value_labels: None,
         }
     }
 
@@ -248,6 +259,59 @@ impl Tables {
             return None;
         }
         self.exception_tables.entry_mut(table).take()
+    }
+
+    /// The stack map of an instruction, which is empty where it has none.
+    pub fn stack_map(&self, inst: Inst) -> &[UserStackMapEntry]
+        ensures { result.now ≡ stack_map_at self.now inst }
+    {
+        self.stack_maps.get(inst)
+    }
+
+    /// Gives an instruction a stack map, in place of the one that it had. An empty one reads as none. The
+    /// only error is `Memory`; nothing is changed then.
+    pub fn set_stack_map(
+        &mut self,
+        inst: Inst,
+        map: Vec<UserStackMapEntry>,
+    ) -> Result<(), BuildError>
+        ensures ok { OnOk result (self.new ≡ with_stack_map self.old inst map.items) }
+        ensures err { OnErr result (self.new ≡ self.old) }
+        ensures only_memory { OnErr result (result ≡ Err BuildError.Memory) }
+    {
+        self.stack_maps.set(inst, map)
+    }
+
+    /// Collects labels of values from now on. Where they are collected already, nothing changes.
+    pub fn collect_debug_info(&mut self)
+        ensures { self.new ≡ with_labels_collected self.old }
+    {
+        if self.value_labels.is_none() {
+            self.value_labels = Some(ValueLabels::new(self.alloc));
+        }
+    }
+
+    /// Gives a value one label more. Where labels aren't collected, nothing is kept, and the answer is `Ok`.
+    /// The only error is `Memory`; nothing is changed then.
+    pub fn set_val_label(&mut self, value: Value, start: ValueLabelStart) -> Result<(), BuildError>
+        ensures ok { OnOk result (self.new ≡ with_label self.old value start) }
+        ensures err { OnErr result (self.new ≡ self.old) }
+        ensures only_memory { OnErr result (result ≡ Err BuildError.Memory) }
+    {
+        match &mut self.value_labels {
+            Some(labels) => labels.push(value, start),
+            None => Ok(()),
+        }
+    }
+
+    /// The labels of a value, in the order of the calls that set them; none where none was kept.
+    pub fn value_labels(&self, value: Value) -> &[ValueLabelStart]
+        ensures { result.now ≡ labels_at self.now value }
+    {
+        match &self.value_labels {
+            Some(labels) => labels.get(value),
+            None => &[],
+        }
     }
 
     /// How many stack slots there are.

@@ -6,8 +6,12 @@ mod callees;
 #[cfg(test)]
 mod edges;
 #[cfg(test)]
+mod labels;
+#[cfg(test)]
 mod lines;
 #[cfg(test)]
 mod numbers;
+#[cfg(test)]
+mod stack_maps;
 #[cfg(test)]
 mod steps;

@@ -4,12 +4,12 @@ use Rattle.std.specs.Prelude.{All, Contains}
 use Rattle.std.proofs.lemmas.Grind.{common_steps}
 use Rattle.clif_types.specs.declared.types.«Type».{«Type»}
 use Rattle.clif_instructions.specs.declared.block_call.BlockCall.{BlockCall}
-use Rattle.clif_instructions.specs.declared.inst_list.InsertAt.{InsertAt}
+use Rattle.clif_instructions.specs.declared.insert_at.InsertAt.{InsertAt}
 use Rattle.clif_instructions.specs.declared.instructions.InstructionData.{InstructionData}
 use Rattle.clif_instructions.specs.declared.instructions.InstructionData.TheVariants.{Jump, Brif, BranchTable, TryCall, TryCallIndirect}
 use Rattle.clif_ir.specs.Body.{Body, inst_at}
 use Rattle.clif_ir.specs.Changes.{with_inst, inst_node}
-use Rattle.clif_ir.specs.declared.function.InstNode.{InstNode}
+use Rattle.clif_nodes.specs.declared.nodes.InstNode.{InstNode}
 use Rattle.clif_instructions.specs.Instruction.{destinations, is_branch, is_terminator}
 use Rattle.clif_instructions.specs.Edges.{targets}
 use Rattle.clif_records.specs.Tables.{is_yes}

@@ -81,6 +81,10 @@ jump_tables_aside : (t : TableLists) (entry : TableEntry) → (with_entry t entr
 jump_tables_aside t (AStackSlot slot) = refl
 jump_tables_aside t _ = refl
 
+exception_tables_aside : (t : TableLists) (entry : TableEntry) → (with_entry t entry).exception_tables ≡ t.exception_tables
+exception_tables_aside t (AStackSlot slot) = refl
+exception_tables_aside t _ = refl
+
 -- the entries that instructions name stay
 pub entries_stay : (t : TableLists) (entry : TableEntry) → EntriesStay t (with_entry t entry)
 entries_stay t (AStackSlot slot) = entry_stays t (with_entry t (AStackSlot slot)) (grind (arith, common_steps)) (omega arith) (omega arith) (omega arith)
@@ -177,7 +181,7 @@ module _ (entry : TableEntry) (f g : Body) where
 
   grows_made : (r : Result ℕ BuildError) → OnOk r (g ≡ with_more f entry) → OnOk r (Grows f g)
   grows_made (Err e) is = tt
-  grows_made (Ok n) is = subst (Grows f) (sym is) (omega arith, omega arith, omega arith, refl, refl, slots entry, jump_tables_aside f.tables entry, entries_stay f.tables entry)
+  grows_made (Ok n) is = subst (Grows f) (sym is) (omega arith, omega arith, omega arith, refl, refl, slots entry, jump_tables_aside f.tables entry, entries_stay f.tables entry, exception_tables_aside f.tables entry)
     where
       slots : (e : TableEntry) → length f.tables.stack_slots ≤ length (with_entry f.tables e).stack_slots
       slots (AStackSlot slot) = grind (arith, common_steps)

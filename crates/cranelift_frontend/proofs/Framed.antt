@@ -4,11 +4,12 @@ use Rattle.std.specs.Prelude.{◌==◌, ◌||◌, ◌↔◌, IsTrue, slice_index
 use Rattle.std.specs.List.{range_with_len}
 use Rattle.std.proofs.lemmas.Bool.{cases_eq, eq-eqb, ne_eqb}
 use Rattle.clif_types.specs.declared.types.«Type».{«Type»}
-use Rattle.clif_ir.specs.declared.function.ValueNode.{ValueNode}
-use Rattle.clif_ir.specs.declared.function.ValueOrigin.TheVariants as source
+use Rattle.clif_nodes.specs.declared.nodes.ValueNode.{ValueNode}
+use Rattle.clif_nodes.specs.declared.nodes.ValueOrigin.TheVariants as source
 use Rattle.clif_instructions.specs.declared.instructions.InstructionData.{InstructionData}
-use Rattle.clif_ir.specs.Body.{Body, inst_at, no_value, value_at}
-use Rattle.clif_ir.specs.Changes.{inserted_in, result_nodes, with_block, with_layout, with_param}
+use Rattle.clif_ir.specs.Body.{Body, inst_at, value_at}
+use Rattle.clif_nodes.specs.Nodes.{no_value, result_nodes}
+use Rattle.clif_ir.specs.Changes.{inserted_in, with_block, with_layout, with_param}
 use Rattle.clif_tables.specs.Callees.{types_of_results}
 use Rattle.clif_instructions.specs.Members.{stands_in}
 use Rattle.clif_simulation.specs.Carries.{with_params}

@@ -5,11 +5,11 @@ use Rattle.std.proofs.lemmas.Bool.{cases_eq}
 use Rattle.std.proofs.lemmas.Grind.{common_steps}
 use Rattle.clif_types.specs.declared.error.BuildError.{BuildError}
 use Rattle.clif_types.specs.declared.types.«Type».{«Type»}
-use Rattle.clif_instructions.specs.declared.inst_list.InsertAt.{InsertAt}
-use Rattle.clif_instructions.specs.declared.inst_list.InsertAt.TheVariants.{Back}
+use Rattle.clif_instructions.specs.declared.insert_at.InsertAt.{InsertAt}
+use Rattle.clif_instructions.specs.declared.insert_at.InsertAt.TheVariants.{Back}
 use Rattle.clif_instructions.specs.declared.instructions.InstructionData.{InstructionData}
 use Rattle.std.specs.List.{range_with_len}
-use Rattle.clif_ir.specs.declared.function.InstNode.{InstNode}
+use Rattle.clif_nodes.specs.declared.nodes.InstNode.{InstNode}
 use Rattle.clif_tables.specs.Lists.{TableLists}
 use Rattle.clif_ir.specs.Body.{Body, inst_at}
 use Rattle.clif_ir.specs.Changes.{HasNoRoom, inserted_in, with_block, with_layout, with_inst, with_param, inst_node}
@@ -36,32 +36,32 @@ pools-stay t u pools =
     entry_stays t u (omega (arith, slots)) constants (omega (arith, signatures)) (omega (arith, functions))
 
 pub Grows-same : (f g : Body) → g ≡ f → Grows f g
-Grows-same f g same = subst (λ h. Grows f h) (sym same) (omega arith, omega arith, omega arith, refl, refl, omega arith, refl, λ entry here. here)
+Grows-same f g same = subst (λ h. Grows f h) (sym same) (omega arith, omega arith, omega arith, refl, refl, omega arith, refl, λ entry here. here, refl)
 
 pub Grows-then : (f g h : Body) → Grows f g → Grows g h → Grows f h
-Grows-then f g h first next = (omega (arith, first.0, next.0), omega (arith, first.1, next.1), omega (arith, first.2, next.2), next.3 ∙ first.3, next.4 ∙ first.4, omega (arith, first.5, next.5), next.6 ∙ first.6, λ entry here. next.7 entry (first.7 entry here))
+Grows-then f g h first next = (omega (arith, first.0, next.0), omega (arith, first.1, next.1), omega (arith, first.2, next.2), next.3 ∙ first.3, next.4 ∙ first.4, omega (arith, first.5, next.5), next.6 ∙ first.6, λ entry here. next.7 entry (first.7 entry here), next.8 ∙ first.8)
 
 pub Grows-with_block : (f : Body) → Grows f (with_block f)
-Grows-with_block f = (omega arith, omega arith, grind (arith, common_steps), refl, refl, omega arith, refl, λ entry here. here)
+Grows-with_block f = (omega arith, omega arith, grind (arith, common_steps), refl, refl, omega arith, refl, λ entry here. here, refl)
 
 pub Grows-inserted : (f : Body) (b : ℕ) → Grows f (inserted_in f b)
 Grows-inserted f b = by_test (stands_in b f.layout)
   where
     by_test : (c : Bool) → Grows f (if c then f else with_layout f b)
-    by_test true = (omega arith, omega arith, omega arith, refl, refl, omega arith, refl, λ entry here. here)
-    by_test false = (omega arith, omega arith, omega arith, refl, refl, omega arith, refl, λ entry here. here)
+    by_test true = (omega arith, omega arith, omega arith, refl, refl, omega arith, refl, λ entry here. here, refl)
+    by_test false = (omega arith, omega arith, omega arith, refl, refl, omega arith, refl, λ entry here. here, refl)
 
 pub Grows-with_inst : (f : Body) (b : ℕ) (at : InsertAt) (shape : InstructionData) (types : List «Type») (loc : ℕ) → Grows f (with_inst f b at shape types loc)
-Grows-with_inst f b at shape types loc = (grind (arith, common_steps), grind (arith, common_steps), grind (arith, common_steps), refl, refl, omega arith, refl, λ entry here. here)
+Grows-with_inst f b at shape types loc = (grind (arith, common_steps), grind (arith, common_steps), grind (arith, common_steps), refl, refl, omega arith, refl, λ entry here. here, refl)
 
 pub Grows-with_param : (f : Body) (b : ℕ) (ty : «Type») → Grows f (with_param f b ty)
-Grows-with_param f b ty = (grind (arith, common_steps), omega arith, grind (arith, common_steps), refl, refl, omega arith, refl, λ entry here. here)
+Grows-with_param f b ty = (grind (arith, common_steps), omega arith, grind (arith, common_steps), refl, refl, omega arith, refl, λ entry here. here, refl)
 
 -- what the construction of SSA form makes of a function
 pub Grows-constructs : (f g : Body) → OnlyConstructs f g → Grows f g
 Grows-constructs f g only =
     let slots : length g.tables.stack_slots ≡ length f.tables.stack_slots = ap (λ (t : TableLists). length t.stack_slots) only.tables.same in
-    (only.values, only.insts, omega (arith, only.block_count), ap (λ (h : Body). h.name) only.same, ap (λ (h : Body). h.signature) only.same, omega (arith, slots), ap (λ (t : TableLists). t.jump_tables) only.tables.same, pools-stay f.tables g.tables only.tables)
+    (only.values, only.insts, omega (arith, only.block_count), ap (λ (h : Body). h.name) only.same, ap (λ (h : Body). h.signature) only.same, omega (arith, slots), ap (λ (t : TableLists). t.jump_tables) only.tables.same, pools-stay f.tables g.tables only.tables, ap (λ (t : TableLists). t.exception_tables) only.tables.same)
 
 -- a block that enters the layout changes no value and no instruction
 pub values-inserted : (f : Body) (b : ℕ) → length (inserted_in f b).values ≡ length f.values

@@ -6,9 +6,9 @@ use Rattle.std.proofs.lemmas.Option.{get_or_from_slice_get, same_Some}
 use Rattle.clif_types.specs.declared.types.«Type».{«Type»}
 use Rattle.clif_types.specs.declared.types.«Type».TheVariants as type
 use Rattle.clif_instructions.specs.declared.block_call.BlockCall.{BlockCall}
-use Rattle.clif_ir.specs.declared.function.InstNode.{InstNode}
-use Rattle.clif_ir.specs.declared.function.ValueNode.{ValueNode}
-use Rattle.clif_instructions.specs.declared.inst_list.InsertAt.TheVariants.{Back}
+use Rattle.clif_nodes.specs.declared.nodes.InstNode.{InstNode}
+use Rattle.clif_nodes.specs.declared.nodes.ValueNode.{ValueNode}
+use Rattle.clif_instructions.specs.declared.insert_at.InsertAt.TheVariants.{Back}
 use Rattle.clif_types.specs.declared.condcodes.IntCC.{IntCC}
 use Rattle.clif_types.specs.declared.trapcode.TrapCode.{TrapCode}
 use Rattle.clif_types.specs.MemFlags.{MemFlagsShape}
@@ -27,7 +27,8 @@ use Rattle.clif_opcodes.specs.declared.opcodes.StackOpcode.TheVariants as stack
 use Rattle.clif_opcodes.specs.declared.opcodes.UnaryOpcode.{UnaryOpcode}
 use Rattle.clif_instructions.specs.declared.instructions.InstructionData.{InstructionData}
 use Rattle.clif_instructions.specs.declared.instructions.InstructionData.TheVariants.{UnaryImm, UnaryIeee, UnaryConst, Unary, Binary, IntCompare, Concat, Split, Convert, Ternary, Load, Store, StackLoad, StackStore, Jump, Brif, BranchTable, MultiAry, Trap, CondTrap}
-use Rattle.clif_ir.specs.Body.{Body, inst_at, no_inst, no_value, value_at}
+use Rattle.clif_ir.specs.Body.{Body, inst_at, value_at}
+use Rattle.clif_nodes.specs.Nodes.{no_inst, no_value}
 use Rattle.clif_ir.specs.Changes.{inserted_in, with_inst, inst_node}
 use Rattle.clif_ir.specs.Consistent.{IsConsistent}
 use Rattle.clif_instructions.specs.Instruction.{destinations, is_branch, is_terminator, result_types}
@@ -52,7 +53,7 @@ use Rattle.cranelift_frontend.proofs.LedgerLists.{map-some}
 use Rattle.cranelift_frontend.proofs.LedgerKept.{concluded, named-value}
 use Rattle.cranelift_frontend.proofs.LedgerBuilt.{agrees-built, agrees-ended, node-there}
 use Rattle.cranelift_frontend.proofs.Sorts.{EndsBlock, StaysInBlock, same_opcode, sort_of}
-use Rattle.clif_simulation.proofs.OperationTypes.{operation_results}
+use Rattle.clif_meaning.proofs.OperationTypes.{operation_results}
 
 -- SHAPES ----------------------------------------------------------------------------------------------------------
 

@@ -10,7 +10,7 @@ use denote.Struct.Props.{props}
 use Rattle.clif_types.specs.declared.types.«Type».{«Type»}
 use Rattle.clif_ir.specs.Body.{Body, value_at}
 use Rattle.clif_ir.specs.Changes.{inserted_in, with_block, with_inst, with_param}
-use Rattle.clif_instructions.specs.declared.inst_list.InsertAt.{InsertAt}
+use Rattle.clif_instructions.specs.declared.insert_at.InsertAt.{InsertAt}
 use Rattle.clif_instructions.specs.declared.instructions.InstructionData.{InstructionData}
 use Rattle.clif_records.specs.declared.tables.SsaBlock.{SsaBlock}
 use Rattle.clif_records.specs.Tables.{predecessors_at, sealed_at, pending_of}

@@ -7,11 +7,12 @@ use Rattle.clif_types.specs.declared.types.«Type».{«Type»}
 use Rattle.clif_types.specs.declared.extname.UserFuncName.{UserFuncName}
 use Rattle.clif_types.specs.Signature.{SignatureShape}
 use Rattle.clif_instructions.specs.declared.block_call.BlockCall.{BlockCall}
-use Rattle.clif_ir.specs.declared.function.InstNode.{InstNode}
-use Rattle.clif_instructions.specs.declared.inst_list.InsertAt.TheVariants.{Back}
+use Rattle.clif_nodes.specs.declared.nodes.InstNode.{InstNode}
+use Rattle.clif_instructions.specs.declared.insert_at.InsertAt.TheVariants.{Back}
 use Rattle.clif_instructions.specs.declared.instructions.InstructionData.{InstructionData}
 use Rattle.clif_instructions.specs.declared.instructions.InstructionData.TheVariants.{Jump, Brif, BranchTable, TryCall, TryCallIndirect}
-use Rattle.clif_ir.specs.Body.{Body, block_at, empty_body, inst_at, no_inst}
+use Rattle.clif_ir.specs.Body.{Body, block_at, empty_body, inst_at}
+use Rattle.clif_nodes.specs.Nodes.{no_inst}
 use Rattle.clif_ir.specs.Changes.{inserted_in, inst_node, with_block, with_cold, with_inst, with_layout_after}
 use Rattle.clif_ir.specs.Consistent.{IsConsistent}
 use Rattle.clif_instructions.specs.Instruction.{destinations, is_branch, is_terminator}

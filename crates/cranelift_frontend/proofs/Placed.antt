@@ -5,8 +5,8 @@ use Rattle.std.specs.Prelude.{Bool, true, false, not, ◌&&◌, ◌||◌, if◌t
 use Rattle.std.specs.List.{AllByRecursion}
 use Rattle.std.proofs.lemmas.Bool.{and_from, and_parts, cases_eq, eq-eqb, eqb-true, false≢true, ne_eqb, or_cases, or_left, or_right}
 use Rattle.clif_types.specs.declared.types.«Type».{«Type»}
-use Rattle.clif_ir.specs.declared.function.InstNode.{InstNode}
-use Rattle.clif_ir.specs.declared.function.BlockNode.{BlockNode}
+use Rattle.clif_nodes.specs.declared.nodes.InstNode.{InstNode}
+use Rattle.clif_nodes.specs.Nodes.{BlockNode}
 use Rattle.clif_ir.specs.Body.{Body, block_at, inst_at}
 use Rattle.clif_ir.specs.Changes.{inserted_in, with_layout}
 use Rattle.clif_ir.specs.Consistent.{IsConsistent}

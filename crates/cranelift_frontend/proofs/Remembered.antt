@@ -4,7 +4,7 @@ use Rattle.std.specs.Prelude.{Option, Some, OnOk, IfOk, IfSome, Result, Ok, Err}
 use Rattle.std.proofs.lemmas.Bool.Decides.{nat_tests}
 use Rattle.clif_types.specs.declared.types.«Type».{«Type»}
 use Rattle.clif_instructions.specs.declared.instructions.InstructionData.{InstructionData}
-use Rattle.clif_instructions.specs.declared.inst_list.InsertAt.TheVariants.{Back}
+use Rattle.clif_instructions.specs.declared.insert_at.InsertAt.TheVariants.{Back}
 use Rattle.clif_ir.specs.Body.{Body, resolved}
 use Rattle.clif_instructions.specs.Instruction.{destinations}
 use Rattle.clif_tables.specs.Callees.{types_of_results}

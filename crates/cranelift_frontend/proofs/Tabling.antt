@@ -1,19 +1,21 @@
--- Tables change that the calls of a list don't make: the agreement with the ledger is kept, and the builder stands for the same
--- calls.
-use Rattle.std.proofs.Common.{◌≡◌, ◌≢◌, ◌<◌, ◌≤◌, ℕ, List, length, refl, sym, ◌∙◌, ap, subst, arith, false, inl, inr}
+-- Tables change that the calls of a list don't make: unless a ledger has them the agreement with the ledger is kept, and the builder
+-- stands for the same calls.
+use Rattle.std.proofs.Common.{◌≡◌, ◌≢◌, ◌<◌, ◌≤◌, ◌++◌, ◌∷◌, [], ℕ, List, Bool, length, refl, sym, ◌∙◌, ap, subst, arith, false, inl, inr}
 use Rattle.std.proofs.lemmas.Grind.{common_steps}
-use Rattle.std.specs.Prelude.{Option, Some, true, is_err, slice_get, Result, Ok, Err, IfOk, OnOk, OnErr, All}
+use Rattle.std.specs.Prelude.{Option, Some, true, is_err, slice_get, Result, Ok, Err, IfOk, OnOk, OnErr}
 use Rattle.clif_types.specs.declared.error.BuildError.{BuildError}
 use Rattle.clif_types.specs.declared.error.BuildError.TheVariants.{Failed, Full, Memory}
 use Rattle.clif_types.specs.Signature.{SignatureShape}
 use Rattle.clif_instructions.specs.declared.block_call.BlockCall.{BlockCall}
 use Rattle.clif_instructions.specs.declared.block_call.BlockArg.{BlockArg}
+use Rattle.clif_instructions.specs.ExceptionTables.{ExceptionShape}
+use Rattle.clif_inst_builder.specs.Served.{TableKind, exception_tables}
 use Rattle.clif_tables.specs.Constants.{constant_of}
-use Rattle.clif_tables.specs.Lists.{TableLists, unserved, with_constant, with_jump_table, with_table_served}
+use Rattle.clif_tables.specs.Lists.{TableLists, unserved, with_constant, with_exception_table_served, with_jump_table, with_table_served}
 use Rattle.clif_tables.specs.Makes.{MakesEntry, Pools}
 use Rattle.clif_ir.specs.Body.{Body}
 use Rattle.clif_ir.specs.Changes.{with_tables}
-use Rattle.clif_ir.specs.Consistent.{IsConsistent}
+use Rattle.clif_ir.specs.Consistent.{EntryExists, IsConsistent, ValueExists}
 use Rattle.clif_meaning.specs.Request.{AnsweredCall}
 use Rattle.clif_meaning.specs.Ledger.{Ledger}
 use Rattle.clif_ssa.specs.Ssa.{SsaState, record_of}
@@ -24,9 +26,9 @@ use Rattle.clif_simulation.proofs.Growing.{KeepsEntries, entries_pooled}
 use Rattle.clif_ir.proofs.KeepsTables.{entry_stays}
 use Rattle.cranelift_frontend.specs.declared.builder.FunctionBuilder.{FunctionBuilder}
 use Rattle.cranelift_frontend.specs.declared.context.BlockStatus.TheVariants.{Filled}
-use Rattle.cranelift_frontend.specs.Builder.{CanLead, CanLeadIn, HasCurrent, SameLoans}
+use Rattle.cranelift_frontend.specs.Builder.{CanLeadIn, HasCurrent, SameLoans}
 use Rattle.cranelift_frontend.specs.Context.{ContextState, status_of}
-use Rattle.cranelift_frontend.specs.Entries.{CreatesJumpTable, MakesEdge, MayServe, PoolsConstant, SetsTables, TakesJumpTable, table_edges}
+use Rattle.cranelift_frontend.specs.Entries.{CanBeNamed, Creates, MakesEdge, MayServeFor, PoolsConstant, SetsTables, Takes, Unless, table_held}
 use Rattle.cranelift_frontend.specs.Growth.{EntriesStay, Grows, GrowsBesideTables, TypesStay}
 use Rattle.cranelift_frontend.specs.Ledger.{LedgerAgrees, ledger_of, tables_of_calls}
 use Rattle.cranelift_frontend.specs.StandsFor.{StandsIn}
@@ -36,27 +38,39 @@ use Rattle.cranelift_frontend.proofs.Entries.{tabled}
 use Rattle.cranelift_frontend.proofs.Framed.{filled-same}
 use Rattle.cranelift_frontend.proofs.LedgerLists.{get-front, get-last}
 
--- The tables of calls stay, and each constant keeps its number; there are as many stack slots.
-pub record AreAside (f : Body) (lists : TableLists) : Type 0 where
-  pub of_calls : tables_of_calls lists ≡ tables_of_calls f.tables
+-- where one holds, unless that is so, so does what follows from it
+unless : (so : Bool) (P Q : Type 0) → (P → Q) → Unless so P → Unless so Q
+unless true P Q step here = tt
+unless false P Q step here = step here
+
+promised : (so : Bool) (P : Type 0) → P → Unless so P
+promised true P here = tt
+promised false P here = here
+
+-- Each constant keeps its number, each entry that an instruction names stays, and there are as many stack slots; and the tables of
+-- calls stay, unless the tables that change are among them.
+pub record AreAside (in_ledger : Bool) (f : Body) (lists : TableLists) : Type 0 where
+  pub of_calls : Unless in_ledger (tables_of_calls lists ≡ tables_of_calls f.tables)
   pub constants : KeepsConstants f (with_tables f lists)
   pub entries : KeepsEntries f.tables lists
   pub stay : EntriesStay f.tables lists
+  pub slots : length lists.stack_slots ≡ length f.tables.stack_slots
 
-module _ (f : Body) (lists : TableLists) (aside : AreAside f lists) where
+module _ (f : Body) (lists : TableLists) (constants : KeepsConstants f (with_tables f lists)) (entries : KeepsEntries f.tables lists)
+    (of_calls : tables_of_calls lists ≡ tables_of_calls f.tables) where
   agrees_aside : (calls : List AnsweredCall) (ledger : Ledger) (c : ContextState) (p : Option ℕ) → LedgerAgrees calls ledger f c p
       → LedgerAgrees calls ledger (with_tables f lists) c p
   agrees_aside calls ledger c p agrees =
       subst (λ (tables : TableLists). LedgerAgrees calls (record ledger { tables = tables }) (with_tables f lists) c p)
-      (aside.of_calls ∙ sym agrees.tables)
-      (tabled calls ledger f c p lists aside.constants agrees)
+      (of_calls ∙ sym agrees.tables)
+      (tabled calls ledger f c p lists constants agrees)
 
   stands_aside : (declared : SignatureShape) (calls : List AnsweredCall) (c : ContextState) (p : Option ℕ) → IsConsistent f
       → StandsIn declared calls f c p → StandsIn declared calls (with_tables f lists) c p
   stands_aside declared calls c p consistent stands = record {
     signature = stands.signature;
     ledger = agrees_aside calls (ledger_of calls) c p stands.ledger;
-    carries = carries_pooled calls f c.ssa lists consistent aside.entries stands.carries;
+    carries = carries_pooled calls f c.ssa lists consistent entries stands.carries;
     begun = stands.begun;
     callers_alone = λ d. elim (stands.callers_alone d) [
       | inl alone ↦ inl alone
@@ -64,12 +78,9 @@ module _ (f : Body) (lists : TableLists) (aside : AreAside f lists) where
     ];
   }
 
-  slots_aside : length lists.stack_slots ≡ length f.tables.stack_slots
-  slots_aside = ap (λ (t : TableLists). length t.stack_slots) aside.of_calls
-
 -- WHICH TABLES ------------------------------------------------------------------------------------------------------------
 
-pub pooled_aside : (f : Body) (bytes : List ℕ) → AreAside f (with_constant f.tables bytes)
+pub pooled_aside : (f : Body) (bytes : List ℕ) → AreAside false f (with_constant f.tables bytes)
 pooled_aside f bytes =
     let lists : TableLists = with_constant f.tables bytes in
     let pooled = is_pooled f.tables.constants bytes in
@@ -81,33 +92,41 @@ pooled_aside f bytes =
       constants = keeps;
       entries = entries_pooled f.tables lists keeps refl refl;
       stay = entry_stays f.tables lists (omega arith) more (omega arith) (omega arith);
+      slots = refl;
     }
 
--- the other tables stay
-beside_jump_tables : (f : Body) (lists : TableLists) → tables_of_calls lists ≡ tables_of_calls f.tables → lists.constants ≡ f.tables.constants → AreAside f lists
-beside_jump_tables f lists same constants =
+-- the tables whose entries instructions name stay
+beside_entries : (in_ledger : Bool) (f : Body) (lists : TableLists) → Unless in_ledger (tables_of_calls lists ≡ tables_of_calls f.tables)
+    → lists.stack_slots ≡ f.tables.stack_slots → lists.constants ≡ f.tables.constants → lists.signatures ≡ f.tables.signatures → lists.functions ≡ f.tables.functions
+    → AreAside in_ledger f lists
+beside_entries in_ledger f lists of_calls slots constants signatures functions =
     let keeps : KeepsConstants f (with_tables f lists) = λ constant found here. ap (λ (pool : List (List ℕ)). slice_get pool constant) constants ∙ here in
-    let slots : length lists.stack_slots ≡ length f.tables.stack_slots = ap (λ (t : TableLists). length t.stack_slots) same in
-    let signatures : lists.signatures ≡ f.tables.signatures = ap (λ (t : TableLists). t.signatures) same in
-    let functions : lists.functions ≡ f.tables.functions = ap (λ (t : TableLists). t.functions) same in
-    let pool_count : length lists.constants ≡ length f.tables.constants = ap (λ (pool : List (List ℕ)). length pool) constants in
-    let signature_count : length lists.signatures ≡ length f.tables.signatures = ap (λ (t : TableLists). length t.signatures) same in
-    let function_count : length lists.functions ≡ length f.tables.functions = ap (λ (t : TableLists). length t.functions) same in
+    let slot_count : length lists.stack_slots ≡ length f.tables.stack_slots = ap length slots in
+    let pool_count : length lists.constants ≡ length f.tables.constants = ap length constants in
+    let signature_count : length lists.signatures ≡ length f.tables.signatures = ap length signatures in
+    let function_count : length lists.functions ≡ length f.tables.functions = ap length functions in
     record {
-      of_calls = same;
+      of_calls = of_calls;
       constants = keeps;
       entries = entries_pooled f.tables lists keeps signatures functions;
-      stay = entry_stays f.tables lists (omega (arith, slots)) (omega (arith, pool_count)) (omega (arith, signature_count)) (omega (arith, function_count));
+      stay = entry_stays f.tables lists (omega (arith, slot_count)) (omega (arith, pool_count)) (omega (arith, signature_count)) (omega (arith, function_count));
+      slots = slot_count;
     }
 
-pub created_aside : (f : Body) (edges : List BlockCall) → AreAside f (with_jump_table f.tables edges)
-created_aside f edges = beside_jump_tables f (with_jump_table f.tables edges) refl refl
+pub created_aside : (f : Body) (edges : List BlockCall) → AreAside false f (with_jump_table f.tables edges)
+created_aside f edges = beside_entries false f (with_jump_table f.tables edges) refl refl refl refl refl
 
-pub served_aside : (f : Body) (table : ℕ) → AreAside f (with_table_served f.tables table)
-served_aside f table = beside_jump_tables f (with_table_served f.tables table) refl refl
+pub served_aside : (f : Body) (table : ℕ) → AreAside false f (with_table_served f.tables table)
+served_aside f table = beside_entries false f (with_table_served f.tables table) refl refl refl refl refl
 
-pub same_aside : (f : Body) → AreAside f f.tables
-same_aside f = beside_jump_tables f f.tables refl refl
+pub exception_created_aside : (f : Body) (held : ExceptionShape) → AreAside true f (exception_tables.with_table f.tables held)
+exception_created_aside f held = beside_entries true f (exception_tables.with_table f.tables held) tt refl refl refl refl
+
+pub exception_served_aside : (f : Body) (table : ℕ) → AreAside true f (with_exception_table_served f.tables table)
+exception_served_aside f table = beside_entries true f (with_exception_table_served f.tables table) tt refl refl refl refl
+
+pub same_aside : (f : Body) → AreAside false f f.tables
+same_aside f = beside_entries false f f.tables refl refl refl refl refl
 
 -- THE BUILDER -----------------------------------------------------------------------------------------------------------
 
@@ -128,14 +147,13 @@ current_aside lists old new (Ok n) position context is current = (
 )
 
 -- a call on a builder that hasn't failed
-pub set_tables : {A : Type 0} (lists : TableLists) (old new : FunctionBuilder) (answer : Result A BuildError) → AreAside old.func.now lists → old.failed ≡ false → SameLoans old new
+pub set_tables : {A : Type 0} (in_ledger : Bool) (lists : TableLists) (old new : FunctionBuilder) (answer : Result A BuildError) → AreAside in_ledger old.func.now lists → old.failed ≡ false → SameLoans old new
     → new.position ≡ old.position → new.srcloc ≡ old.srcloc → new.ctx.now ≡ old.ctx.now → new.failed ≡ is_err answer → IsConsistent old.func.now → answer ≢ Err Failed
-    → OnOk answer (new.func.now ≡ with_tables old.func.now lists) → OnErr answer (new.func.now ≡ old.func.now) → SetsTables lists old new answer
-set_tables {A} lists old new answer aside fine loans position srcloc context fails consistent never_failed ok err =
+    → OnOk answer (new.func.now ≡ with_tables old.func.now lists) → OnErr answer (new.func.now ≡ old.func.now) → SetsTables in_ledger lists old new answer
+set_tables {A} in_ledger lists old new answer aside fine loans position srcloc context fails consistent never_failed ok err =
     let f : Body = old.func.now in
     let g : Body = new.func.now in
     let ssa : new.ctx.now.ssa ≡ old.ctx.now.ssa = ap (λ (c : ContextState). c.ssa) context in
-    let slots = slots_aside f lists aside in
     let parts : (P : Body → ContextState → Option ℕ → Type 0) → P (with_tables f lists) old.ctx.now old.position → P (with_tables f lists) new.ctx.now new.position =
     λ P holds. subst (λ (r : Option ℕ). P (with_tables f lists) new.ctx.now r) (sym position) (subst (λ (e : ContextState). P (with_tables f lists) e old.position) (sym context) holds) in
     record {
@@ -144,13 +162,15 @@ set_tables {A} lists old new answer aside fine loans position srcloc context fai
       function = ok;
       kept = err;
       context = context;
-      ledger = λ cs agrees.
-          on_ok lists f g (λ h. LedgerAgrees cs (ledger_of cs) h new.ctx.now new.position) answer ok
-          (parts (λ h e r. LedgerAgrees cs (ledger_of cs) h e r) (agrees_aside f lists aside cs (ledger_of cs) old.ctx.now old.position agrees));
-      stands = λ signature cs stands.
-          on_ok lists f g (λ h. StandsIn signature cs h new.ctx.now new.position) answer ok
-          (parts (λ h e r. StandsIn signature cs h e r) (stands_aside f lists aside signature cs old.ctx.now old.position consistent stands));
-      grows = on_ok lists f g (GrowsBesideTables f) answer ok (omega arith, omega arith, omega arith, refl, refl, omega (arith, slots), aside.stay);
+      ledger = unless in_ledger _ _
+          (λ of_calls cs agrees. on_ok lists f g (λ h. LedgerAgrees cs (ledger_of cs) h new.ctx.now new.position) answer ok
+          (parts (λ h e r. LedgerAgrees cs (ledger_of cs) h e r)
+          (agrees_aside f lists aside.constants aside.entries of_calls cs (ledger_of cs) old.ctx.now old.position agrees))) aside.of_calls;
+      stands = unless in_ledger _ _
+          (λ of_calls signature cs stands. on_ok lists f g (λ h. StandsIn signature cs h new.ctx.now new.position) answer ok
+          (parts (λ h e r. StandsIn signature cs h e r)
+          (stands_aside f lists aside.constants aside.entries of_calls signature cs old.ctx.now old.position consistent stands))) aside.of_calls;
+      grows = on_ok lists f g (GrowsBesideTables f) answer ok (omega arith, omega arith, omega arith, refl, refl, omega (arith, aside.slots), aside.stay);
       remembers = λ x b.
           on_ok lists f g (λ h. Remembers x b f old.ctx.now.ssa h new.ctx.now.ssa) answer ok
           (record { recorded = λ v here. ap (λ (u : SsaState). record_of u x b) ssa ∙ here; alike = λ u v alike. alike });
@@ -158,14 +178,14 @@ set_tables {A} lists old new answer aside fine loans position srcloc context fai
     }
 
 -- a call on one that has
-pub set_refused : {A : Type 0} (lists : TableLists) (old : FunctionBuilder) → old.failed ≡ true → SetsTables {A = A} lists old old (Err Failed)
-set_refused {A} lists old failed = record {
+pub set_refused : {A : Type 0} (in_ledger : Bool) (lists : TableLists) (old : FunctionBuilder) → old.failed ≡ true → SetsTables {A = A} in_ledger lists old old (Err Failed)
+set_refused {A} in_ledger lists old failed = record {
   call = refused old failed;
   function = tt;
   kept = refl;
   context = refl;
-  ledger = λ calls agrees. tt;
-  stands = λ signature calls stands. tt;
+  ledger = promised in_ledger _ (λ calls agrees. tt);
+  stands = promised in_ledger _ (λ signature calls stands. tt);
   grows = tt;
   remembers = λ x b. tt;
   current = λ current. tt;
@@ -187,8 +207,8 @@ pub constant_pooled : (bytes : List ℕ) (old new : FunctionBuilder) (answer : R
 constant_pooled bytes old new answer fine loans position srcloc context fails consistent pools =
     let f : Body = old.func.now in
     record {
-      sets = set_tables (with_constant f.tables bytes) old new answer (pooled_aside f bytes) fine loans position srcloc context fails consistent pools.never_failed pools.ok pools.err;
-      grows = on_ok (with_constant f.tables bytes) f new.func.now (Grows f) answer pools.ok (omega arith, omega arith, omega arith, refl, refl, omega arith, refl, (pooled_aside f bytes).stay);
+      sets = set_tables false (with_constant f.tables bytes) old new answer (pooled_aside f bytes) fine loans position srcloc context fails consistent pools.never_failed pools.ok pools.err;
+      grows = on_ok (with_constant f.tables bytes) f new.func.now (Grows f) answer pools.ok (omega arith, omega arith, omega arith, refl, refl, omega arith, refl, (pooled_aside f bytes).stay, refl);
       number = pools.number;
       found = found_pooled bytes f new.func.now answer pools.ok pools.number;
       full = (λ is. let new = pools.full.0 is in (fine, new.0, new.1), λ all. pools.full.1 (all.1, all.2));
@@ -196,66 +216,77 @@ constant_pooled bytes old new answer fine loans position srcloc context fails co
 
 pub constant_refused : (bytes : List ℕ) (old : FunctionBuilder) → old.failed ≡ true → PoolsConstant old old bytes (Err Failed)
 constant_refused bytes old failed = record {
-  sets = set_refused (with_constant old.func.now.tables bytes) old failed;
+  sets = set_refused false (with_constant old.func.now.tables bytes) old failed;
   grows = tt;
   number = tt;
   found = tt;
   full = (λ is. let no_way : ⊥ = cc in absurd no_way, λ all. let no_way : ⊥ = cc in absurd no_way);
 }
 
--- JUMP TABLES AND EDGES --------------------------------------------------------------------------------------------------
+-- TABLES THAT SERVE ONE INSTRUCTION, AND EDGES -----------------------------------------------------------------------------
 
-pub table_created : (edges : List BlockCall) (old new : FunctionBuilder) (answer : Result ℕ BuildError) → old.failed ≡ false → SameLoans old new → new.position ≡ old.position → new.srcloc ≡ old.srcloc
-    → new.ctx.now ≡ old.ctx.now → new.failed ≡ is_err answer → IsConsistent old.func.now
-    → MakesEntry (λ number. number) (length old.func.now.tables.jump_tables) old.func.now new.func.now (with_tables old.func.now (with_jump_table old.func.now.tables edges)) answer
-    → CreatesJumpTable edges old new answer
-table_created edges old new answer fine loans position srcloc context fails consistent makes =
-    let f : Body = old.func.now in
-    record {
-      sets = set_tables (with_jump_table f.tables edges) old new answer (created_aside f edges) fine loans position srcloc context fails consistent makes.never_failed makes.ok makes.err;
-      number = makes.number;
-      serves = created answer makes.ok makes.number;
-      full = (λ is. (fine, makes.full.0 is), λ both. makes.full.1 both.1);
-    }
-  where
-    created : (r : Result ℕ BuildError) → OnOk r (new.func.now ≡ with_tables old.func.now (with_jump_table old.func.now.tables edges))
-        → IfOk r (λ number. number ≡ length old.func.now.tables.jump_tables) → IfOk r (λ number. table_edges new number ≡ Some edges)
-    created (Ok n) is number =
-        ap (λ (h : Body). unserved (slice_get h.tables.jump_tables n)) is
-        ∙ ap (λ (k : ℕ). unserved (slice_get (with_jump_table old.func.now.tables edges).jump_tables k)) number
-        ∙ ap unserved (get-last old.func.now.tables.jump_tables (Some edges))
-    created (Err e) is number = tt
+module _ {T : Type 0} (kind : TableKind T) (in_ledger : Bool) where
+  -- a table is put at the end of those of its kind
+  pub table_created : (held : T) (old new : FunctionBuilder) (answer : Result ℕ BuildError)
+      → AreAside in_ledger old.func.now (kind.with_table old.func.now.tables held) → kind.tables (kind.with_table old.func.now.tables held) ≡ kind.tables old.func.now.tables ++ Some held ∷ []
+      → old.failed ≡ false → SameLoans old new → new.position ≡ old.position → new.srcloc ≡ old.srcloc
+      → new.ctx.now ≡ old.ctx.now → new.failed ≡ is_err answer → IsConsistent old.func.now
+      → MakesEntry (λ number. number) (length (kind.tables old.func.now.tables)) old.func.now new.func.now (with_tables old.func.now (kind.with_table old.func.now.tables held)) answer
+      → Creates kind in_ledger held old new answer
+  table_created held old new answer aside last fine loans position srcloc context fails consistent makes =
+      record {
+        sets = set_tables in_ledger (kind.with_table old.func.now.tables held) old new answer aside fine loans position srcloc context fails consistent makes.never_failed makes.ok makes.err;
+        number = makes.number;
+        serves = created answer makes.ok makes.number;
+        full = (λ is. (fine, makes.full.0 is), λ both. makes.full.1 both.1);
+      }
+    where
+      created : (r : Result ℕ BuildError) → OnOk r (new.func.now ≡ with_tables old.func.now (kind.with_table old.func.now.tables held))
+          → IfOk r (λ number. number ≡ length (kind.tables old.func.now.tables)) → IfOk r (λ number. table_held kind new number ≡ Some held)
+      created (Ok n) is number =
+          ap (λ (h : Body). unserved (slice_get (kind.tables h.tables) n)) is
+          ∙ ap (λ (entries : List (Option T)). unserved (slice_get entries n)) last
+          ∙ ap (λ (k : ℕ). unserved (slice_get (kind.tables old.func.now.tables ++ Some held ∷ []) k)) number
+          ∙ ap unserved (get-last (kind.tables old.func.now.tables) (Some held))
+      created (Err e) is number = tt
 
-pub table_refused : (edges : List BlockCall) (old : FunctionBuilder) → old.failed ≡ true → CreatesJumpTable edges old old (Err Failed)
-table_refused edges old failed = record {
-  sets = set_refused (with_jump_table old.func.now.tables edges) old failed;
-  number = tt;
-  serves = tt;
-  full = (λ is. let no_way : ⊥ = cc in absurd no_way, λ both. let no_way : ⊥ = cc in absurd no_way);
-}
+  pub table_refused : (held : T) (old : FunctionBuilder) → old.failed ≡ true → Creates kind in_ledger held old old (Err Failed)
+  table_refused held old failed = record {
+    sets = set_refused in_ledger (kind.with_table old.func.now.tables held) old failed;
+    number = tt;
+    serves = tt;
+    full = (λ is. let no_way : ⊥ = cc in absurd no_way, λ both. let no_way : ⊥ = cc in absurd no_way);
+  }
 
--- the edges of a table that may serve are taken
-leads_taken : (table : ℕ) (edges : List BlockCall) (old new : FunctionBuilder) → new.ctx.now ≡ old.ctx.now → table_edges old table ≡ Some edges
-    → new.func.now ≡ with_tables old.func.now (with_table_served old.func.now.tables table) → MayServe old table → All (CanLead new) edges
-leads_taken table edges old new context found made (others, other, leads) =
-    let same : others ≡ edges = cc in
-    subst (λ (c : ContextState). All (CanLeadIn new.func.now c) edges) (sym context)
-    (subst (λ (f : Body). All (CanLeadIn f old.ctx.now) edges) (sym made) (subst (All (CanLead old)) same leads))
+  -- what an instruction may name of the parts of a builder
+  abbrev pub NamedIn : Body → ContextState → T → Type 0
+  NamedIn f c held = kind.CanBeNamed (CanLeadIn f c) (ValueExists f) (EntryExists f.tables) held
 
-pub table_taken : (table : ℕ) (edges : List BlockCall) (old new : FunctionBuilder) → old.failed ≡ false → SameLoans old new → new.position ≡ old.position → new.srcloc ≡ old.srcloc
-    → new.ctx.now ≡ old.ctx.now → new.failed ≡ false → IsConsistent old.func.now → table_edges old table ≡ Some edges
-    → new.func.now ≡ with_tables old.func.now (with_table_served old.func.now.tables table) → TakesJumpTable old new table (Ok edges)
-table_taken table edges old new fine loans position srcloc context fails consistent found made =
-    let f : Body = old.func.now in
-    record {
-      sets = set_tables (with_table_served f.tables table) old new (Ok edges) (served_aside f table) fine loans position srcloc context fails consistent (calls.by_success edges) made tt;
-      edges = found;
-      leads = leads_taken table edges old new context found made;
-      only_failed = tt;
-    }
+  -- what a table that may serve holds is taken
+  named_taken : (table : ℕ) (held : T) (old new : FunctionBuilder) → new.ctx.now ≡ old.ctx.now → table_held kind old table ≡ Some held
+      → (NamedIn old.func.now old.ctx.now held → NamedIn (with_tables old.func.now (kind.with_served old.func.now.tables table)) old.ctx.now held)
+      → new.func.now ≡ with_tables old.func.now (kind.with_served old.func.now.tables table) → MayServeFor kind old table → CanBeNamed kind new held
+  named_taken table held old new context found stay made (other, is, named) =
+      let same : other ≡ held = cc in
+      subst (λ (c : ContextState). NamedIn new.func.now c held) (sym context)
+      (subst (λ (f : Body). NamedIn f old.ctx.now held) (sym made) (stay (subst (NamedIn old.func.now old.ctx.now) same named)))
 
-pub take_refused : (table : ℕ) (old : FunctionBuilder) → old.failed ≡ true → TakesJumpTable old old table (Err Failed)
-take_refused table old failed = record { sets = set_refused (with_table_served old.func.now.tables table) old failed; edges = tt; leads = λ serves. tt; only_failed = refl }
+  pub table_taken : (table : ℕ) (held : T) (old new : FunctionBuilder) → AreAside in_ledger old.func.now (kind.with_served old.func.now.tables table)
+      → (NamedIn old.func.now old.ctx.now held → NamedIn (with_tables old.func.now (kind.with_served old.func.now.tables table)) old.ctx.now held)
+      → old.failed ≡ false → SameLoans old new → new.position ≡ old.position → new.srcloc ≡ old.srcloc
+      → new.ctx.now ≡ old.ctx.now → new.failed ≡ false → IsConsistent old.func.now → table_held kind old table ≡ Some held
+      → new.func.now ≡ with_tables old.func.now (kind.with_served old.func.now.tables table) → Takes kind in_ledger old new table (Ok held)
+  table_taken table held old new aside stay fine loans position srcloc context fails consistent found made =
+      record {
+        sets = set_tables in_ledger (kind.with_served old.func.now.tables table) old new (Ok held) aside fine loans position srcloc context fails consistent (calls.by_success held) made tt;
+        held = found;
+        can_be_named = named_taken table held old new context found stay made;
+        only_failed = tt;
+      }
+
+  pub take_refused : (table : ℕ) (old : FunctionBuilder) → old.failed ≡ true → Takes kind in_ledger old old table (Err Failed)
+  take_refused table old failed =
+      record { sets = set_refused in_ledger (kind.with_served old.func.now.tables table) old failed; held = tt; can_be_named = λ serves. tt; only_failed = refl }
 
 -- what holds, whatever is answered
 pub on_any : {X P : Type 0} (r : Result X BuildError) → P → OnOk r P
@@ -270,8 +301,8 @@ pub edge_made : (block : ℕ) (args : List BlockArg) (old new : FunctionBuilder)
     → new.ctx.now ≡ old.ctx.now → new.failed ≡ is_err answer → IsConsistent old.func.now → new.func.now ≡ old.func.now → OnErr answer (answer ≡ Err Memory)
     → IfOk answer (λ edge. (edge.block ≡ block) × (edge.args ≡ args)) → MakesEdge block args old new answer
 edge_made block args old new answer fine loans position srcloc context fails consistent same only_memory edge = record {
-  sets = set_tables old.func.now.tables old new answer (same_aside old.func.now) fine loans position srcloc context fails consistent (calls.by_memory answer only_memory) (on_any answer same) (err_any answer same);
-  grows = on_any answer (subst (Grows old.func.now) (sym same) (omega arith, omega arith, omega arith, refl, refl, omega arith, refl, λ entry here. here));
+  sets = set_tables false old.func.now.tables old new answer (same_aside old.func.now) fine loans position srcloc context fails consistent (calls.by_memory answer only_memory) (on_any answer same) (err_any answer same);
+  grows = on_any answer (subst (Grows old.func.now) (sym same) (omega arith, omega arith, omega arith, refl, refl, omega arith, refl, λ entry here. here, refl));
   edge = parts answer edge;
   never_full = not_full answer only_memory;
 }
@@ -286,4 +317,4 @@ edge_made block args old new answer fine loans position srcloc context fails con
 
 pub edge_refused : (block : ℕ) (args : List BlockArg) (old : FunctionBuilder) → old.failed ≡ true → MakesEdge block args old old (Err Failed)
 edge_refused block args old failed =
-    record { sets = set_refused old.func.now.tables old failed; grows = tt; edge = tt; never_full = λ is. let no_way : ⊥ = cc in absurd no_way }
+    record { sets = set_refused false old.func.now.tables old failed; grows = tt; edge = tt; never_full = λ is. let no_way : ⊥ = cc in absurd no_way }

@@ -11,20 +11,22 @@ use Rattle.cranelift_frontend.specs.declared.builder.FunctionBuilder.{FunctionBu
 abbrev pub EntriesStay : TableLists → TableLists → Type 0
 EntriesStay t u = (entry : EntryRef) → EntryExists t entry → EntryExists u entry
 
--- no table of the function is shorter, and its name, its signature and the entries that instructions name stay; jump tables may
--- change
+-- no table of the function is shorter, and its name, its signature and the entries that instructions name stay; jump tables and
+-- exception tables may change
 abbrev pub GrowsBesideTables : Body → Body → Type 0
 GrowsBesideTables f g =
     (length f.values ≤ length g.values) × (length f.insts ≤ length g.insts) × (length f.blocks ≤ length g.blocks)
     × (g.name ≡ f.name) × (g.signature ≡ f.signature) × (length f.tables.stack_slots ≤ length g.tables.stack_slots)
     × EntriesStay f.tables g.tables
 
--- no table of the function is shorter, and its name, its signature, its jump tables and the entries that instructions name stay
+-- no table of the function is shorter, and its name, its signature, its jump tables, the entries that instructions name and its
+-- exception tables stay
 abbrev pub Grows : Body → Body → Type 0
 Grows f g =
     (length f.values ≤ length g.values) × (length f.insts ≤ length g.insts) × (length f.blocks ≤ length g.blocks)
     × (g.name ≡ f.name) × (g.signature ≡ f.signature) × (length f.tables.stack_slots ≤ length g.tables.stack_slots)
     × (g.tables.jump_tables ≡ f.tables.jump_tables) × EntriesStay f.tables g.tables
+    × (g.tables.exception_tables ≡ f.tables.exception_tables)
 
 -- each value keeps its type
 abbrev pub TypesStay : Body → Body → Type 0

@@ -1,14 +1,14 @@
-//! The builder's calls that make stack slots, signatures, functions, global values and jump tables.
+//! The builder's calls that make stack slots, signatures, functions, global values, jump tables and exception tables.
 ghost use Rattle.std.specs.Prelude.{◌≡◌, ◌<◌, length, slice_get, option_copied};
 ghost use Rattle.clif_tables.specs.Entries.{AStackSlot, ADynamicStackSlot, AGlobalValue, ASignature, AFunction};
-ghost use Rattle.cranelift_frontend.specs.Entries.{CreatesJumpTable, MakesEdge, MakesEntry};
+ghost use Rattle.cranelift_frontend.specs.Entries.{CreatesExceptionTable, CreatesJumpTable, MakesEdge, MakesEntry};
 
 use crate::builder::FunctionBuilder;
 use clif_instructions::block_call::{BlockArg, BlockCall};
-use clif_ir::JumpTableData;
+use clif_ir::{ExceptionTableData, JumpTableData};
 use clif_types::{
-    Block, BuildError, DynamicStackSlot, DynamicStackSlotData, ExtFuncData, FuncRef, GlobalValue,
-    GlobalValueData, JumpTable, SigRef, Signature, StackSlot, StackSlotData,
+    Block, BuildError, DynamicStackSlot, DynamicStackSlotData, ExceptionTable, ExtFuncData,
+    FuncRef, GlobalValue, GlobalValueData, JumpTable, SigRef, Signature, StackSlot, StackSlotData,
 };
 
 impl<'a> FunctionBuilder<'a> {
@@ -94,8 +94,8 @@ impl<'a> FunctionBuilder<'a> {
         made
     }
 
-    /// The edge to a block that passes these arguments to its parameters, in order, for a jump table: nothing is made in
-    /// the function.
+    /// The edge to a block that passes these arguments to its parameters, in order, for a jump table or an exception
+    /// table: nothing is made in the function.
     ///
     /// The only errors are `Memory` and `Failed`.
     pub fn block_call(&mut self, block: Block, args: &[BlockArg]) -> Result<BlockCall, BuildError>
@@ -124,6 +124,29 @@ impl<'a> FunctionBuilder<'a> {
         }
         self.func.law_consistent();
         let made = self.func.create_jump_table(table);
+        self.failed = made.is_err();
+        made
+    }
+
+    /// Makes an exception table, for one `try_call` or `try_call_indirect`: the signature of the call, the edge along which
+    /// it goes when it returns, and the items, which say along which edge it goes when it throws. [`block_call`] makes
+    /// the edges.
+    ///
+    /// No branch is made, and what the table names is asked for only by the try call. Errors are those of
+    /// [`FunctionBuilder::create_sized_stack_slot`].
+    ///
+    /// [`block_call`]: FunctionBuilder::block_call
+    pub fn create_exception_table(
+        &mut self,
+        table: ExceptionTableData,
+    ) -> Result<ExceptionTable, BuildError>
+        ensures { CreatesExceptionTable table self.old self.new result }
+    {
+        if self.failed {
+            return Err(BuildError::Failed);
+        }
+        self.func.law_consistent();
+        let made = self.func.create_exception_table(table);
         self.failed = made.is_err();
         made
     }

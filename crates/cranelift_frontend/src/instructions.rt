@@ -12,16 +12,18 @@ ghost use Rattle.clif_ssa.specs.Structure.{LooksOnce};
 ghost use Rattle.cranelift_frontend.specs.Builder.{HasCurrent, CanLead, CanLeadIn, AppendsIn};
 ghost use Rattle.cranelift_frontend.specs.Built.{Builds, BuildsPair, BuildsValue};
 ghost use Rattle.cranelift_frontend.specs.Construction.{IsDeclared};
-ghost use Rattle.cranelift_frontend.specs.Entries.{MayServe, PoolsConstant, TakesJumpTable};
+ghost use Rattle.cranelift_frontend.specs.Entries.{MayServe, MayServeTry, PoolsConstant, TakesExceptionTable, TakesJumpTable};
 ghost use Rattle.std.proofs.lemmas.Option.{slice_get_within as pooled_below};
 
 use crate::builder::FunctionBuilder;
 use crate::context::{BlockStatus, FunctionBuilderContext};
 use crate::frontend::begin_block;
 use clif_inst_builder::{InstBuilderBase, both_values};
-use clif_instructions::inst_list::InsertAt;
-use clif_ir::{Function, InstructionData, JumpTableData};
-use clif_types::{Block, BuildError, Constant, Inst, JumpTable, SourceLoc, Type, Value};
+use clif_instructions::insert_at::InsertAt;
+use clif_ir::{ExceptionTargets, Function, InstructionData, JumpTableData};
+use clif_types::{
+    Block, BuildError, Constant, ExceptionTable, Inst, JumpTable, SourceLoc, Type, Value,
+};
 use std::alloc::Global;
 
 /// What [`FunctionBuilder::ins`] lends: the builder itself, whose methods make instructions.
@@ -58,6 +60,10 @@ impl<'a> InstBuilderBase for FunctionBuilder<'a> {
 
     ghost takes = { TakesJumpTable };
 
+    ghost has_exception_table = { MayServeTry };
+
+    ghost takes_exception = { TakesExceptionTable };
+
     ghost builds = { Builds };
 
     ghost builds_value = { BuildsValue };
@@ -86,12 +92,24 @@ impl<'a> InstBuilderBase for FunctionBuilder<'a> {
     ghost pooled_builds = { λ old new bytes constant pooled current.
         pooled.sets.current current };
 
-    ghost taken_leads = { λ old new table edges taken serves. taken.leads serves };
+    ghost taken_leads = { λ old new table edges taken serves. taken.can_be_named serves };
 
     ghost taken_values = { λ old new table edges taken value here.
         lt_of_lt_of_le here taken.sets.grows.0 };
 
     ghost taken_builds = { λ old new table edges taken current. taken.sets.current current };
+
+    ghost exception_can_be_named = { λ old new table exception taken serves.
+        taken.can_be_named serves };
+
+    ghost exception_values = { λ old new table exception taken value here.
+        lt_of_lt_of_le here taken.sets.grows.0 };
+
+    ghost exception_entries = { λ old new table exception taken entry here.
+        taken.sets.grows.6 entry here };
+
+    ghost exception_builds = { λ old new table exception taken current.
+        taken.sets.current current };
 
     fn value_type(&self, value: Value) -> Type {
         self.func.value_type(value)
@@ -120,6 +138,20 @@ impl<'a> InstBuilderBase for FunctionBuilder<'a> {
             unreachable!();
         };
         Ok(edges)
+    }
+
+    fn take_exception_table(
+        &mut self,
+        table: ExceptionTable,
+    ) -> Result<ExceptionTargets, BuildError> {
+        if self.failed {
+            return Err(BuildError::Failed);
+        }
+        self.func.law_consistent();
+        let Some(exception) = self.func.take_exception_table(table) else {
+            unreachable!();
+        };
+        Ok(exception)
     }
 
     fn build(&mut self, shape: InstructionData, ctrl_type: Type) -> Result<Inst, BuildError> {

@@ -15,8 +15,9 @@ pub mod laws;
 pub use builder::FunctionBuilder;
 pub use clif_inst_builder::{InstBuilder, InstBuilderBase};
 pub use clif_ir::{
-    BinaryOpcode, BlockArg, BlockArgs, BlockCall, CondTrapOpcode, ConvertOpcode, FloatConstOpcode,
-    Function, InstructionData, JumpTableData, PooledConstOpcode, UnaryOpcode, ValueDef, ValueList,
+    BinaryOpcode, BlockArg, BlockArgs, BlockCall, CondTrapOpcode, ConvertOpcode, ExceptionItem,
+    ExceptionTableData, ExceptionTableItem, ExceptionTargets, FloatConstOpcode, Function,
+    InstructionData, JumpTableData, PooledConstOpcode, UnaryOpcode, ValueDef, ValueList,
 };
 pub use clif_ssa::Variable;
 pub use clif_types::{

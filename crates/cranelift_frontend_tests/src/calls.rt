@@ -14,15 +14,15 @@ use std::alloc::Global;
 use std::process::Abort;
 use std::test::Fail;
 
-// Asserts that a signature was imported.
-fn asserts_signature(rt: &impl Abort, builder: &FunctionBuilder<'_>, signature: SigRef)
+/// Asserts that a signature was imported.
+pub fn asserts_signature(rt: &impl Abort, builder: &FunctionBuilder<'_>, signature: SigRef)
     ensures { signature < length builder.now.func.now.tables.signatures }
 {
     assert!(rt; signature.index() < builder.func().tables().signature_count());
 }
 
-// Asserts that a function was imported.
-fn asserts_function(rt: &impl Abort, builder: &FunctionBuilder<'_>, function: FuncRef)
+/// Asserts that a function was imported.
+pub fn asserts_function(rt: &impl Abort, builder: &FunctionBuilder<'_>, function: FuncRef)
     ensures { function < length builder.now.func.now.tables.functions }
 {
     assert!(rt; function.index() < builder.func().tables().function_count());

@@ -25,4 +25,6 @@ mod refusals;
 #[cfg(test)]
 mod steps;
 #[cfg(test)]
+mod try_calls;
+#[cfg(test)]
 mod undefined;

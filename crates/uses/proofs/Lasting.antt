@@ -33,7 +33,7 @@ pub record Keeps (old new : FunctionBuilder) : Type 0 where
 
 pub and_then : {first middle last : FunctionBuilder} → Keeps first middle → Keeps middle last → Keeps first last
 and_then a b = record {
-  grows = (omega (arith, a.grows.0, b.grows.0), omega (arith, a.grows.1, b.grows.1), omega (arith, a.grows.2, b.grows.2), b.grows.3 ∙ a.grows.3, b.grows.4 ∙ a.grows.4, omega (arith, a.grows.5, b.grows.5), b.grows.6 ∙ a.grows.6, λ entry here. b.grows.7 entry (a.grows.7 entry here));
+  grows = (omega (arith, a.grows.0, b.grows.0), omega (arith, a.grows.1, b.grows.1), omega (arith, a.grows.2, b.grows.2), b.grows.3 ∙ a.grows.3, b.grows.4 ∙ a.grows.4, omega (arith, a.grows.5, b.grows.5), b.grows.6 ∙ a.grows.6, λ entry here. b.grows.7 entry (a.grows.7 entry here), b.grows.8 ∙ a.grows.8);
   types = λ v here. b.types v (omega (arith, here, a.grows.0)) ∙ a.types v here;
   seals = λ k. b.seals k ∙ a.seals k;
   fills = λ k filled. a.fills k (b.fills k filled);
@@ -79,7 +79,7 @@ lent_on {first} kept is = subst (λ (b : FunctionBuilder). Keeps first b) (sym i
 
 pub same : {old new : FunctionBuilder} → new ≡ old → Keeps old new
 same {old} is = subst (λ (b : FunctionBuilder). Keeps old b) (sym is) (record {
-  grows = (omega arith, omega arith, omega arith, refl, refl, omega arith, refl, λ entry here. here);
+  grows = (omega arith, omega arith, omega arith, refl, refl, omega arith, refl, λ entry here. here, refl);
   types = λ v here. refl;
   seals = λ k. refl;
   fills = λ k filled. filled;

@@ -3,8 +3,7 @@ use Rattle.std.proofs.lemmas.Grind.{common_steps}
 use Rattle.clif_ir.specs.Changes.{with_branch_argument}
 use Rattle.clif_ir.specs.Whole.{body_of}
 use Rattle.clif_ir.proofs.Keeps.{consistent_at}
-use Rattle.clif_ir.proofs.KeepsBranch.{with_branch_argument_consistent, with_branch_argument_placed}
-use Rattle.clif_ir.proofs.KeepsPlaces.{placed_with}
+use Rattle.clif_ir.proofs.KeepsBranch.{with_branch_argument_consistent}
 use Rattle.clif_ir.proofs.function.Function.append_branch_argument.Goals as goal
 
 pub invariant_of-self-2 : goal.invariant_of-self-2
@@ -13,6 +12,7 @@ invariant_of-self-2 c = record {
   listed = c.self.invariant.listed;
   consistent = consistent_at (with_branch_argument (body_of c.self.inside) c.args.inst c.args.block c.args.value) _ (grind (arith, common_steps))
       (with_branch_argument_consistent _ _ _ _ c.self.invariant.consistent (grind (arith, common_steps)) (grind (arith, common_steps)));
-  placed = placed_with (with_branch_argument (body_of c.self.inside) c.args.inst c.args.block c.args.value) _ _ _ _ _ (grind (arith, common_steps)) (grind (arith, common_steps)) (grind (arith, common_steps))
-      (with_branch_argument_placed _ _ _ _ _ _ c.self.invariant.placed);
+  threaded = c.self.invariant.threaded;
+  link_count = grind (arith, common_steps, c.self.invariant.link_count);
+  place_count = c.self.invariant.place_count;
 }

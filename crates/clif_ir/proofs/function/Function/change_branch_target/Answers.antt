@@ -4,8 +4,7 @@ use Rattle.std.proofs.lemmas.Grind.{common_steps}
 use Rattle.clif_ir.specs.Changes.{with_branch_target}
 use Rattle.clif_ir.specs.Whole.{body_of}
 use Rattle.clif_ir.proofs.Keeps.{consistent_at}
-use Rattle.clif_ir.proofs.KeepsShape.{with_branch_target_consistent, with_shape_placed}
-use Rattle.clif_ir.proofs.KeepsPlaces.{placed_with}
+use Rattle.clif_ir.proofs.KeepsShape.{with_branch_target_consistent}
 use Rattle.clif_ir.proofs.function.Function.change_branch_target.Goals as goal
 
 pub invariant_of-self : goal.invariant_of-self
@@ -14,6 +13,7 @@ invariant_of-self c = record {
   listed = c.self.invariant.listed;
   consistent = consistent_at (with_branch_target (body_of c.self.inside) c.args.inst c.args.from c.args.to) _ (grind (arith, common_steps))
       (with_branch_target_consistent _ _ _ _ c.self.invariant.consistent (grind (arith, common_steps)) (grind (arith, common_steps)));
-  placed = placed_with (with_branch_target (body_of c.self.inside) c.args.inst c.args.from c.args.to) _ _ _ _ _ (grind (arith, common_steps)) (grind (arith, common_steps)) (grind (arith, common_steps))
-      (with_shape_placed _ _ _ _ _ c.self.invariant.placed);
+  threaded = c.self.invariant.threaded;
+  link_count = grind (arith, common_steps, c.self.invariant.link_count);
+  place_count = c.self.invariant.place_count;
 }

@@ -1,18 +1,20 @@
-use Rattle.std.proofs.Common.{◌≡◌, ◌+◌, ◌<◌, ◌∙◌, ap, length, sym, subst, arith, rules}
-use Rattle.std.specs.Prelude.{slice_get, IfSome}
-use Rattle.std.proofs.lemmas.Grind.{common_steps}
+use Rattle.std.proofs.Common.{◌<◌, ◌∙◌, ap, length, sym, subst}
+use Rattle.std.specs.Prelude.{IfSome}
+use Rattle.clif_instructions.specs.Members.{next_in}
+use Rattle.clif_nodes.specs.Links.{links_at}
 use Rattle.clif_ir.specs.Body.{Body, block_at, inst_at}
 use Rattle.clif_ir.specs.Consistent.{IsConsistent}
-use Rattle.clif_instructions.specs.Members.{Once}
+use Rattle.clif_ir.specs.Whole.{body_of}
 use Rattle.clif_ir.proofs.Orders.{next_in-below}
-use Rattle.clif_instructions.proofs.Members.{next_in-at}
+use Rattle.clif_ir.proofs.Rows.{next_read}
 use Rattle.clif_ir.proofs.function.Function.next_inst.Goals as goal
 
 pub returns-clause-exact : goal.returns-clause-exact
 returns-clause-exact c =
-    let block : c.index-4.result.now.insts ≡ (block_at c.args.self.now (inst_at c.args.self.now c.args.inst).block).insts = first_of (search rules, grind (arith, common_steps)) in
-    c.get.ensures ∙ ap (λ insts. slice_get insts (c.inst_place-place.result + 1)) block
-    ∙ sym (next_in-at _ _ _ (subst (λ (f : Body). Once (block_at f (inst_at c.args.self.now c.args.inst).block).insts) c.self.view_is (c.self.invariant.consistent.insts_once _)) c.inst_place-place.ensures.inside c.inst_place-place.ensures.there)
+    let exists : c.args.inst < length (body_of c.self.inside).insts = subst (λ (f : Body). c.args.inst < length f.insts) (sym c.self.view_is) c.requires in
+    c.next_of.ensures ∙ ap (λ links. (links_at links c.args.inst).next) c.deref.ensures.value
+    ∙ next_read (body_of c.self.inside) c.self.inside.blocks.items c.self.inside.inst_links.items c.args.inst c.self.invariant.consistent c.self.invariant.threaded exists
+    ∙ ap (λ (f : Body). next_in (block_at f (inst_at f c.args.inst).block).insts c.args.inst) c.self.view_is
 
 pub returns-clause-exists : goal.returns-clause-exists
 returns-clause-exists c =

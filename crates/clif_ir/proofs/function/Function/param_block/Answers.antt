@@ -1,6 +1,6 @@
 use Rattle.std.proofs.Common.{◌≡◌, ◌∙◌, ap, subst, rules, arith}
 use Rattle.std.proofs.lemmas.Grind.{common_steps}
-use Rattle.clif_ir.specs.declared.function.ValueOrigin.TheVariants.{Param}
+use Rattle.clif_nodes.specs.declared.nodes.ValueOrigin.TheVariants.{Param}
 use Rattle.clif_ir.specs.Body.{Body, value_at, block_at}
 use Rattle.clif_ir.specs.Consistent.{IsOrigin}
 use Rattle.clif_instructions.specs.Members.{Stands}

@@ -8,8 +8,6 @@ use Rattle.clif_ir.specs.Changes.{with_passed_argument}
 use Rattle.clif_ir.specs.Whole.{body_of}
 use Rattle.clif_ir.proofs.Keeps.{consistent_at}
 use Rattle.clif_ir.proofs.KeepsOperand.{with_passed_argument_consistent}
-use Rattle.clif_ir.proofs.KeepsShape.{with_shape_placed}
-use Rattle.clif_ir.proofs.KeepsPlaces.{placed_with}
 use Rattle.clif_ir.proofs.function.Function.replace_branch_argument.Goals as goal
 
 pub invariant_of-self : goal.invariant_of-self
@@ -23,6 +21,7 @@ invariant_of-self c =
       listed = c.self.invariant.listed;
       consistent = consistent_at (with_passed_argument (body_of c.self.inside) c.args.inst c.args.edge c.args.place c.args.value) _ (grind (arith, common_steps))
           (with_passed_argument_consistent _ _ _ _ _ c.self.invariant.consistent (grind (arith, common_steps)) edge place (grind (arith, common_steps)));
-      placed = placed_with (with_passed_argument (body_of c.self.inside) c.args.inst c.args.edge c.args.place c.args.value) _ _ _ _ _ (grind (arith, common_steps)) (grind (arith, common_steps)) (grind (arith, common_steps))
-          (with_shape_placed _ _ _ _ _ c.self.invariant.placed);
+      threaded = c.self.invariant.threaded;
+      link_count = grind (arith, common_steps, c.self.invariant.link_count);
+      place_count = c.self.invariant.place_count;
     }

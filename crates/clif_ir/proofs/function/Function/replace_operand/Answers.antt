@@ -7,8 +7,6 @@ use Rattle.clif_ir.specs.Changes.{with_operand_at}
 use Rattle.clif_ir.specs.Whole.{body_of}
 use Rattle.clif_ir.proofs.Keeps.{consistent_at}
 use Rattle.clif_ir.proofs.KeepsOperand.{with_operand_at_consistent}
-use Rattle.clif_ir.proofs.KeepsShape.{with_shape_placed}
-use Rattle.clif_ir.proofs.KeepsPlaces.{placed_with}
 use Rattle.clif_ir.proofs.function.Function.replace_operand.Goals as goal
 
 pub invariant_of-self : goal.invariant_of-self
@@ -20,6 +18,7 @@ invariant_of-self c =
       listed = c.self.invariant.listed;
       consistent = consistent_at (with_operand_at (body_of c.self.inside) c.args.inst c.args.place c.args.value) _ (grind (arith, common_steps))
           (with_operand_at_consistent _ _ _ _ c.self.invariant.consistent (grind (arith, common_steps)) place (grind (arith, common_steps)));
-      placed = placed_with (with_operand_at (body_of c.self.inside) c.args.inst c.args.place c.args.value) _ _ _ _ _ (grind (arith, common_steps)) (grind (arith, common_steps)) (grind (arith, common_steps))
-          (with_shape_placed _ _ _ _ _ c.self.invariant.placed);
+      threaded = c.self.invariant.threaded;
+      link_count = grind (arith, common_steps, c.self.invariant.link_count);
+      place_count = c.self.invariant.place_count;
     }

@@ -5,8 +5,9 @@ use Rattle.clif_types.specs.declared.types.«Type».{«Type»}
 use Rattle.clif_types.specs.declared.error.BuildError.{BuildError}
 use Rattle.clif_ir.specs.Body.{Body}
 use Rattle.clif_instructions.specs.declared.instructions.InstructionData.{InstructionData}
-use Rattle.clif_instructions.specs.declared.inst_list.InsertAt.TheVariants.{Back}
-use Rattle.clif_ir.specs.Changes.{with_inst, inst_node, result_nodes}
+use Rattle.clif_instructions.specs.declared.insert_at.InsertAt.TheVariants.{Back}
+use Rattle.clif_ir.specs.Changes.{with_inst, inst_node}
+use Rattle.clif_nodes.specs.Nodes.{result_nodes}
 use Rattle.clif_ssa_tests.proofs.Names.{Grows, same-named}
 use Rattle.clif_ssa_tests.proofs.support.Fixture.insert.Goals as goal
 

@@ -1,0 +1,8 @@
+-- Tables that the tests make. Source: own.
+use Rattle.std.specs.Prelude.{ℕ, [], ◌∷◌}
+use Rattle.clif_instructions.specs.declared.block_call.BlockArg.TheVariants.{TryCallRet}
+use Rattle.clif_instructions.specs.ExceptionTables.{ExceptionShape}
+
+-- an exception table of this signature that goes to a block with the first value that the call gives, and catches nothing
+abbrev pub to_block : ℕ → ℕ → ExceptionShape
+to_block sig block = record { sig = sig; edges = record { block = block; args = TryCallRet 0 ∷ [] } ∷ []; items = [] }
