@@ -2,6 +2,7 @@
 #![tactic(auto)]
 
 use crate::support::{STEPS, built, script_of, zeros};
+use clif_interpreter::outside::Zeros;
 use clif_interpreter::{End, Ending, RunError, World, function, script};
 use cranelift_frontend::FunctionBuilderContext;
 use std::alloc::Global;
@@ -35,6 +36,7 @@ fn script_tells(
         memory: &zeros(alloc)?,
         pointer_width: text.config.pointer_width,
         slots: 4096,
+        outside: &Zeros,
     };
     let run = script::run(alloc, text.calls.as_slice(), &text.signature, &world, STEPS);
     assert!(rt; told(alloc, run)?.as_str() == expected);
@@ -58,6 +60,7 @@ fn function_tells(
         memory: &zeros(alloc)?,
         pointer_width: text.config.pointer_width,
         slots: 4096,
+        outside: &Zeros,
     };
     let run = function::run(alloc, &func, &world, STEPS);
     assert!(rt; told(alloc, run)?.as_str() == expected);

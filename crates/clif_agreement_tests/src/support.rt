@@ -4,6 +4,7 @@
 ghost use Rattle.std.specs.Prelude.{◌≡◌};
 ghost use Rattle.cranelift_frontend.specs.Context.{empty_context};
 
+use clif_interpreter::outside::Zeros;
 use clif_interpreter::{End, Ending, Memory, World, function, script};
 use clif_ir::Function;
 use clif_script::replay;
@@ -62,6 +63,7 @@ fn both_end(
         memory,
         pointer_width: text.config.pointer_width,
         slots: memory.start(),
+        outside: &Zeros,
     };
     let calls = text.calls.as_slice();
     let shown = script::run(alloc, calls, &text.signature, &world, STEPS)?;
@@ -82,6 +84,7 @@ pub fn answers(
     let mut ctx = FunctionBuilderContext::new(alloc);
     let func = built(alloc, text, &mut ctx)?;
     let ending = Ending {
+        events: Vec::new(alloc),
         end: End::Returned(vec![in alloc; number]?),
         memory: zeros(alloc)?,
     };
@@ -123,7 +126,11 @@ pub fn text_ends(
         &func,
         arguments,
         before,
-        &Ending { end, memory },
+        &Ending {
+            events: Vec::new(alloc),
+            end,
+            memory,
+        },
     )
 }
 

@@ -1,4 +1,5 @@
 //! The calls of a script, and the names of their answers.
+use crate::entry::EntryCall;
 use clif_records::Variable;
 use clif_types::{IntCC, JumpTable, MemFlagsData, StackSlot, TrapCode, Type};
 
@@ -208,8 +209,8 @@ pub enum PlainInstruction {
 
 /// One call on a builder, with names in place of what earlier calls answered.
 ///
-/// Each variant but `Plain` is the builder's method, or the instruction, of its name, and has its conditions. A
-/// variable is named by its number.
+/// Each variant but `Entry` and `Plain` is the builder's method, or the instruction, of its name, and has its
+/// conditions. A variable is named by its number.
 #[derive(Drop)]
 pub enum Call {
     /// `create_block()`: answers the block.
@@ -252,12 +253,8 @@ pub enum Call {
     AppendBlockParamsForFunctionReturns {
         block: Name,
     },
-    /// `create_sized_stack_slot(StackSlotData::new(size, align_shift))`: answers the slot, which is numbered from 0 on.
-    /// The alignment is at most 2^31.
-    CreateSizedStackSlot {
-        size: u32,
-        align_shift: u8,
-    },
+    /// A call that makes an entry of a table: answers the entry.
+    Entry(EntryCall),
     /// `block_call(block, args)`: answers the edge, which a jump table may be made of. Its target exists, and what it
     /// passes.
     BlockCall {

@@ -2,7 +2,9 @@
 #![tactic(auto)]
 
 mod call;
+mod entry;
 mod plan;
 
 pub use call::{Call, Edge, Name, PlainInstruction};
+pub use entry::EntryCall;
 pub use plan::Plan;

@@ -20,7 +20,7 @@ use Rattle.clif_ir.specs.Body.{Body, inst_at, block_at}
 use Rattle.clif_tables.specs.Callees.{types_of}
 use Rattle.clif_meaning.specs.Instruction.{operation_typing}
 use Rattle.clif_meaning.specs.Typing as premise
-use Rattle.clif_meaning.specs.View.{operation_of, placed_of}
+use Rattle.clif_meaning.specs.View.{instruction_of, operation_of}
 use Rattle.clif_meaning.proofs.OperationTypes.{operation_typed}
 use Rattle.clif_check.specs.declared.error.CheckErrorKind.{CheckErrorKind}
 use Rattle.clif_check.specs.declared.error.CheckErrorKind.TheVariants as kind
@@ -108,7 +108,7 @@ IsMade f node row = IsTrue (is_met row.demand (controlling_type f node))
 
 abbrev Premise : Body → InstNode → Type 0
 Premise f node =
-    premise.IsWellTyped (type_at f) (λ block. types_at f (block_at f block).params) (types_of f.signature.returns) (placed_of f node).instruction
+    premise.IsWellTyped (type_at f) (λ block. types_at f (block_at f block).params) (types_of f.signature.returns) (instruction_of f node)
 
 premised : (f : Body) (node : InstNode) → ((kind : CheckErrorKind) → IsRight f node kind) → Premise f node
 premised f node right =

@@ -19,7 +19,7 @@ use Rattle.clif_ir.specs.Body.{Body, value_at, inst_at, block_at}
 use Rattle.clif_tables.specs.Callees.{types_of}
 use Rattle.clif_meaning.specs.Typing.{argument_type, argument_types, call_shape, EdgeMatches, EachEdgeMatches}
 use Rattle.clif_meaning.specs.Typing as premise
-use Rattle.clif_meaning.specs.View.{argument_of, controlling_of, edge_of, edges_of, operation_of, placed_of, try_call_of}
+use Rattle.clif_meaning.specs.View.{argument_of, controlling_of, edge_of, edges_of, instruction_of, operation_of, try_call_of}
 use Rattle.clif_check.specs.declared.error.CheckError.{CheckError}
 use Rattle.clif_check.specs.declared.error.CheckErrorKind.{CheckErrorKind}
 use Rattle.clif_check.specs.declared.error.CheckErrorKind.TheVariants as kind
@@ -145,4 +145,4 @@ abbrev pub AgreesWithPremise : Type 0
 AgreesWithPremise =
     (f : Body) (inst : ℕ) → IsWellTyped f inst
     ↔ premise.IsWellTyped (type_at f) (λ block. types_at f (block_at f block).params) (types_of f.signature.returns)
-    (placed_of f (inst_at f inst)).instruction
+    (instruction_of f (inst_at f inst))

@@ -1,1 +1,2 @@
+pub mod JumpTables
 pub mod TryTables

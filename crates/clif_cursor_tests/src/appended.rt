@@ -18,8 +18,8 @@ use std::alloc::{AllocError, Global};
 use std::process::Abort;
 use std::test::Fail;
 
-// The empty function `%sample`.
-fn sample(alloc: Global) -> Result<Function, AllocError> {
+/// The empty function `%sample`.
+pub fn sample(alloc: Global) -> Result<Function, AllocError> {
     let name = UserFuncName::testcase(String::from_str(alloc, "sample")?);
     let signature = Signature::new(alloc, CallConv::SystemV);
     Ok(Function::with_name_signature(alloc, name, signature))

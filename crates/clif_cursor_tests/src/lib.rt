@@ -3,3 +3,5 @@
 
 #[cfg(test)]
 mod appended;
+#[cfg(test)]
+mod tables;

@@ -4,7 +4,7 @@ use Rattle.std.specs.Prelude.{◌≡◌, ℕ, List, [], ◌∷◌, ◌++◌, All
 use Rattle.clif_instructions.specs.declared.block_call.BlockCall.{BlockCall}
 use Rattle.clif_instructions.specs.ExceptionTables.{ExceptionShape, contexts_of}
 use Rattle.clif_instructions.specs.Instruction.{ASignatureRef, EntryRef}
-use Rattle.clif_tables.specs.Lists.{TableLists, unserved, with_exception_table_served, with_jump_table, with_table_served}
+use Rattle.clif_tables.specs.Lists.{TableLists, unserved, with_exception_table, with_exception_table_served, with_jump_table, with_table_served}
 
 -- a kind of such tables, of which each holds a `T` until an instruction takes it
 pub record TableKind (T : Type 0) : Type 1 where
@@ -30,7 +30,7 @@ jump_tables = record {
 abbrev pub exception_tables : TableKind ExceptionShape
 exception_tables = record {
   tables = λ t. t.exception_tables;
-  with_table = λ t table. record t { exception_tables = t.exception_tables ++ Some table ∷ [] };
+  with_table = with_exception_table;
   with_served = with_exception_table_served;
   CanBeNamed = λ can_lead has_value has_entry table.
       All can_lead table.edges × All has_value (contexts_of table) × has_entry (ASignatureRef table.sig);

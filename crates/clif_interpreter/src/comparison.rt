@@ -1,5 +1,6 @@
 //! A script and the function that is built of it run side by side.
 use crate::error::RunError;
+use crate::outside::Zeros;
 use crate::run::{End, Ending, World};
 use crate::{function, script};
 use clif_calls::Call;
@@ -29,7 +30,7 @@ pub struct Comparison {
 /// How two runs compare.
 #[derive(Clone, Copy)]
 pub enum Verdict {
-    /// They end with the same values or trap, and the same memory.
+    /// They show the same outside calls, and end with the same values or trap, and the same memory.
     Equal,
     /// One of them hasn't ended.
     Unknown,
@@ -74,6 +75,7 @@ pub fn compare(
         memory: &memory,
         pointer_width,
         slots: SLOTS,
+        outside: &Zeros,
     };
     let script = script::run(alloc, calls, signature, &world, steps)?;
     let function = function::run(alloc, func, &world, steps);
@@ -95,7 +97,7 @@ fn compared(script: &Ending, function: &Ending) -> Verdict {
     if is_out_of_steps(&script.end) || is_out_of_steps(&function.end) {
         return Verdict::Unknown;
     }
-    if script.end != function.end {
+    if script.end != function.end || script.events != function.events {
         return Verdict::Differ;
     }
     match first_difference(script.memory.bytes(), function.memory.bytes()) {

@@ -1,10 +1,14 @@
 //! The interpreter of functions, written from the function machine. It has the bits of values, and follows aliases.
 use crate::error::{Cause, Operand, Place, RunError};
+use crate::outside::{Callee, Event, Outside, Payload, cut};
 use crate::run::{End, Ending, World};
-use clif_ir::{BlockArg, BlockCall, Function, InstructionData};
+use clif_ir::{BlockArg, BlockCall, ExceptionTargets, Function, InstructionData};
 use clif_operations::arithmetic::bits_of_bytes;
 use clif_operations::{Fault, Operation, Outcome, Store, Typed, bits_of, carry_out, kept};
-use clif_types::{Block, Constant, EntityRef, Inst, StackSlot, Type, Value};
+use clif_types::{
+    Block, Constant, EntityRef, ExternalName, FuncRef, Inst, SigRef, Signature, StackSlot, Type,
+    Value,
+};
 use std::alloc::Global;
 
 /// What comes behind an instruction.
@@ -18,18 +22,30 @@ enum Next {
     Ended(End),
 }
 
-/// A run of a function: the bits of the values that were given, and memory.
+/// A run of a function: the bits of the values that were given, memory, and the outside calls so far.
 #[derive(Drop)]
-struct State<'a> {
+struct State<'a, O> {
     alloc: Global,
     func: &'a Function,
     values: Vec<Option<u128>>,
     store: Store,
+    outside: &'a O,
+    events: Vec<Event>,
 }
 
-/// What an instruction of a function does, by its format: a row for each.
-fn operation_of(func: &Function, shape: &InstructionData) -> Result<Operation, Cause> {
-    Ok(match shape {
+/// A call by its parts.
+#[derive(Drop)]
+struct CallParts<'a> {
+    callee: Callee,
+    // the callee's
+    signature: &'a Signature,
+    // the bits of the arguments
+    arguments: Vec<u128>,
+}
+
+/// What an instruction of a function does, by its format: a row for each but the calls.
+fn operation_of(func: &Function, shape: &InstructionData) -> Option<Operation> {
+    Some(match shape {
         InstructionData::UnaryImm { imm } => Operation::Iconst(*imm),
         InstructionData::UnaryIeee { opcode, bits } => Operation::FloatConst(*opcode, *bits),
         InstructionData::UnaryConst { opcode, constant } => {
@@ -75,7 +91,7 @@ fn operation_of(func: &Function, shape: &InstructionData) -> Result<Operation, C
         InstructionData::Call { .. }
         | InstructionData::CallIndirect { .. }
         | InstructionData::TryCall { .. }
-        | InstructionData::TryCallIndirect { .. } => return Err(Cause::OutsideCall),
+        | InstructionData::TryCallIndirect { .. } => return None,
     })
 }
 
@@ -87,7 +103,7 @@ fn pooled_bits(func: &Function, constant: Constant) -> u128 {
     }
 }
 
-impl<'a> State<'a> {
+impl<'a, O: Outside> State<'a, O> {
     // The type of a value.
     fn type_of(&self, value: Value) -> Result<Type, Cause> {
         if value.index() >= self.func.value_count() {
@@ -118,14 +134,29 @@ impl<'a> State<'a> {
         Ok(all)
     }
 
-    // What an edge passes. An instruction with edges that is run is no try call.
-    fn passed(&self, args: &[BlockArg]) -> Result<Vec<Typed>, Cause> {
+    // What the last call returned or threw at a place, of this type.
+    fn answered(&self, ty: Option<Type>, place: u32) -> Result<Typed, Cause> {
+        let Some(ty) = ty else {
+            return Err(Cause::Edge);
+        };
+        let bits = self.outside.value(self.events.as_slice(), place as usize);
+        Ok(kept(ty, cut(ty, bits))?)
+    }
+
+    // What an edge passes.
+    fn passed(&self, args: &[BlockArg], payload: Payload<'_>) -> Result<Vec<Typed>, Cause> {
         let mut passed = Vec::new(self.alloc);
         for arg in args {
-            match arg {
-                BlockArg::Value(value) => passed.push(self.value(*value)?)?,
-                BlockArg::TryCallRet(_) | BlockArg::TryCallExn(_) => return Err(Cause::Edge),
-            }
+            let value = match arg {
+                BlockArg::Value(value) => self.value(*value)?,
+                BlockArg::TryCallRet(place) => {
+                    self.answered(payload.returned(*place as usize), *place)?
+                }
+                BlockArg::TryCallExn(place) => {
+                    self.answered(payload.thrown(*place as usize), *place)?
+                }
+            };
+            passed.push(value)?;
         }
         Ok(passed)
     }
@@ -176,11 +207,11 @@ impl<'a> State<'a> {
         Ok(self.func.first_inst(block))
     }
 
-    fn follow(&mut self, edge: Option<&BlockCall>) -> Result<Next, Cause> {
+    fn follow(&mut self, edge: Option<&BlockCall>, payload: Payload<'_>) -> Result<Next, Cause> {
         let Some(edge) = edge else {
             return Err(Cause::NoTarget);
         };
-        let values = self.passed(edge.args.as_slice())?;
+        let values = self.passed(edge.args.as_slice(), payload)?;
         Ok(Next::At(self.enter(edge.block, values.as_slice())?))
     }
 
@@ -192,9 +223,126 @@ impl<'a> State<'a> {
         }
     }
 
+    // The bits of a call's arguments, which have the types of the signature's parameters.
+    fn arguments(&self, signature: &Signature, values: &[Value]) -> Result<Vec<u128>, Cause> {
+        let params = signature.params.as_slice();
+        if params.len() != values.len() {
+            return Err(Cause::CallArguments);
+        }
+        let mut arguments = Vec::new(self.alloc);
+        for (value, param) in values.iter().zip(params.iter()) {
+            let value = self.value(*value)?;
+            if value.ty != param.value_type {
+                return Err(Cause::CallArguments);
+            }
+            arguments.push(value.bits)?;
+        }
+        Ok(arguments)
+    }
+
+    // A call of an imported function.
+    fn direct(&self, function: FuncRef, values: &[Value]) -> Result<CallParts<'a>, Cause> {
+        let func = self.func;
+        let Some(data) = func.tables().function(function) else {
+            return Err(Cause::NoFunction);
+        };
+        if matches!(&data.name, ExternalName::LibCall(_)) {
+            return Err(Cause::LibraryCall);
+        }
+        let Some(signature) = func.tables().signature(data.signature) else {
+            return Err(Cause::NoFunction);
+        };
+        Ok(CallParts {
+            callee: Callee::Named(data.name.clone()?),
+            signature,
+            arguments: self.arguments(signature, values)?,
+        })
+    }
+
+    // A call of what lies at the address that the first operand is.
+    fn indirect(&self, number: SigRef, operands: &[Value]) -> Result<CallParts<'a>, Cause> {
+        let func = self.func;
+        let Some((address, values)) = operands.split_first() else {
+            return Err(Cause::CallArguments);
+        };
+        let Some(signature) = func.tables().signature(number) else {
+            return Err(Cause::NoFunction);
+        };
+        Ok(CallParts {
+            callee: Callee::AtAddress(self.value(*address)?.bits, number),
+            signature,
+            arguments: self.arguments(signature, values)?,
+        })
+    }
+
+    // Shows a call, and has it answered. The answer is the item's edge that it goes along, if it throws.
+    fn show(&mut self, call: CallParts<'a>, items: usize) -> Result<Option<usize>, Cause> {
+        let CallParts {
+            callee,
+            arguments,
+            ..
+        } = call;
+        self.events.push(Event { callee, arguments })?;
+        let thrown = self.outside.thrown(self.events.as_slice(), items);
+        self.outside
+            .change(self.events.as_slice(), &mut self.store.memory);
+        Ok(thrown.filter(|item| *item < items))
+    }
+
+    // Makes a call that isn't a try call, which gives its results.
+    fn plain_call(&mut self, call: CallParts<'a>, results: &[Value]) -> Result<Next, Cause> {
+        self.show(call, 0)?;
+        for (place, result) in results.iter().enumerate() {
+            let bits = self.outside.value(self.events.as_slice(), place);
+            let ty = self.type_of(*result)?;
+            self.give(*result, cut(ty, bits))?;
+        }
+        Ok(Next::InBlock)
+    }
+
+    // Makes a try call, which goes along the normal edge or along that of an item.
+    fn try_call(&mut self, call: CallParts<'a>, table: &ExceptionTargets) -> Result<Next, Cause> {
+        let edges = table.all_branches();
+        let signature = call.signature;
+        let returns = signature.returns.as_slice();
+        match self.show(call, edges.len().saturating_sub(1))? {
+            Some(item) => self.follow(edges.get(item.saturating_add(1)), Payload::Thrown),
+            None => self.follow(edges.first(), Payload::Returned(returns)),
+        }
+    }
+
+    // Makes a call, if the instruction is one.
+    fn call(&mut self, shape: &InstructionData, results: &[Value]) -> Result<Next, Cause> {
+        match shape {
+            InstructionData::Call { func_ref, args } => {
+                let call = self.direct(*func_ref, args.as_slice())?;
+                self.plain_call(call, results)
+            }
+            InstructionData::CallIndirect { sig_ref, args } => {
+                let call = self.indirect(*sig_ref, args.as_slice())?;
+                self.plain_call(call, results)
+            }
+            InstructionData::TryCall {
+                func_ref,
+                args,
+                exception,
+            } => {
+                let call = self.direct(*func_ref, args.as_slice())?;
+                self.try_call(call, exception)
+            }
+            InstructionData::TryCallIndirect { args, exception } => {
+                let call = self.indirect(exception.signature(), args.as_slice())?;
+                self.try_call(call, exception)
+            }
+            _ => Err(Cause::NoTarget),
+        }
+    }
+
     // Makes an instruction of this shape and with these results.
     fn make(&mut self, shape: &InstructionData, results: &[Value]) -> Result<Next, Cause> {
-        let operation = operation_of(self.func, shape)?;
+        let Some(operation) = operation_of(self.func, shape) else {
+            return self.call(shape, results);
+        };
         let operands = self.all(shape.arguments())?;
         let operands = operands.as_slice();
         let given = self.given(results)?;
@@ -205,7 +353,9 @@ impl<'a> State<'a> {
                 self.give_all(results, bits.as_slice())?;
                 Ok(Next::InBlock)
             }
-            (_, Outcome::Went(number)) => self.follow(shape.branch_destination().get(number)),
+            (_, Outcome::Went(number)) => {
+                self.follow(shape.branch_destination().get(number), Payload::None)
+            }
             (_, Outcome::Returned) => Ok(Next::Ended(End::Returned(bits_of(alloc, operands)?))),
             (_, Outcome::Trapped(code)) => Ok(Next::Ended(End::Trapped(code))),
         }
@@ -241,7 +391,7 @@ impl<'a> State<'a> {
     }
 
     // Gives the arguments to the parameters of the entry block; the answer is its first instruction.
-    fn start(&mut self, entry: Block, world: &World<'_>) -> Result<Option<Inst>, Cause> {
+    fn start(&mut self, entry: Block, world: &World<'_, O>) -> Result<Option<Inst>, Cause> {
         let params = self.params(entry)?;
         if params.len() != world.arguments.len() {
             return Err(Cause::Arguments);
@@ -259,11 +409,12 @@ impl<'a> State<'a> {
 /// # Errors
 ///
 /// Where the function is wrong on the path of the run: a value isn't given yet, types don't fit, or what a load or a
-/// store claims isn't true. And where memory is refused, a value has more than 128 bits, or a stack slot has no place.
-pub fn run(
+/// store claims isn't true. And where memory is refused, a value has more than 128 bits, a stack slot has no place, or
+/// a function of the C library is called.
+pub fn run<'a, O: Outside>(
     alloc: Global,
-    func: &Function,
-    world: &World<'_>,
+    func: &'a Function,
+    world: &World<'a, O>,
     bound: u64,
 ) -> Result<Ending, RunError> {
     let mut state = match begin(alloc, func, world) {
@@ -278,15 +429,20 @@ pub fn run(
         };
     }
     let end = state.steps(first, bound)?;
-    let State { store, .. } = state;
+    let State { store, events, .. } = state;
     Ok(Ending {
+        events,
         end,
         memory: store.memory,
     })
 }
 
 // A run before its first step.
-fn begin<'a>(alloc: Global, func: &'a Function, world: &World<'_>) -> Result<State<'a>, Cause> {
+fn begin<'a, O: Outside>(
+    alloc: Global,
+    func: &'a Function,
+    world: &World<'a, O>,
+) -> Result<State<'a, O>, Cause> {
     let mut values = Vec::new(alloc);
     for _ in 0..func.value_count() {
         values.push(None)?;
@@ -303,5 +459,7 @@ fn begin<'a>(alloc: Global, func: &'a Function, world: &World<'_>) -> Result<Sta
         func,
         values,
         store,
+        outside: world.outside,
+        events: Vec::new(alloc),
     })
 }

@@ -1,6 +1,6 @@
 //! Two plain interpreters: one of scripts, written from the script machine, and one of functions, written from the
 //! function machine. They share memory and the table of what instructions do, and no contract names them: that they
-//! run as the machines do is only tested.
+//! run as the machines do is only tested. Outside calls are shown as events, and answered by whoever the world names.
 //!
 //! [`compare`] runs both side by side. A run never panics. It ends, with what it returned or a trap, or within a bound on its steps; or it tells why it
 //! can't go on (`RunError`). Values have at most 128 bits.
@@ -11,6 +11,7 @@ pub mod comparison;
 pub mod error;
 pub mod function;
 pub mod instruction;
+pub mod outside;
 mod program;
 pub mod run;
 pub mod script;
@@ -20,5 +21,6 @@ pub use arguments::{ArgumentError, arguments_of};
 pub use clif_operations::{Fault, Memory};
 pub use comparison::{Comparison, Verdict, compare};
 pub use error::{Cause, Operand, Place, RunError};
+pub use outside::{Callee, Event, Outside};
 pub use run::{End, Ending, World};
 pub use shown::Shown;

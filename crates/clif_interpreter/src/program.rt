@@ -1,6 +1,6 @@
 //! The variable program of a script: for each block the calls that run in it, in order, and the caller's parameters.
 use crate::instruction::result_count;
-use clif_calls::{Call, Edge, Name};
+use clif_calls::{Call, Edge, EntryCall, Name};
 use clif_types::{AbiParam, EntityRef, JumpTable, Signature, Type};
 use std::alloc::{AllocError, Global};
 
@@ -121,7 +121,7 @@ impl Program {
                 self.add_params(place, *block, signature.returns.as_slice())
             }
             Call::DeclareVar { ty } => Ok(self.variables.push(*ty)?),
-            Call::CreateSizedStackSlot { size, align_shift } => {
+            Call::Entry(EntryCall::CreateSizedStackSlot { size, align_shift }) => {
                 Ok(self.slots.push((*size, *align_shift))?)
             }
             Call::EnsureInsertedBlock => {
@@ -152,6 +152,7 @@ impl Program {
             | Call::SealAllBlocks
             | Call::InsertBlockAfter { .. }
             | Call::SetColdBlock { .. }
+            | Call::Entry(_)
             | Call::BlockCall { .. } => Ok(()),
         }
     }

@@ -1,5 +1,6 @@
 //! What a run is given, and how it ends.
 use crate::error::Cause;
+use crate::outside::Event;
 use clif_operations::arithmetic::greatest;
 use clif_operations::{Memory, Slots, Store, Typed, kept};
 use clif_types::{PointerWidth, TrapCode, Type};
@@ -7,7 +8,7 @@ use std::alloc::Global;
 
 /// What a run is given.
 #[derive(Clone, Copy)]
-pub struct World<'a> {
+pub struct World<'a, O> {
     /// The bits of the arguments.
     pub arguments: &'a [u128],
     /// Memory as the run begins.
@@ -17,9 +18,11 @@ pub struct World<'a> {
     /// The accessible address from which on the stack slots lie, in order, each at the next address that its alignment
     /// allows.
     pub slots: u64,
+    /// Who answers outside calls.
+    pub outside: &'a O,
 }
 
-impl World<'_> {
+impl<O> World<'_, O> {
     /// An argument for a parameter of a type.
     pub(crate) fn argument(&self, ty: Type, bits: u128) -> Result<Typed, Cause> {
         if bits > greatest(ty) {
@@ -50,9 +53,11 @@ pub enum End {
     OutOfSteps,
 }
 
-/// How a run ended, and what is in memory then.
+/// What a run showed: its outside calls, how it ended, and what is in memory then.
 #[derive(PartialEq, Eq, Drop)]
 pub struct Ending {
+    /// Its outside calls, in order.
+    pub events: Vec<Event>,
     /// How it ended.
     pub end: End,
     /// What is in memory then.

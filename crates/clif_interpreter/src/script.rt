@@ -228,7 +228,7 @@ impl State<'_, '_> {
     }
 
     // Gives the arguments to the parameters of the entry block, which are those of the signature.
-    fn start(&mut self, entry: usize, world: &World<'_>) -> Result<(), Cause> {
+    fn start<O>(&mut self, entry: usize, world: &World<'_, O>) -> Result<(), Cause> {
         let program = self.program;
         let Some(block) = program.block(entry) else {
             return Err(Cause::NoTarget);
@@ -348,11 +348,11 @@ fn check_targets(program: &Program, calls: &[Call]) -> Result<(), RunError> {
 /// Where a premise of the theorem doesn't hold of the run: a branch leads to the entry block or to a block without a
 /// terminator, a name has no value yet, types don't fit, or what a load or a store claims isn't true. And where memory
 /// is refused, a value has more than 128 bits, or a stack slot has no place.
-pub fn run(
+pub fn run<O>(
     alloc: Global,
     calls: &[Call],
     signature: &Signature,
-    world: &World<'_>,
+    world: &World<'_, O>,
     bound: u64,
 ) -> Result<Ending, RunError> {
     let program = match Program::of(alloc, calls, signature) {
@@ -374,18 +374,19 @@ pub fn run(
     }
     let State { store, .. } = state;
     Ok(Ending {
+        events: Vec::new(alloc),
         end,
         memory: store.memory,
     })
 }
 
 // A run before its first step.
-fn begin<'s, 'p>(
+fn begin<'s, 'p, O>(
     alloc: Global,
     signature: &'s Signature,
     program: &'p Program,
     calls: &'p [Call],
-    world: &World<'_>,
+    world: &World<'_, O>,
 ) -> Result<State<'s, 'p>, Cause> {
     let mut store = world.store(alloc)?;
     for (size, shift) in program.slots.iter() {

@@ -2,6 +2,8 @@
 use Rattle.std.specs.Prelude.{ℕ, zero, suc, List, [], length, slice_index_or, Option, Some, None}
 use Rattle.clif_types.specs.Signature.{SignatureShape}
 use Rattle.clif_types.specs.declared.extname.UserFuncName.{UserFuncName}
+use Rattle.clif_types.specs.declared.extname.UserFuncName.TheVariants.{User}
+use Rattle.clif_types.specs.declared.call_conv.CallConv.TheVariants.{Fast}
 use Rattle.clif_tables.specs.Lists.{TableLists, no_entries}
 use Rattle.clif_nodes.specs.declared.nodes.ValueOrigin.{ValueOrigin}
 use Rattle.clif_nodes.specs.declared.nodes.ValueOrigin.TheVariants.{Result, Param, Alias}
@@ -27,6 +29,13 @@ pub record Body : Type 0 where
 abbrev pub empty_body : UserFuncName → SignatureShape → Body
 empty_body name signature =
     record { name = name; signature = signature; values = []; insts = []; blocks = []; layout = []; tables = no_entries }
+
+-- the function `u0:0` with no parameters and no returned values, by the convention `fast`
+abbrev pub empty_function : Body
+empty_function =
+    empty_body
+    (User (record { namespace = 0; index = 0 }))
+    (record { params = []; returns = []; call_conv = Fast })
 
 abbrev pub value_at : Body → ℕ → ValueNode
 value_at f v = slice_index_or f.values v no_value

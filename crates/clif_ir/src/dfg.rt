@@ -16,9 +16,10 @@ use crate::function::Function;
 use clif_instructions::insert_at::InsertAt;
 use clif_instructions::instructions::InstructionData;
 use clif_instructions::value_list::ValueList;
-use clif_nodes::growth::{next_number, next_value, push_results, room_for_inst};
+use clif_nodes::growth::{next_value, push_results, room_for_inst};
 use clif_nodes::placing::{link_between, links_behind, put_between};
 use clif_nodes::{BlockData, BlockPlace, InstLink, InstNode, ValueNode, ValueOrigin};
+use clif_tables::primary_map::next_number;
 use clif_types::{Block, BuildError, EntityRef, Inst, SourceLoc, Type, Value};
 
 impl Function {

@@ -5,6 +5,7 @@
 //! exactly where the table holds 2^32 - 1 entries; the function is then as it was.
 ghost use Rattle.std.specs.Prelude.{◌≡◌, ◌<◌, ◌↔◌, length, slice_get, All, IsTrue};
 ghost use Rattle.clif_tables.specs.Entries.{AStackSlot, ADynamicStackSlot, AGlobalValue, ASignature, AFunction};
+ghost use Rattle.clif_instructions.specs.ExceptionTables.{exception_shape};
 ghost use Rattle.clif_tables.specs.Lists.{unserved, with_constant, with_exception_table, with_exception_table_served, with_jump_table, with_table_served};
 ghost use Rattle.clif_tables.specs.Makes.{MakesEntry, Pools};
 ghost use Rattle.clif_instructions.specs.Instruction.{entries_of};
@@ -139,7 +140,7 @@ impl Function {
         table: ExceptionTableData,
     ) -> Result<ExceptionTable, BuildError>
         ensures { MakesEntry (λ number. number) (length self.old.tables.exception_tables) self.old self.new
-            (with_tables self.old (with_exception_table self.old.tables table)) result }
+            (with_tables self.old (with_exception_table self.old.tables (exception_shape table))) result }
     {
         self.tables.create_exception_table(table)
     }

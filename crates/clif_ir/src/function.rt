@@ -1,6 +1,6 @@
 //! Functions: their tables, and the calls that read them.
 ghost use Rattle.std.specs.Prelude.{◌≡◌, length, ◌<◌, ◌^◌, IfSome, IsSome, None, EachIndex, All, slice_index};
-ghost use Rattle.clif_ir.specs.Body.{empty_body, value_at, inst_at, block_at, resolved, alias_of};
+ghost use Rattle.clif_ir.specs.Body.{empty_body, empty_function, value_at, inst_at, block_at, resolved, alias_of};
 ghost use Rattle.clif_ir.specs.Consistent.{IsConsistent, EdgeExists};
 ghost use Rattle.clif_instructions.specs.Instruction.{operands, destinations};
 ghost use Rattle.clif_ir.specs.Reading.{def_of, DefExists, param_home};
@@ -8,7 +8,9 @@ ghost use Rattle.clif_ir.specs.Reading.{def_of, DefExists, param_home};
 use clif_instructions::instructions::InstructionData;
 use clif_nodes::{BlockData, BlockPlace, InstLinks, InstNode, ValueNode, ValueOrigin};
 use clif_tables::Tables;
-use clif_types::{Block, EntityRef, Inst, Signature, SourceLoc, Type, UserFuncName, Value};
+use clif_types::{
+    Block, CallConv, EntityRef, Inst, Signature, SourceLoc, Type, UserFuncName, Value,
+};
 use std::alloc::Global;
 use std::collections::BTreeSet;
 use std::marker::Model;
@@ -77,6 +79,15 @@ impl Drop for Function {
 }
 
 impl Function {
+    /// The function that cranelift's IR calls empty: `u0:0`, without parameters, returned values and blocks,
+    /// by the convention `fast`.
+    pub fn new(alloc: Global) -> Self
+        ensures { result ≡ empty_function }
+    {
+        let signature = Signature::new(alloc, CallConv::Fast);
+        Function::with_name_signature(alloc, UserFuncName::user(0, 0), signature)
+    }
+
     /// A function of this name and signature, without blocks.
     pub fn with_name_signature(alloc: Global, name: UserFuncName, signature: Signature) -> Self
         ensures { result ≡ empty_body name signature }

@@ -14,15 +14,13 @@ use clif_opcodes::BinaryOpcode::{
 };
 use clif_opcodes::ConvertOpcode::{Ireduce, Splat, Uextend};
 use clif_opcodes::UnaryOpcode::{Bnot, Ineg};
+use clif_types::CallConv;
 use clif_types::types::{F64, I8, I8X16, I16, I32, I64};
-use clif_types::{CallConv, Signature, UserFuncName};
 use std::test::Fail;
 
 #[test]
 fn empty_row(rt: HostRuntime) -> Result<(), Fail> {
-    let alloc = rt.alloc();
-    let name = UserFuncName::user(0, 0);
-    let func = Function::with_name_signature(alloc, name, Signature::new(alloc, CallConv::Fast));
+    let func = Function::new(rt.alloc());
     prints(&rt, &func, "function u0:0() fast {\n}\n")
 }
 

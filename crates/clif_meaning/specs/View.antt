@@ -18,10 +18,10 @@ use Rattle.clif_instructions.specs.ExceptionTables.{ExceptionShape}
 use Rattle.clif_instructions.specs.declared.exception_table.ExceptionItem.{ExceptionItem}
 use Rattle.clif_instructions.specs.declared.exception_table.ExceptionItem.TheVariants as kept
 use Rattle.clif_tables.specs.Callees.{function_at, signature_at}
-use Rattle.clif_tables.specs.Lists.{TableLists}
+use Rattle.clif_tables.specs.Lists.{TableLists, stack_map_at}
 use Rattle.clif_meaning.specs.Event.{CallItem, Tag, Default, Context, CallShape}
 use Rattle.clif_ir.specs.Body.{Body, value_at, inst_at, block_at, resolved}
-use Rattle.clif_meaning.specs.Instruction.{Operation, Compute, Iconst, Return, Edge, Argument, Known, CallResult, CallPayload}
+use Rattle.clif_meaning.specs.Instruction.{Operation, Compute, Iconst, Return, Edge, Argument, Known, CallResult, CallPayload, Instruction}
 use Rattle.clif_meaning.specs.Instruction as operation
 use Rattle.clif_meaning.specs.FunctionView.{Placed, BlockView, FunctionView}
 
@@ -103,24 +103,27 @@ made_with body _ _ operands ty = type.Invalid
 abbrev pub made_at : Body → InstructionData → «Type» → «Type»
 made_at body shape ty = made_with body (typing_of shape).results (typing_of shape).control (operands shape) ty
 
--- an instruction with its results. Neither the stack map that a function keeps for it is seen yet, which no call of the
--- builder makes, nor the contexts of a try call.
-abbrev pub placed_of : Body → InstNode → Placed
-placed_of body node = record {
-  instruction = record {
-    operation = operation_of body.tables node.shape;
-    controlling = controlling_of body node.shape node.results;
-    operands = operands node.shape;
-    edges = edges_of node.shape;
-  };
-  results = node.results;
-  stack_map = [];
+-- an instruction. The contexts of a try call aren't seen yet.
+abbrev pub instruction_of : Body → InstNode → Instruction ℕ ℕ
+instruction_of body node = record {
+  operation = operation_of body.tables node.shape;
+  controlling = controlling_of body node.shape node.results;
+  operands = operands node.shape;
+  edges = edges_of node.shape;
+}
+
+-- the instruction with this number, with its results and its stack map
+abbrev pub placed_of : Body → ℕ → Placed
+placed_of body inst = record {
+  instruction = instruction_of body (inst_at body inst);
+  results = (inst_at body inst).results;
+  stack_map = stack_map_at body.tables inst;
 }
 
 -- the instructions of a block, in order. A block outside the layout is no part of the function, and has none.
 abbrev pub items_of : Body → ℕ → List Placed
 items_of body block =
-    if list_any (λ other. other == block) body.layout then map (λ inst. placed_of body (inst_at body inst)) (block_at body block).insts else []
+    if list_any (λ other. other == block) body.layout then map (placed_of body) (block_at body block).insts else []
 
 -- a block
 abbrev pub block_of : Body → ℕ → BlockView

@@ -12,22 +12,9 @@ use crate::inst_links::InstLinks;
 use crate::nodes::{InstNode, ValueNode, ValueOrigin};
 use clif_instructions::value_list::ValueList;
 use clif_opcodes::ResultKind;
+use clif_tables::primary_map::{TABLE_LIMIT, next_number};
 use clif_types::{AbiParam, BuildError, EntityRef, Inst, Type, Value};
 use std::alloc::Global;
-
-/// How many entries a table holds at most.
-const TABLE_LIMIT: usize = 0xffff_ffff;
-
-/// The number of the next entry of a table that holds `len` entries.
-pub fn next_number(len: usize) -> Result<u32, BuildError>
-    ensures ok { IfOk result (λ n. (n ≡ len) × (n < 2 ^ 32 - 1)) }
-    ensures full { OnErr result ((result ≡ Err BuildError.Full) × (TABLE_LIMIT ≤ len)) }
-{
-    if len >= TABLE_LIMIT {
-        return Err(BuildError::Full);
-    }
-    Ok(len as u32)
-}
 
 /// The number of the next value, for which it makes room in the table.
 pub fn next_value(values: &mut Vec<ValueNode>) -> Result<Value, BuildError>

@@ -3,6 +3,7 @@ pub mod Lasting
 pub mod ReadyLaws
 pub mod Parameters
 pub mod Conditions
+pub mod Entries
 pub mod Planning
 pub mod Verdicts
 pub mod Placements

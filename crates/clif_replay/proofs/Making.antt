@@ -151,12 +151,19 @@ pub made-refused : {T : Type 0} {asks : SignatureShape → Ledger → Request} {
 made-refused old new answers told e y r was is gives loans sound failed judges full =
     made-failed old new answers told e y r was is gives loans sound failed (λ same. judges) full
 
--- what it names isn't there, or memory was refused
-pub made-missed : {X : Type 0} {asks : SignatureShape → Ledger → Request} {Meets : Type 0} {types : List «Type»} (b : FunctionBuilder) (answers : List Answer)
-    (v : Result X CallError) (r : Result Answer CallError) (e : CallError) → v ≡ Err e → r ≡ Err e → (v ≡ Err error.Misuse → Judges asks b answers false) → v ≢ Err error.Refused
-    → v ≢ Err error.Full → Makes asks false Meets types b b answers r
-made-missed {asks = asks} {Meets = Meets} {types = types} b answers v r e was is judges never_refused never_full =
-    subst (λ (x : Result Answer CallError). Makes asks false Meets types b b answers x) (sym is) (by e was)
+-- memory was refused before the builder was called
+pub made-memory : {asks : SignatureShape → Ledger → Request} {tried : Bool} {Meets : Type 0} {types : List «Type»} (b : FunctionBuilder) (answers : List Answer)
+    → Makes asks tried Meets types b b answers (Err error.Memory)
+made-memory b answers = record {
+  loans = loans-stay b;
+  name = tt;
+  ready = λ declared calls ready. tt;
+  judged = λ declared calls ready. tt;
+  sound = tt;
+  refused = λ same. absurd (no-refusal same);
+  full = λ same. absurd (no-full same);
+  variables = tt;
+}
   where
     no-full : ◌≡◌ {A = Result Answer CallError} (Err error.Memory) (Err error.Full) → ⊥
     no-full same = cc
@@ -164,20 +171,23 @@ made-missed {asks = asks} {Meets = Meets} {types = types} b answers v r e was is
     no-refusal : ◌≡◌ {A = Result Answer CallError} (Err error.Memory) (Err error.Refused) → ⊥
     no-refusal same = cc
 
+pub memory-told : {asks : SignatureShape → Ledger → Request} {tried : Bool} {Meets : Type 0} {types : List «Type»} (b : FunctionBuilder) (answers : List Answer)
+    (e : CallError) (r : Result Answer CallError) → r ≡ Err e → e ≡ error.Memory → Makes asks tried Meets types b b answers r
+memory-told {asks = asks} {tried = tried} {Meets = Meets} {types = types} b answers e r is gives =
+    subst (λ (x : Result Answer CallError). Makes asks tried Meets types b b answers x) (sym (is ∙ ap Err gives)) (made-memory b answers)
+
+-- what it names isn't there, or memory was refused
+pub made-missed : {X : Type 0} {asks : SignatureShape → Ledger → Request} {Meets : Type 0} {types : List «Type»} (b : FunctionBuilder) (answers : List Answer)
+    (v : Result X CallError) (r : Result Answer CallError) (e : CallError) → v ≡ Err e → r ≡ Err e → (v ≡ Err error.Misuse → Judges asks b answers false) → v ≢ Err error.Refused
+    → v ≢ Err error.Full → Makes asks false Meets types b b answers r
+made-missed {asks = asks} {Meets = Meets} {types = types} b answers v r e was is judges never_refused never_full =
+    subst (λ (x : Result Answer CallError). Makes asks false Meets types b b answers x) (sym is) (by e was)
+  where
     by : (e : CallError) → v ≡ Err e → Makes asks false Meets types b b answers (Err e)
     by error.Misuse was = made-misuse b answers (judges was)
     by error.Refused was = absurd (never_refused was)
     by error.Full was = absurd (never_full was)
-    by error.Memory was = record {
-      loans = loans-stay b;
-      name = tt;
-      ready = λ declared calls ready. tt;
-      judged = λ declared calls ready. tt;
-      sound = tt;
-      refused = λ same. absurd (no-refusal same);
-      full = λ same. absurd (no-full same);
-      variables = tt;
-    }
+    by error.Memory was = made-memory b answers
 
 pub made-misused : {X : Type 0} {Found : X → Type 0} {there : Bool} {asks : SignatureShape → Ledger → Request} {Meets : Type 0} {types : List «Type»} (b : FunctionBuilder) (answers : List Answer)
     (v : Result X CallError) (r : Result Answer CallError) (e : CallError) → v ≡ Err e → r ≡ Err e → Finds Found there v → (there ≡ false → Judges asks b answers false)

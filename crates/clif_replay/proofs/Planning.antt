@@ -141,7 +141,6 @@ instruction-named calls b answers ready p s ty planned = record {
   controlling = controlling-same (λ name. or_invalid (type_of (ledger_of calls) (name_of name))) (λ name. type_in b.func.now (value_of b.func.now answers name)) (type-same calls b answers ready) p
       ∙ planned.controlling;
   typed = planned.typed;
-  calls_nothing = calls-nothing p;
   operands_numbered = all-numbered calls b answers ready (operands_in p) (operands s) planned.operands;
   edges = edges-named calls b answers ready (edges_in p) (destinations s) planned.edges;
 }

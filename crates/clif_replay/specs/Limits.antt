@@ -1,6 +1,7 @@
 -- Where a call meets a full table. Source: own.
 use Rattle.std.specs.Prelude.{◌≡◌, ◌-◌, ◌^◌, ◌⊎◌, ℕ, List, false, length, slice_get, Some}
 use Rattle.clif_tables.specs.Constants.{has_constant}
+use Rattle.clif_tables.specs.Entries.{count_for}
 use Rattle.clif_ir.specs.Body.{Body}
 use Rattle.clif_ssa.specs.Constructs.{OnlyConstructs}
 use Rattle.clif_ssa.specs.Limits.{IsFull}
@@ -14,6 +15,7 @@ use Rattle.clif_calls.specs.declared.call.Call.{Call}
 use Rattle.clif_calls.specs.declared.call.Call.TheVariants as call
 use Rattle.cranelift_frontend.specs.Context.{ContextState}
 use Rattle.cranelift_frontend.specs.Growth.{NoRoomFor}
+use Rattle.clif_replay.specs.Entries.{entry_in}
 
 -- the construction of SSA form alone leads from this function to one in which a table is full
 abbrev pub ConstructsUntil : (Body → Type 0) → Body → Type 0
@@ -44,7 +46,7 @@ ConstantMeetsFullTable bytes f =
 -- sealing construct until a table is full. No other call lengthens a table.
 abbrev pub MeetsFullTable : Call → Body → ContextState → Type 0
 MeetsFullTable call.CreateBlock f c = length f.blocks ≡ 2 ^ 32 - 1
-MeetsFullTable (call.CreateSizedStackSlot size align_shift) f c = length f.tables.stack_slots ≡ 2 ^ 32 - 1
+MeetsFullTable (call.Entry entry) f c = count_for f.tables (entry_in entry) ≡ 2 ^ 32 - 1
 MeetsFullTable (call.CreateJumpTable default entries) f c = length f.tables.jump_tables ≡ 2 ^ 32 - 1
 MeetsFullTable (call.DeclareVar ty) f c = length c.variables ≡ 2 ^ 32 - 1
 MeetsFullTable (call.AppendBlockParam block ty) f c = length f.values ≡ 2 ^ 32 - 1

@@ -11,7 +11,6 @@ use Rattle.clif_opcodes.specs.declared.opcodes.PooledConstOpcode.TheVariants.{F1
 use Rattle.clif_types.specs.declared.types.«Type».{«Type»}
 use Rattle.clif_types.specs.declared.types.«Type».TheVariants.{Invalid}
 use Rattle.clif_types.specs.Signature.{SignatureShape}
-use Rattle.clif_tables.specs.Entries.{AStackSlot}
 use Rattle.clif_types.specs.declared.extname.UserFuncName.{UserFuncName}
 use Rattle.cranelift_frontend.specs.Context.{ContextState}
 use Rattle.cranelift_frontend.specs.StandsFor.{LeavesNoParameter, StandsIn}
@@ -24,6 +23,7 @@ use Rattle.clif_calls.specs.declared.plan.Plan.{Plan}
 use Rattle.clif_calls.specs.declared.plan.Plan.TheVariants as plan
 use Rattle.clif_replay.specs.declared.script.ReplayError.{ReplayError}
 use Rattle.clif_replay.specs.declared.script.ReplayError.TheVariants as replay
+use Rattle.clif_replay.specs.Entries.{entry_in}
 use Rattle.clif_replay.specs.Limits.{MeetsFullTable}
 
 -- an answer's name: the place of the call, and the number among its answers
@@ -96,7 +96,7 @@ request_of signature ledger call.EnsureInsertedBlock = EnsureInsertedBlock
 request_of signature ledger (call.AppendBlockParam block ty) = AppendBlockParams (name_of block) (ty ∷ [])
 request_of signature ledger (call.AppendBlockParamsForFunctionParams block) = AppendFunctionParams (name_of block) (types_of signature.params)
 request_of signature ledger (call.AppendBlockParamsForFunctionReturns block) = AppendBlockParams (name_of block) (types_of signature.returns)
-request_of signature ledger (call.CreateSizedStackSlot size align_shift) = MakeEntry (AStackSlot (record { size = size; align_shift = align_shift }))
+request_of signature ledger (call.Entry entry) = MakeEntry (entry_in entry)
 request_of signature ledger (call.BlockCall edge) = MakeEdge (edge_of edge)
 request_of signature ledger (call.CreateJumpTable default entries) = MakeJumpTable (name_of default) (map name_of entries.items)
 request_of signature ledger (call.DeclareVar ty) = DeclareVar ty

@@ -8,7 +8,7 @@ use crate::make_blocks::{
     set_cold_block, switch_to_block,
 };
 use crate::make_constants::make_constant;
-use crate::make_entities::create_sized_stack_slot;
+use crate::make_entities::make_entry;
 use crate::make_instructions::make_instruction;
 use crate::make_parameters::{
     append_block_param, append_block_params_for_function_params,
@@ -51,9 +51,7 @@ pub(crate) fn make_call(
         Call::AppendBlockParamsForFunctionReturns { block } => {
             append_block_params_for_function_returns(builder, answers, *block)
         }
-        Call::CreateSizedStackSlot { size, align_shift } => {
-            create_sized_stack_slot(builder, answers, *size, *align_shift)
-        }
+        Call::Entry(entry) => make_entry(builder, answers, entry),
         Call::BlockCall { edge } => block_call(builder, answers, edge),
         Call::CreateJumpTable { default, entries } => {
             create_jump_table(builder, answers, *default, entries.as_slice())

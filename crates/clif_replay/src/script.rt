@@ -24,7 +24,7 @@ use clif_types::{
 };
 use cranelift_frontend::laws::ledger_is_read_by_number;
 use cranelift_frontend::{FinalizeError, FunctionBuilder, FunctionBuilderContext};
-use std::alloc::{AllocFailed, Global};
+use std::alloc::{AllocError, AllocFailed, Global};
 use std::error::Error;
 use std::fmt;
 
@@ -96,6 +96,14 @@ impl From<BuildError> for CallError {
             BuildError::Full => CallError::Full,
             BuildError::Failed => CallError::Refused,
         }
+    }
+}
+
+impl From<AllocError> for CallError {
+    ghost from_gives = { λ _ error. error ≡ call_memory };
+
+    fn from(_error: AllocError) -> CallError {
+        CallError::Memory
     }
 }
 

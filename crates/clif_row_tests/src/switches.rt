@@ -9,15 +9,8 @@ use clif_ir::ConvertOpcode::{Ireduce, Sextend, Uextend};
 use clif_ir::Function;
 use clif_types::IntCC::{Equal, UnsignedGreaterThan, UnsignedGreaterThanOrEqual};
 use clif_types::types::{I8, I32, I64, I128, INVALID};
-use clif_types::{CallConv, Signature, UserFuncName};
 use std::alloc::Global;
 use std::test::Fail;
-
-// The empty function `u0:0`, by the convention `fast`.
-fn unnamed(alloc: Global) -> Function {
-    let signature = Signature::new(alloc, CallConv::Fast);
-    Function::with_name_signature(alloc, UserFuncName::user(0, 0), signature)
-}
 
 // The row switch_many: cases 0 and 1, 5, 7, and 10 to 12 of a small integer, which lead to block1 to block7. These, and
 // the first one, which is the default, stand without instructions of their own.
@@ -65,7 +58,7 @@ fn switch_many(rt: HostRuntime) -> Result<(), Fail> {
     ];
     let text =
         "function u0:0() fast {\nblock0:\n    v0 = iconst.i8 0\n    v1 = iconst.i8 7\n    v2 = icmp uge v0, v1  ; v0 = 0, v1 = 7\n    brif v2, block9, block8\n\nblock9:\n    v3 = iconst.i8 10\n    v4 = icmp.i8 uge v0, v3  ; v0 = 0, v3 = 10\n    brif v4, block11, block10\n\nblock11:\n    v5 = iconst.i8 -10\n    v6 = iadd.i8 v0, v5  ; v0 = 0, v5 = -10\n    v7 = uextend.i32 v6\n    br_table v7, block0, [block5, block6, block7]\n\nblock10:\n    v8 = iconst.i8 7\n    v9 = icmp.i8 eq v0, v8  ; v0 = 0, v8 = 7\n    brif v9, block4, block0\n\nblock8:\n    v10 = iconst.i8 5\n    v11 = icmp.i8 eq v0, v10  ; v0 = 0, v10 = 5\n    brif v11, block3, block12\n\nblock12:\n    v12 = uextend.i32 v0  ; v0 = 0\n    br_table v12, block0, [block1, block2]\n}\n";
-    makes(&rt, unnamed(rt.alloc()), &steps, text)
+    makes(&rt, Function::new(rt.alloc()), &steps, text)
 }
 
 // Half of a number of 128 bits, 2^63 + 1 as a number with a sign.
@@ -112,5 +105,5 @@ fn switch_high(rt: HostRuntime) -> Result<(), Fail> {
     ];
     let text =
         "function u0:0() fast {\nblock0:\n    v0 = iconst.i64 0x8000_0000_0000_0001\n    v1 = iconst.i64 0\n    v2 = iconcat v0, v1  ; v0 = 0x8000_0000_0000_0001, v1 = 0\n    v3 = iconst.i64 0x8000_0000_0000_0001\n    v4 = iconst.i64 0\n    v5 = iconcat v3, v4  ; v3 = 0x8000_0000_0000_0001, v4 = 0\n    v6 = icmp uge v2, v5\n    brif v6, block4, block3\n\nblock4:\n    v7 = iconst.i64 0x8000_0000_0000_0001\n    v8 = iconst.i64 0\n    v9 = iconcat v7, v8  ; v7 = 0x8000_0000_0000_0001, v8 = 0\n    v10 = isub.i128 v2, v9\n    v11 = iconst.i64 0xffff_ffff\n    v12 = sextend.i128 v11  ; v11 = 0xffff_ffff\n    v13 = icmp ugt v10, v12\n    brif v13, block3, block5\n\nblock5:\n    v14 = ireduce.i32 v10\n    br_table v14, block3, [block1, block2]\n\nblock1:\n    trap user1\n\nblock2:\n    trap user2\n\nblock3:\n    trap user3\n}\n";
-    makes(&rt, unnamed(rt.alloc()), &steps, text)
+    makes(&rt, Function::new(rt.alloc()), &steps, text)
 }

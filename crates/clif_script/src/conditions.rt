@@ -1,5 +1,5 @@
 //! Which condition of a call doesn't hold, by what the calls before it alone tell.
-use clif_calls::{Call, Edge, Name};
+use clif_calls::{Call, Edge, EntryCall, Name};
 use clif_interpreter::instruction::{edge_count, edge_of, instruction_of, plan_of};
 use clif_opcodes::{Control, Demand, Opcode, PooledConstOpcode};
 use clif_operations::Operation;
@@ -23,6 +23,8 @@ pub enum Condition {
     NoSlot(usize),
     /// The jump table isn't there.
     NoTable(usize),
+    /// The signature isn't there.
+    NoSignature(usize),
     /// The jump table serves another instruction.
     Served(usize),
     /// No block is current.
@@ -62,6 +64,7 @@ impl fmt::Display for Condition {
             Condition::NoVariable(number) => write!(f, "var{number} isn't declared"),
             Condition::NoSlot(number) => write!(f, "ss{number} isn't there"),
             Condition::NoTable(number) => write!(f, "jt{number} isn't there"),
+            Condition::NoSignature(number) => write!(f, "sig{number} isn't there"),
             Condition::Served(number) => write!(f, "jt{number} serves another instruction"),
             Condition::NoCurrent => f.write_str("no block is current"),
             Condition::Filled(number) => write_block(f, *number, "is filled"),
@@ -141,6 +144,7 @@ struct Ledger<'a> {
     blocks: Vec<BlockState>,
     variables: Vec<Type>,
     slots: usize,
+    signatures: usize,
     // for each jump table the places of the calls that answered its edges, until it serves an instruction
     tables: Vec<Option<Vec<usize>>>,
     current: Option<usize>,
@@ -289,6 +293,18 @@ impl<'a> Ledger<'a> {
         Ok(())
     }
 
+    // An entry of a table may be made.
+    fn can_add(&self, entry: &EntryCall) -> Result<(), Condition> {
+        match entry {
+            EntryCall::CreateSizedStackSlot { align_shift, .. } if *align_shift > 31 => {
+                Err(Condition::Alignment(*align_shift))
+            }
+            EntryCall::ImportFunction(function) if function.signature.index() >= self.signatures =>
+                { Err(Condition::NoSignature(function.signature.index())) }
+            _ => Ok(()),
+        }
+    }
+
     // The instruction of a call may be made.
     fn can_make(&self, call: &Call) -> Result<(), Condition> {
         let Some(plan) = plan_of(call) else {
@@ -360,12 +376,7 @@ impl<'a> Ledger<'a> {
                 }
                 Ok(())
             }
-            Call::CreateSizedStackSlot { align_shift, .. } => {
-                if *align_shift > 31 {
-                    return Err(Condition::Alignment(*align_shift));
-                }
-                Ok(())
-            }
+            Call::Entry(entry) => self.can_add(entry),
             Call::BlockCall { edge } => self.has_edge(edge),
             Call::CreateJumpTable { default, entries } => {
                 self.have_edges(*default, entries.as_slice())
@@ -463,6 +474,7 @@ impl<'a> Ledger<'a> {
             blocks: Vec::new(alloc),
             variables: Vec::new(alloc),
             slots: 0,
+            signatures: 0,
             tables: Vec::new(alloc),
             current: None,
             entry: None,
@@ -553,6 +565,16 @@ impl<'a> Ledger<'a> {
         Ok(())
     }
 
+    // An entry of a table is made.
+    fn add(&mut self, entry: &EntryCall) -> Result<(), AllocError> {
+        match entry {
+            EntryCall::CreateSizedStackSlot { .. } => self.slots = self.slots.saturating_add(1),
+            EntryCall::ImportSignature(_) => self.signatures = self.signatures.saturating_add(1),
+            _ => {}
+        }
+        self.push(Answer::Other)
+    }
+
     // A jump table of these edges is made.
     fn add_table(&mut self, default: Name, entries: &[Name]) -> Result<(), AllocError> {
         let mut places = Vec::new(self.alloc);
@@ -601,10 +623,7 @@ impl<'a> Ledger<'a> {
                 self.variables.push(*ty)?;
                 self.push(Answer::Other)
             }
-            Call::CreateSizedStackSlot { .. } => {
-                self.slots = self.slots.saturating_add(1);
-                self.push(Answer::Other)
-            }
+            Call::Entry(entry) => self.add(entry),
             Call::BlockCall { .. } => self.push(Answer::Edge),
             Call::CreateJumpTable { default, entries } => {
                 self.add_table(*default, entries.as_slice())

@@ -9,7 +9,7 @@ mod program;
 mod row_texts;
 mod rows;
 
-pub use clif_calls::{Call, Edge, Name, PlainInstruction, Plan};
+pub use clif_calls::{Call, Edge, EntryCall, Name, PlainInstruction, Plan};
 pub use clif_replay::{ReplayError, replay};
 pub use command::{Command, Run, STEPS, USAGE};
 pub use conditions::{Condition, broken_condition};

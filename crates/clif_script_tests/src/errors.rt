@@ -1,20 +1,8 @@
 //! Texts that are no scripts: what is told, and of which line.
 #![tactic(auto)]
 
-use crate::support::gives;
-use std::alloc::Global;
-use std::process::Abort;
+use crate::support::{faults, gives};
 use std::test::Fail;
-
-// The fault of each line, by itself.
-fn faults(rt: &impl Abort, alloc: Global, rows: &[(&str, &str)]) -> Result<(), Fail> {
-    for (line, fault) in rows {
-        let script = format!(in alloc; "b = create_block\n{line}\nseal_block b\n")?;
-        let err = format!(in alloc; "script error at line 2: {fault}\n")?;
-        gives(rt, alloc, script.as_bytes(), 2, "", err.as_str())?;
-    }
-    Ok(())
-}
 
 const CALLS: [(&str, &str); 30] = [
     ("jmp b", "unknown call: jmp"),

@@ -2,7 +2,7 @@
 #![tactic(auto)]
 
 use clif_script::{build, row_text};
-use clif_text::{Script, read};
+use clif_text::{Script, read, write};
 use std::alloc::{AllocError, Global};
 use std::io;
 use std::io::Write;
@@ -99,6 +99,23 @@ pub fn script_of(alloc: Global, text: &str) -> Result<Script, Fail> {
         Ok(script) => Ok(script),
         Err(_) => Err("no script")?,
     }
+}
+
+/// The script that the calls of a script are written as.
+pub fn rewritten(alloc: Global, script: &str) -> Result<String, Fail> {
+    let read = script_of(alloc, script)?;
+    let calls = read.calls.as_slice();
+    Ok(write(alloc, &read.name, &read.signature, read.config, calls)?)
+}
+
+/// The fault of each line, by itself.
+pub fn faults(rt: &impl Abort, alloc: Global, rows: &[(&str, &str)]) -> Result<(), Fail> {
+    for (line, fault) in rows {
+        let script = format!(in alloc; "b = create_block\n{line}\nseal_block b\n")?;
+        let err = format!(in alloc; "script error at line 2: {fault}\n")?;
+        gives(rt, alloc, script.as_bytes(), 2, "", err.as_str())?;
+    }
+    Ok(())
 }
 
 /// The script of the row of this name.

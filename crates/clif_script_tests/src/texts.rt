@@ -2,8 +2,7 @@
 #![tactic(auto)]
 
 use crate::data;
-use crate::support::{MANY, built, gives, row_of, script_of};
-use clif_text::write;
+use crate::support::{MANY, built, gives, rewritten, row_of};
 use std::alloc::Global;
 use std::process::Abort;
 use std::test::Fail;
@@ -38,13 +37,6 @@ fn same_when_written(rt: &impl Abort, alloc: Global, script: &str, text: &str) -
     let written = rewritten(alloc, script)?;
     gives(rt, alloc, written.as_bytes(), 0, text, "")?;
     is_written(rt, alloc, written.as_str(), written.as_str())
-}
-
-// The script that the calls of a script are written as.
-fn rewritten(alloc: Global, script: &str) -> Result<String, Fail> {
-    let read = script_of(alloc, script)?;
-    let calls = read.calls.as_slice();
-    Ok(write(alloc, &read.name, &read.signature, read.config, calls)?)
 }
 
 fn is_written(rt: &impl Abort, alloc: Global, script: &str, written: &str) -> Result<(), Fail> {

@@ -1,5 +1,5 @@
 -- Both machines of an unfinished function side by side in its entry: what each item keeps.
-use Rattle.std.proofs.Common.{◌≡◌, ◌≢◌, ℕ, suc, ◌<◌, ◌≤◌, nat_lt, Bool, true, false, List, [], ◌∷◌, length, map, drop, flat_map, slice_get, Some, ◌⊎◌, inl, inr, refl, sym, ◌∙◌, ap, subst, arith}
+use Rattle.std.proofs.Common.{◌≡◌, ◌≢◌, ℕ, suc, ◌<◌, ◌≤◌, nat_lt, Bool, true, false, List, [], ◌∷◌, length, map, drop, flat_map, slice_get, Some, ◌⊎◌, inl, inr, refl, sym, ◌∙◌, ap, subst, subst₂, arith}
 use Rattle.std.proofs.lemmas.Bool.Decides.{nat_tests}
 use Rattle.clif_types.specs.declared.target.PointerWidth.{PointerWidth}
 use Rattle.clif_ir.specs.Body.{Body, resolved}
@@ -16,6 +16,9 @@ use Rattle.clif_meaning.specs.Name.{Name, same_name}
 use Rattle.clif_meaning.specs.Request.{AnsweredCall, script_of}
 use Rattle.clif_meaning.specs.Instruction.{Instruction, Edge}
 use Rattle.clif_meaning.specs.Program.{Item, Instruct, Use, Assign}
+use Rattle.clif_tables.specs.Callees.{types_of}
+use Rattle.clif_meaning.specs.Event.{Answer, CallShape, Callee, Event, Exception, IsAnswerTo, Results}
+use Rattle.clif_meaning.specs.Premises.{EachItem}
 use Rattle.clif_meaning.specs.World.{World}
 use Rattle.clif_meaning.specs.Memory.{Memory}
 use Rattle.clif_meaning.specs.Outcome.{Outcome, Gives, Goes, Returns, Traps, Calls, NoStep, outcome_of}
@@ -28,8 +31,8 @@ use Rattle.clif_meaning.specs.FunctionMachine.{Collector, FunctionRun, FunctionS
 use Rattle.clif_meaning.specs.FunctionView.{Placed}
 use Rattle.clif_meaning.specs.WellPlaced.{program_code, IsWellPlaced}
 use Rattle.clif_simulation.specs.Tables.{code, answered, program_so_far}
-use Rattle.clif_simulation.specs.Carries.{carried, answered_instruction}
-use Rattle.clif_simulation.specs.Reading.{script_run_so_far, function_run_so_far}
+use Rattle.clif_simulation.specs.Carries.{CallsNothing, carried, answered_edge, answered_instruction}
+use Rattle.clif_simulation.specs.Reading.{MovesAlike, MovesNothing, script_run_so_far, function_run_so_far}
 use Rattle.clif_simulation.proofs.Unbranched.{CarriesUnbranched, PlainlyEarlier}
 use Rattle.clif_simulation.proofs.Giving.{In, in_contained, name_keeps, value_keeps, same_or_other}
 use Rattle.clif_simulation.proofs.Agreement.{any_value, Agrees, GivesThere, given_agrees, UsesThere, used_agrees, AssignsThere, assigned_agrees}
@@ -40,7 +43,8 @@ use Rattle.clif_simulation.proofs.Listed.{all_at, place_within}
 use Rattle.clif_simulation.proofs.Ended.{with_ends_only, defined-end, is-end, denotes-end, name_stays, value_stays, visited_place}
 use Rattle.clif_simulation.proofs.Opened.{Opens, opened}
 use Rattle.clif_simulation.proofs.Opened
-use Rattle.clif_simulation.proofs.Counted.{gives_results, as_many}
+use Rattle.clif_simulation.proofs.Counted.{gives_results, as_many, as_many_values, call_count}
+use Rattle.clif_simulation.proofs.Unmoved
 use Rattle.clif_simulation.proofs.Entry
 use Rattle.clif_simulation.proofs.ItemsAt
 
@@ -59,6 +63,11 @@ same_given_places {X} same cases (r ∷ places) (b ∷ bits) old other n as_many
     by (inl one) there rest = rw one refl
     by (inr apart) (inl here) rest = absurd (apart.1 here)
     by (inr apart) (inr later) rest = rw (apart.0) (rest later)
+
+-- where there are no places, no bits are put anywhere
+none_assigned : {X : Type 0} (same : X → X → Bool) (places : List X) (bits : List ℕ) (old : X → ℕ) → places ≡ [] → assigned same places [] old ≡ assigned same places bits old
+none_assigned same [] bits old none = refl
+none_assigned same (place ∷ places) bits old none = cc
 
 name_cases : (a b : Name) → (same_name a b ≡ true) ⊎ ((same_name a b ≡ false) × (a ≢ b))
 name_cases a b = by (same_or_other a b)
@@ -82,7 +91,7 @@ mapped_count g (x ∷ xs) = ap suc (mapped_count g xs)
 module _ (calls : List AnsweredCall) (f : Body) (ssa : SsaState) (consistent : IsConsistent f) (carries : CarriesUnbranched calls f ssa)
     (entry : Name) (is_entry : (program_so_far calls).entry ≡ Some entry) (placed : IsWellPlaced (program_code (program_so_far calls)))
     (sealed : ℕ → Bool) (joins : Edges) (opens : Opens carries.whole.tables (Entry.e calls f ssa carries entry is_entry) sealed joins)
-    (width : PointerWidth) (world : World) (tracked : Name → Bool) (collector : Collector) (alike : OutcomesAlike calls f world)
+    (width : PointerWidth) (world : World) (tracked : Name → Bool) (collector : Collector) (alike : OutcomesAlike calls f world) (moves : MovesAlike calls tracked collector)
   where
     abbrev pub left_run : ScriptRun
     left_run = script_run_so_far calls f world tracked
@@ -442,9 +451,86 @@ module _ (calls : List AnsweredCall) (f : Body) (ssa : SsaState) (consistent : I
     no_edge_taken p {edges} none edge given memory left =
         subst (λ (es : List (Edge Name Name)). (script.follow_edge left_run (record p { memory = memory }) given (slice_get es edge)).control ≡ At left → ⊥) (sym none) (λ on. cc)
 
+    -- An outside call: both show the same event and get the same answer, and nothing moves.
+    module _ (nothing : MovesNothing tracked collector) (k place : ℕ) (instruction : Instruction Name Name) (results : List Name) (rest : List Item) (p : ScriptState) (q : FunctionState)
+        (here : drop k items ≡ Instruct place instruction results ∷ rest) (a : Alongside k p q) (callee : Callee) (call : CallShape) (arguments : List ℕ)
+        (is : outcome_of world instruction.operation instruction.controlling (map left_run.name_type instruction.operands) (map p.names instruction.operands) p.memory
+        ≡ Calls callee call arguments)
+      where
+        abbrev p' : ScriptState
+        p' = script.call_outside left_run p callee call arguments
+
+        abbrev q' : FunctionState
+        q' = function_machine_of.call_outside right_run q [] callee call arguments
+
+        events_are : p'.events ≡ q'.events
+        events_are = Unmoved.events_are calls f world tracked collector nothing p q a.same_memory a.same_events [] refl callee call arguments
+
+        memory_is : p'.memory ≡ q'.memory
+        memory_is = Unmoved.memory_is calls f world tracked collector nothing p q a.same_memory a.same_events [] refl callee call arguments
+
+        called : Alongside k p' q'
+        called = record {
+          within = a.within;
+          script_at = a.script_at;
+          function_at = a.function_at;
+          same_memory = memory_is;
+          same_events = events_are;
+          names = a.names;
+          values = a.values;
+          agrees = record {
+            of_variable = λ x w is_live same.
+                Unmoved.variable_stays calls f world tracked collector nothing p q a.same_memory a.same_events [] refl callee call arguments x ∙ a.agrees.of_variable x w is_live same;
+            of_name = a.agrees.of_name;
+          };
+          names_are = λ x i within home.
+              a.names_are x i within home ∙ sym (Unmoved.name_stays calls f world tracked collector nothing p q a.same_memory a.same_events [] refl callee call arguments x);
+          values_are = λ w i within home.
+              a.values_are w i within home ∙ sym (Unmoved.value_stays calls f world tracked collector nothing p q a.same_memory a.same_events [] refl callee call arguments w);
+        }
+
+        -- both behind the answer, where the instruction has these edges
+        abbrev Behind : List (Edge Name Name) → Answer → Answer → Type 0
+        Behind edges one other =
+            Alongside (suc k) (script.take_answer left_run p' edges results rest one)
+            (function_machine_of.take_answer right_run q' (map (answered_edge calls) edges) (map (answered calls) results) (flat_map (carried calls) rest) other)
+
+        on_results : (bits : List ℕ) → length bits ≡ length results → Behind [] (Results bits) (Results bits)
+        on_results bits as_many_bits =
+            subst (λ (memory : Memory). Alongside (suc k) (script.give_results p' results rest bits)
+            (function_machine_of.give_results (record q' { memory = memory }) (map (answered calls) results) (flat_map (carried calls) rest) bits)) memory_is
+            (given_step k place instruction results rest p' q' here called bits p'.memory as_many_bits)
+
+        without_results : (bits : List ℕ) → results ≡ [] → Behind [] (Results bits) (Results bits)
+        without_results bits none =
+            subst₂ (λ (names : Name → ℕ) (values : ℕ → ℕ). Alongside (suc k) (record p' { names = names; control = At rest })
+            (record q' { values = values; control = At (flat_map (carried calls) rest) }))
+            (none_assigned same_name results bits p'.names none) (none_assigned same_value (map (answered calls) results) bits q'.values (ap (map (answered calls)) none))
+            (on_results [] (ap (λ (names : List Name). length names) (sym none)))
+
+        answered_with : (answer : Answer) → IsAnswerTo call answer → (left : List Item) → (script.take_answer left_run p' [] results rest answer).control ≡ At left
+            → Behind [] answer answer
+        answered_with (Results bits) fits left on =
+            by (call_count world place instruction results
+            (gives_results (script_of calls) entry k (Instruct place instruction results) (item_here items k (Instruct place instruction results) rest here))
+            (map left_run.name_type instruction.operands) (map p.names instruction.operands) p.memory callee call arguments is)
+          where
+            by : (length (types_of call.signature.returns) ≡ length results) ⊎ (results ≡ []) → Behind [] (Results bits) (Results bits)
+            by (inl count) = on_results bits (as_many_values (types_of call.signature.returns) bits fits ∙ count)
+            by (inr none) = without_results bits none
+        answered_with (Exception item payload) fits left on = cc
+
+        call_step : instruction.edges ≡ [] → (left : List Item) → (script.answer_call left_run p' call instruction.edges results rest).control ≡ At left
+            → Behind instruction.edges (world.answer p'.events call) (world.answer q'.events call)
+        call_step none left on =
+            subst (λ (edges : List (Edge Name Name)). Behind edges (world.answer p'.events call) (world.answer q'.events call)) (sym none)
+            (subst (λ (events : List Event). Behind [] (world.answer p'.events call) (world.answer events call)) events_are
+            (answered_with (world.answer p'.events call) (world.answers_fit p'.events call) left
+            (subst (λ (edges : List (Edge Name Name)). (script.take_answer left_run p' edges results rest (world.answer p'.events call)).control ≡ At left) none on)))
+
     -- whatever it does, if the run goes on
     after_outcome : (k place : ℕ) (instruction : Instruction Name Name) (results : List Name) (rest : List Item) (p : ScriptState) (q : FunctionState)
-        → drop k items ≡ Instruct place instruction results ∷ rest → Alongside k p q → (o : Outcome) → IsPlain o
+        → drop k items ≡ Instruct place instruction results ∷ rest → Alongside k p q → (o : Outcome) → (EachItem CallsNothing (program_so_far calls) → IsPlain o)
         → outcome_of world instruction.operation instruction.controlling (map left_run.name_type instruction.operands) (map p.names instruction.operands) p.memory ≡ o
         → (left : List Item) → (script.carry_out left_run p instruction.edges results rest o).control ≡ At left
         → Alongside (suc k) (script.carry_out left_run p instruction.edges results rest o)
@@ -460,7 +546,15 @@ module _ (calls : List AnsweredCall) (f : Body) (ssa : SsaState) (consistent : I
         edge given memory left on)
     after_outcome k place instruction results rest p q here a (Returns bits) plain is left on = cc
     after_outcome k place instruction results rest p q here a (Traps reason) plain is left on = cc
-    after_outcome k place instruction results rest p q here a (Calls callee call arguments) plain is left on = absurd plain
+    after_outcome k place instruction results rest p q here a (Calls callee call arguments) plain is left on = by moves
+      where
+        by : MovesAlike calls tracked collector
+            → Alongside (suc k) (script.carry_out left_run p instruction.edges results rest (Calls callee call arguments))
+            (function_machine_of.carry_out right_run q (answered_placed instruction results) (flat_map (carried calls) rest) (Calls callee call arguments))
+        by (inl none) = absurd (plain none)
+        by (inr nothing) =
+            call_step nothing k place instruction results rest p q here a callee call arguments is
+            ((all_at (PlainlyEarlier calls) items k (Instruct place instruction results) (carries.earlier entry) (item_here items k (Instruct place instruction results) rest here)).2) left on
     after_outcome k place instruction results rest p q here a NoStep plain is left on = cc
 
     instruct_step : (k place : ℕ) (instruction : Instruction Name Name) (results : List Name) (rest : List Item) (p : ScriptState) (q : FunctionState)
@@ -484,7 +578,9 @@ module _ (calls : List AnsweredCall) (f : Body) (ssa : SsaState) (consistent : I
         ∙ ap (λ (o : Outcome). function_machine_of.carry_out right_run q (answered_placed instruction results) (flat_map (carried calls) rest) o) same in
         subst (λ (state : FunctionState). Alongside (suc k) (script.run_item left_run p (Instruct place instruction results) rest) state) (sym right_is)
         (after_outcome k place instruction results rest p q here a outcome
-        (outcome_plain world instruction.operation (item_plain calls entry (carries.whole.earlier entry) k place instruction results stands) instruction.controlling (map left_run.name_type instruction.operands) (map p.names instruction.operands) p.memory) refl left on)
+        (λ none.
+        outcome_plain world instruction.operation (item_plain calls entry (none entry) k place instruction results stands) instruction.controlling
+        (map left_run.name_type instruction.operands) (map p.names instruction.operands) p.memory) refl left on)
 
     -- One step of the script's machine that goes on is one of the function's, or none.
     abbrev pub Kept : ℕ → ScriptState → FunctionState → Type 0

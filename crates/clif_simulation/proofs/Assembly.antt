@@ -21,7 +21,7 @@ use Rattle.clif_meaning.specs.Headline.{script_run, function_run, script_behavio
 use Rattle.clif_meaning.proofs.Endings
 use Rattle.clif_meaning.proofs.Stuttering
 use Rattle.clif_simulation.specs.Tables.{program_so_far}
-use Rattle.clif_simulation.proofs.Whole.{Whole, spared, whole}
+use Rattle.clif_simulation.proofs.Whole.{Whole, freed, whole}
 use Rattle.clif_simulation.specs.Carries.{Carries}
 use Rattle.clif_simulation.specs.Laws.{IsFinished}
 use Rattle.clif_simulation.proofs.Stepping
@@ -73,4 +73,4 @@ module _ (calls : List AnsweredCall) (f : Body) (ssa : SsaState) (width : Pointe
 pub means : (calls : List AnsweredCall) (f : Body) (ssa : SsaState) (width : PointerWidth) → IsConsistent f → Carries calls f ssa → IsFinished calls f ssa
     → MeansTheSame (script_of calls) f.signature width (view_of f)
 means calls f ssa width consistent carries finished world fits premises =
-    means_the_same calls f ssa width consistent (whole calls f ssa consistent carries (spared calls premises.targets_filled)) finished world fits premises
+    means_the_same calls f ssa width consistent (whole calls f ssa consistent carries (freed calls f ssa carries premises.targets_filled)) finished world fits premises

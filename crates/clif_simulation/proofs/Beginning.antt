@@ -16,6 +16,7 @@ use Rattle.clif_meaning.specs.Request.{Request, Script, AnsweredCall, script_of}
 use Rattle.clif_meaning.specs.Ledger.{Answered, Ledger, changed_by, type_of, value_answer_type, ledger_after, ledger_with, empty_ledger, with_layout, with_begun_at, with_begun, with_filled_at, with_terminator, with_predecessor, is_inserted, is_terminator}
 use Rattle.clif_meaning.specs.Program.{Program, Item, extended, first_block, with_call, empty_program, with_item_at, with_inserted}
 use Rattle.clif_simulation.specs.Tables.{program_so_far, IsProgramOf}
+use Rattle.clif_simulation.proofs.Numbering.{apart_first}
 use Rattle.clif_simulation.specs.Carries.{Carries}
 use Rattle.clif_simulation.proofs.Effects.{switch_of, ProgramEffect, program_effect, Leaves, Inserts, Takes, Switches, Assigns, Uses, Builds, LedgerEffect, ledger_effect, Keeps, Lays, Changes, Begins, Creates, Enters, Seals, Declares, Touches, Reads, Appends}
 use Rattle.clif_simulation.proofs.Values.{false_is}
@@ -153,20 +154,25 @@ carries_nothing name signature = record {
       only_parameters = λ N. inl refl;
     };
     items = λ b N named. absurd (some_none N named);
+    own_answers = λ b N is. refl;
+    items_built = λ N. tt;
+    instructions = apart_first 0;
     earlier = λ N. tt;
     edges_end = λ N. tt;
+    no_maps = λ inst. refl;
     own_exist = λ b. tt;
     own_named = λ b none. refl;
     own_inserted = λ b out. refl;
     declared = λ b inst k target here to. absurd (omega (arith, here.1));
     leads_own = λ target inst here. absurd (omega (arith, here.1));
+    have_edges = λ target inst here. absurd (omega (arith, here.1));
     parameters = λ b. refl;
     parameters_values = λ N. tt;
     values_typed = λ N ty is. absurd (none_typed N ty is);
     entry = record { none = λ none. refl; some = λ e is. absurd (some_none e is) };
     structured = λ types are. first_structured types name signature;
   };
-  on_paths = λ spares.
+  on_paths = λ free.
       let first = first_described name signature in
       record {
         tables = no_blocks;

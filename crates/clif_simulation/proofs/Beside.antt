@@ -81,7 +81,7 @@ module _ (calls : List AnsweredCall) (f : Body) (s : SsaState) (consistent : IsC
   function = carries.tables.function.definition
 
   abbrev pub placed_inst : ℕ → Placed
-  placed_inst inst = placed_of f (inst_at f inst)
+  placed_inst inst = placed_of f inst
 
   abbrev pub of_function : Code ℕ ℕ
   of_function = function_code (view_of f)

@@ -20,6 +20,7 @@ use Rattle.clif_opcodes.specs.declared.kinds.ResultKind.{ResultKind}
 use Rattle.clif_tables.specs.Callees.{given_by_call, types_of, types_of_results}
 use Rattle.clif_instructions.specs.Edges.{targets}
 use Rattle.clif_tables.specs.Lists.{TableLists}
+use Rattle.clif_types.specs.declared.stackmap.UserStackMapEntry.{UserStackMapEntry}
 use Rattle.clif_ir.specs.Body.{Body, inst_at}
 use Rattle.clif_nodes.specs.Nodes.{BlockNode, no_value}
 use Rattle.clif_ir.specs.Consistent.{IsConsistent}
@@ -31,7 +32,7 @@ use Rattle.clif_paths.proofs.Tables.{updated-same, updated-other}
 use Rattle.clif_ssa.specs.Own.{Own}
 use Rattle.clif_records.specs.Tables.{is_yes}
 use Rattle.clif_ssa.specs.Ssa.{SsaState, predecessors_of, sealed_of}
-use Rattle.clif_ssa.specs.Sound.{SameProgram, args_of, edge_target, edges_at, entry_of}
+use Rattle.clif_ssa.specs.Sound.{SameProgram, args_of, edge_target, edges_at}
 use Rattle.clif_ssa.specs.SoundLaws.{with_all_born, with_entry, with_own, shape_passes, DescribesSoundly, IsOpen}
 use Rattle.clif_ssa.specs.Structured.{HasType, Structured, VariableTypes}
 use Rattle.clif_ssa.proofs.Bodies.{Firm, firm_from}
@@ -46,14 +47,14 @@ use Rattle.clif_meaning.specs.Request.{Build, AnsweredCall, script_of}
 use Rattle.clif_meaning.specs.Ledger.{AnInstruction, AValue, answers_to, is_filled, is_terminator, ledger_after, value_answer_type}
 use Rattle.clif_meaning.specs.Program.{Item, Instruct, result_types, answers_from, first_block}
 use Rattle.clif_meaning.specs.FunctionView.{Placed}
-use Rattle.clif_meaning.specs.Typing.{call_shape}
 use Rattle.clif_meaning.specs.View.{argument_of, edge_of, edges_of, operation_of, controlling_of, first_type, made_at}
 use Rattle.clif_simulation.specs.Tables.{IsProgramOf, code, answered, block_name, program_so_far}
-use Rattle.clif_simulation.specs.Carries.{AreDeclared, AreTypes, Carries, DeclaredAlong, EdgeEarlier, HasEntry, Holds, IsCurrent, IsEarlier, LeadsOwn, SoundOnPaths, SparesBlock, SparesEntry, answered_edge, as_passed, carried, own_placed}
+use Rattle.clif_simulation.specs.Carries.{AreDeclared, AreTypes, Carries, DeclaredAlong, EdgeEarlier, HasEntry, HasNoMaps, HaveEdges, Holds, InstructionsApart, IsCurrent, IsEarlier, LeadsOwn, SoundOnPaths, answered_edge, as_passed, carried, own_placed}
 use Rattle.clif_simulation.proofs.Calls.{inserted_soundly, longer_calls, name_stays, open_kept, opened, plain, structured_so_far, values_same}
-use Rattle.clif_simulation.proofs.Carrying.{all_contained, all_mapped, earlier_name, edge_earlier, edges_kept, holds_item, item_last, leads_kept, numbers_kept, spares_item}
-use Rattle.clif_simulation.proofs.Extending.{extended, one_answer}
-use Rattle.clif_simulation.proofs.Giving.{In, contained_in}
+use Rattle.clif_simulation.proofs.Carrying.{all_contained, all_mapped, earlier_name, edge_earlier, edges_kept, edges_there, holds_item, leads_kept, numbers_kept}
+use Rattle.clif_simulation.proofs.FreeEntry.{entry_inserted, free_before}
+use Rattle.clif_simulation.proofs.Numbering.{apart_made, instruction_first, instruction_new}
+use Rattle.clif_simulation.proofs.Extending.{extended}
 use Rattle.clif_simulation.proofs.Growing.{inserted_entries, GoesOn, KeepsInsts, goes_on-from, goes_on-with_inst, insts_inserted, insts_kept, made_controlled}
 use Rattle.clif_simulation.proofs.ItemCalls.{PutsItem, adds_instruction, last-with_item, number_of_answer}
 use Rattle.clif_simulation.proofs.Layouts.{out_before, never_out}
@@ -61,23 +62,24 @@ use Rattle.clif_simulation.proofs.LedgerValues.{typed_on}
 use Rattle.clif_simulation.proofs.Ledgers.{fills, types_before}
 use Rattle.clif_simulation.proofs.Places.{contained_at}
 use Rattle.clif_simulation.proofs.Requests
-use Rattle.clif_simulation.proofs.Requests.{entry_begun, entry_first}
+use Rattle.clif_simulation.proofs.Requests.{entry_begun}
 use Rattle.clif_simulation.proofs.ResultNames.{answer_is, answer_there, answers_are_new, answers_count, answers_earlier, result_typed, results_answered, typed_at, value_within}
 use Rattle.clif_simulation.proofs.Staying.{restated}
-use Rattle.clif_simulation.proofs.Telling.{MayLead, along_leads, along_old_or_it, along_soundly, along_stays, along_structured}
+use Rattle.clif_simulation.proofs.Telling.{MayLead, along_leads, along_sealed, along_soundly, along_stays, along_structured, along_told, contained_get}
 use Rattle.clif_simulation.proofs.Unbranched.{no_target}
 use Rattle.clif_simulation.proofs.Values.{is_value_at, false_is, values_added}
 
 -- an instruction as the machine sees it, by its parts
-abbrev placed_parts : Operation → «Type» → List ℕ → List (Edge ℕ ℕ) → List ℕ → Placed
-placed_parts operation controlling arguments edges results =
-    record { instruction = record { operation = operation; controlling = controlling; operands = arguments; edges = edges }; results = results; stack_map = [] }
+abbrev placed_parts : Operation → «Type» → List ℕ → List (Edge ℕ ℕ) → List ℕ → List UserStackMapEntry → Placed
+placed_parts operation controlling arguments edges results stack_map =
+    record { instruction = record { operation = operation; controlling = controlling; operands = arguments; edges = edges }; results = results; stack_map = stack_map }
 
-placed_same : (o p : Operation) (c d : «Type») (xs ys : List ℕ) (es fs : List (Edge ℕ ℕ)) (rs ss : List ℕ) → o ≡ p → c ≡ d → xs ≡ ys → es ≡ fs → rs ≡ ss
-    → placed_parts o c xs es rs ≡ placed_parts p d ys fs ss
-placed_same o p c d xs ys es fs rs ss a b e g h =
-    ap (λ (q : Operation). placed_parts q c xs es rs) a ∙ ap (λ (t : «Type»). placed_parts p t xs es rs) b ∙ ap (λ (zs : List ℕ). placed_parts p d zs es rs) e
-    ∙ ap (λ (gs : List (Edge ℕ ℕ)). placed_parts p d ys gs rs) g ∙ ap (λ (ts : List ℕ). placed_parts p d ys fs ts) h
+placed_same : (o p : Operation) (c d : «Type») (xs ys : List ℕ) (es fs : List (Edge ℕ ℕ)) (rs ss : List ℕ) (ms : List UserStackMapEntry)
+    → o ≡ p → c ≡ d → xs ≡ ys → es ≡ fs → rs ≡ ss → placed_parts o c xs es rs ms ≡ placed_parts p d ys fs ss ms
+placed_same o p c d xs ys es fs rs ss ms a b e g h =
+    ap (λ (q : Operation). placed_parts q c xs es rs ms) a ∙ ap (λ (t : «Type»). placed_parts p t xs es rs ms) b
+    ∙ ap (λ (zs : List ℕ). placed_parts p d zs es rs ms) e ∙ ap (λ (gs : List (Edge ℕ ℕ)). placed_parts p d ys gs rs ms) g
+    ∙ ap (λ (ts : List ℕ). placed_parts p d ys fs ts ms) h
 
 -- edges that pass what these pass are these
 passed_edges : (passed : ℕ → List BlockArg) (n : ℕ) (edges : List BlockCall) → ((k : ℕ) → passed (n + k) ≡ args_of (slice_get edges k)) → as_passed passed n (map edge_of edges) ≡ map edge_of edges
@@ -94,7 +96,6 @@ pub record SameBranch (calls : List AnsweredCall) (tables : TableLists) (shape :
   pub operation : operation_of tables shape ≡ instruction.operation
   pub arguments : operands shape ≡ map (answered calls) instruction.operands
   pub edges : edges_of shape ≡ map (answered_edge calls) instruction.edges
-  pub calls_nothing : call_shape instruction.operation ≡ None
   pub earlier : AllByRecursion (IsEarlier calls) instruction.operands
   pub edges_earlier : AllByRecursion (EdgeEarlier calls) instruction.edges
 
@@ -104,7 +105,6 @@ pub record SameInstruction (calls : List AnsweredCall) (tables : TableLists) (sh
   pub arguments : operands shape ≡ map (answered calls) instruction.operands
   pub no_edges : edges_of shape ≡ []
   pub edges : instruction.edges ≡ []
-  pub calls_nothing : call_shape instruction.operation ≡ None
   pub earlier : AllByRecursion (IsEarlier calls) instruction.operands
 
 same_branch : (calls : List AnsweredCall) (tables : TableLists) (shape : InstructionData) (instruction : Instruction Name Name)
@@ -113,37 +113,9 @@ same_branch calls tables shape instruction same = record {
   operation = same.operation;
   arguments = same.arguments;
   edges = same.no_edges ∙ sym (ap (map (answered_edge calls)) same.edges);
-  calls_nothing = same.calls_nothing;
   earlier = same.earlier;
   edges_earlier = subst (AllByRecursion (EdgeEarlier calls)) (sym same.edges) tt;
 }
-
--- a target of the shape answered one of the instruction's
-target_of : (calls : List AnsweredCall) (calls' : List BlockCall) (edges : List (Edge Name Name)) (x : ℕ) → map edge_of calls' ≡ map (answered_edge calls) edges → Contains (targets calls') x
-    → (edge : Edge Name Name) × In edge edges × (answered calls edge.target ≡ x)
-target_of calls shaped edges x same here = by shaped edges same (contained_in (targets shaped) x here)
-  where
-    by : (shaped : List BlockCall) (edges : List (Edge Name Name)) → map edge_of shaped ≡ map (answered_edge calls) edges → In x (targets shaped)
-        → (edge : Edge Name Name) × In edge edges × (answered calls edge.target ≡ x)
-    by [] edges same there = absurd there
-    by (e ∷ shaped) [] same there = absurd cc
-    by (e ∷ shaped) (edge ∷ edges) same (inl here) =
-        let first : edge_of e ≡ answered_edge calls edge = head (edge_of e) (answered_edge calls edge) (map edge_of shaped) (map (answered_edge calls) edges) same in
-        (edge, inl refl, ap (λ (f : Edge ℕ ℕ). f.target) (sym first) ∙ sym here)
-      where
-        head : (p q : Edge ℕ ℕ) (ps qs : List (Edge ℕ ℕ)) → p ∷ ps ≡ q ∷ qs → p ≡ q
-        head p q ps qs h = cc
-    by (e ∷ shaped) (edge ∷ edges) same (inr later) =
-        let rest = by shaped edges (tail (edge_of e) (answered_edge calls edge) (map edge_of shaped) (map (answered_edge calls) edges) same) later in
-        (rest.0, inr rest.1, rest.2)
-      where
-        tail : (p q : Edge ℕ ℕ) (ps qs : List (Edge ℕ ℕ)) → p ∷ ps ≡ q ∷ qs → ps ≡ qs
-        tail p q ps qs h = cc
-
-all_in : {X : Type 0} (P : X → Type 0) (xs : List X) (x : X) → AllByRecursion P xs → In x xs → P x
-all_in P [] x all there = absurd there
-all_in P (y ∷ xs) x all (inl same) = subst P (sym same) all.0
-all_in P (y ∷ xs) x all (inr later) = all_in P xs x all.1 later
 
 target_contained : (edges : List BlockCall) (k target : ℕ) → slice_get (targets edges) k ≡ Some target → Contains (targets edges) target
 target_contained edges k target to = (k, slice_get_within (targets edges) k target to, slice_get_or (targets edges) k target to)
@@ -255,6 +227,10 @@ module _ (calls : List AnsweredCall) (f : Body) (s : SsaState) (c : Carries call
         made_controlled f g on (shapes.typing_of shape).results (shapes.typing_of shape).control (operands shape) (inst_node h b shape types loc).results ty operands_exist
         (λ first others is. first_new h b shape types loc (result_type ty first) (map (result_type ty) others ++ types_of (given_by_call f.tables shape)) (typed ∙ ap (λ (kinds : List ResultKind). map (result_type ty) kinds ++ types_of (given_by_call f.tables shape)) is))
 
+    -- no instruction has a stack map
+    no_maps : HasNoMaps g
+    no_maps inst = keeps.maps inst ∙ c.holds.no_maps inst
+
     longer_insts : i < length g.insts
     longer_insts = grind (arith, common_steps)
 
@@ -279,8 +255,9 @@ module _ (calls : List AnsweredCall) (f : Body) (s : SsaState) (c : Carries call
         → map (own_placed mine g) (i ∷ []) ≡ carried after (Instruct (length calls) instruction results)
     own_new operation arguments edges results controlling result_is =
         ap (λ (p : Placed). p ∷ [])
-        (ap (λ (node : InstNode). placed_parts (operation_of g.tables node.shape) (controlling_of g node.shape node.results) (operands node.shape) (as_passed (mine.passed i) 0 (edges_of node.shape)) node.results) node_is
-        ∙ placed_same _ _ _ _ _ _ _ _ _ _ (ap (λ (t : TableLists). operation_of t shape) same.tables ∙ operation) controlling arguments
+        (ap (λ (stack_map : List UserStackMapEntry). record (own_placed mine g i) { stack_map = stack_map }) (no_maps i)
+        ∙ ap (λ (node : InstNode). placed_parts (operation_of g.tables node.shape) (controlling_of g node.shape node.results) (operands node.shape) (as_passed (mine.passed i) 0 (edges_of node.shape)) node.results []) node_is
+        ∙ placed_same _ _ _ _ _ _ _ _ _ _ [] (ap (λ (t : TableLists). operation_of t shape) same.tables ∙ operation) controlling arguments
         (passed_edges (mine.passed i) 0 (destinations shape)
         (λ k. let plain_k : 0 + k ≡ k = omega arith in
         ap (mine.passed i) plain_k ∙ ap (λ (passes : ℕ → List BlockArg). passes k) (updated-same c.own.passed i (shape_passes shape) i refl))
@@ -313,6 +290,9 @@ module _ (calls : List AnsweredCall) (f : Body) (s : SsaState) (c : Carries call
         declared_more s (λ d j here. here)
         (λ k target to. absurd (no_target g i k target (ap (λ (node : InstNode). edges_of node.shape) node_is ∙ none) to))
 
+    edges_plain : HaveEdges g s
+    edges_plain = edges_there f g s s keeps (λ d. refl) exist c.holds.have_edges
+
     leads_plain : LeadsOwn after mine s
     leads_plain = leads_kept calls call c.own mine s s stays own_still (λ d. refl) c.holds.leads_own
 
@@ -342,7 +322,7 @@ module _ (calls : List AnsweredCall) (f : Body) (s : SsaState) (c : Carries call
 
   module _ (matches : SameBranch calls f.tables shape instruction) (types : List «Type») (typed : result_types instruction.operation instruction.controlling ≡ types)
       (controlling : controlling_of (with_inst h b Back shape types loc) shape (inst_node h b shape types loc).results ≡ instruction.controlling)
-      (numbered : (k : ℕ) → k < length types → slice_get numbers (suc k) ≡ Some (length h.values + k)) where
+      (numbered : (k : ℕ) → k < length types → slice_get numbers (suc k) ≡ Some (length h.values + k)) (first : slice_get numbers 0 ≡ Some (length f.insts)) where
     abbrev m : Body
     m = with_inst h b Back shape types loc
 
@@ -392,17 +372,27 @@ module _ (calls : List AnsweredCall) (f : Body) (s : SsaState) (c : Carries call
     earlier_results : AllByRecursion (IsEarlier after) (answers_from (length calls) 1 types)
     earlier_results = let l = longer_calls calls call in answers_earlier (length after) (length calls) 1 types (omega (arith, l))
 
-    holds_made : (t : SsaState) → AreDeclared m t mine.insts → LeadsOwn after mine t → ((declared : VariableTypes) → AreTypes after declared → Structured declared mine m t []) → Holds after mine m t
-    holds_made t declared leads structured =
+    -- it is known by its number
+    number_is : i ≡ answered after (answer_of (length calls) 0)
+    number_is = number_of_answer calls call 0 i (first ∙ ap (λ (n : ℕ). Some n) as_many)
+
+    apart : InstructionsApart after (length m.insts)
+    apart =
+        let longer : i < length m.insts = longer_insts types in
+        apart_made calls call (length f.insts) (length m.insts) (λ index is. instruction_first (result_types instruction.operation instruction.controlling) index is)
+        (sym number_is ∙ sym as_many) (omega (arith, longer, as_many)) c.holds.instructions
+
+    holds_made : (t : SsaState) → AreDeclared m t mine.insts → LeadsOwn after mine t → HaveEdges m t → ((declared : VariableTypes) → AreTypes after declared → Structured declared mine m t []) → Holds after mine m t
+    holds_made t declared leads have structured =
         holds_item calls call stays c.own mine f m s t c.holds (kept types) (keeps types).more (out_before f b) b B item current.named puts (i ∷ []) own_here own_elsewhere
         (λ d. refl) (typed_on calls call f m c.holds.values_typed (keeps types).types values_typed) (λ out. absurd (never_out f b out))
         (own_new types matches.operation operands_after edges_after results controlling results_after) (longer_insts types, tt) (
           all_mapped (IsEarlier calls) (IsEarlier after) (earlier_name calls call) instruction.operands matches.earlier,
           earlier_results,
           all_mapped (EdgeEarlier calls) (EdgeEarlier after) (edge_earlier calls call stays) instruction.edges matches.edges_earlier,
-          matches.calls_nothing,
         )
-        (plain calls f s c consistent b B current unfilled) declared leads (entry_on types) structured
+        (ap (λ (n : ℕ). n ∷ []) number_is) (instruction_new calls call 0 refl) apart
+        (plain calls f s c consistent b B current unfilled) (no_maps types) declared leads have (entry_on types) structured
 
     values_named : (index : ℕ) → IsTrue (is_value_at (AnInstruction ∷ map AValue (result_types instruction.operation instruction.controlling)) index)
         → Contains (answers_from (length calls) 1 types) (answer_of (length calls) index)
@@ -445,14 +435,15 @@ module _ (calls : List AnsweredCall) (f : Body) (s : SsaState) (c : Carries call
         }
 
     -- the state after it may be another one
-    carries_made : (t : SsaState) → AreDeclared m t mine.insts → LeadsOwn after mine t → ((declared : VariableTypes) → AreTypes after declared → Structured declared mine m t [])
-        → (SparesEntry after → (T : Blocks) → DescribesSoundly mine m s T → DescribesSoundly mine m t T) → Carries after m t
-    carries_made t declared leads structured sound = record {
+    carries_made : (t : SsaState) → AreDeclared m t mine.insts → LeadsOwn after mine t → HaveEdges m t → ((declared : VariableTypes) → AreTypes after declared → Structured declared mine m t [])
+        → ((x : ℕ) → is_yes (sealed_of s x) ≡ true → (is_yes (sealed_of t x) ≡ true) × (predecessors_of t x ≡ predecessors_of s x))
+        → ((T : Blocks) → DescribesSoundly mine m s T → DescribesSoundly mine m t T) → Carries after m t
+    carries_made t declared leads have structured sealed sound = record {
       own = mine;
-      holds = holds_made t declared leads structured;
-      on_paths = λ spares.
-          let p : SoundOnPaths calls c.own f s = c.on_paths (spares_item calls call B item puts (entry_first calls after B entry_is) spares) in
-          sound_made p t (sound spares (made p) (described_made p));
+      holds = holds_made t declared leads have structured;
+      on_paths = λ free.
+          let p : SoundOnPaths calls c.own f s = c.on_paths (free_before f m s t (entry_inserted f b) sealed free) in
+          sound_made p t (sound (made p) (described_made p));
     }
 
     -- it has edges, and is declared at each block that one of them leads to
@@ -466,57 +457,49 @@ module _ (calls : List AnsweredCall) (f : Body) (s : SsaState) (c : Carries call
       }
 
       leads_branch : LeadsOwn after mine t
-      leads_branch target j here = by (along_old_or_it told s t i along target j here)
+      leads_branch target j here = by (along_told told s t i along target j here)
         where
-          by : Contains (predecessors_of s target) j ⊎ (j ≡ i)
+          by : Contains (predecessors_of s target) j ⊎ ((j ≡ i) × Contains told target)
               → (block : ℕ) × (name : Name) × Contains (mine.insts block) j × (block_name after block ≡ Some name) × IsTrue (is_filled (ledger_after (script_of after)) name)
           by (inl old) = leads_plain types target j old
-          by (inr is) =
-              (b, B, subst (λ (e : ℕ). Contains (mine.insts b) e) (sym is) own_it, stays b B current.named, fills calls call table instruction b B refl ends current)
+          by (inr new) =
+              (b, B, subst (λ (e : ℕ). Contains (mine.insts b) e) (sym new.0) own_it, stays b B current.named, fills calls call table instruction b B refl ends current)
 
-      -- none of the blocks is the entry
-      no_entry : SparesEntry after → (x : ℕ) → Contains told x → entry_of m ≢ Some x
-      no_entry spares x here is_entry = by (program_so_far after).entry refl
+      edges_branch : HaveEdges m t
+      edges_branch target j here = by (along_told told s t i along target j here)
         where
-          some_none : (y : ℕ) → Some y ≡ None → ⊥
-          some_none y e = cc
-
-          edge : (edge : Edge Name Name) × In edge instruction.edges × (answered calls edge.target ≡ x)
-          edge = target_of calls (destinations shape) instruction.edges x matches.edges ((exactly x).0 here)
-
-          named : block_name after x ≡ Some edge.0.target
-          named = ap (block_name after) (sym edge.2) ∙ stays (answered calls edge.0.target) edge.0.target (all_in (EdgeEarlier calls) instruction.edges edge.0 matches.edges_earlier edge.1).leads
-
-          by : (o : Option Name) → (program_so_far after).entry ≡ o → ⊥
-          by None none = some_none x (sym is_entry ∙ (entry_on types).none none)
-          by (Some E) some =
-              let e = (entry_on types).some E some in
-              let at : e.0 ≡ x = one_answer e.0 x (entry_of m) e.1 is_entry in
-              let same_name : edge.0.target ≡ E = one_answer edge.0.target E (block_name after x) named (ap (block_name after) (sym at) ∙ e.2) in
-              all_in (λ (d : Edge Name Name). d.target ≢ E) instruction.edges edge.0 (item_last calls call B item puts (SparesBlock E) (spares E some)) edge.1 same_name
+          by : Contains (predecessors_of s target) j ⊎ ((j ≡ i) × Contains told target) → (k : ℕ) × (edge_target m j k ≡ Some target)
+          by (inl old) = edges_plain types target j old
+          by (inr new) =
+              let edge : (k : ℕ) × (slice_get (targets (destinations shape)) k ≡ Some target) = contained_get (targets (destinations shape)) target ((exactly target).0 new.1) in
+              (edge.0, ap (λ (e : ℕ). edge_target m e edge.0) new.0 ∙ ap (λ (node : InstNode). slice_get (targets (destinations node.shape)) edge.0) (node_is types) ∙ edge.1)
 
       carries_along : Carries after m t
       carries_along =
           carries_made t
           (declared_more types t (along_stays told s t i along)
           (λ k target to. along_leads told s t i along target ((exactly target).1 (target_contained (destinations shape) k target (target_is types k target to)))))
-          leads_branch
+          leads_branch edges_branch
           (λ declared are. along_structured told declared mine m s t i (longer_insts types) once may (passes_made types) along (structured_before types declared are))
-          (λ spares T. along_soundly told mine m s t T i (longer_insts types) (inserted_entry f b) once may (no_entry spares) (λ x k to. ap (λ (args : List BlockArg). length args) (passes_made types k)) along)
+          (along_sealed told s t i along unsealed)
+          (λ T. along_soundly told mine m s t T i (longer_insts types) (inserted_entry f b) once may (λ x k to. ap (λ (args : List BlockArg). length args) (passes_made types k)) along)
 
   -- An instruction without edges, with results of these types.
   pub carries_plain : (matches : SameInstruction calls f.tables shape instruction) (types : List «Type») → result_types instruction.operation instruction.controlling ≡ types
       → controlling_of (with_inst h b Back shape types loc) shape (inst_node h b shape types loc).results ≡ instruction.controlling
-      → ((k : ℕ) → k < length types → slice_get numbers (suc k) ≡ Some (length h.values + k)) → Carries after (with_inst h b Back shape types loc) s
-  carries_plain matches types typed controlling numbered =
-      carries_made (same_branch calls f.tables shape instruction matches) types typed controlling numbered s (declared_plain types matches.no_edges) (leads_plain types) (structured_before types) (λ spares T d. d)
+      → ((k : ℕ) → k < length types → slice_get numbers (suc k) ≡ Some (length h.values + k)) → slice_get numbers 0 ≡ Some (length f.insts)
+      → Carries after (with_inst h b Back shape types loc) s
+  carries_plain matches types typed controlling numbered first =
+      carries_made (same_branch calls f.tables shape instruction matches) types typed controlling numbered first s (declared_plain types matches.no_edges) (leads_plain types) (edges_plain types) (structured_before types)
+      (λ x is. (is, refl)) (λ T d. d)
 
   -- A branch: it was declared once at each block to which it leads.
   pub carries_branch : (matches : SameBranch calls f.tables shape instruction) (types : List «Type») → result_types instruction.operation instruction.controlling ≡ types
       → controlling_of (with_inst h b Back shape types loc) shape (inst_node h b shape types loc).results ≡ instruction.controlling
-      → ((k : ℕ) → k < length types → slice_get numbers (suc k) ≡ Some (length h.values + k)) → (told : List ℕ) (t : SsaState) → is_terminator instruction.operation ≡ true → Once told
+      → ((k : ℕ) → k < length types → slice_get numbers (suc k) ≡ Some (length h.values + k)) → slice_get numbers 0 ≡ Some (length f.insts)
+      → (told : List ℕ) (t : SsaState) → is_terminator instruction.operation ≡ true → Once told
       → ((x : ℕ) → (Contains told x → Contains (targets (destinations shape)) x) × (Contains (targets (destinations shape)) x → Contains told x))
       → ((x : ℕ) → Contains told x → is_yes (sealed_of s x) ≡ false) → DeclaredAlong s (length f.insts) told t
       → Carries after (with_inst h b Back shape types loc) t
-  carries_branch matches types typed controlling numbered told t ends once exactly unsealed along =
-      carries_along matches types typed controlling numbered told t ends once exactly unsealed (subst (λ (n : ℕ). DeclaredAlong s n told t) as_many along)
+  carries_branch matches types typed controlling numbered first told t ends once exactly unsealed along =
+      carries_along matches types typed controlling numbered first told t ends once exactly unsealed (subst (λ (n : ℕ). DeclaredAlong s n told t) as_many along)

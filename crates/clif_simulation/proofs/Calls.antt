@@ -1,7 +1,7 @@
 -- Each kind of call that succeeds, an instruction aside, leaves a function that carries it.
 use Rattle.clif_ssa.specs.Zeros.{insts_of_zeros}
-use Rattle.std.proofs.Common.{◌≡◌, ℕ, zero, suc, ◌<◌, ◌≤◌, List, [], ◌∷◌, ◌++◌, length, refl, sym, ◌∙◌, ap, subst, arith, Some, None, ◌⊎◌, inl, inr, false, length-append}
-use Rattle.std.specs.Prelude.{Contains, IsTrue, Option, option_and_then, slice_get}
+use Rattle.std.proofs.Common.{◌≡◌, ℕ, zero, suc, ◌<◌, ◌≤◌, List, [], ◌∷◌, ◌++◌, length, refl, sym, ◌∙◌, ap, subst, arith, Some, None, ◌⊎◌, inl, inr, true, false, Bool, length-append}
+use Rattle.std.specs.Prelude.{Contains, IsTrue, Option, option_and_then, slice_get, if◌then◌else◌}
 use Rattle.std.proofs.lemmas.Option.{slice_get_within}
 use Rattle.std.specs.List.{AllByRecursion}
 use Rattle.std.proofs.lemmas.Grind.{common_steps}
@@ -17,8 +17,9 @@ use Rattle.clif_paths.specs.State.{Naming}
 use Rattle.clif_paths.specs.Blocks.{Blocks, with_item, with_read, with_write}
 use Rattle.clif_ssa.specs.Constructs.{OnlyConstructs}
 use Rattle.clif_ssa.specs.Own.{Own}
-use Rattle.clif_ssa.specs.Ssa.{SsaState, predecessors_of, Records, SamePredecessors, SameRecords, SameBlocks}
-use Rattle.clif_ssa.specs.Sound.{Keeps, KeepsAndKnows, SameProgram}
+use Rattle.clif_records.specs.Tables.{is_yes}
+use Rattle.clif_ssa.specs.Ssa.{SsaState, predecessors_of, sealed_of, Records, SamePredecessors, SameRecords, SameBlocks, SealedStays}
+use Rattle.clif_ssa.specs.Sound.{EntryIsFree, Keeps, KeepsAndKnows, SameProgram, SparesIfEntry, entry_of}
 use Rattle.clif_ssa.specs.SoundLaws.{with_entry, DescribesSoundly, IsOpen}
 use Rattle.clif_ssa.specs.Structured.{HasType, Structured, VariableTypes}
 use Rattle.clif_ssa.proofs.Completing.{entry_same, same_program, same_program_then}
@@ -36,16 +37,18 @@ use Rattle.clif_meaning.specs.Ledger.{BlockState, ABlock, AVariable, AValue, ans
 use Rattle.clif_meaning.specs.Program.{Use, Assign}
 use Rattle.clif_simulation.specs.Tables.{answered, code, number_or_none, program_so_far, block_name}
 use Rattle.clif_simulation.specs.Carries.{AreTypes, Carries, IsCurrent, NamesBlocks, SoundOnPaths, ValuesGiven, HasEntry}
-use Rattle.clif_simulation.proofs.Carrying.{declared_kept, holds_item, holds_on, leads_kept, only_parameters, parameters_on, parameters_values_on, spares_before, spares_item}
+use Rattle.clif_simulation.proofs.Carrying.{declared_kept, edges_there, holds_item, holds_on, leads_kept, only_parameters, parameters_on, parameters_values_on}
+use Rattle.clif_simulation.proofs.FreeEntry.{entry_inserted, free_before, spared_sealed, still_sealed}
 use Rattle.clif_simulation.proofs.Growing.{KeepsInsts, goes_on-constructs, insts_kept, insts_same}
 use Rattle.clif_simulation.proofs.ItemCalls.{adds_use, adds_assignment, number_of_answer}
 use Rattle.clif_simulation.proofs.Layouts.{out_before}
 use Rattle.clif_simulation.proofs.LedgerValues.{none_new, typed_on}
 use Rattle.clif_simulation.proofs.Listed.{MakesNoParameter, parameters_stay}
 use Rattle.clif_simulation.proofs.Ledgers.{types_before}
+use Rattle.clif_simulation.proofs.Numbering.{MakesNoInstruction, apart_on, none_made}
 use Rattle.clif_simulation.proofs.NameLists.{the_one, MakesNoBlock, names_stay, names_of}
 use Rattle.clif_simulation.proofs.Requests
-use Rattle.clif_simulation.proofs.Requests.{entry_stays, entry_begun, entry_first}
+use Rattle.clif_simulation.proofs.Requests.{entry_stays, entry_begun}
 use Rattle.clif_simulation.proofs.Staying.{unchanged, created, restated, old_or_new, kept}
 use Rattle.clif_simulation.proofs.Unfilled.{HasNoEdges, is_open, no_edges}
 use Rattle.clif_simulation.proofs.Values.{is_value_at, false_is, values_kept, values_added, next_is_new, value_answered}
@@ -138,18 +141,18 @@ module _ (calls : List AnsweredCall) (f : Body) (s : SsaState) (c : Carries call
       record {
         own = c.own;
         holds = holds_on calls call (kept calls call refl) c.own c.own f (with_block f) s t c.holds (λ i below. refl) (omega arith) (λ b out. out)
-            (λ b. refl)
+            c.holds.no_maps (none_made (ledger_after (script_of calls)) CreateBlock tt) (λ b. refl)
             (parameters_on calls call (kept calls call refl) c.own c.own f (with_block f) s t c.holds (λ i below. refl) (omega arith) (λ b out. out) tt (λ b. refl) bare)
             (parameters_values_on calls call (kept calls call refl) c.own c.own f (with_block f) s t c.holds (λ i below. refl) (omega arith) (λ b out. out) tt)
             (typed_on calls call f (with_block f) c.holds.values_typed (λ v ty typed. typed) (λ index ty is. absurd (none_new calls call one_answer_none index ty is))) blocks named items
             (declared_kept c.own f (with_block f) s t (insts_same f (with_block f) refl refl refl) leads c.holds.own_exist c.holds.declared)
             (leads_kept calls call c.own c.own s t (kept calls call refl) (λ b i h. h) leads c.holds.leads_own)
+            (edges_there f (with_block f) s t (insts_same f (with_block f) refl refl refl) leads structured_so_far.leading c.holds.have_edges)
             (entry_stays calls (calls ++ call ∷ []) f (with_block f) (Requests.entry_left calls call (λ program. refl)) refl (kept calls call refl) c.holds.entry)
             (λ types are.
             same_structured types c.own (with_block f) s t [] records same leads (block_structured types c.own f s (c.holds.structured types (types_before calls call types are))));
-        on_paths = λ spares.
-            let p : SoundOnPaths calls c.own f s = c.on_paths
-            (spares_before calls call (λ e is. Requests.entry_left calls call (λ program. refl) ∙ is) (λ N. ([], items N ∙ sym (append-nil ((program_so_far calls).items N)))) spares) in
+        on_paths = λ free.
+            let p : SoundOnPaths calls c.own f s = c.on_paths (free_before f (with_block f) s t (λ e is. is) (λ b sealed. (ap is_yes (same b) ∙ sealed, leads b)) free) in
             record {
               tables = p.tables;
               program = created calls call refl p.tables p.tables (same_program p.tables) items p.program;
@@ -246,19 +249,19 @@ module _ (calls : List AnsweredCall) (f : Body) (s : SsaState) (c : Carries call
 
   -- A call that makes no block and no item, and answers no value: the construction may go on, and blocks may enter the
   -- layout behind the entry.
-  pub carries_on : (call : AnsweredCall) (g : Body) (t : SsaState) → MakesNoBlock call.request → MakesNoParameter call.request
+  pub carries_on : (call : AnsweredCall) (g : Body) (t : SsaState) → MakesNoBlock call.request → MakesNoParameter call.request → MakesNoInstruction call.request
       → ((N : Name) → (program_so_far (calls ++ call ∷ [])).items N ≡ (program_so_far calls).items N)
-      → ((entry : Name) → (program_so_far calls).entry ≡ Some entry → (program_so_far (calls ++ call ∷ [])).entry ≡ Some entry)
       → HasEntry (calls ++ call ∷ []) g
       → ((index : ℕ) → is_value_at (answers_to (ledger_after (script_of calls)) call.request) index ≡ false)
       → KeepsInsts f g → ((b : ℕ) → stands_in b g.layout ≡ false → stands_in b f.layout ≡ false) → SamePredecessors s t
       → ((types : VariableTypes) (own : Own) → Structured types own f s [] → Structured types own g t [])
-      → ((own : Own) (tables : Blocks) → DescribesSoundly own f s tables → Keeps own tables g t)
+      → ((entry : ℕ) → entry_of f ≡ Some entry → entry_of g ≡ Some entry) → ((b : ℕ) → is_yes (sealed_of s b) ≡ true → is_yes (sealed_of t b) ≡ true)
+      → (EntryIsFree g t → (own : Own) (tables : Blocks) → DescribesSoundly own f s tables → Keeps own tables g t)
       → Carries (calls ++ call ∷ []) g t
-  carries_on call g t no_block no_parameter items entry enters no_value keeps layout leads structured sound = record {
+  carries_on call g t no_block no_parameter no_instruction items enters no_value keeps layout leads structured first sealed sound = record {
     own = c.own;
     holds = holds_on calls call (name_stays calls call no_block) c.own c.own f g s t c.holds (λ i below. keeps.placed c.own i below) keeps.more
-        layout (λ b. refl)
+        layout (λ i. keeps.maps i ∙ c.holds.no_maps i) (none_made (ledger_after (script_of calls)) call.request no_instruction) (λ b. refl)
         (parameters_on calls call (name_stays calls call no_block) c.own c.own f g s t c.holds (λ i below. keeps.placed c.own i below) keeps.more layout no_parameter (λ b. refl)
         (λ b N is. inl (was b N is)))
         (parameters_values_on calls call (name_stays calls call no_block) c.own c.own f g s t c.holds (λ i below. keeps.placed c.own i below) keeps.more layout no_parameter)
@@ -273,12 +276,12 @@ module _ (calls : List AnsweredCall) (f : Body) (s : SsaState) (c : Carries call
         (λ b N is. inl (was b N is)) items
         (declared_kept c.own f g s t keeps leads c.holds.own_exist c.holds.declared)
         (leads_kept calls call c.own c.own s t (name_stays calls call no_block) (λ b i h. h) leads c.holds.leads_own)
+        (edges_there f g s t keeps leads structured_so_far.leading c.holds.have_edges)
         enters
         (λ types are. structured types c.own (c.holds.structured types (types_before calls call types are)));
-    on_paths = λ spares.
-        let p : SoundOnPaths calls c.own f s = c.on_paths
-        (spares_before calls call entry (λ N. ([], items N ∙ sym (append-nil ((program_so_far calls).items N)))) spares) in
-        let after : Keeps c.own p.tables g t = sound c.own p.tables (p.describes, p.sound, p.counts) in
+    on_paths = λ free.
+        let p : SoundOnPaths calls c.own f s = c.on_paths (free_before f g s t first (λ b was. (sealed b was, leads b)) free) in
+        let after : Keeps c.own p.tables g t = sound free c.own p.tables (p.describes, p.sound, p.counts) in
         record {
           tables = after.tables;
           program = unchanged calls call p.tables after.tables after.same no_block no_parameter items p.program;
@@ -298,18 +301,19 @@ module _ (calls : List AnsweredCall) (f : Body) (s : SsaState) (c : Carries call
       only N (inr block) = inr (block.0, name_stays calls call no_block block.0 N block.1)
 
   -- The same where the layout and the entry stay.
-  pub carries_kept : (call : AnsweredCall) (g : Body) (t : SsaState) → MakesNoBlock call.request → MakesNoParameter call.request
+  pub carries_kept : (call : AnsweredCall) (g : Body) (t : SsaState) → MakesNoBlock call.request → MakesNoParameter call.request → MakesNoInstruction call.request
       → ((N : Name) → (program_so_far (calls ++ call ∷ [])).items N ≡ (program_so_far calls).items N)
       → (program_so_far (calls ++ call ∷ [])).entry ≡ (program_so_far calls).entry
       → ((index : ℕ) → is_value_at (answers_to (ledger_after (script_of calls)) call.request) index ≡ false)
       → KeepsInsts f g → g.layout ≡ f.layout → SamePredecessors s t
       → ((types : VariableTypes) (own : Own) → Structured types own f s [] → Structured types own g t [])
-      → ((own : Own) (tables : Blocks) → DescribesSoundly own f s tables → Keeps own tables g t)
+      → ((b : ℕ) → is_yes (sealed_of s b) ≡ true → is_yes (sealed_of t b) ≡ true)
+      → (EntryIsFree g t → (own : Own) (tables : Blocks) → DescribesSoundly own f s tables → Keeps own tables g t)
       → Carries (calls ++ call ∷ []) g t
-  carries_kept call g t no_block no_parameter items entry no_value keeps layout leads structured sound =
-      carries_on call g t no_block no_parameter items (λ e is. entry ∙ is)
+  carries_kept call g t no_block no_parameter no_instruction items entry no_value keeps layout leads structured sealed sound =
+      carries_on call g t no_block no_parameter no_instruction items
       (entry_stays calls (calls ++ call ∷ []) f g entry (ap (λ (l : List ℕ). slice_get l 0) layout) (name_stays calls call no_block) c.holds.entry)
-      no_value keeps (λ b out. ap (stands_in b) (sym layout) ∙ out) leads structured sound
+      no_value keeps (λ b out. ap (stands_in b) (sym layout) ∙ out) leads structured (λ e is. ap (λ (l : List ℕ). slice_get l 0) layout ∙ is) sealed sound
 
   -- nothing is constructed
   pub still : (own : Own) (tables : Blocks) → DescribesSoundly own f s tables → Keeps own tables f s
@@ -319,27 +323,29 @@ module _ (calls : List AnsweredCall) (f : Body) (s : SsaState) (c : Carries call
   pub carries_switched : (block : Name) (numbers : List ℕ) → Carries (with_answers (SwitchToBlock block) numbers) f s
   carries_switched block numbers =
       let call : AnsweredCall = the_call (SwitchToBlock block) numbers in
-      carries_kept call f s tt tt (Requests.items_switched calls call block refl) (Requests.entry_switched calls call block refl) (λ index. refl)
-      (insts_same f f refl refl refl) refl (λ b. refl) (λ types own h. h) still
+      carries_kept call f s tt tt tt (Requests.items_switched calls call block refl) (Requests.entry_switched calls call block refl) (λ index. refl)
+      (insts_same f f refl refl refl) refl (λ b. refl) (λ types own h. h) (λ b is. is) (λ free. still)
 
   -- a variable is declared
   pub carries_declared : (ty : «Type») (numbers : List ℕ) → Carries (with_answers (DeclareVar ty) numbers) f s
   carries_declared ty numbers =
       let call : AnsweredCall = the_call (DeclareVar ty) numbers in
-      carries_kept call f s tt tt (Requests.items_left calls call (λ program. refl)) (Requests.entry_left calls call (λ program. refl))
+      carries_kept call f s tt tt tt (Requests.items_left calls call (λ program. refl)) (Requests.entry_left calls call (λ program. refl))
       (one_variable_none (length (ledger_after (script_of calls)).variables))
-      (insts_same f f refl refl refl) refl (λ b. refl) (λ types own h. h) still
+      (insts_same f f refl refl refl) refl (λ b. refl) (λ types own h. h) (λ b is. is) (λ free. still)
 
   -- a block is sealed
-  pub carries_sealed : (g : Body) (t : SsaState) (block : Name) (numbers : List ℕ) → IsConsistent f
-      → ((own : Own) (tables : Blocks) → DescribesSoundly own f s tables → Keeps own tables g t)
+  pub carries_sealed : (g : Body) (t : SsaState) (block : Name) (numbers : List ℕ) (seals : ℕ → Bool) → IsConsistent f
+      → ((b : ℕ) → is_yes (sealed_of t b) ≡ (if seals b then true else is_yes (sealed_of s b)))
+      → ((own : Own) (tables : Blocks) → ((b : ℕ) → seals b ≡ true → SparesIfEntry f s b) → DescribesSoundly own f s tables → Keeps own tables g t)
       → ((types : VariableTypes) (own : Own) → Structured types own f s [] → Structured types own g t [])
       → OnlyConstructs f g → g.layout ≡ f.layout → SamePredecessors s t
       → Carries (with_answers (SealBlock block) numbers) g t
-  carries_sealed g t block numbers consistent keeps structured constructs layout leads =
+  carries_sealed g t block numbers seals consistent sealed keeps structured constructs layout leads =
       let call : AnsweredCall = the_call (SealBlock block) numbers in
-      carries_kept call g t tt tt (Requests.items_left calls call (λ program. refl)) (Requests.entry_left calls call (λ program. refl)) (λ index. refl)
-      (insts_kept f g consistent (goes_on-constructs f g constructs)) layout leads structured keeps
+      carries_kept call g t tt tt tt (Requests.items_left calls call (λ program. refl)) (Requests.entry_left calls call (λ program. refl)) (λ index. refl)
+      (insts_kept f g consistent (goes_on-constructs f g constructs)) layout leads structured (still_sealed s t seals sealed)
+      (λ free own tables. keeps own tables (spared_sealed f g s t seals layout leads sealed free))
 
   -- IN THE CURRENT BLOCK, WHICH HAS NO TERMINATOR -----------------------------------------------------------------------
 
@@ -367,15 +373,17 @@ module _ (calls : List AnsweredCall) (f : Body) (s : SsaState) (c : Carries call
           own = c.own;
           holds = holds_item calls call (name_stays calls call tt) c.own c.own f f s t c.holds (λ i below. refl) (omega arith) (λ d out. out) b B (Assign x n) current.named puts []
               (sym (append-nil (c.own.insts b))) (λ d other. refl) (λ d. refl) (typed_on calls call f f c.holds.values_typed (λ v ty typed. typed) (λ index a is. absurd (none_new calls call (λ k. refl) index a is)))
-              (λ out. refl) refl tt (let l = longer_calls calls call in omega (arith, earlier, l)) plain
+              (λ out. refl) refl tt (let l = longer_calls calls call in omega (arith, earlier, l))
+              refl tt (apart_on calls call (length f.insts) (length f.insts) (none_made (ledger_after (script_of calls)) (DefVar x n) tt) (omega arith) c.holds.instructions) plain c.holds.no_maps
               (declared_kept c.own f f s t (insts_same f f refl refl refl) leads c.holds.own_exist c.holds.declared)
               (leads_kept calls call c.own c.own s t (name_stays calls call tt) (λ d i h. h) leads c.holds.leads_own)
+              (edges_there f f s t (insts_same f f refl refl refl) leads exist c.holds.have_edges)
               (entry_stays calls (calls ++ call ∷ []) f f entry refl (name_stays calls call tt) c.holds.entry)
               (λ types are.
               let before : AreTypes calls types = types_before calls call types are in
               assigned_structured types c.own f s t x b value (subst (HasType f value) (sym (before x ty of_type)) typed) records same leads (c.holds.structured types before));
-          on_paths = λ spares.
-              let p : SoundOnPaths calls c.own f s = c.on_paths (spares_item calls call B (Assign x n) puts (λ e is. entry ∙ is) spares) in
+          on_paths = λ free.
+              let p : SoundOnPaths calls c.own f s = c.on_paths (free_before f f s t (λ e is. is) (λ d sealed. (ap is_yes (same d) ∙ sealed, leads d)) free) in
               let known = value_answered calls p.tables n p.program p.values_given is_value in
               let written : Records s t x b (p.tables.answer (code n)) = subst (Records s t x b) (sym (known.0 ∙ ap number_or_none number)) records in
               let T : Blocks = with_write (with_item p.tables b) b x (code n) in
@@ -396,9 +404,9 @@ module _ (calls : List AnsweredCall) (f : Body) (s : SsaState) (c : Carries call
     pub carries_used : (g : Body) (t : SsaState) (x v : ℕ) (ty : «Type») → variable_type (ledger_after (script_of calls)) x ≡ Some ty
         → ((own : Own) (tables : Blocks) → DescribesSoundly own (inserted_in f b) s tables → KeepsAndKnows own tables g t b x v)
         → ((types : VariableTypes) (own : Own) → types x ≡ ty → Structured types own (inserted_in f b) s [] → Structured types own g t [])
-        → OnlyConstructs (inserted_in f b) g → g.layout ≡ (inserted_in f b).layout → SamePredecessors s t → HasType g v ty
+        → OnlyConstructs (inserted_in f b) g → g.layout ≡ (inserted_in f b).layout → SamePredecessors s t → SealedStays s t → HasType g v ty
         → Carries (with_answers (UseVar x) (v ∷ [])) g t
-    carries_used g t x v ty of_type sound structured constructs layout leads has_type =
+    carries_used g t x v ty of_type sound structured constructs layout leads flags has_type =
         let call : AnsweredCall = the_call (UseVar x) (v ∷ []) in
         let name : Name = answer_of (length calls) 0 in
         let h : Body = inserted_in f b in
@@ -410,15 +418,18 @@ module _ (calls : List AnsweredCall) (f : Body) (s : SsaState) (c : Carries call
           holds = holds_item calls call (name_stays calls call tt) c.own c.own f g s t c.holds (λ i below. keeps.placed c.own i below) keeps.more
               (λ d out. out_before f b d (ap (stands_in d) (sym layout) ∙ out)) b B (Use x name) current.named puts []
               (sym (append-nil (c.own.insts b))) (λ d other. refl) (λ d. refl) (typed_on calls call f g c.holds.values_typed keeps.types used_typed)
-              (λ out. refl) refl tt (let l = longer_calls calls call in omega (arith, l)) plain
+              (λ out. refl) refl tt (let l = longer_calls calls call in omega (arith, l))
+              refl tt (apart_on calls call (length f.insts) (length g.insts) (none_made (ledger_after (script_of calls)) (UseVar x) tt) keeps.more c.holds.instructions) plain (λ i. keeps.maps i ∙ c.holds.no_maps i)
               (declared_kept c.own f g s t keeps leads c.holds.own_exist c.holds.declared)
               (leads_kept calls call c.own c.own s t (name_stays calls call tt) (λ d i here. here) leads c.holds.leads_own)
+              (edges_there f g s t keeps leads exist c.holds.have_edges)
               (entry_begun calls (calls ++ call ∷ []) f g b B entry layout current.named (name_stays calls call tt) c.holds.entry)
               (λ types are.
               let before : AreTypes calls types = types_before calls call types are in
               structured types c.own (before x ty of_type) (inserted_structured types c.own f s b (c.holds.structured types before)));
-          on_paths = λ spares.
-              let p : SoundOnPaths calls c.own f s = c.on_paths (spares_item calls call B (Use x name) puts (entry_first calls (calls ++ call ∷ []) B entry) spares) in
+          on_paths = λ free.
+              let first : (e : ℕ) → entry_of f ≡ Some e → entry_of g ≡ Some e = λ e is. ap (λ (l : List ℕ). slice_get l 0) layout ∙ entry_inserted f b e is in
+              let p : SoundOnPaths calls c.own f s = c.on_paths (free_before f g s t first (λ d sealed. (flags d ∙ sealed, leads d)) free) in
               let E : Blocks = with_entry f.layout s b p.tables in
               let after : KeepsAndKnows c.own E g t b x v = sound c.own E (inserted_soundly c.own f s p.tables b (p.describes, p.sound, p.counts)) in
               let T : Blocks = after.kept.tables in

@@ -1,23 +1,25 @@
 -- What a function holds of a list of calls it holds of the list with one more: with an item, or without.
 use Rattle.std.proofs.Common.{◌≡◌, ◌≢◌, ℕ, suc, ◌<◌, ◌≤◌, List, [], ◌∷◌, ◌++◌, length, map, refl, sym, ◌∙◌, ap, ap₂, subst, arith, Option, Some, None, ◌⊎◌, inl, inr, false}
 use Rattle.std.proofs.Math.Decide.{ℕ_discrete}
-use Rattle.std.specs.Prelude.{Contains, flat_map}
+use Rattle.std.specs.Prelude.{Contains, flat_map, slice_get}
 use Rattle.std.specs.List.{AllByRecursion}
 use Rattle.std.proofs.lemmas.List.{append-nil, map-append}
 use Rattle.std.proofs.lemmas.Grind.{flat_map-append}
 use Rattle.clif_ir.specs.Body.{Body}
 use Rattle.clif_instructions.specs.Members.{stands_in}
 use Rattle.clif_ssa.specs.Own.{Own}
-use Rattle.clif_ssa.specs.Ssa.{SsaState, SamePredecessors}
+use Rattle.clif_ssa.specs.Sound.{edge_target}
+use Rattle.clif_ssa.specs.Ssa.{SsaState, SamePredecessors, predecessors_of}
 use Rattle.clif_ssa.specs.Structured.{Structured, VariableTypes}
 use Rattle.clif_ssa.proofs.Ordering.{contains_cons}
 use Rattle.clif_meaning.specs.Name.{Name}
 use Rattle.clif_meaning.specs.Instruction.{Argument, Known, CallResult, CallPayload, Edge}
-use Rattle.clif_meaning.specs.Request.{AnsweredCall}
+use Rattle.clif_meaning.specs.Ledger.{AnInstruction, answers_to, ledger_after}
+use Rattle.clif_meaning.specs.Request.{AnsweredCall, script_of}
 use Rattle.clif_meaning.specs.Program.{Item, Instruct, Use, Assign}
 use Rattle.clif_meaning.specs.FunctionView.{Placed}
 use Rattle.clif_simulation.specs.Tables.{answered, callers_parameters, program_so_far, block_name}
-use Rattle.clif_simulation.specs.Carries.{AreDeclared, AreTypes, EdgeEarlier, EdgesEnd, HasEntry, HasItems, Holds, IsEarlier, IsValue, LeadsOwn, NamesBlocks, NamesEarlier, OwnExist, OwnParameters, PassesEarlier, SparesBlock, SparesEntry, ValuesTyped, answered_argument, answered_edge, answered_instruction, carried, own_placed}
+use Rattle.clif_simulation.specs.Carries.{AreDeclared, AreTypes, EdgeEarlier, EdgesEnd, HasEntry, HasItems, HasNoMaps, HaveEdges, Holds, InstructionsApart, IsBuilt, IsEarlier, IsValue, LeadsOwn, NamesBlocks, NamesEarlier, OwnAnswers, OwnExist, OwnParameters, PassesEarlier, ValuesTyped, answered_argument, answered_edge, answered_instruction, carried, instruction_of, own_placed}
 use Rattle.clif_simulation.proofs.Extending.{one_answer}
 use Rattle.clif_simulation.proofs.Growing.{KeepsInsts}
 use Rattle.clif_simulation.proofs.ItemCalls.{PutsItem, items-here, items-elsewhere, same_or_other}
@@ -26,6 +28,7 @@ use Rattle.clif_simulation.proofs.LedgerValues.{value_earlier, value_stays}
 use Rattle.clif_simulation.proofs.Listed.{MakesNoParameter, parameters_stay}
 use Rattle.clif_simulation.proofs.NameLists.{names_stay}
 use Rattle.clif_simulation.proofs.Numbers.{answered_stays}
+use Rattle.clif_simulation.proofs.Numbering.{apart_on, built_stays, item_numbers}
 use Rattle.clif_simulation.proofs.Unfilled.{HasNoEdges, one_more_ends}
 
 -- LISTS -----------------------------------------------------------------------------------------------------------------
@@ -42,10 +45,6 @@ all_append P (x ∷ xs) ys first second = (first.0, all_append P xs ys first.1 s
 pub all_first : {X : Type 0} (P : X → Type 0) (xs ys : List X) → AllByRecursion P (xs ++ ys) → AllByRecursion P xs
 all_first P [] ys all = tt
 all_first P (x ∷ xs) ys all = (all.0, all_first P xs ys all.1)
-
-pub all_last : {X : Type 0} (P : X → Type 0) (xs : List X) (x : X) → AllByRecursion P (xs ++ x ∷ []) → P x
-all_last P [] x all = all.0
-all_last P (y ∷ xs) x all = all_last P xs x all.1
 
 pub all_contained : (P : ℕ → Type 0) (xs : List ℕ) (x : ℕ) → AllByRecursion P xs → Contains xs x → P x
 all_contained P [] x all here = absurd (omega (arith, here.1))
@@ -67,6 +66,14 @@ pub declared_kept : (own : Own) (f g : Body) (s t : SsaState) → KeepsInsts f g
 declared_kept own f g s t keeps leads exist declared block inst k target here to =
     let below : inst < length f.insts = all_contained (λ (i : ℕ). i < length f.insts) (own.insts block) inst (exist block) here in
     subst (λ (is : List ℕ). Contains is inst) (sym (leads target)) (declared block inst k target here (sym (keeps.targets inst k below) ∙ to))
+
+-- and so has each of them an edge to its block
+pub edges_there : (f g : Body) (s t : SsaState) → KeepsInsts f g → SamePredecessors s t → ((target i : ℕ) → Contains (predecessors_of s target) i → i < length f.insts)
+    → HaveEdges f s → HaveEdges g t
+edges_there f g s t keeps leads exist have target inst here =
+    let old : Contains (predecessors_of s target) inst = subst (λ (is : List ℕ). Contains is inst) (leads target) here in
+    let edge : (k : ℕ) × (edge_target f inst k ≡ Some target) = have target inst old in
+    (edge.0, keeps.targets inst edge.0 (exist target inst old) ∙ edge.1)
 
 module _ (calls : List AnsweredCall) (call : AnsweredCall) where
   abbrev after : List AnsweredCall
@@ -136,16 +143,6 @@ module _ (calls : List AnsweredCall) (call : AnsweredCall) where
       let old = was target inst (subst (λ (is : List ℕ). Contains is inst) (leads target) here) in
       (old.0, old.1, still old.0 inst old.2, stays old.0 old.1 old.3, filled_stays calls call old.1 old.4)
 
-  -- THE ENTRY -----------------------------------------------------------------------------------------------------------
-
-  -- what spares the entry of the longer list spares that of the shorter one
-  pub spares_before : ((entry : Name) → (program_so_far calls).entry ≡ Some entry → (program_so_far after).entry ≡ Some entry)
-      → ((block : Name) → (more : List Item) × ((program_so_far after).items block ≡ (program_so_far calls).items block ++ more))
-      → SparesEntry after → SparesEntry calls
-  spares_before entry_stays items spares entry is block =
-      all_first (SparesBlock entry) ((program_so_far calls).items block) (items block).0
-      (subst (AllByRecursion (SparesBlock entry)) (items block).1 (spares entry (entry_stays entry is) block))
-
   -- the items of the program, where one more is put behind those of block B
   module _ (B : Name) (item : Item) (puts : PutsItem calls call B item) where
     items_here : (program_so_far after).items B ≡ (program_so_far calls).items B ++ item ∷ []
@@ -153,17 +150,6 @@ module _ (calls : List AnsweredCall) (call : AnsweredCall) where
 
     items_others : (name : Name) → name ≢ B → (program_so_far after).items name ≡ (program_so_far calls).items name
     items_others name other = puts.items name ∙ items-elsewhere (program_so_far calls) B item name other
-
-    pub spares_item : ((entry : Name) → (program_so_far calls).entry ≡ Some entry → (program_so_far after).entry ≡ Some entry) → SparesEntry after → SparesEntry calls
-    spares_item entry = spares_before entry (λ name. by name (same_or_other B name))
-      where
-        by : (name : Name) → (name ≡ B) ⊎ (name ≢ B) → (more : List Item) × ((program_so_far after).items name ≡ (program_so_far calls).items name ++ more)
-        by name (inl same) =
-            (item ∷ [], ap (λ (n : Name). (program_so_far after).items n) same ∙ items_here ∙ ap (λ (n : Name). (program_so_far calls).items n ++ item ∷ []) (sym same))
-        by name (inr other) = ([], items_others name other ∙ sym (append-nil ((program_so_far calls).items name)))
-
-    pub item_last : (P : Item → Type 0) → ((name : Name) → AllByRecursion P ((program_so_far after).items name)) → P item
-    item_last P all = all_last P ((program_so_far calls).items B) item (subst (AllByRecursion P) items_here (all B))
 
   module _ (stays : (block : ℕ) (name : Name) → block_name calls block ≡ Some name → block_name after block ≡ Some name) where
     pub edge_earlier : (edge : Edge Name Name) → EdgeEarlier calls edge → EdgeEarlier after edge
@@ -178,7 +164,6 @@ module _ (calls : List AnsweredCall) (call : AnsweredCall) where
       all_mapped (IsEarlier calls) (IsEarlier after) earlier_name instruction.operands earlier.0,
       all_mapped (IsEarlier calls) (IsEarlier after) earlier_name results earlier.1,
       all_mapped (EdgeEarlier calls) (EdgeEarlier after) edge_earlier instruction.edges earlier.2,
-      earlier.3,
     )
     earlier_stays (Use variable name) earlier = earlier_name name earlier
     earlier_stays (Assign variable name) earlier = earlier_name name earlier
@@ -196,6 +181,11 @@ module _ (calls : List AnsweredCall) (call : AnsweredCall) where
       items_kept block name named =
           map_same (own_placed own' g) (own_placed own f) (λ (i : ℕ). i < length f.insts) kept (own.insts block) (c.own_exist block)
           ∙ c.items block name named ∙ sym (all_carried ((program_so_far calls).items name) (c.earlier name))
+
+      -- they have the numbers that they had
+      numbers_stay : (block : ℕ) (name : Name) → block_name calls block ≡ Some name → own.insts block ≡ flat_map (instruction_of after) ((program_so_far calls).items name)
+      numbers_stay block name named =
+          c.own_answers block name named ∙ sym (item_numbers calls call ((program_so_far calls).items name) (c.items_built name))
 
       -- The caller's parameters ---------------------------------------------------------------------------------------
 
@@ -247,22 +237,28 @@ module _ (calls : List AnsweredCall) (call : AnsweredCall) where
 
       -- A call without an item ------------------------------------------------------------------------------------------
 
-      pub holds_on : ((block : ℕ) → own'.insts block ≡ own.insts block) → OwnParameters after own'
+      pub holds_on : HasNoMaps g → ((index : ℕ) → slice_get (answers_to (ledger_after (script_of calls)) call.request) index ≡ Some AnInstruction → ⊥)
+          → ((block : ℕ) → own'.insts block ≡ own.insts block) → OwnParameters after own'
           → ((name : Name) → AllByRecursion (IsValue after) ((program_so_far after).parameters name)) → ValuesTyped after g → NamesBlocks after
           → ((block : ℕ) (name : Name) → block_name after block ≡ Some name → (block_name calls block ≡ Some name) ⊎ ((own.insts block ≡ []) × ((program_so_far calls).items name ≡ [])))
           → ((name : Name) → (program_so_far after).items name ≡ (program_so_far calls).items name)
-          → AreDeclared g t own'.insts → LeadsOwn after own' t → HasEntry after g
+          → AreDeclared g t own'.insts → LeadsOwn after own' t → HaveEdges g t → HasEntry after g
           → ((types : VariableTypes) → AreTypes after types → Structured types own' g t []) → Holds after own' g t
-      holds_on same parameters parameters_values values_typed blocks named items declared leads entry structured = record {
+      holds_on no_maps no_instruction same parameters parameters_values values_typed blocks named items declared leads have entry structured = record {
         blocks = blocks;
         items = λ block name here. ap (map (own_placed own' g)) (same block) ∙ by block name (named block name here);
+        own_answers = λ block name here. same block ∙ numbers block name (named block name here);
+        items_built = λ name. subst (AllByRecursion (IsBuilt after)) (sym (items name)) (all_mapped (IsBuilt calls) (IsBuilt after) (built_stays calls call) ((program_so_far calls).items name) (c.items_built name));
+        instructions = apart_on calls call (length f.insts) (length g.insts) no_instruction more c.instructions;
         earlier = λ name. subst (AllByRecursion (NamesEarlier after)) (sym (items name)) (all_mapped (NamesEarlier calls) (NamesEarlier after) earlier_stays ((program_so_far calls).items name) (c.earlier name));
         edges_end = λ name. subst EdgesEnd (sym (items name)) (c.edges_end name);
+        no_maps = no_maps;
         own_exist = λ block. subst (AllByRecursion (λ (i : ℕ). i < length g.insts)) (sym (same block)) (own_exists (own.insts block) (c.own_exist block));
         own_named = λ block none. same block ∙ c.own_named block (unnamed block none (block_name calls block) refl);
         own_inserted = λ block out. same block ∙ c.own_inserted block (inserted block out);
         declared = declared;
         leads_own = leads;
+        have_edges = have;
         parameters = parameters;
         parameters_values = parameters_values;
         values_typed = values_typed;
@@ -279,6 +275,11 @@ module _ (calls : List AnsweredCall) (call : AnsweredCall) where
           by block name (inl old) = items_kept block name old ∙ ap (flat_map (carried after)) (sym (items name))
           by block name (inr new) = ap (map (own_placed own' g)) new.0 ∙ ap (flat_map (carried after)) (sym (items name ∙ new.1))
 
+          numbers : (block : ℕ) (name : Name) → (block_name calls block ≡ Some name) ⊎ ((own.insts block ≡ []) × ((program_so_far calls).items name ≡ []))
+              → own.insts block ≡ flat_map (instruction_of after) ((program_so_far after).items name)
+          numbers block name (inl old) = numbers_stay block name old ∙ ap (flat_map (instruction_of after)) (sym (items name))
+          numbers block name (inr new) = new.0 ∙ ap (flat_map (instruction_of after)) (sym (items name ∙ new.1))
+
       -- A call with an item ---------------------------------------------------------------------------------------------
 
       module _ (b : ℕ) (B : Name) (item : Item) (named : block_name calls b ≡ Some B) (puts : PutsItem calls call B item) (new : List ℕ)
@@ -286,6 +287,7 @@ module _ (calls : List AnsweredCall) (call : AnsweredCall) where
           (same_params : (d : ℕ) → own'.params d ≡ own.params d) (values_typed : ValuesTyped after g) (new_inserted : stands_in b g.layout ≡ false → new ≡ [])
           (new_is : map (own_placed own' g) new ≡ carried after item)
           (new_exist : AllByRecursion (λ (i : ℕ). i < length g.insts) new) (item_earlier : NamesEarlier after item)
+          (new_numbers : new ≡ instruction_of after item) (item_built : IsBuilt after item) (apart : InstructionsApart after (length g.insts))
           (no_edges : AllByRecursion HasNoEdges ((program_so_far calls).items B)) where
         names : (d : ℕ) → block_name after d ≡ block_name calls d
         names d = names_stay calls call puts.no_block d
@@ -316,6 +318,30 @@ module _ (calls : List AnsweredCall) (call : AnsweredCall) where
             by (no other) =
                 ap (map (own_placed own' g)) (own_elsewhere block other) ∙ items_kept block name old
                 ∙ ap (flat_map (carried after)) (sym (items_others B item puts name (λ is_B. other (c.blocks.distinct block b B (old ∙ ap (λ (n : Name). Some n) is_B) named))))
+
+        numbers_at : own'.insts b ≡ flat_map (instruction_of after) ((program_so_far after).items B)
+        numbers_at =
+            own_here
+            ∙ ap₂ (λ (old last : List ℕ). old ++ last) (numbers_stay b B named) (new_numbers ∙ sym (append-nil (instruction_of after item)))
+            ∙ sym (flat_map-append (instruction_of after) ((program_so_far calls).items B) (item ∷ []))
+            ∙ ap (flat_map (instruction_of after)) (sym (items_here B item puts))
+
+        numbers_of : OwnAnswers after own'
+        numbers_of block name named_after = by (ℕ_discrete block b)
+          where
+            old : block_name calls block ≡ Some name
+            old = sym (names block) ∙ named_after
+
+            by : Dec (block ≡ b) → own'.insts block ≡ flat_map (instruction_of after) ((program_so_far after).items name)
+            by (yes same) =
+                let is_B : name ≡ B = one_answer name B (block_name calls block) old (ap (block_name calls) same ∙ named) in
+                ap own'.insts same ∙ numbers_at ∙ ap (λ (n : Name). flat_map (instruction_of after) ((program_so_far after).items n)) (sym is_B)
+            by (no other) =
+                own_elsewhere block other ∙ numbers_stay block name old
+                ∙ ap (flat_map (instruction_of after)) (sym (items_others B item puts name (λ is_B. other (c.blocks.distinct block b B (old ∙ ap (λ (n : Name). Some n) is_B) named))))
+
+        old_built : (name : Name) → AllByRecursion (IsBuilt after) ((program_so_far calls).items name)
+        old_built name = all_mapped (IsBuilt calls) (IsBuilt after) (built_stays calls call) ((program_so_far calls).items name) (c.items_built name)
 
         -- what holds of each old item and of the new one
         each_item : (P : List Item → Type 0) → P ((program_so_far calls).items B ++ item ∷ []) → ((name : Name) → P ((program_so_far calls).items name))
@@ -354,9 +380,9 @@ module _ (calls : List AnsweredCall) (call : AnsweredCall) where
         only name (inr other) (inl none) = inl (items_others B item puts name other ∙ none)
         only name (inr other) (inr block) = inr (block.0, names block.0 ∙ block.1)
 
-        pub holds_item : AreDeclared g t own'.insts → LeadsOwn after own' t → HasEntry after g
+        pub holds_item : HasNoMaps g → AreDeclared g t own'.insts → LeadsOwn after own' t → HaveEdges g t → HasEntry after g
             → ((types : VariableTypes) → AreTypes after types → Structured types own' g t []) → Holds after own' g t
-        holds_item declared leads entry structured = record {
+        holds_item no_maps declared leads have entry structured = record {
           blocks = record {
             distinct = λ d e name first second. c.blocks.distinct d e name (sym (names d) ∙ first) (sym (names e) ∙ second);
             earlier = λ d name is. earlier_name name (c.blocks.earlier d name (sym (names d) ∙ is));
@@ -364,13 +390,18 @@ module _ (calls : List AnsweredCall) (call : AnsweredCall) where
             only_parameters = only_parameters puts.no_parameter (λ d. names d);
           };
           items = items_of;
+          own_answers = numbers_of;
+          items_built = each_item (AllByRecursion (IsBuilt after)) (all_append (IsBuilt after) ((program_so_far calls).items B) (item ∷ []) (old_built B) (item_built, tt)) old_built;
+          instructions = apart;
           earlier = each_item (AllByRecursion (NamesEarlier after)) (all_append (NamesEarlier after) ((program_so_far calls).items B) (item ∷ []) (old_earlier B) (item_earlier, tt)) old_earlier;
           edges_end = each_item EdgesEnd (one_more_ends ((program_so_far calls).items B) item no_edges) c.edges_end;
+          no_maps = no_maps;
           own_exist = own_all;
           own_named = λ block none. own_unnamed block none (ℕ_discrete block b);
           own_inserted = λ block out. own_outside block out (ℕ_discrete block b);
           declared = declared;
           leads_own = leads;
+          have_edges = have;
           parameters = parameters_on puts.no_parameter same_params (λ d name is. inl (sym (names d) ∙ is));
           parameters_values = parameters_values_on puts.no_parameter;
           values_typed = values_typed;

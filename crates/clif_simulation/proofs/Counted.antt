@@ -1,5 +1,5 @@
 -- An instruction of a script's program gives as many names as it gives bits.
-use Rattle.std.proofs.Common.{◌≡◌, ℕ, zero, suc, if◌then◌else◌, Bool, true, false, List, [], ◌∷◌, ◌++◌, length, fold, slice_get, Option, Some, None, refl, sym, ◌∙◌, ap, subst}
+use Rattle.std.proofs.Common.{◌≡◌, ◌⊎◌, inl, inr, ℕ, zero, suc, if◌then◌else◌, Bool, true, false, List, [], ◌∷◌, ◌++◌, length, fold, slice_get, Option, Some, None, refl, sym, ◌∙◌, ap, subst}
 use Rattle.std.specs.Prelude.{IsTrue, ◌==◌, ◌&&◌, ◌%◌, not}
 use Rattle.std.specs.List.{AllByRecursion}
 use Rattle.clif_types.specs.declared.types.«Type».{«Type»}
@@ -9,8 +9,8 @@ use Rattle.clif_types.specs.Types.{bits_of}
 use Rattle.clif_types.specs.declared.extname.ExternalName.{ExternalName}
 use Rattle.clif_types.specs.declared.extname.ExternalName.TheVariants.{LibCall}
 use Rattle.clif_tables.specs.Callees.{types_of}
-use Rattle.clif_meaning.specs.Event.{CallShape, plain_call}
-use Rattle.clif_meaning.specs.Bits.{Bits}
+use Rattle.clif_meaning.specs.Event.{CallShape, Callee, plain_call}
+use Rattle.clif_meaning.specs.Bits.{Bits, AreValues}
 use Rattle.clif_meaning.specs.Memory.{Memory, Range}
 use Rattle.clif_meaning.specs.Name.{Name, same_name, answer_of}
 use Rattle.clif_opcodes.specs.declared.opcodes.FloatConstOpcode.TheVariants.{F16const, F32const, F64const}
@@ -21,8 +21,10 @@ use Rattle.clif_meaning.specs.Instruction.{Instruction, Operation, Compute, Load
 use Rattle.clif_meaning.specs.Request.{Request, Script}
 use Rattle.clif_meaning.specs.Program.{Program, Item, Instruct, Use, Assign, result_types, result_names, answers_from, with_item_at, with_inserted, extended, with_call, empty_program, program_of}
 use Rattle.clif_meaning.specs.Ledger.{is_terminator}
+use Rattle.clif_meaning.specs.Typing.{call_shape}
 use Rattle.clif_meaning.specs.World.{World}
 use Rattle.clif_meaning.specs.Outcome.{Outcome, Gives, Goes, Returns, Traps, Calls, NoStep, access_outcome, no_claim, are_accessible, binary_fault, binary_number, call_outcome, computed, traps_on, low_bits_at, outcome_of_computed, outcome_of, unless_fault}
+use Rattle.clif_simulation.proofs.Matching.{IsPlain, outcome_plain}
 use Rattle.clif_simulation.proofs.Effects.{ProgramEffect, program_effect, Leaves, Inserts, Takes, Switches, Assigns, Uses, Builds}
 
 -- an instruction gives the names of its results
@@ -215,6 +217,76 @@ as_many world place instruction results named types operands memory after bits i
     subst (λ (o : Outcome). GivesCount (length (result_types instruction.operation instruction.controlling)) o) is
     (counted_outcome world instruction.operation instruction.controlling types operands memory)
     ∙ sym (as_many_names place 1 (result_types instruction.operation instruction.controlling)) ∙ ap length (sym named)
+
+-- OUTSIDE CALLS -----------------------------------------------------------------------------------------------------------
+
+-- values of some types are as many as these
+pub as_many_values : (types : List «Type») (values : List Bits) → AreValues types values → length values ≡ length types
+as_many_values [] [] are = refl
+as_many_values [] (bits ∷ values) are = absurd are
+as_many_values (ty ∷ types) [] are = absurd are
+as_many_values (ty ∷ types) (bits ∷ values) are = ap suc (as_many_values types values are.1)
+
+-- a call that is made returns as much as there are results, or there are none
+abbrev CallsCount : List «Type» → Outcome → Type 0
+CallsCount types (Gives bits memory) = Unit {0}
+CallsCount types (Goes edge given memory) = Unit {0}
+CallsCount types (Returns bits) = Unit {0}
+CallsCount types (Traps reason) = Unit {0}
+CallsCount types (Calls callee call arguments) = (length (types_of call.signature.returns) ≡ length types) ⊎ (types ≡ [])
+CallsCount types NoStep = Unit {0}
+
+plain_count : (types : List «Type») (o : Outcome) → IsPlain o → CallsCount types o
+plain_count types (Gives bits memory) plain = tt
+plain_count types (Goes edge given memory) plain = tt
+plain_count types (Returns bits) plain = tt
+plain_count types (Traps reason) plain = tt
+plain_count types (Calls callee call arguments) plain = absurd plain
+plain_count types NoStep plain = tt
+
+named_count : (types : List «Type») (name : ExternalName) (call : CallShape) (arguments : List Bits)
+    → (length (types_of call.signature.returns) ≡ length types) ⊎ (types ≡ []) → CallsCount types (call_outcome name call arguments)
+named_count types (LibCall callee) call arguments count = tt
+named_count types _ call arguments count = count
+
+no_call_counts : (world : World) (operation : Operation) → call_shape operation ≡ None → (ty : «Type») (types : List «Type») (operands : List Bits) (memory : Memory)
+    → CallsCount (result_types operation ty) (outcome_of world operation ty types operands memory)
+no_call_counts world operation no_call ty types operands memory =
+    plain_count (result_types operation ty) (outcome_of world operation ty types operands memory) (outcome_plain world operation no_call ty types operands memory)
+
+calls_count : (world : World) (operation : Operation) (ty : «Type») (types : List «Type») (operands : List Bits) (memory : Memory)
+    → CallsCount (result_types operation ty) (outcome_of world operation ty types operands memory)
+calls_count world (Call name signature) ty types operands memory = named_count (types_of signature.returns) name (plain_call signature) operands (inl refl)
+calls_count world (CallIndirect signature) ty types [] memory = tt
+calls_count world (CallIndirect signature) ty types (address ∷ operands) memory = inl refl
+calls_count world (TryCall name call) ty types operands memory = named_count [] name call operands (inr refl)
+calls_count world (TryCallIndirect call) ty types [] memory = tt
+calls_count world (TryCallIndirect call) ty types (address ∷ operands) memory = inr refl
+calls_count world (Compute arithmetic) ty types operands memory = no_call_counts world (Compute arithmetic) refl ty types operands memory
+calls_count world (Load flags offset) ty types operands memory = no_call_counts world (Load flags offset) refl ty types operands memory
+calls_count world (Store flags offset) ty types operands memory = no_call_counts world (Store flags offset) refl ty types operands memory
+calls_count world (Stack name slot offset) ty types operands memory = no_call_counts world (Stack name slot offset) refl ty types operands memory
+calls_count world (StackStore slot offset) ty types operands memory = no_call_counts world (StackStore slot offset) refl ty types operands memory
+calls_count world (Trap reason) ty types operands memory = no_call_counts world (Trap reason) refl ty types operands memory
+calls_count world (CondTrap name reason) ty types operands memory = no_call_counts world (CondTrap name reason) refl ty types operands memory
+calls_count world (Jump) ty types operands memory = no_call_counts world (Jump) refl ty types operands memory
+calls_count world (Brif) ty types operands memory = no_call_counts world (Brif) refl ty types operands memory
+calls_count world (BrTable entries) ty types operands memory = no_call_counts world (BrTable entries) refl ty types operands memory
+calls_count world (Return) ty types operands memory = no_call_counts world (Return) refl ty types operands memory
+
+pub call_count : (world : World) (place : ℕ) (instruction : Instruction Name Name) (results : List Name) → results ≡ result_names place instruction
+    → (types : List «Type») (operands : List Bits) (memory : Memory) (callee : Callee) (call : CallShape) (arguments : List Bits)
+    → outcome_of world instruction.operation instruction.controlling types operands memory ≡ Calls callee call arguments
+    → (length (types_of call.signature.returns) ≡ length results) ⊎ (results ≡ [])
+call_count world place instruction results named types operands memory callee call arguments is =
+    by (subst (CallsCount (result_types instruction.operation instruction.controlling)) is
+    (calls_count world instruction.operation instruction.controlling types operands memory))
+  where
+    by : (length (types_of call.signature.returns) ≡ length (result_types instruction.operation instruction.controlling))
+        ⊎ (result_types instruction.operation instruction.controlling ≡ [])
+        → (length (types_of call.signature.returns) ≡ length results) ⊎ (results ≡ [])
+    by (inl count) = inl (count ∙ sym (as_many_names place 1 (result_types instruction.operation instruction.controlling)) ∙ ap length (sym named))
+    by (inr none) = inr (named ∙ ap (answers_from place 1) none)
 
 -- an instruction that ends its block gives nothing
 pub terminator_gives_none : (place : ℕ) (instruction : Instruction Name Name) → IsTrue (is_terminator instruction.operation) → result_names place instruction ≡ []

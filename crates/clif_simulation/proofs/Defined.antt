@@ -204,7 +204,7 @@ module _ (calls : List AnsweredCall) (f : Body) (s : SsaState) (consistent : IsC
             let zeros : List ℕ = Beside.zeros_of calls f s consistent carries q.block in
             let placed = Beside.placed_inst calls f s consistent carries in
             let within : from.before < length (map placed zeros) = let count = map_length placed zeros in omega (arith, place_within zeros from.before from.inst from.stands, count) in
-            let stands : slice_get (items_of f q.block) from.before ≡ Some (placed_of f (inst_at f from.inst)) =
+            let stands : slice_get (items_of f q.block) from.before ≡ Some (placed_of f from.inst) =
             ap (λ (ps : List Placed). slice_get ps from.before) (Beside.block_items calls f s consistent carries q.block z.inserted)
             ∙ at_first (map placed zeros) (map placed (carries.own.insts q.block)) from.before within
             ∙ map_at placed zeros from.before from.inst from.stands in

@@ -140,7 +140,7 @@ Runs width world tracked collector =
     (function_run_so_far early_jump_calls early_jump_body world collector)
 
 pub reads_right : ReadsRight early_jump_calls sample_signature early_jump_body early_jump_state
-reads_right width world tracked collector fits premises spares number name named is_entry = by (the_entry number name named is_entry)
+reads_right width world tracked collector fits premises free moves number name named is_entry = by (the_entry number name named is_entry)
   where
     by : (number ≡ 0) × (block 0 ≡ name) → Runs width world tracked collector number name
     by is =

@@ -2,7 +2,7 @@
 -- one value to each parameter of a variable.
 use Rattle.clif_simulation.proofs.ZeroInsts.{LeadsNowhere, needed_lead_nowhere}
 use Rattle.clif_ssa.specs.Zeros.{insts_of_zeros}
-use Rattle.std.proofs.Common.{◌≡◌, ℕ, suc, ◌+◌, ◌==◌, if◌then◌else◌, Bool, true, false, List, [], ◌∷◌, ◌++◌, map, slice_get, Option, Some, None, refl, sym, ◌∙◌, ap, ap₂, subst, arith}
+use Rattle.std.proofs.Common.{◌≡◌, ℕ, ◌+◌, ◌==◌, if◌then◌else◌, Bool, true, false, List, [], ◌∷◌, ◌++◌, map, slice_get, Option, Some, None, refl, sym, ◌∙◌, ap, ap₂, subst, arith}
 use Rattle.std.proofs.lemmas.List.{map-append}
 use Rattle.std.specs.List.{AllByRecursion, list_any}
 use Rattle.clif_types.specs.declared.types.«Type».{«Type»}
@@ -33,13 +33,8 @@ use Rattle.clif_simulation.proofs.Carrying.{all_append, all_mapped}
 use Rattle.clif_simulation.proofs.Listed.{all_at}
 use Rattle.clif_simulation.proofs.OwnEdges.{passed_there}
 use Rattle.clif_simulation.proofs.Placing.{contained, map_at, map_from, OfItem, of_item}
-use Rattle.clif_simulation.proofs.Targets.{each_edge, each_matches, name_types}
+use Rattle.clif_simulation.proofs.Targets.{all_where, edge_at, edges_by_number, name_types, payload_along, results_along}
 use Rattle.clif_simulation.proofs.LedgerValues.{value_type}
-
--- what holds of what stands at each place holds of each entry
-pub all_where : {X : Type 0} (P : X → Type 0) (xs : List X) → ((k : ℕ) (x : X) → slice_get xs k ≡ Some x → P x) → AllByRecursion P xs
-all_where P [] each = tt
-all_where P (x ∷ xs) each = (each 0 x refl, all_where P xs (λ k y there. each (suc k) y there))
 
 -- no edge matches whatever the call at its start gives
 none_match : (f : Body) (call : Option CallShape) → EachEdgeMatches (view_of f).value_type (value_types_at (view_of f)) call []
@@ -51,30 +46,31 @@ abbrev InstMatches : Body → Placed → Type 0
 InstMatches f placed = EachEdgeMatches (view_of f).value_type (value_types_at (view_of f)) (call_shape placed.instruction.operation) placed.instruction.edges
 
 abbrev placed_at_inst : Body → ℕ → Placed
-placed_at_inst f i = placed_of f (inst_at f i)
+placed_at_inst f i = placed_of f i
 
--- the types of what is passed
-abbrev passed_types : Body → List BlockArg → List (Option «Type»)
-passed_types f args = map (argument_type (view_of f).value_type [] []) (map argument_of args)
+-- the types of what is passed, where the call at the edge's start gives results and a payload of these types
+abbrev passed_types : Body → List «Type» → List «Type» → List BlockArg → List (Option «Type»)
+passed_types f given payload args = map (argument_type (view_of f).value_type given payload) (map argument_of args)
 
 -- the types of parameters
 abbrev wanted_types : Body → List ℕ → List (Option «Type»)
 wanted_types f params = map (λ ty. Some ty) (map (view_of f).value_type params)
 
 -- values that are for parameters have their types
-values_match : (f : Body) (values params : List ℕ) → AreFor f values params → passed_types f (map Value values) ≡ wanted_types f params
-values_match f [] [] all = refl
-values_match f [] (param ∷ params) all = absurd all
-values_match f (value ∷ values) [] all = absurd all
-values_match f (value ∷ values) (param ∷ params) all =
-    ap₂ (λ (ty : «Type») (types : List (Option «Type»)). Some ty ∷ types) all.0.1 (values_match f values params all.1)
+values_match : (f : Body) (given payload : List «Type») (values params : List ℕ) → AreFor f values params → passed_types f given payload (map Value values) ≡ wanted_types f params
+values_match f given payload [] [] all = refl
+values_match f given payload [] (param ∷ params) all = absurd all
+values_match f given payload (value ∷ values) [] all = absurd all
+values_match f given payload (value ∷ values) (param ∷ params) all =
+    ap₂ (λ (ty : «Type») (types : List (Option «Type»)). Some ty ∷ types) all.0.1 (values_match f given payload values params all.1)
 
 -- what is passed in two parts goes to parameters in two parts
-both_match : (f : Body) (first second : List BlockArg) (firsts seconds : List ℕ) → passed_types f first ≡ wanted_types f firsts → passed_types f second ≡ wanted_types f seconds
-    → passed_types f (first ++ second) ≡ wanted_types f (firsts ++ seconds)
-both_match f first second firsts seconds one other =
-    ap (map (argument_type (view_of f).value_type [] [])) (map-append argument_of first second)
-    ∙ map-append (argument_type (view_of f).value_type [] []) (map argument_of first) (map argument_of second)
+both_match : (f : Body) (given payload : List «Type») (first second : List BlockArg) (firsts seconds : List ℕ)
+    → passed_types f given payload first ≡ wanted_types f firsts → passed_types f given payload second ≡ wanted_types f seconds
+    → passed_types f given payload (first ++ second) ≡ wanted_types f (firsts ++ seconds)
+both_match f given payload first second firsts seconds one other =
+    ap (map (argument_type (view_of f).value_type given payload)) (map-append argument_of first second)
+    ∙ map-append (argument_type (view_of f).value_type given payload) (map argument_of first) (map argument_of second)
     ∙ ap₂ (λ (xs ys : List (Option «Type»)). xs ++ ys) one other
     ∙ sym (ap (map (λ ty. Some ty)) (map-append (view_of f).value_type firsts seconds)
     ∙ map-append (λ ty. Some ty) (map (view_of f).value_type firsts) (map (view_of f).value_type seconds))
@@ -89,13 +85,23 @@ module _ (calls : List AnsweredCall) (f : Body) (s : SsaState) (own : Own) (type
     (values_typed : ValuesTyped calls f) (earlier : (name : Name) → AllByRecursion (NamesEarlier calls) ((program_so_far calls).items name)) (items : HasItems calls f own) (named_only : OwnNamed calls own.insts)
     (declared : AreDeclared f s own.insts) (none_waits : NoneWaits s) (typed : CallersEdgesMatch (script_of calls))
   where
+    -- the types of what the call at its start gives along an edge
+    abbrev shape_of : ℕ → Option CallShape
+    shape_of i = call_shape (operation_of f.tables (inst_at f i).shape)
+
+    abbrev results_of : ℕ → ℕ → List «Type»
+    results_of i k = results_along (shape_of i) k
+
+    abbrev payload_of : ℕ → ℕ → List «Type»
+    payload_of i k = payload_along (shape_of i) k
+
     -- An edge of an instruction of the caller's is one of the program, which matches.
     record IsCallers (i k : ℕ) (call : BlockCall) : Type 0 where
       edge : Edge Name Name
       target : answered calls edge.target ≡ call.block
       passed : map argument_of (own.passed i k) ≡ map (answered_argument calls) edge.arguments
       was : EdgeEarlier calls edge
-      matches : EdgeMatches (name_types calls) (parameter_types (ledger_after (script_of calls)) (program_so_far calls)) [] [] edge
+      matches : EdgeMatches (name_types calls) (parameter_types (ledger_after (script_of calls)) (program_so_far calls)) (results_of i k) (payload_of i k) edge
 
     is_callers : (b t i k : ℕ) (B : Name) (call : BlockCall) → block_name calls b ≡ Some B → slice_get (own.insts b) t ≡ Some i
         → slice_get (destinations (inst_at f i).shape) k ≡ Some call → IsCallers i k call
@@ -116,8 +122,10 @@ module _ (calls : List AnsweredCall) (f : Body) (s : SsaState) (own : Own) (type
           target = ap (λ (e : Edge ℕ ℕ). e.target) edge.2;
           passed = ap (λ (m : ℕ). map argument_of (own.passed i m)) same ∙ sym (ap (λ (e : Edge ℕ ℕ). e.arguments) edge.2);
           was = all_at (EdgeEarlier calls) it.instruction.edges k edge.0 named_earlier.2 edge.1;
-          matches = all_at (EdgeMatches (name_types calls) (parameter_types (ledger_after (script_of calls)) (program_so_far calls)) [] []) it.instruction.edges k edge.0
-              (each_edge (name_types calls) (parameter_types (ledger_after (script_of calls)) (program_so_far calls)) it.instruction.operation named_earlier.3 it.instruction.edges item) edge.1;
+          matches = subst (λ (call : Option CallShape).
+              EdgeMatches (name_types calls) (parameter_types (ledger_after (script_of calls)) (program_so_far calls)) (results_along call k) (payload_along call k) edge.0)
+              (sym (ap (λ (p : Placed). call_shape p.instruction.operation) it.is))
+              (edge_at (name_types calls) (parameter_types (ledger_after (script_of calls)) (program_so_far calls)) (call_shape it.instruction.operation) it.instruction.edges item k edge.0 edge.1);
         }
 
     -- a value has the type of its name
@@ -126,35 +134,35 @@ module _ (calls : List AnsweredCall) (f : Body) (s : SsaState) (own : Own) (type
         let typed = value_type calls name is in
         (values_typed name typed.0 typed.1).1 ∙ sym (ap or_invalid typed.1)
 
-    argument_typed : (argument : Argument Name) → PassesEarlier calls argument
-        → argument_type (view_of f).value_type [] [] (answered_argument calls argument) ≡ argument_type (name_types calls) [] [] argument
-    argument_typed (Known name) is = ap (λ ty. Some ty) (value_typed name is)
-    argument_typed (CallResult index) is = refl
-    argument_typed (CallPayload index) is = refl
+    argument_typed : (given payload : List «Type») (argument : Argument Name) → PassesEarlier calls argument
+        → argument_type (view_of f).value_type given payload (answered_argument calls argument) ≡ argument_type (name_types calls) given payload argument
+    argument_typed given payload (Known name) is = ap (λ ty. Some ty) (value_typed name is)
+    argument_typed given payload (CallResult index) is = refl
+    argument_typed given payload (CallPayload index) is = refl
 
-    arguments_typed : (arguments : List (Argument Name)) → AllByRecursion (PassesEarlier calls) arguments
-        → map (argument_type (view_of f).value_type [] []) (map (answered_argument calls) arguments) ≡ map (argument_type (name_types calls) [] []) arguments
-    arguments_typed [] all = refl
-    arguments_typed (argument ∷ arguments) all =
-        ap₂ (λ (ty : Option «Type») (types : List (Option «Type»)). ty ∷ types) (argument_typed argument all.0) (arguments_typed arguments all.1)
+    arguments_typed : (given payload : List «Type») (arguments : List (Argument Name)) → AllByRecursion (PassesEarlier calls) arguments
+        → map (argument_type (view_of f).value_type given payload) (map (answered_argument calls) arguments) ≡ map (argument_type (name_types calls) given payload) arguments
+    arguments_typed given payload [] all = refl
+    arguments_typed given payload (argument ∷ arguments) all =
+        ap₂ (λ (ty : Option «Type») (types : List (Option «Type»)). ty ∷ types) (argument_typed given payload argument all.0) (arguments_typed given payload arguments all.1)
 
     names_typed : (names : List Name) → AllByRecursion (IsValue calls) names → map (view_of f).value_type (map (answered calls) names) ≡ map (name_types calls) names
     names_typed [] all = refl
     names_typed (name ∷ names) all = ap₂ (λ (ty : «Type») (types : List «Type»). ty ∷ types) (value_typed name all.0) (names_typed names all.1)
 
     -- what the caller passed matches the caller's parameters
-    callers_match : (i k : ℕ) (call : BlockCall) → IsCallers i k call → passed_types f (own.passed i k) ≡ wanted_types f (own.params call.block)
+    callers_match : (i k : ℕ) (call : BlockCall) → IsCallers i k call → passed_types f (results_of i k) (payload_of i k) (own.passed i k) ≡ wanted_types f (own.params call.block)
     callers_match i k call is =
         let params : own.params call.block ≡ map (answered calls) ((program_so_far calls).parameters is.edge.target) =
         callers_own call.block ∙ ap (λ (o : Option Name). map (answered calls) (callers_parameters calls o)) (ap (block_name calls) (sym is.target) ∙ is.was.leads) in
-        ap (map (argument_type (view_of f).value_type [] [])) is.passed
-        ∙ arguments_typed is.edge.arguments is.was.passes
+        ap (map (argument_type (view_of f).value_type (results_of i k) (payload_of i k))) is.passed
+        ∙ arguments_typed (results_of i k) (payload_of i k) is.edge.arguments is.was.passes
         ∙ is.matches
         ∙ ap (map (λ ty. Some ty)) (sym (names_typed ((program_so_far calls).parameters is.edge.target) (parameters_values is.edge.target)))
         ∙ sym (ap (wanted_types f) params)
 
     edge_matches : (b t i k : ℕ) (B : Name) (call : BlockCall) → block_name calls b ≡ Some B → slice_get (own.insts b) t ≡ Some i
-        → slice_get (destinations (inst_at f i).shape) k ≡ Some call → EdgeMatches (view_of f).value_type (value_types_at (view_of f)) [] [] (edge_of call)
+        → slice_get (destinations (inst_at f i).shape) k ≡ Some call → EdgeMatches (view_of f).value_type (value_types_at (view_of f)) (results_of i k) (payload_of i k) (edge_of call)
     edge_matches b t i k B call named there stands =
         let to : edge_target f i k ≡ Some call.block = map_at (λ (edge : BlockCall). edge.block) (destinations (inst_at f i).shape) k call stands in
         let passes : EdgePasses f (own.passed i k) (structured.parameters call.block).complete (args_of (slice_get (edges_at f i) k)) =
@@ -163,30 +171,20 @@ module _ (calls : List AnsweredCall) (f : Body) (s : SsaState) (own : Own) (type
         let params : (block_at f call.block).params ≡ own.params call.block ++ (structured.parameters call.block).complete =
         CallersAlone.callers_first calls f s own types structured callers_own call.block
         (CallersAlone.none_waiting calls f s own types structured callers_own call.block (sealed_of s call.block) (none_waits call.block)) in
-        ap (passed_types f) args
-        ∙ both_match f (own.passed i k) (map Value passes.values) (own.params call.block) (structured.parameters call.block).complete
+        ap (passed_types f (results_of i k) (payload_of i k)) args
+        ∙ both_match f (results_of i k) (payload_of i k) (own.passed i k) (map Value passes.values) (own.params call.block) (structured.parameters call.block).complete
         (callers_match i k call (is_callers b t i k B call named there stands))
-        (values_match f passes.values (structured.parameters call.block).complete passes.are_for)
+        (values_match f (results_of i k) (payload_of i k) passes.values (structured.parameters call.block).complete passes.are_for)
         ∙ sym (ap (wanted_types f) params)
 
-    -- and calls nothing
-    own_plain : (b t i : ℕ) (B : Name) → block_name calls b ≡ Some B → slice_get (own.insts b) t ≡ Some i → call_shape (operation_of f.tables (inst_at f i).shape) ≡ None
-    own_plain b t i B named there =
-        let it : OfItem calls ((program_so_far calls).items B) t (own_placed own f i) = of_item calls ((program_so_far calls).items B) t (own_placed own f i)
-        (ap (λ (ps : List Placed). slice_get ps t) (sym (items b B named)) ∙ map_at (own_placed own f) (own.insts b) t i there) in
-        let named_earlier : NamesEarlier calls (Instruct it.place it.instruction it.results) =
-        all_at (NamesEarlier calls) ((program_so_far calls).items B) it.j (Instruct it.place it.instruction it.results) (earlier B) it.stands in
-        ap (λ (p : Placed). call_shape p.instruction.operation) it.is ∙ named_earlier.3
-
     own_matches : (b t i : ℕ) (B : Name) → block_name calls b ≡ Some B → slice_get (own.insts b) t ≡ Some i → InstMatches f (placed_at_inst f i)
-    own_matches b t i B named there =
-        each_matches (view_of f).value_type (value_types_at (view_of f)) (operation_of f.tables (inst_at f i).shape) (own_plain b t i B named there) (edges_of (inst_at f i).shape)
-        (all_where (EdgeMatches (view_of f).value_type (value_types_at (view_of f)) [] []) (edges_of (inst_at f i).shape) each)
+    own_matches b t i B named there = edges_by_number (view_of f).value_type (value_types_at (view_of f)) (shape_of i) (edges_of (inst_at f i).shape) each
       where
-        each : (k : ℕ) (edge : Edge ℕ ℕ) → slice_get (edges_of (inst_at f i).shape) k ≡ Some edge → EdgeMatches (view_of f).value_type (value_types_at (view_of f)) [] [] edge
+        each : (k : ℕ) (edge : Edge ℕ ℕ) → slice_get (edges_of (inst_at f i).shape) k ≡ Some edge
+            → EdgeMatches (view_of f).value_type (value_types_at (view_of f)) (results_of i k) (payload_of i k) edge
         each k edge is =
             let from = map_from edge_of (destinations (inst_at f i).shape) k edge is in
-            subst (EdgeMatches (view_of f).value_type (value_types_at (view_of f)) [] []) from.2 (edge_matches b t i k B from.0 named there from.1)
+            subst (EdgeMatches (view_of f).value_type (value_types_at (view_of f)) (results_of i k) (payload_of i k)) from.2 (edge_matches b t i k B from.0 named there from.1)
 
     all_own : (b : ℕ) (o : Option Name) → block_name calls b ≡ o → AllByRecursion (λ (i : ℕ). InstMatches f (placed_at_inst f i)) (own.insts b)
     all_own b None none = subst (AllByRecursion (λ (i : ℕ). InstMatches f (placed_at_inst f i))) (sym (named_only b none)) tt

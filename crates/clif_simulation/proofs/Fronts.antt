@@ -1,5 +1,5 @@
 -- The zeros at the front of a block: they come first, and change nothing where their values have no bits.
-use Rattle.clif_simulation.specs.Interrupted.{function_edge, taken_of}
+use Rattle.clif_simulation.specs.Interrupted.{function_answer, function_edge, taken_of}
 use Rattle.clif_simulation.proofs.Agreement.{IsBlank}
 use Rattle.clif_simulation.proofs.Placing.{at_first, at_second, in_two}
 use Rattle.clif_simulation.proofs.ZeroInsts.{InTurn, IsFromBefore, IsZeroInst, IsZeroValue, zero_insts, zeros_in_turn}
@@ -27,7 +27,7 @@ use Rattle.clif_meaning.specs.View.{edges_of, placed_of, items_of}
 use Rattle.clif_meaning.proofs.Stuttering.{steps_from}
 
 abbrev pub placed_inst : Body → ℕ → Placed
-placed_inst f inst = placed_of f (inst_at f inst)
+placed_inst f inst = placed_of f inst
 
 -- What a block's instructions are to the machine: zeros, step by step, and then the caller's. A block outside the layout has
 -- none.
@@ -227,4 +227,4 @@ module _ (run : FunctionRun) (f : Body) (resolves : (v : ℕ) → run.function.r
         by [] is = let some : length z.left ≡ 0 = ap length is in absurd (omega (arith, z.count, some))
         by (inst ∷ left) is =
             ap (function_edge run state) (z.at ∙ ap (λ xs. At (map (placed_inst f) xs ++ rest)) is)
-            ∙ ap (taken_of (edges_of (inst_at f inst).shape)) (outcome_is (suc n) state z inst left is)
+            ∙ ap (taken_of (function_answer run state (placed_inst f inst)) (edges_of (inst_at f inst).shape)) (outcome_is (suc n) state z inst left is)

@@ -1,5 +1,5 @@
 -- Calls that seal all blocks, put a block behind another one, make a block cold, or bring the current block into the layout.
-use Rattle.std.proofs.Common.{◌≡◌, ℕ, zero, suc, ◌<◌, ◌==◌, List, [], ◌∷◌, ◌++◌, length, map, refl, ◌∙◌, ap, ap₂, arith, Bool, true, false, if◌then◌else◌, slice_get, Option, Some}
+use Rattle.std.proofs.Common.{◌≡◌, ℕ, zero, suc, ◌<◌, ◌==◌, List, [], ◌∷◌, ◌++◌, length, map, refl, ◌∙◌, ap, ap₂, arith, Bool, true, false, if◌then◌else◌, slice_get, Some}
 use Rattle.std.specs.Prelude.{◌||◌, slice_index_or, slice_set}
 use Rattle.clif_tables.specs.Entries.{TableEntry}
 use Rattle.clif_tables.specs.Lists.{TableLists}
@@ -11,9 +11,10 @@ use Rattle.clif_instructions.specs.Members.{stands_in}
 use Rattle.clif_paths.specs.Blocks.{Blocks}
 use Rattle.std.specs.List.{AllByRecursion}
 use Rattle.clif_ssa.specs.Own.{Own}
-use Rattle.clif_ssa.specs.Ssa.{SsaState, SamePredecessors}
+use Rattle.clif_records.specs.Tables.{is_yes}
+use Rattle.clif_ssa.specs.Ssa.{SsaState, SamePredecessors, sealed_of}
 use Rattle.clif_ssa.specs.Constructs.{OnlyConstructs}
-use Rattle.clif_ssa.specs.Sound.{Keeps, entry_of}
+use Rattle.clif_ssa.specs.Sound.{Keeps, SparesIfEntry, entry_of}
 use Rattle.clif_ssa.specs.SoundLaws.{DescribesSoundly, with_entry}
 use Rattle.clif_ssa.specs.Structured.{Structured, VariableTypes}
 use Rattle.clif_ssa.proofs.Pooled.{KeepsConstants}
@@ -23,14 +24,17 @@ use Rattle.clif_ssa.proofs.StructuredLaws.{blocks_structured, inserted_structure
 use Rattle.clif_ssa.proofs.Writing.{blocks_described}
 use Rattle.clif_meaning.specs.Name.{Name}
 use Rattle.clif_meaning.specs.Ledger.{answers_to, ledger_after}
-use Rattle.clif_meaning.specs.Program.{Program, extended, first_block}
+use Rattle.clif_meaning.specs.Program.{Program, extended}
 use Rattle.clif_meaning.specs.Request.{Request, SealAllBlocks, InsertBlockAfter, SetColdBlock, EnsureInsertedBlock, MakeEntry, AnsweredCall, script_of}
 use Rattle.clif_meaning.specs.FunctionView.{Placed}
 use Rattle.clif_ir.specs.Body.{inst_at}
 use Rattle.clif_ssa.proofs.Constructing.{more_none}
 use Rattle.clif_simulation.specs.Carries.{Carries, Holds, IsCurrent, SoundOnPaths, own_placed}
-use Rattle.clif_simulation.proofs.Calls.{carries_kept, carries_on, inserted_soundly, name_stays, still}
+use Rattle.clif_simulation.proofs.Calls.{carries_kept, carries_on, inserted_soundly, name_stays, still, structured_so_far}
+use Rattle.clif_simulation.proofs.Carrying.{edges_there}
+use Rattle.clif_simulation.proofs.FreeEntry.{entry_inserted, spared_sealed, still_sealed}
 use Rattle.clif_simulation.proofs.Effects.{MakesNoBlock, MakesNoParameter}
+use Rattle.clif_simulation.proofs.Numbering.{MakesNoInstruction}
 use Rattle.clif_simulation.proofs.Growing.{GoesOn, KeepsEntries, KeepsInsts, goes_on-constructs, insts_kept, insts_same}
 use Rattle.clif_simulation.proofs.Layouts as layouts
 use Rattle.clif_simulation.proofs.Values.{is_value_at}
@@ -132,21 +136,26 @@ carries_pooled calls f s lists consistent keeps c =
         items = λ block name named.
             map_kept (own_placed c.own g) (own_placed c.own f) (length f.insts) (c.own.insts block) (λ i below. kept.placed c.own i below) (was.own_exist block)
             ∙ was.items block name named;
+        own_answers = was.own_answers;
+        items_built = was.items_built;
+        instructions = record { exist = was.instructions.exist; differ = was.instructions.differ };
         earlier = was.earlier;
         edges_end = was.edges_end;
+        no_maps = λ i. kept.maps i ∙ was.no_maps i;
         own_exist = was.own_exist;
         own_named = was.own_named;
         own_inserted = was.own_inserted;
         declared = was.declared;
         leads_own = was.leads_own;
+        have_edges = edges_there f g s s kept (λ b. refl) (structured_so_far calls f s c).leading was.have_edges;
         parameters = was.parameters;
         parameters_values = was.parameters_values;
         values_typed = was.values_typed;
         entry = record { none = was.entry.none; some = was.entry.some };
         structured = λ types are. relaid_structured f f.blocks f.layout lists keeps.constants s (λ x. refl) (λ x. refl) refl types c.own (was.structured types are);
       };
-      on_paths = λ spares.
-          let before : SoundOnPaths calls c.own f s = c.on_paths spares in
+      on_paths = λ free.
+          let before : SoundOnPaths calls c.own f s = c.on_paths free in
           let after : Keeps c.own before.tables g s =
           relaid_keeps f f.blocks f.layout lists keeps.constants s (λ x. refl) (λ x. refl) refl c.own before.tables (before.describes, before.sound, before.counts) in
           record {
@@ -164,56 +173,58 @@ module _ (calls : List AnsweredCall) (f : Body) (s : SsaState) (c : Carries call
   the_call request = record { request = request; numbers = [] }
 
   -- each block that isn't sealed is
-  pub carries_sealed_all : (g : Body) (t : SsaState) → IsConsistent f
-      → ((own : Own) (tables : Blocks) → DescribesSoundly own f s tables → Keeps own tables g t)
+  pub carries_sealed_all : (g : Body) (t : SsaState) (seals : ℕ → Bool) → IsConsistent f
+      → ((b : ℕ) → is_yes (sealed_of t b) ≡ (if seals b then true else is_yes (sealed_of s b)))
+      → ((own : Own) (tables : Blocks) → ((b : ℕ) → seals b ≡ true → SparesIfEntry f s b) → DescribesSoundly own f s tables → Keeps own tables g t)
       → ((types : VariableTypes) (own : Own) → Structured types own f s [] → Structured types own g t [])
       → OnlyConstructs f g → g.layout ≡ f.layout → SamePredecessors s t
       → Carries (calls ++ the_call SealAllBlocks ∷ []) g t
-  carries_sealed_all g t consistent keeps structured constructs layout leads =
-      carries_kept calls f s c (the_call SealAllBlocks) g t tt tt (Requests.items_left calls (the_call SealAllBlocks) (λ program. refl))
+  carries_sealed_all g t seals consistent sealed keeps structured constructs layout leads =
+      carries_kept calls f s c (the_call SealAllBlocks) g t tt tt tt (Requests.items_left calls (the_call SealAllBlocks) (λ program. refl))
       (Requests.entry_left calls (the_call SealAllBlocks) (λ program. refl)) (λ index. refl)
-      (insts_kept f g consistent (goes_on-constructs f g constructs)) layout leads structured keeps
+      (insts_kept f g consistent (goes_on-constructs f g constructs)) layout leads structured (still_sealed s t seals sealed)
+      (λ free own tables. keeps own tables (spared_sealed f g s t seals layout leads sealed free))
 
   -- a block comes behind another one
   pub carries_after : (block after : Name) (b a : ℕ) → Carries (calls ++ the_call (InsertBlockAfter block after) ∷ []) (with_layout_after f b a) s
   carries_after block after b a =
       let call : AnsweredCall = the_call (InsertBlockAfter block after) in
-      carries_on calls f s c call (with_layout_after f b a) s tt tt (Requests.items_left calls call (λ program. refl))
-      (λ e is. Requests.entry_left calls call (λ program. refl) ∙ is)
+      carries_on calls f s c call (with_layout_after f b a) s tt tt tt (Requests.items_left calls call (λ program. refl))
       (Requests.entry_stays calls (calls ++ call ∷ []) f (with_layout_after f b a) (Requests.entry_left calls call (λ program. refl)) (first_stays b a f.layout)
       (name_stays calls call tt) c.holds.entry)
       (λ index. refl) (insts_same f (with_layout_after f b a) refl refl refl) (λ x out. out_before b a x f.layout out) (λ x. refl)
       (relaid_structured f f.blocks (put_behind b a f.layout) f.tables (λ constant bytes here. here) s (λ x. refl) (λ x. refl) (first_stays b a f.layout))
-      (relaid_keeps f f.blocks (put_behind b a f.layout) f.tables (λ constant bytes here. here) s (λ x. refl) (λ x. refl) (first_stays b a f.layout))
+      (λ e is. first_stays b a f.layout ∙ is) (λ x is. is)
+      (λ free. relaid_keeps f f.blocks (put_behind b a f.layout) f.tables (λ constant bytes here. here) s (λ x. refl) (λ x. refl) (first_stays b a f.layout))
 
   -- a block is made cold
   pub carries_cold : (block : Name) (b : ℕ) → Carries (calls ++ the_call (SetColdBlock block) ∷ []) (with_cold f b) s
   carries_cold block b =
       let call : AnsweredCall = the_call (SetColdBlock block) in
       let nodes : List BlockNode = (with_cold f b).blocks in
-      carries_kept calls f s c call (with_cold f b) s tt tt (Requests.items_left calls call (λ program. refl)) (Requests.entry_left calls call (λ program. refl)) (λ index. refl)
+      carries_kept calls f s c call (with_cold f b) s tt tt tt (Requests.items_left calls call (λ program. refl)) (Requests.entry_left calls call (λ program. refl)) (λ index. refl)
       (insts_same f (with_cold f b) refl refl refl) refl (λ x. refl)
       (relaid_structured f nodes f.layout f.tables (λ constant bytes here. here) s (cold_params f.blocks b) (cold_insts f.blocks b) refl)
-      (relaid_keeps f nodes f.layout f.tables (λ constant bytes here. here) s (cold_params f.blocks b) (cold_insts f.blocks b) refl)
+      (λ x is. is) (λ free. relaid_keeps f nodes f.layout f.tables (λ constant bytes here. here) s (cold_params f.blocks b) (cold_insts f.blocks b) refl)
 
   -- a call that adds nothing to the program, and answers no value
-  pub carries_still : (call : AnsweredCall) → MakesNoBlock call.request → MakesNoParameter call.request
+  pub carries_still : (call : AnsweredCall) → MakesNoBlock call.request → MakesNoParameter call.request → MakesNoInstruction call.request
       → ((program : Program) → extended program call.request ≡ program)
       → ((index : ℕ) → is_value_at (answers_to (ledger_after (script_of calls)) call.request) index ≡ false)
       → Carries (calls ++ call ∷ []) f s
-  carries_still call no_block no_parameter leaves no_value =
-      carries_kept calls f s c call f s no_block no_parameter (Requests.items_left calls call leaves) (Requests.entry_left calls call leaves) no_value
-      (insts_same f f refl refl refl) refl (λ b. refl) (λ types own h. h) (still calls f s c)
+  carries_still call no_block no_parameter no_instruction leaves no_value =
+      carries_kept calls f s c call f s no_block no_parameter no_instruction (Requests.items_left calls call leaves) (Requests.entry_left calls call leaves) no_value
+      (insts_same f f refl refl refl) refl (λ b. refl) (λ types own h. h) (λ b is. is) (λ free. still calls f s c)
 
   -- an entry is put into its table
   pub carries_tables : (entry : TableEntry) (number : ℕ) (lists : TableLists) → IsConsistent f → KeepsEntries f.tables lists
       → Carries (calls ++ record { request = MakeEntry entry; numbers = number ∷ [] } ∷ []) (with_tables f lists) s
   carries_tables entry number lists consistent keeps =
       let call : AnsweredCall = record { request = MakeEntry entry; numbers = number ∷ [] } in
-      carries_kept calls f s c call (with_tables f lists) s tt tt (Requests.items_left calls call (λ program. refl)) (Requests.entry_left calls call (λ program. refl)) no_value
+      carries_kept calls f s c call (with_tables f lists) s tt tt tt (Requests.items_left calls call (λ program. refl)) (Requests.entry_left calls call (λ program. refl)) no_value
       (insts_kept f (with_tables f lists) consistent (tables_on f lists keeps)) refl (λ x. refl)
       (relaid_structured f f.blocks f.layout lists keeps.constants s (λ x. refl) (λ x. refl) refl)
-      (relaid_keeps f f.blocks f.layout lists keeps.constants s (λ x. refl) (λ x. refl) refl)
+      (λ x is. is) (λ free. relaid_keeps f f.blocks f.layout lists keeps.constants s (λ x. refl) (λ x. refl) refl)
     where
       no_value : (index : ℕ) → is_value_at (answers_to (ledger_after (script_of calls)) (MakeEntry entry)) index ≡ false
       no_value zero = refl
@@ -226,11 +237,11 @@ module _ (calls : List AnsweredCall) (f : Body) (s : SsaState) (c : Carries call
       let g : Body = inserted_in f b in
       let same = inserted_same f b in
       let entry = Requests.entry_ensured calls call B current.current refl in
-      carries_on calls f s c call g s tt tt (Requests.items_ensured calls call refl)
-      (λ e is. entry ∙ ap (λ (o : Option Name). first_block o (Some B)) is)
+      carries_on calls f s c call g s tt tt tt (Requests.items_ensured calls call refl)
       (entry_begun calls (calls ++ call ∷ []) f g b B entry refl current.named (name_stays calls call tt) c.holds.entry)
       (λ index. refl) (insts_same f g same.insts same.values same.tables) (λ x out. layouts.out_before f b x out) (λ x. refl)
       (λ types own before. inserted_structured types own f s b before)
-      (λ own tables before.
+      (λ e is. entry_inserted f b e is) (λ x is. is)
+      (λ free own tables before.
       let after = inserted_soundly own f s tables b before in
       record { tables = with_entry f.layout s b tables; describes = after.0; sound = after.1; same = (entry_same f.layout s b tables).program; counts = after.2 })

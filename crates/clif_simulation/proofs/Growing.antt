@@ -27,7 +27,8 @@ use Rattle.clif_types.specs.Signature.{SignatureShape}
 use Rattle.clif_types.specs.declared.extfunc.ExtFuncData.{ExtFuncData}
 use Rattle.clif_tables.specs.Callees.{function_at, no_function, no_signature, signature_at}
 use Rattle.clif_tables.specs.Entries.{TableEntry, AStackSlot, ADynamicStackSlot, AGlobalValue, ASignature, AFunction, SignaturesExist, with_entry}
-use Rattle.clif_tables.specs.Lists.{TableLists}
+use Rattle.clif_tables.specs.Lists.{TableLists, stack_map_at}
+use Rattle.clif_types.specs.declared.stackmap.UserStackMapEntry.{UserStackMapEntry}
 use Rattle.clif_ir.specs.Consistent.{EntryExists, IsConsistent}
 use Rattle.clif_ir.specs.Changes.{inserted_in, with_inst}
 use Rattle.clif_ssa.specs.Own.{Own}
@@ -44,26 +45,29 @@ use Rattle.clif_meaning.specs.FunctionView.{Placed}
 use Rattle.clif_meaning.specs.View.{argument_of, call_item_of, edge_of, edges_of, first_type, constant_at, controlling_of, operation_of, controlled, made_with}
 use Rattle.clif_simulation.specs.Carries.{as_passed, own_placed}
 
--- The entries of tables from which it comes what instructions do keep their numbers.
+-- The entries of tables from which it comes what instructions do keep their numbers, and each instruction its stack map.
 pub record KeepsEntries (t u : TableLists) : Type 0 where
   pub constants : (k : ℕ) (bytes : List ℕ) → slice_get t.constants k ≡ Some bytes → slice_get u.constants k ≡ Some bytes
   pub signatures : (k : ℕ) (signature : SignatureShape) → slice_get t.signatures k ≡ Some signature → slice_get u.signatures k ≡ Some signature
   pub functions : (k : ℕ) (function : ExtFuncData) → slice_get t.functions k ≡ Some function → slice_get u.functions k ≡ Some function
+  pub maps : (inst : ℕ) → stack_map_at u inst ≡ stack_map_at t inst
 
 pub entries_same : (t u : TableLists) → u ≡ t → KeepsEntries t u
 entries_same t u same = record {
   constants = λ k bytes here. ap (λ (v : TableLists). slice_get v.constants k) same ∙ here;
   signatures = λ k signature here. ap (λ (v : TableLists). slice_get v.signatures k) same ∙ here;
   functions = λ k function here. ap (λ (v : TableLists). slice_get v.functions k) same ∙ here;
+  maps = λ inst. ap (λ (v : TableLists). stack_map_at v inst) same;
 }
 
 -- where constants keep their numbers, and nothing else is another
 pub entries_pooled : (t u : TableLists) → ((k : ℕ) (bytes : List ℕ) → slice_get t.constants k ≡ Some bytes → slice_get u.constants k ≡ Some bytes)
-    → u.signatures ≡ t.signatures → u.functions ≡ t.functions → KeepsEntries t u
-entries_pooled t u constants signatures functions = record {
+    → u.signatures ≡ t.signatures → u.functions ≡ t.functions → u.stack_maps ≡ t.stack_maps → KeepsEntries t u
+entries_pooled t u constants signatures functions maps = record {
   constants = constants;
   signatures = λ k signature here. ap (λ (all : List SignatureShape). slice_get all k) signatures ∙ here;
   functions = λ k function here. ap (λ (all : List ExtFuncData). slice_get all k) functions ∙ here;
+  maps = λ inst. ap (λ (all : List (ℕ × List UserStackMapEntry)). stack_map_at (record t { stack_maps = all }) inst) maps;
 }
 
 pub entries_then : (t u v : TableLists) → KeepsEntries t u → KeepsEntries u v → KeepsEntries t v
@@ -71,6 +75,7 @@ entries_then t u v first second = record {
   constants = λ k bytes here. second.constants k bytes (first.constants k bytes here);
   signatures = λ k signature here. second.signatures k signature (first.signatures k signature here);
   functions = λ k function here. second.functions k function (first.functions k function here);
+  maps = λ inst. second.maps inst ∙ first.maps inst;
 }
 
 get_front : {X : Type 0} (xs ys : List X) (k : ℕ) (x : X) → slice_get xs k ≡ Some x → slice_get (xs ++ ys) k ≡ Some x
@@ -84,15 +89,17 @@ entries_kept t (ASignature signature) = record {
   constants = λ k bytes here. here;
   signatures = λ k was here. get_front t.signatures (signature ∷ []) k was here;
   functions = λ k function here. here;
+  maps = λ inst. refl;
 }
 entries_kept t (AFunction function) = record {
   constants = λ k bytes here. here;
   signatures = λ k signature here. here;
   functions = λ k was here. get_front t.functions (function ∷ []) k was here;
+  maps = λ inst. refl;
 }
-entries_kept t (AStackSlot slot) = record { constants = λ k bytes here. here; signatures = λ k signature here. here; functions = λ k function here. here }
-entries_kept t (ADynamicStackSlot slot) = record { constants = λ k bytes here. here; signatures = λ k signature here. here; functions = λ k function here. here }
-entries_kept t (AGlobalValue value) = record { constants = λ k bytes here. here; signatures = λ k signature here. here; functions = λ k function here. here }
+entries_kept t (AStackSlot slot) = record { constants = λ k bytes here. here; signatures = λ k signature here. here; functions = λ k function here. here; maps = λ inst. refl }
+entries_kept t (ADynamicStackSlot slot) = record { constants = λ k bytes here. here; signatures = λ k signature here. here; functions = λ k function here. here; maps = λ inst. refl }
+entries_kept t (AGlobalValue value) = record { constants = λ k bytes here. here; signatures = λ k signature here. here; functions = λ k function here. here; maps = λ inst. refl }
 
 -- A function that goes on: its instructions stay, but that their edges may pass more, its values keep their types, and what is in
 -- its tables its numbers.
@@ -110,7 +117,7 @@ goes_on-constructs f g constructs = record {
   more_insts = constructs.insts;
   more_values = constructs.values;
   entries = entries_pooled f.tables g.tables (pools_keep f g constructs.tables) (ap (λ (t : TableLists). t.signatures) constructs.tables.same)
-      (ap (λ (t : TableLists). t.functions) constructs.tables.same);
+      (ap (λ (t : TableLists). t.functions) constructs.tables.same) (ap (λ (t : TableLists). t.stack_maps) constructs.tables.same);
 }
   where
     of : (old new : ValueNode) → StaysOrNames old new → new.ty ≡ old.ty
@@ -195,9 +202,9 @@ operation_kept t u keeps have _ exists = refl
 -- THE CALLER'S INSTRUCTIONS ----------------------------------------------------------------------------------------------
 
 -- an instruction by its parts
-abbrev parts : Operation → «Type» → List ℕ → List (Edge ℕ ℕ) → List ℕ → Placed
-parts operation controlling arguments edges results =
-    record { instruction = record { operation = operation; controlling = controlling; operands = arguments; edges = edges }; results = results; stack_map = [] }
+abbrev parts : Operation → «Type» → List ℕ → List (Edge ℕ ℕ) → List ℕ → List UserStackMapEntry → Placed
+parts operation controlling arguments edges results stack_map =
+    record { instruction = record { operation = operation; controlling = controlling; operands = arguments; edges = edges }; results = results; stack_map = stack_map }
 
 -- The second function has the instructions of the first, and maybe more; as the machine sees them they are the caller's.
 pub record KeepsInsts (f g : Body) : Type 0 where
@@ -206,6 +213,7 @@ pub record KeepsInsts (f g : Body) : Type 0 where
   pub block : (i : ℕ) → i < length f.insts → branch_block g i ≡ branch_block f i
   pub more : length f.insts ≤ length g.insts
   pub types : (v : ℕ) (ty : «Type») → HasType f v ty → HasType g v ty
+  pub maps : (i : ℕ) → stack_map_at g.tables i ≡ stack_map_at f.tables i
 
 -- instructions, values and tables stay
 pub insts_same : (f g : Body) → g.insts ≡ f.insts → g.values ≡ f.values → g.tables ≡ f.tables → KeepsInsts f g
@@ -213,12 +221,13 @@ insts_same f g insts values tables = record {
   placed = λ own i below.
       ap (λ (is : List InstNode). own_placed own (record g { insts = is }) i) insts
       ∙ ap (λ (vs : List ValueNode). own_placed own (record g { insts = f.insts; values = vs }) i) values
-      ∙ ap (λ (operation : Operation). parts operation (controlling_of f (inst_at f i).shape (inst_at f i).results) (operands (inst_at f i).shape)
-      (as_passed (own.passed i) 0 (edges_of (inst_at f i).shape)) (inst_at f i).results) (ap (λ (t : TableLists). operation_of t (inst_at f i).shape) tables);
+      ∙ ap (λ (t : TableLists). parts (operation_of t (inst_at f i).shape) (controlling_of f (inst_at f i).shape (inst_at f i).results) (operands (inst_at f i).shape)
+      (as_passed (own.passed i) 0 (edges_of (inst_at f i).shape)) (inst_at f i).results (stack_map_at t i)) tables;
   targets = λ i k below. ap (λ (is : List InstNode). edge_target (record f { insts = is }) i k) insts;
   block = λ i below. ap (λ (is : List InstNode). branch_block (record f { insts = is }) i) insts;
   more = omega (arith, ap (λ (is : List InstNode). length is) insts);
   types = λ v ty typed. subst (λ (vs : List ValueNode). HasType (record g { values = vs }) v ty) (sym values) typed;
+  maps = λ i. ap (λ (t : TableLists). stack_map_at t i) tables;
 }
 
 pub insts_then : (f g h : Body) → KeepsInsts f g → KeepsInsts g h → KeepsInsts f h
@@ -228,6 +237,7 @@ insts_then f g h first next = record {
   block = λ i below. next.block i (let m = first.more in omega (arith, m, below)) ∙ first.block i below;
   more = let a = first.more in let b = next.more in omega (arith, a, b);
   types = λ v ty typed. next.types v ty (first.types v ty typed);
+  maps = λ i. next.maps i ∙ first.maps i;
 }
 
 pub insts_inserted : (f : Body) (b : ℕ) → KeepsInsts f (inserted_in f b)
@@ -351,8 +361,9 @@ insts_kept f g consistent on = record {
   placed = λ own i below.
       let more = on.insts i below in
       let same = same_with g more.0 (inst_at f i).shape in
-      ap (λ (node : InstNode). parts (operation_of g.tables node.shape) (controlling_of g node.shape node.results) (operands node.shape) (as_passed (own.passed i) 0 (edges_of node.shape)) node.results) more.1
-      ∙ parts_same (inst_at f i).results (same.operation g.tables ∙ operation_kept f.tables g.tables on.entries consistent.named_exist.signatures (inst_at f i).shape (consistent.entries_exist i))
+      ap (λ (stack_map : List UserStackMapEntry). record (own_placed own g i) { stack_map = stack_map }) (on.entries.maps i)
+      ∙ ap (λ (node : InstNode). parts (operation_of g.tables node.shape) (controlling_of g node.shape node.results) (operands node.shape) (as_passed (own.passed i) 0 (edges_of node.shape)) node.results (stack_map_at f.tables i)) more.1
+      ∙ parts_same (inst_at f i).results (stack_map_at f.tables i) (same.operation g.tables ∙ operation_kept f.tables g.tables on.entries consistent.named_exist.signatures (inst_at f i).shape (consistent.entries_exist i))
       (same.controlling (inst_at f i).results
       ∙ controlling_kept f g on (inst_at f i).shape (inst_at f i).results (λ k h. (consistent.results_known i k h).0) (consistent.operands_exist i))
       same.operands_same
@@ -364,10 +375,11 @@ insts_kept f g consistent on = record {
   block = λ i below. ap (λ (node : InstNode). node.block) (on.insts i below).1;
   more = on.more_insts;
   types = λ v ty typed. (let m = on.more_values in omega (arith, typed.0, m), on.types v typed.0 ∙ typed.1);
+  maps = on.entries.maps;
 }
   where
-    parts_same : {o p : Operation} {c d : «Type»} {xs ys : List ℕ} {es fs : List (Edge ℕ ℕ)} (rs : List ℕ) → o ≡ p → c ≡ d → xs ≡ ys → es ≡ fs
-        → parts o c xs es rs ≡ parts p d ys fs rs
-    parts_same {o} {p} {c} {d} {xs} {ys} {es} {fs} rs a b e g =
-        ap (λ (q : Operation). parts q c xs es rs) a ∙ ap (λ (t : «Type»). parts p t xs es rs) b ∙ ap (λ (zs : List ℕ). parts p d zs es rs) e
-        ∙ ap (λ (gs : List (Edge ℕ ℕ)). parts p d ys gs rs) g
+    parts_same : {o p : Operation} {c d : «Type»} {xs ys : List ℕ} {es fs : List (Edge ℕ ℕ)} (rs : List ℕ) (stack_map : List UserStackMapEntry)
+        → o ≡ p → c ≡ d → xs ≡ ys → es ≡ fs → parts o c xs es rs stack_map ≡ parts p d ys fs rs stack_map
+    parts_same {o} {p} {c} {d} {xs} {ys} {es} {fs} rs stack_map a b e g =
+        ap (λ (q : Operation). parts q c xs es rs stack_map) a ∙ ap (λ (t : «Type»). parts p t xs es rs stack_map) b
+        ∙ ap (λ (zs : List ℕ). parts p d zs es rs stack_map) e ∙ ap (λ (gs : List (Edge ℕ ℕ)). parts p d ys gs rs stack_map) g

@@ -42,6 +42,7 @@ use Rattle.clif_simulation.proofs.Starting.{no_arguments, none_assigned}
 use Rattle.clif_simulation.proofs.Values.{false_is}
 use Rattle.clif_simulation.proofs.Reaching.{given_behind, leads_nowhere}
 use Rattle.clif_simulation.proofs.Unbranched.{PlainlyEarlier}
+use Rattle.clif_simulation.proofs.NothingCalled.{nothing_called}
 
 -- the program: a use, and a constant
 abbrev pub items : List Item
@@ -207,7 +208,7 @@ module _ (width : PointerWidth) (world : World) (tracked : Name → Bool) (colle
     from_entry empty (suc block) name named = absurd (no_block block name named)
 
 pub reads_right : ReadsRightFromAnywhere answered_calls first_signature half_body half_state
-reads_right width world tracked collector fits premises = record {
+reads_right width world tracked collector fits premises moves = record {
   from_entry = λ block name named is_entry.
       from_entry width world tracked collector
       (no_arguments answered_calls block0 (types_of first_signature.params) world refl refl premises.well_typed.entry fits.arguments) block name named;
@@ -317,7 +318,7 @@ module _ (number bits : ℕ) where
     where
       alike : SideBySide answered_calls here s 0 block0 left_here right_here
       alike =
-          (right U64 SampleWorld.sample_world (λ x. false) ByMaps (fits number) premises).from_unsealed 0 block0 refl ([], (refl, (refl, omega arith))) unsealed
+          (right U64 SampleWorld.sample_world (λ x. false) ByMaps (fits number) premises (inl (nothing_called (script_of answered_calls) refl))).from_unsealed 0 block0 refl ([], (refl, (refl, omega arith))) unsealed
           (with_nine SampleWorld.sample_world) (with_bits bits SampleWorld.sample_world here) (nine here s bits SampleWorld.sample_world waiting)
 
 abbrev pub of_operation : Operation → ℕ

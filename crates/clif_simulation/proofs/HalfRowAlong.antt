@@ -20,12 +20,15 @@ use Rattle.clif_meaning.proofs.StraightLine.{given_along}
 use Rattle.clif_meaning.proofs.FirstRow.{first_of_one}
 use Rattle.clif_meaning.proofs.SampleWorld
 use Rattle.clif_simulation.specs.Tables.{answered, block_name}
-use Rattle.clif_simulation.specs.Carries.{carried, SparesBlock, SparesEntry}
+use Rattle.clif_simulation.specs.Carries.{carried}
+use Rattle.clif_simulation.proofs.FreeEntry.{free_first}
 use Rattle.clif_simulation.specs.Reading.{code_so_far, behind, script_run_so_far, function_run_so_far}
 use Rattle.clif_simulation.specs.Interrupted.{Unknowns, ScriptStanding, FunctionStanding, interrupted_script, interrupted_function, script_edge, script_goes, function_edge, function_goes, without_arguments, StandsBeside, HasBeside, RunsBeside, ReadsRight}
 use Rattle.clif_simulation.specs.ReadingExamples.{half_body_with, half_body, half_state_with, half_state, waiting_parameter}
 use Rattle.clif_simulation.proofs.RecordsListed.{nothing_there, half_record}
-use Rattle.clif_simulation.proofs.HalfRow.{items, none_given, use_given, both_given, no_block, the_name, each_item, premises, fits, use_is_given, leads_nowhere_here, of_operation}
+use Rattle.clif_simulation.proofs.HalfRow.{items, none_given, use_given, both_given, no_block, the_name, premises, fits, use_is_given, leads_nowhere_here, of_operation}
+use Rattle.clif_meaning.specs.Request.{script_of}
+use Rattle.clif_simulation.proofs.NothingCalled.{nothing_called}
 
 stuck_there : {X : Type 0} {rest : List X} → IsStuck ≡ At rest → ⊥
 stuck_there e = cc
@@ -102,15 +105,12 @@ module _ (width : PointerWidth) (world : World) (tracked : Name → Bool) (colle
   runs (suc (suc (suc n))) rest on = absurd (stuck_there (sym (stuck n) ∙ on))
 
 pub reads_right : ReadsRight answered_calls first_signature half_body half_state
-reads_right width world tracked collector is_world so_far spare zero name named is_entry =
+reads_right width world tracked collector is_world so_far free moves zero name named is_entry =
     subst (RunsBeside answered_calls half_body half_state (script_run_so_far answered_calls half_body world tracked) (function_run_so_far answered_calls half_body world collector) 0)
     (the_name name named) (runs width world tracked collector)
-reads_right width world tracked collector is_world so_far spare (suc block) name named is_entry = absurd (no_block block name named)
+reads_right width world tracked collector is_world so_far free moves (suc block) name named is_entry = absurd (no_block block name named)
 
 -- What is refused -------------------------------------------------------------------------------------------------------
-
-spares : SparesEntry answered_calls
-spares entry is = each_item (SparesBlock entry) (tt, (tt, tt))
 
 -- variables hold 9
 abbrev nine : Unknowns
@@ -139,7 +139,7 @@ constant_of (placed ∷ rest) = of_operation placed.instruction.operation
 constant_of [] = 0
 
 pub other_constant : ReadsRight answered_calls first_signature (half_body_with 8) half_state → ⊥
-other_constant reads = by (reads U64 SampleWorld.sample_world (λ x. false) ByMaps (fits 8) premises spares 0 block0 refl refl nine 0 items refl)
+other_constant reads = by (reads U64 SampleWorld.sample_world (λ x. false) ByMaps (fits 8) premises (free_first (half_body_with 8) half_state refl refl) (inl (nothing_called (script_of answered_calls) refl)) 0 block0 refl refl nine 0 items refl)
   where
     refute : (index : ℕ) → map without_arguments (drop index (block_of (half_body_with 8) 0).items) ≡ map without_arguments (flat_map (carried answered_calls) items) → ⊥
     refute zero same = let h : 8 ≡ 7 = ap constant_of same in omega (arith, h)
@@ -155,7 +155,7 @@ other_constant reads = by (reads U64 SampleWorld.sample_world (λ x. false) ByMa
 
 pub other_record : ReadsRight answered_calls first_signature half_body (half_state_with 1 (waiting_parameter ∷ [])) → ⊥
 unfolding follow
-other_record reads = by (reads U64 SampleWorld.sample_world (λ x. false) ByMaps (fits 7) premises spares 0 block0 refl refl nine 2 [] refl)
+other_record reads = by (reads U64 SampleWorld.sample_world (λ x. false) ByMaps (fits 7) premises (free_first half_body (half_state_with 1 (waiting_parameter ∷ [])) refl refl) (inl (nothing_called (script_of answered_calls) refl)) 0 block0 refl refl nine 2 [] refl)
   where
     by : HasBeside answered_calls half_body (half_state_with 1 (waiting_parameter ∷ [])) (state_after (left_here half_body (half_state_with 1 (waiting_parameter ∷ []))) 2)
         (right_here half_body (half_state_with 1 (waiting_parameter ∷ []))) → ⊥
@@ -182,7 +182,7 @@ ended (suc n) =
 
 pub none_waiting : ReadsRight answered_calls first_signature half_body (half_state_with 0 []) → ⊥
 unfolding follow
-none_waiting reads = by (reads U64 SampleWorld.sample_world (λ x. false) ByMaps (fits 7) premises spares 0 block0 refl refl nine 1 _ refl)
+none_waiting reads = by (reads U64 SampleWorld.sample_world (λ x. false) ByMaps (fits 7) premises (free_first half_body (half_state_with 0 []) refl refl) (inl (nothing_called (script_of answered_calls) refl)) 0 block0 refl refl nine 1 _ refl)
   where
     none_set : (steps : ℕ) (rest : List Placed) → (state_after (right_here half_body (half_state_with 0 [])) steps).state.control ≡ At rest
         → (state_after (right_here half_body (half_state_with 0 [])) steps).state.values 0 ≡ 0

@@ -18,7 +18,7 @@ use Rattle.clif_simulation.proofs.Values.{false_is, is_value_at}
 abbrev type_in : Option (List Answered) → ℕ → Option «Type»
 type_in o index = value_answer_type (option_and_then (λ (answers : List Answered). slice_get answers index) o)
 
-as_many : (calls : List AnsweredCall) → length (ledger_after (script_of calls)).answers ≡ length calls
+pub as_many : (calls : List AnsweredCall) → length (ledger_after (script_of calls)).answers ≡ length calls
 as_many calls = ledger_place (script_of calls) ∙ script_length calls
 
 none_some : (ty : «Type») → None ≡ Some ty → ⊥
@@ -50,7 +50,7 @@ module _ (calls : List AnsweredCall) (call : AnsweredCall) where
   abbrev after : List AnsweredCall
   after = calls ++ call ∷ []
 
-  answers_are : (ledger_after (script_of after)).answers ≡ ledger.answers ++ answers_to ledger call.request ∷ []
+  pub answers_are : (ledger_after (script_of after)).answers ≡ ledger.answers ++ answers_to ledger call.request ∷ []
   answers_are = ap (λ (l : Ledger). l.answers) (ledger_longer calls call)
 
   -- what was answered before keeps its type

@@ -218,7 +218,7 @@ type_longer [] more (suc x) ty is = cc
 type_longer (state ∷ states) more zero ty is = is
 type_longer (state ∷ states) more (suc x) ty is = type_longer states more x ty is
 
-variables-begun : (ledger : Ledger) (o : Option Name) → (with_begun_at ledger o).variables ≡ ledger.variables
+pub variables-begun : (ledger : Ledger) (o : Option Name) → (with_begun_at ledger o).variables ≡ ledger.variables
 variables-begun ledger None = refl
 variables-begun ledger (Some block) = by (is_inserted ledger block)
   where
@@ -226,7 +226,7 @@ variables-begun ledger (Some block) = by (is_inserted ledger block)
     by true = refl
     by false = refl
 
-variables-terminator : (ledger : Ledger) (operation : Operation) → (with_terminator ledger operation).variables ≡ ledger.variables
+pub variables-terminator : (ledger : Ledger) (operation : Operation) → (with_terminator ledger operation).variables ≡ ledger.variables
 variables-terminator ledger operation = by (is_terminator operation) ledger.current
   where
     by : (c : Bool) (o : Option Name) → (if c then with_filled_at ledger o else ledger).variables ≡ ledger.variables
@@ -234,7 +234,7 @@ variables-terminator ledger operation = by (is_terminator operation) ledger.curr
     by true (Some block) = refl
     by false o = refl
 
-variables-edges : (branch : Name) (ledger : Ledger) (edges : List (Edge Name Name)) → (fold (with_predecessor branch) ledger edges).variables ≡ ledger.variables
+pub variables-edges : (branch : Name) (ledger : Ledger) (edges : List (Edge Name Name)) → (fold (with_predecessor branch) ledger edges).variables ≡ ledger.variables
 variables-edges branch ledger [] = refl
 variables-edges branch ledger (edge ∷ edges) = variables-edges branch (with_predecessor branch ledger edge) edges
 

@@ -1,9 +1,15 @@
 -- Names and their numbers.
 pub mod Codes
+-- When the entry is free.
+pub mod FreeEntry
+-- Instructions and their numbers.
+pub mod Numbering
 -- All that a function holds which carries calls.
 pub mod Whole
 -- No branch leads to any block.
 pub mod Unbranched
+-- No request builds an outside call.
+mod NothingCalled
 -- A finished function that carries calls means what their program means.
 mod Giving
 mod Agreement
@@ -65,6 +71,8 @@ pub mod Values
 pub mod LedgerValues
 pub mod Ledgers
 pub mod Unfilled
+mod Unmarked
+mod Unmoved
 pub mod Telling
 pub mod Calls
 pub mod ResultNames
@@ -99,5 +107,6 @@ pub mod Further
 pub mod Appending
 pub mod ParameterCalls
 mod ParameterRow
+mod CallRow
 -- What is on record in the states of the worked examples.
 mod RecordsListed

@@ -27,7 +27,8 @@ use Rattle.clif_simulation.specs.CarryingExamples.{loop_calls, loop_body, loop_s
 use Rattle.clif_simulation.proofs.RecordsListed.{loop_recording_record}
 use Rattle.clif_simulation.specs.InterruptedExamples.{loop_state_recording}
 use Rattle.clif_simulation.proofs.LoopProgram.{each_items_of_row, row_program}
-use Rattle.clif_simulation.proofs.LoopStructured.{spares_entry}
+use Rattle.clif_simulation.proofs.FreeEntry.{free_first}
+use Rattle.clif_simulation.proofs.NothingCalled.{nothing_called}
 
 -- What an earlier item of the same block gives is given before: a block is entered at its front.
 module _ {Block Thing : Type 0} (code : Code Block Thing) where
@@ -184,7 +185,7 @@ use_is_given path walk =
 -- behind the sum the variable has 4, and the parameter that is on record for it 5
 pub other_record : ReadsRight loop_calls both_arms_signature loop_body (loop_state_recording 1) → ⊥
 unfolding follow
-other_record reads = by (reads U64 SampleWorld.sample_world (λ x. false) ByMaps fits premises spares_entry 0 (block 0) refl refl nothing_known 9 _ refl)
+other_record reads = by (reads U64 SampleWorld.sample_world (λ x. false) ByMaps fits premises (free_first loop_body (loop_state_recording 1) refl refl) (inl (nothing_called (script_of loop_calls) refl)) 0 (block 0) refl refl nothing_known 9 _ refl)
   where
     by : HasBeside loop_calls loop_body (loop_state_recording 1) (state_after left 9) right → ⊥
     by found =

@@ -21,7 +21,7 @@ use Rattle.clif_meaning.proofs.FirstRow.{first_of_one}
 use Rattle.clif_meaning.proofs.StraightLine.{nothing_contained, none_of}
 use Rattle.clif_simulation.specs.Tables.{IsProgramOf, block_name, item_at, assigned_by}
 use Rattle.clif_simulation.specs.Carries.{Carries, SoundOnPaths, own_placed}
-use Rattle.clif_simulation.proofs.LoopStructured.{spares_entry}
+use Rattle.clif_simulation.proofs.FreeEntry.{free_first}
 use Rattle.clif_simulation.specs.CarryingExamples.{loop_calls, loop_body_with, loop_state, to_two_or_three, back_with_sum}
 use Rattle.clif_simulation.proofs.LoopProgram.{each_block_of_row, none_for}
 use Rattle.clif_simulation.proofs.LoopDescribed.{first_of_two, none_waits}
@@ -132,7 +132,7 @@ is_jump placed = jump_of placed.instruction.operation
 
 module _ (carries : Carries loop_calls early_body loop_state) where
   abbrev paths : SoundOnPaths loop_calls carries.own early_body loop_state
-  paths = carries.on_paths spares_entry
+  paths = carries.on_paths (free_first early_body loop_state refl refl)
 
   abbrev T : Blocks
   T = paths.tables

@@ -14,7 +14,7 @@ use Rattle.clif_records.specs.Tables.{is_yes, pending_of}
 use Rattle.clif_ssa.specs.Ssa.{record_of, sealed_of, predecessors_of}
 use Rattle.clif_ssa.specs.LookUp.{branch_block}
 use Rattle.clif_records.proofs.RecordMaps.{value_among}
-use Rattle.clif_ssa.specs.Sound.{Describes, CountsArguments, IsCounted, IsBehind, HomeFits, HasInstructions, IsEdgeInto, BelongsTo, InOrder, entry_of, has_entry, edge_target, passed_at, passed_count}
+use Rattle.clif_ssa.specs.Sound.{EntryIsFree, Describes, CountsArguments, IsCounted, IsBehind, HomeFits, HasInstructions, IsEdgeInto, BelongsTo, InOrder, entry_of, has_entry, edge_target, passed_at, passed_count}
 use Rattle.clif_meaning.proofs.FirstRow.{first_of_one, one_of}
 use Rattle.clif_meaning.proofs.StraightLine.{nothing_contained, none_of}
 use Rattle.clif_simulation.specs.CarryingExamples.{loop_body, loop_state}
@@ -174,8 +174,8 @@ leading_apart (suc (suc zero)) j k below within e = one_once 1 j k below within 
 leading_apart (suc (suc (suc zero))) j k below within e = one_once 1 j k below within e
 leading_apart (suc (suc (suc (suc b)))) j k below within e = omega (arith, within)
 
-entry_apart : (number : ℕ) → entry_of loop_body ≡ Some number → predecessors_of loop_state number ≡ []
-entry_apart number e = subst (λ (k : ℕ). predecessors_of loop_state k ≡ []) (some_number 0 number e) refl
+entry_free : EntryIsFree loop_body loop_state
+entry_free number e sealed = subst (λ (k : ℕ). predecessors_of loop_state k ≡ []) (some_number 0 number e) refl
 
 -- Records -------------------------------------------------------------------------------------------------------------------
 
@@ -346,7 +346,7 @@ row_described = record {
   led = led;
   leading = leading;
   leading_apart = leading_apart;
-  entry_apart = entry_apart;
+  entry_free = entry_free;
   resolves = resolves;
   recorded = recorded;
   records_exist = records_exist;

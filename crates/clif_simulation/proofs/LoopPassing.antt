@@ -29,7 +29,7 @@ use Rattle.clif_meaning.specs.SampleExamples.{sample_signature}
 use Rattle.clif_meaning.proofs.StraightLine.{nothing_contained, none_of}
 use Rattle.clif_meaning.proofs.FirstRow.{one_of, first_of_one}
 use Rattle.clif_meaning.proofs.SampleWorld
-use Rattle.clif_simulation.specs.Carries.{SparesBlock, SparesEntry}
+use Rattle.clif_simulation.proofs.FreeEntry.{free_first}
 use Rattle.clif_simulation.specs.Tables.{answered, block_name, program_so_far}
 use Rattle.clif_simulation.proofs.SoFar.{typed_so_far}
 use Rattle.clif_simulation.specs.Reading.{code_so_far, behind, may_grow, PremisesSoFar, script_run_so_far, function_run_so_far}
@@ -39,6 +39,7 @@ use Rattle.clif_simulation.proofs.RecordsListed.{nothing_there, passing_record}
 use Rattle.clif_simulation.proofs.Giving.{same_or_other}
 use Rattle.clif_simulation.proofs.LoopAlong.{given_in_block}
 use Rattle.clif_simulation.proofs.LoopWaiting.{nothing_at}
+use Rattle.clif_simulation.proofs.NothingCalled.{nothing_called}
 
 abbrev items : Name → List Item
 items name = (program_so_far passing_loop_calls).items name
@@ -297,7 +298,7 @@ Runs width world tracked collector =
     (function_run_so_far passing_loop_calls passing_loop_body world collector)
 
 pub reads_right : ReadsRight passing_loop_calls sample_signature passing_loop_body passing_loop_state
-reads_right width world tracked collector fits premises spares number name named is_entry = by (the_entry number name named is_entry)
+reads_right width world tracked collector fits premises free moves number name named is_entry = by (the_entry number name named is_entry)
   where
     by : (number ≡ 0) × (block 0 ≡ name) → Runs width world tracked collector number name
     by is =
@@ -386,12 +387,6 @@ fits = record {
   slots = record { aligned = λ s slot h. cc; accessible = λ s slot k h below. cc; within = λ s slot h. cc; apart = λ s t slot other k l h. cc };
 }
 
-spares_entry : SparesEntry passing_loop_calls
-spares_entry entry is = each_items (AllByRecursion (SparesBlock entry)) tt ((other, tt), tt) (tt, ((other, tt), tt))
-  where
-    other : block 1 ≢ entry
-    other same = apart entry (is_block (block 0) entry is) same
-
 -- variables hold 9
 abbrev nine : Unknowns
 nine n x = 9
@@ -429,7 +424,7 @@ second_is_given path walk = inl (first_of_one second second refl)
 
 pub other_argument : ReadsRight passing_loop_calls sample_signature turned_body passing_loop_state → ⊥
 unfolding follow
-other_argument reads = by (reads U64 passing_zero (λ x. false) ByMaps fits premises spares_entry 0 (block 0) refl refl nine 3 _ refl)
+other_argument reads = by (reads U64 passing_zero (λ x. false) ByMaps fits premises (free_first turned_body passing_loop_state refl refl) (inl (nothing_called (script_of passing_loop_calls) refl)) 0 (block 0) refl refl nine 3 _ refl)
   where
     only_block : (number : ℕ) → block_name passing_loop_calls number ≡ Some (block 1) → number ≡ 1
     only_block zero named = absurd (apart (block 1) (is_block (block 0) (block 1) named) refl)

@@ -18,13 +18,14 @@ use Rattle.clif_meaning.specs.FunctionView.{Placed}
 use Rattle.clif_meaning.specs.Examples.{i32}
 use Rattle.clif_meaning.specs.BranchExamples.{block, plain, both_arms_function}
 use Rattle.clif_simulation.specs.Tables.{code, answered, callers_parameters, program_so_far, block_name}
-use Rattle.clif_simulation.specs.Carries.{Carries, HasItems, HasEntry, NamesEarlier, EdgesEnd, EdgeEarlier, OwnParameters, ValuesGiven, ValuesTyped, own_placed, carried}
+use Rattle.clif_simulation.specs.Carries.{Carries, HasItems, HasEntry, NamesEarlier, EdgesEnd, EdgeEarlier, OwnParameters, ValuesGiven, ValuesTyped, own_placed, carried, IsBuilt, OwnAnswers, instruction_of}
+use Rattle.clif_simulation.proofs.Numbering.{NumbersRise, apart_all}
 use Rattle.clif_simulation.specs.Laws.{IsFinished}
 use Rattle.clif_simulation.specs.CarryingExamples.{loop_calls, loop_body, loop_state, SeenAlike}
 use Rattle.clif_simulation.proofs.Values.{false_is}
 use Rattle.clif_simulation.proofs.LoopTables.{loop_tables, computing_row, row_sound}
 use Rattle.clif_simulation.proofs.LoopProgram.{each_block_of_row, each_items_of_row, other_block, row_program}
-use Rattle.clif_simulation.proofs.LoopStructured.{leads_own, row_structured}
+use Rattle.clif_simulation.proofs.LoopStructured.{have_edges, leads_own, row_structured}
 use Rattle.clif_simulation.proofs.LoopDescribed.{row_own, leads, none_waits, row_described, row_counted, not_start}
 
 -- The view ------------------------------------------------------------------------------------------------------------------
@@ -68,24 +69,41 @@ items number name =
     each_block_of_row (λ k n. map (own_placed row_own loop_body) (row_own.insts k) ≡ flat_map (carried loop_calls) ((program_so_far loop_calls).items n))
     refl refl refl refl number name
 
+own_answers : OwnAnswers loop_calls row_own
+own_answers number name =
+    each_block_of_row (λ k n. row_own.insts k ≡ flat_map (instruction_of loop_calls) ((program_so_far loop_calls).items n))
+    refl refl refl refl number name
+
+items_built : (name : Name) → AllByRecursion (IsBuilt loop_calls) ((program_so_far loop_calls).items name)
+items_built =
+    each_items_of_row (AllByRecursion (IsBuilt loop_calls)) tt
+    (refl, (tt, (refl, tt)))
+    (tt, (refl, tt))
+    (tt, (refl, (refl, (tt, (refl, tt)))))
+    (tt, (refl, tt))
+
+numbers_rise : NumbersRise 0 loop_calls
+numbers_rise =
+    (tt, (tt, (tt, (tt, (tt, (tt, (tt, (refl, (tt, (refl, (tt, (tt, (refl, (tt, (tt, (tt, (refl, (refl, (tt, (refl, (tt, (tt, (tt, (tt, (refl, tt)))))))))))))))))))))))))
+
 early : (n : ℕ) → n < 25 → n < 25
 early n h = h
 
 earlier : (name : Name) → AllByRecursion (NamesEarlier loop_calls) ((program_so_far loop_calls).items name)
 earlier =
     each_items_of_row (AllByRecursion (NamesEarlier loop_calls)) tt
-    ((tt, (early 7 (omega arith), tt), tt, refl), (early 7 (omega arith), ((tt, tt, (to 1 (omega arith) refl, tt), refl), tt)))
-    (early 11 (omega arith), (((early 11 (omega arith), tt), tt, (to 2 (omega arith) refl, (to 3 (omega arith) refl, tt)), refl), tt)) (
+    ((tt, (early 7 (omega arith), tt), tt), (early 7 (omega arith), ((tt, tt, (to 1 (omega arith) refl, tt)), tt)))
+    (early 11 (omega arith), (((early 11 (omega arith), tt), tt, (to 2 (omega arith) refl, (to 3 (omega arith) refl, tt))), tt)) (
       early 15 (omega arith),
       (
-        (tt, (early 16 (omega arith), tt), tt, refl),
+        (tt, (early 16 (omega arith), tt), tt),
         (
-          ((early 15 (omega arith), (early 16 (omega arith), tt)), (early 17 (omega arith), tt), tt, refl),
-          (early 17 (omega arith), (((early 17 (omega arith), tt), tt, (to 1 (omega arith) refl, (to 1 (omega arith) refl, tt)), refl), tt)),
+          ((early 15 (omega arith), (early 16 (omega arith), tt)), (early 17 (omega arith), tt), tt),
+          (early 17 (omega arith), (((early 17 (omega arith), tt), tt, (to 1 (omega arith) refl, (to 1 (omega arith) refl, tt))), tt)),
         ),
       ),
     )
-    (early 23 (omega arith), (((early 23 (omega arith), tt), tt, tt, refl), tt))
+    (early 23 (omega arith), (((early 23 (omega arith), tt), tt, tt), tt))
   where
     to : (number : ℕ) → number < 25 → block_name loop_calls (answered loop_calls (block number)) ≡ Some (block number)
         → EdgeEarlier loop_calls (plain (block number))
@@ -216,20 +234,25 @@ row_carried = record {
   holds = record {
     blocks = record { distinct = row_program.distinct; earlier = row_program.blocks_earlier; only = row_program.only_blocks; only_parameters = row_program.only_parameters };
     items = items;
+    own_answers = own_answers;
+    items_built = items_built;
+    instructions = apart_all loop_calls numbers_rise;
     earlier = earlier;
     edges_end = edges_end;
+    no_maps = λ inst. refl;
     own_exist = own_exist;
     own_named = other_block (λ b. row_own.insts b ≡ []) (λ b. refl);
     own_inserted = own_inserted;
     declared = λ b inst k target there to. leads inst k target to;
     leads_own = leads_own;
+    have_edges = have_edges;
     parameters = parameters;
     parameters_values = λ name. tt;
     values_typed = values_typed;
     entry = has_entry;
     structured = row_structured seen_alike.resolved;
   };
-  on_paths = λ spares. record {
+  on_paths = λ free. record {
     tables = loop_tables;
     program = row_program;
     values_given = values_given;

@@ -1,6 +1,5 @@
--- The row `both_arms` has the structure, its branches are the caller's, and none names the entry.
-use Rattle.std.proofs.Common.{◌≡◌, ◌≢◌, ℕ, zero, suc, ◌<◌, List, [], ◌∷◌, inl, inr, Some, None, refl, sym, ◌∙◌, ap, subst, arith, Contains, slice_get}
-use Rattle.std.specs.List.{AllByRecursion}
+-- The row `both_arms` has the structure, and its branches are the caller's.
+use Rattle.std.proofs.Common.{◌≡◌, ℕ, zero, suc, ◌<◌, List, [], ◌∷◌, inl, inr, Some, None, refl, sym, ◌∙◌, ap, subst, arith, Contains, slice_get}
 use Rattle.clif_ir.specs.Body.{resolved, value_at}
 use Rattle.clif_instructions.specs.Members.{Once}
 use Rattle.clif_records.specs.declared.tables.Pending.{Pending}
@@ -13,35 +12,13 @@ use Rattle.clif_records.proofs.RecordMaps.{value_among}
 use Rattle.clif_ssa.proofs.Ordering.{contains_cons}
 use Rattle.clif_meaning.specs.Examples.{i32}
 use Rattle.clif_meaning.specs.BranchExamples.{block}
-use Rattle.clif_meaning.specs.Name.{Name}
 use Rattle.clif_meaning.proofs.FirstRow.{one_of, first_of_one}
 use Rattle.clif_meaning.proofs.StraightLine.{none_of, nothing_contained}
-use Rattle.clif_simulation.specs.Tables.{program_so_far}
-use Rattle.clif_simulation.specs.Carries.{AreTypes, LeadsOwn, SparesBlock, SparesEntry}
+use Rattle.clif_simulation.specs.Carries.{AreTypes, HaveEdges, LeadsOwn}
 use Rattle.clif_simulation.specs.CarryingExamples.{loop_calls, loop_body, loop_state}
 use Rattle.clif_simulation.proofs.RecordsListed.{loop_entries, loop_record}
-use Rattle.clif_simulation.proofs.LoopProgram.{each_items_of_row}
 use Rattle.clif_simulation.proofs.LoopDescribed.{row_own, each_edge_of_row, none_waits}
 use Rattle.clif_simulation.proofs.Whole.{waiting_pending}
-
--- The entry -----------------------------------------------------------------------------------------------------------------
-
-pub spares_entry : SparesEntry loop_calls
-spares_entry entry is = subst (λ (name : Name). (b : Name) → AllByRecursion (SparesBlock name) ((program_so_far loop_calls).items b)) (first is) spare
-  where
-    first : Some (block 0) ≡ Some entry → block 0 ≡ entry
-    first e = cc
-
-    other : (number : ℕ) → 0 < number → block number ≢ block 0
-    other number above same = let place : number ≡ 0 = ap (λ (n : Name). n.place) same in omega (arith, place, above)
-
-    spare : (name : Name) → AllByRecursion (SparesBlock (block 0)) ((program_so_far loop_calls).items name)
-    spare =
-        each_items_of_row (AllByRecursion (SparesBlock (block 0))) tt
-        (tt, (tt, ((other 1 (omega arith), tt), tt)))
-        (tt, ((other 2 (omega arith), (other 3 (omega arith), tt)), tt))
-        (tt, (tt, (tt, (tt, ((other 1 (omega arith), (other 1 (omega arith), tt)), tt)))))
-        (tt, (tt, tt))
 
 -- Branches ------------------------------------------------------------------------------------------------------------------
 
@@ -55,6 +32,17 @@ leads_own (suc zero) i here =
 leads_own (suc (suc zero)) i here = (1, block 1, first_of_one 2 i (one_of 2 i here), refl, refl)
 leads_own (suc (suc (suc zero))) i here = (1, block 1, first_of_one 2 i (one_of 2 i here), refl, refl)
 leads_own (suc (suc (suc (suc b)))) i here = absurd (nothing_contained i here)
+
+pub have_edges : HaveEdges loop_body loop_state
+have_edges zero i here = absurd (nothing_contained i here)
+have_edges (suc zero) i here =
+    elim (contains_cons 1 (5 ∷ []) i here) [
+      | inl same ↦ (0, ap (λ (j : ℕ). edge_target loop_body j 0) (sym same))
+      | inr later ↦ (0, ap (λ (j : ℕ). edge_target loop_body j 0) (sym (one_of 5 i later)))
+    ]
+have_edges (suc (suc zero)) i here = (0, ap (λ (j : ℕ). edge_target loop_body j 0) (sym (one_of 2 i here)))
+have_edges (suc (suc (suc zero))) i here = (1, ap (λ (j : ℕ). edge_target loop_body j 1) (sym (one_of 2 i here)))
+have_edges (suc (suc (suc (suc b)))) i here = absurd (nothing_contained i here)
 
 leading : (b i : ℕ) → Contains (predecessors_of loop_state b) i → i < 7
 leading zero i here = absurd (nothing_contained i here)

@@ -26,7 +26,7 @@ use Rattle.clif_meaning.specs.BranchExamples.{block, both_arms_signature}
 use Rattle.clif_meaning.proofs.StraightLine.{nothing_contained, none_of}
 use Rattle.clif_meaning.proofs.FirstRow.{one_of, first_of_one}
 use Rattle.clif_meaning.proofs.SampleWorld
-use Rattle.clif_simulation.specs.Carries.{SparesBlock, SparesEntry}
+use Rattle.clif_simulation.proofs.FreeEntry.{free_first}
 use Rattle.clif_simulation.specs.Tables.{answered, block_name, program_so_far}
 use Rattle.clif_simulation.proofs.SoFar.{typed_so_far}
 use Rattle.clif_simulation.specs.Reading.{code_so_far, behind, may_grow, PremisesSoFar, script_run_so_far, function_run_so_far}
@@ -36,6 +36,7 @@ use Rattle.clif_simulation.proofs.RecordsListed.{nothing_there, waiting_record}
 use Rattle.clif_simulation.specs.ReadingExamples.{waiting_parameter}
 use Rattle.clif_simulation.proofs.Giving.{same_or_other}
 use Rattle.clif_simulation.proofs.LoopAlong.{given_in_block}
+use Rattle.clif_simulation.proofs.NothingCalled.{nothing_called}
 
 abbrev items : Name → List Item
 items name = (program_so_far waiting_loop_calls).items name
@@ -229,7 +230,7 @@ the_entry (suc zero) name named is = absurd (other (is_block (block 0) name is) 
 the_entry (suc (suc number)) name named is = cc
 
 pub reads_right : ReadsRight waiting_loop_calls both_arms_signature waiting_loop_body state
-reads_right width world tracked collector fits premises spares number name named is_entry = by (the_entry number name named is_entry)
+reads_right width world tracked collector fits premises free moves number name named is_entry = by (the_entry number name named is_entry)
   where
     by : (number ≡ 0) × (block 0 ≡ name)
         → RunsBeside waiting_loop_calls waiting_loop_body state (script_run_so_far waiting_loop_calls waiting_loop_body world tracked)
@@ -278,15 +279,6 @@ premises = record {
 fits : IsWorldOf both_arms_signature (view_of waiting_loop_body) U64 SampleWorld.sample_world
 fits = record { arguments = tt; pointers = refl; slots = record { aligned = λ s slot h. cc; accessible = λ s slot k h below. cc; within = λ s slot h. cc; apart = λ s t slot other k l h. cc } }
 
-spares_entry : SparesEntry waiting_loop_calls
-spares_entry entry is = each_items (AllByRecursion (SparesBlock entry)) tt ((other, tt), tt) (tt, ((other, tt), tt))
-  where
-    is_block : (a b : Name) → Some a ≡ Some b → a ≡ b
-    is_block a b h = cc
-
-    other : block 1 ≢ entry
-    other same = let h : 1 ≡ 0 = ap (λ (n : Name). n.place) (same ∙ sym (is_block (block 0) entry is)) in omega (arith, h)
-
 -- variables hold 9
 abbrev nine : Unknowns
 nine n x = 9
@@ -318,7 +310,7 @@ use_is_given path walk =
 
 pub none_waiting : ReadsRight waiting_loop_calls both_arms_signature waiting_loop_body (waiting_loop_state []) → ⊥
 unfolding follow
-none_waiting reads = by (reads U64 SampleWorld.sample_world (λ x. false) ByMaps fits premises spares_entry 0 (block 0) refl refl nine 2 _ refl)
+none_waiting reads = by (reads U64 SampleWorld.sample_world (λ x. false) ByMaps fits premises (free_first waiting_loop_body (waiting_loop_state []) refl refl) (inl (nothing_called (script_of waiting_loop_calls) refl)) 0 (block 0) refl refl nine 2 _ refl)
   where
     only_block : (number : ℕ) → block_name waiting_loop_calls number ≡ Some (block 1) → number ≡ 1
     only_block zero named = let h : 0 ≡ 1 = ap (λ (n : Name). n.place) (same (block 0) (block 1) named) in absurd (omega (arith, h))

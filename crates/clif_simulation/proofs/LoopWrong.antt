@@ -14,7 +14,7 @@ use Rattle.clif_meaning.specs.BranchExamples.{block}
 use Rattle.clif_simulation.specs.Carries.{Carries, own_placed}
 use Rattle.clif_simulation.specs.Laws.{IsFinished}
 use Rattle.clif_simulation.specs.CarryingExamples.{loop_calls, loop_body, loop_body_with, loop_state, loop_state_with, edge_to, to_two_or_three, back_with_sum}
-use Rattle.clif_simulation.proofs.LoopStructured.{spares_entry}
+use Rattle.clif_simulation.proofs.FreeEntry.{free_first}
 
 pub head_of : {X : Type 0} (x y : X) (xs ys : List X) → x ∷ xs ≡ y ∷ ys → x ≡ y
 head_of x y xs ys e = cc
@@ -126,13 +126,13 @@ one_argument carries =
     let five : found.0 ≡ 5 = by found.0 (ap condition_of found.1) in
     let same : lengths_of (own_placed carries.own one_body 5) ≡ 0 ∷ 0 ∷ [] =
     ap (λ (inst : ℕ). lengths_of (own_placed carries.own one_body inst)) (sym five) ∙ ap lengths_of found.1 in
-    no_kind ((carries.on_paths spares_entry).tables.function.definition 1).kind (length (carries.own.params 1)) (length (carries.own.passed 5 0)) (length (carries.own.passed 5 1))
+    no_kind ((carries.on_paths (free_first one_body loop_state refl refl)).tables.function.definition 1).kind (length (carries.own.params 1)) (length (carries.own.passed 5 0)) (length (carries.own.passed 5 1))
     (ap (λ (params : List ℕ). length params) (carries.holds.parameters 1))
     (none_mapped (carries.own.passed 5 0) (head_of _ _ _ _ same))
     (none_mapped (carries.own.passed 5 1) (head_of _ _ _ _ (tail_of _ _ _ _ same)))
-    ((carries.on_paths spares_entry).counts.behind 1 1 refl)
-    ((carries.on_paths spares_entry).counts.counted 1 5 0 1 leads refl refl)
-    ((carries.on_paths spares_entry).counts.counted 1 5 1 1 leads refl refl)
+    ((carries.on_paths (free_first one_body loop_state refl refl)).counts.behind 1 1 refl)
+    ((carries.on_paths (free_first one_body loop_state refl refl)).counts.counted 1 5 0 1 leads refl refl)
+    ((carries.on_paths (free_first one_body loop_state refl refl)).counts.counted 1 5 1 1 leads refl refl)
   where
     leads : Contains {X = ℕ} (1 ∷ 5 ∷ []) 5
     leads = (1, omega arith, refl)

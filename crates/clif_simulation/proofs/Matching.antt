@@ -24,7 +24,7 @@ use Rattle.clif_meaning.specs.World.{World}
 use Rattle.clif_meaning.specs.Outcome.{Outcome, Gives, Goes, Returns, Traps, Calls, NoStep, Computed, Values, Fault, Undefined, access_outcome, no_claim, are_accessible, computed, outcome_of_computed, outcome_of, traps_on}
 use Rattle.clif_meaning.proofs.Stuttering.{Matched, ShowsOnlyEnds, steps_from}
 use Rattle.std.specs.List.{AllByRecursion}
-use Rattle.clif_simulation.specs.Carries.{NamesEarlier}
+use Rattle.clif_simulation.specs.Carries.{CallsNothing}
 use Rattle.clif_simulation.specs.Tables.{program_so_far}
 use Rattle.clif_simulation.proofs.Giving.{In}
 use Rattle.clif_simulation.proofs.Listed.{all_at}
@@ -83,10 +83,15 @@ module _ {S T : Type 0} (left : Machine S Observation) (right : Machine T Observ
       quiet zero h = inl refl
       quiet (suc j) h = absurd (omega arith)
 
-  -- by some steps that show nothing new
-  pub matched_by_more : (n : ℕ) → Related (left.next s) (steps_from right (suc n) t) → ((j : ℕ) → j ≤ suc n → right.shown (steps_from right j t) ≡ right.shown t)
+  -- by some steps, of which the first alone may show something new
+  pub matched_by_more : (n : ℕ) → Related (left.next s) (steps_from right (suc n) t)
+      → ((j : ℕ) → j ≤ n → right.shown (steps_from right (suc j) t) ≡ right.shown (steps_from right (suc n) t))
       → Matched left right Related measure s t
-  matched_by_more n related quiet = record { steps = suc n; related = related; quiet = λ j within. inl (quiet j within); gets_on = inl (omega arith) }
+  matched_by_more n related quiet = record { steps = suc n; related = related; quiet = by; gets_on = inl (omega arith) }
+    where
+      by : ShowsOnlyEnds right (suc n) t
+      by zero within = inl refl
+      by (suc j) within = inr (quiet j (omega (arith, within)))
 
 -- Ends ------------------------------------------------------------------------------------------------------------------
 
@@ -189,13 +194,11 @@ outcome_plain world (TryCall name call) no_call ty types operands memory = cc
 outcome_plain world (TryCallIndirect call) no_call ty types operands memory = cc
 
 -- No instruction of the program calls anything.
-pub item_plain : (calls : List AnsweredCall) (block : Name) → AllByRecursion (NamesEarlier calls) ((program_so_far calls).items block)
+pub item_plain : (calls : List AnsweredCall) (block : Name) → AllByRecursion CallsNothing ((program_so_far calls).items block)
     → (k place : ℕ) (instruction : Instruction Name Name) (results : List Name) → slice_get ((program_so_far calls).items block) k ≡ Some (Instruct place instruction results)
     → call_shape instruction.operation ≡ None
-item_plain calls block earlier k place instruction results stands =
-    let item : NamesEarlier calls (Instruct place instruction results) =
-    all_at (NamesEarlier calls) ((program_so_far calls).items block) k (Instruct place instruction results) earlier stands in
-    item.3
+item_plain calls block nothing k place instruction results stands =
+    all_at CallsNothing ((program_so_far calls).items block) k (Instruct place instruction results) nothing stands
 
 -- the same operation on the same bits, in the same memory, where the operands' types make no difference
 pub same_outcomes : (world : World) (operation : Operation) (ty : «Type») (types others : List «Type») (operands bits : List Bits) (memory other : Memory)

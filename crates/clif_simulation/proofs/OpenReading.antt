@@ -36,7 +36,7 @@ use Rattle.clif_meaning.specs.Headline.{IsWorldOf}
 use Rattle.clif_meaning.proofs.Stuttering.{steps_from, state_after-+}
 use Rattle.clif_simulation.specs.Tables.{code, answered, program_so_far, block_name}
 use Rattle.clif_simulation.specs.Carries.{as_passed, carried, own_placed, Carries}
-use Rattle.clif_simulation.specs.Reading.{behind, code_so_far, IsAtEnd, PremisesSoFar}
+use Rattle.clif_simulation.specs.Reading.{behind, code_so_far, IsAtEnd, MovesAlike, PremisesSoFar}
 use Rattle.clif_simulation.specs.Interrupted.{Unknowns, ScriptStanding, FunctionStanding, script_edge, script_goes, script_enters, function_enters, variables_entering, values_entering, without_arguments, StandsBefore, StandsBeside, HasBeside, AreOpen, ReadsRightWhere}
 use Rattle.clif_simulation.proofs.Agreement.{Agrees, ZerosAreZero, given_agrees, zeros_agree}
 use Rattle.clif_simulation.proofs.Counted.{gives_results, terminator_gives_none}
@@ -105,7 +105,7 @@ module _ (calls : List AnsweredCall) (f : Body) (ssa : SsaState) (consistent : I
 
 module _ (calls : List AnsweredCall) (signature : SignatureShape) (f : Body) (ssa : SsaState) (consistent : IsConsistent f) (carries : Whole calls f ssa)
     (width : PointerWidth) (world : World) (tracked : Name → Bool) (collector : Collector)
-    (growing : Name → Bool) (are_open : AreOpen calls f ssa growing) (fits : IsWorldOf signature (view_of f) width world) (premises : PremisesSoFar growing calls signature)
+    (growing : Name → Bool) (are_open : AreOpen calls f ssa growing) (fits : IsWorldOf signature (view_of f) width world) (premises : PremisesSoFar growing calls signature) (moves : MovesAlike calls tracked collector)
     (entry : ℕ) (entry_name : Name) (entry_named : block_name calls entry ≡ Some entry_name) (is_entry : (program_so_far calls).entry ≡ Some entry_name)
     (unknowns : Unknowns)
   where
@@ -182,7 +182,7 @@ module _ (calls : List AnsweredCall) (signature : SignatureShape) (f : Body) (ss
           subst₂ (λ (names : Name → ℕ) (values : ℕ → ℕ). Agrees live program function (next_arm b k ∷ path) p.variables names values)
           (nothing_assigned same_name results p.names) (nothing_assigned same_value (map (answered calls) results) q.values)
           (given_agrees live program function (next_arm b k) path results (answered calls)
-          (OpenStepping.gives_there calls f ssa consistent carries width world tracked collector unknowns entry entry_name growing are_open signature premises.given_before premises.well_typed
+          (OpenStepping.gives_there calls f ssa consistent carries width world tracked collector unknowns entry entry_name growing are_open signature premises.given_before premises.well_typed moves
           b B r.named k place instruction results stands path)
           p.variables p.names q.values r.agrees [])
 
@@ -196,7 +196,7 @@ module _ (calls : List AnsweredCall) (signature : SignatureShape) (f : Body) (ss
           let last : length (items B) ≤ suc k = nothing_behind (items B) (suc k) (rest_behind (items B) k (Instruct place instruction results) ahead here ∙ at_end.1) in
           let none : results ≡ [] = gives_results (script_of calls) B k (Instruct place instruction results) stands ∙ terminator_gives_none place instruction at_end.0 in
           recorded_bits (next_arm b k ∷ path) (suc k)
-          (OpenStepping.goes_on calls f ssa consistent carries width world tracked collector unknowns entry entry_name growing are_open signature premises.given_before premises.well_typed
+          (OpenStepping.goes_on calls f ssa consistent carries width world tracked collector unknowns entry entry_name growing are_open signature premises.given_before premises.well_typed moves
           b B r.named k path (Instruct place instruction results) stands r.follows r.ends)
           refl (omega (arith, last, place_within (items B) k (Instruct place instruction results) stands)) (before_end place instruction results stands none)
       records_alike (Use y used ∷ ahead) here at_end = absurd at_end
@@ -314,7 +314,7 @@ module _ (calls : List AnsweredCall) (signature : SignatureShape) (f : Body) (ss
     met (suc n) rest on =
         let before = went_on (state_after left_machine n) (state_after left_machine n).state.control refl rest on in
         let now : IsMet n = met n before.0 before.1 in
-        let more = OpenStepping.step calls f ssa consistent carries width world tracked collector unknowns entry entry_name growing are_open signature premises.given_before premises.well_typed
+        let more = OpenStepping.step calls f ssa consistent carries width world tracked collector unknowns entry entry_name growing are_open signature premises.given_before premises.well_typed moves
         (state_after left_machine n) (state_after right_machine now.0) now.1 rest on in
         later (state_after left_machine (suc n)) now.0 more.0 more.1
 
@@ -323,5 +323,5 @@ module _ (calls : List AnsweredCall) (signature : SignatureShape) (f : Body) (ss
 
 pub reads_right : (calls : List AnsweredCall) (signature : SignatureShape) (f : Body) (ssa : SsaState) (growing : Name → Bool)
     → IsConsistent f → Carries calls f ssa → AreOpen calls f ssa growing → ReadsRightWhere growing calls signature f ssa
-reads_right calls signature f ssa growing consistent carries are_open width world tracked collector fits premises spares block name named is_entry unknowns =
-    beside calls signature f ssa consistent (whole calls f ssa consistent carries spares) width world tracked collector growing are_open fits premises block name named is_entry unknowns
+reads_right calls signature f ssa growing consistent carries are_open width world tracked collector fits premises free moves block name named is_entry unknowns =
+    beside calls signature f ssa consistent (whole calls f ssa consistent carries free) width world tracked collector growing are_open fits premises moves block name named is_entry unknowns

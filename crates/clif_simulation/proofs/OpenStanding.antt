@@ -1,6 +1,6 @@
 -- Both interrupted runs at a place of an unfinished function, and how they come to a block's first item.
 use Rattle.clif_simulation.proofs.ZeroInsts.{InTurn}
-use Rattle.std.proofs.Common.{◌≡◌, ℕ, zero, suc, ◌+◌, ◌≤◌, Bool, List, [], ◌++◌, map, length, drop, flat_map, Option, Some, None, refl, sym, ◌∙◌, ap, subst, arith}
+use Rattle.std.proofs.Common.{◌≡◌, ℕ, zero, suc, ◌+◌, ◌≤◌, Bool, List, [], ◌++◌, map, length, drop, flat_map, Option, Some, refl, sym, ◌∙◌, ap, subst, arith}
 use Rattle.clif_types.specs.declared.target.PointerWidth.{PointerWidth}
 use Rattle.clif_ir.specs.Body.{resolved, Body}
 use Rattle.clif_ir.specs.Consistent.{IsConsistent}
@@ -13,7 +13,6 @@ use Rattle.clif_meaning.specs.Request.{AnsweredCall}
 use Rattle.clif_meaning.specs.Instruction.{Edge}
 use Rattle.clif_meaning.specs.Program.{Item}
 use Rattle.clif_meaning.specs.World.{World}
-use Rattle.clif_meaning.specs.Outcome.{Outcome, Gives, Goes, Returns, Traps, Calls, NoStep}
 use Rattle.clif_meaning.specs.Machine.{Machine, At, Observation}
 use Rattle.clif_meaning.specs.ScriptMachine.{ScriptRun, ScriptState}
 use Rattle.clif_meaning.specs.FunctionMachine.{Collector, FunctionRun, FunctionState, function_machine}
@@ -23,26 +22,13 @@ use Rattle.clif_meaning.proofs.Stuttering.{steps_from}
 use Rattle.clif_simulation.specs.Tables.{program_so_far, block_name}
 use Rattle.clif_simulation.specs.Carries.{carried, own_placed}
 use Rattle.clif_simulation.specs.Reading.{behind, script_run_so_far, function_run_so_far}
-use Rattle.clif_simulation.specs.Interrupted.{taken_of, Unknowns, ScriptStanding, FunctionStanding, function_goes, script_enters, function_enters, variables_entering, values_entering, interrupted_script, interrupted_function}
+use Rattle.clif_simulation.specs.Interrupted.{Unknowns, ScriptStanding, FunctionStanding, function_goes, script_enters, function_enters, variables_entering, values_entering, interrupted_script, interrupted_function}
 use Rattle.clif_simulation.proofs.Agreement.{Agrees, ZerosAreZero, agrees_still, zeros_still}
 use Rattle.clif_simulation.proofs.Fronts
 use Rattle.clif_simulation.proofs.Fronts.{HasFront, has_front, placed_inst}
 use Rattle.clif_simulation.proofs.OpenEdges
 use Rattle.clif_simulation.proofs.OpenFlow
 use Rattle.clif_simulation.proofs.Whole.{Whole}
-
--- without edges none is taken
-pub none_taken : (o : Outcome) → taken_of {Block = ℕ} {Operand = ℕ} [] o ≡ None
-none_taken (Gives results memory) = refl
-none_taken (Goes edge given memory) = by edge
-  where
-    by : (k : ℕ) → taken_of {Block = ℕ} {Operand = ℕ} [] (Goes k given memory) ≡ None
-    by zero = refl
-    by (suc k) = refl
-none_taken (Returns results) = refl
-none_taken (Traps reason) = refl
-none_taken (Calls callee call arguments) = refl
-none_taken NoStep = refl
 
 -- The zeros at a block's front are passed without an edge --------------------------------------------------------------
 

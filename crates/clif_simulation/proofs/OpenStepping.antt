@@ -16,6 +16,8 @@ use Rattle.clif_ssa.specs.Ssa.{SsaState, predecessors_of, sealed_of}
 use Rattle.clif_records.specs.Tables.{is_yes, pending_of}
 use Rattle.clif_ssa.specs.Sound.{IsEdgeInto, edges_at, edge_target}
 use Rattle.clif_meaning.specs.Bits.{Bits}
+use Rattle.clif_meaning.specs.Event.{Answer, CallShape, Callee, Event, Exception, Results}
+use Rattle.clif_meaning.specs.Premises.{EachItem}
 use Rattle.clif_meaning.specs.Memory.{Memory}
 use Rattle.clif_meaning.specs.Name.{Name, same_name}
 use Rattle.clif_meaning.specs.Request.{AnsweredCall, script_of}
@@ -36,9 +38,9 @@ use Rattle.clif_meaning.specs.Path.{Place}
 use Rattle.clif_meaning.specs.WellPlaced.{item_names, passed_operands, program_code, IsWellPlaced}
 use Rattle.clif_meaning.proofs.Stuttering.{steps_from}
 use Rattle.clif_simulation.specs.Tables.{code, answered, program_so_far, block_name}
-use Rattle.clif_simulation.specs.Carries.{carried, own_placed}
-use Rattle.clif_simulation.specs.Reading.{behind, WellTypedSoFar}
-use Rattle.clif_simulation.specs.Interrupted.{AreOpen, taken_of, Unknowns, ScriptStanding, FunctionStanding, script_edge, script_goes, script_enters, function_edge, function_goes, function_enters, variables_entering, values_entering}
+use Rattle.clif_simulation.specs.Carries.{CallsNothing, answered_edge, as_passed, carried, own_placed}
+use Rattle.clif_simulation.specs.Reading.{MovesAlike, MovesNothing, behind, WellTypedSoFar}
+use Rattle.clif_simulation.specs.Interrupted.{AreOpen, taken_of, Unknowns, taken_by, ScriptStanding, FunctionStanding, function_answer, script_answer, script_edge, script_goes, script_enters, function_edge, function_goes, function_enters, variables_entering, values_entering}
 use Rattle.clif_simulation.proofs.Whole.{Whole}
 use Rattle.clif_simulation.proofs.Giving.{in_contained}
 use Rattle.clif_simulation.proofs.Agreement.{Agrees, GivesThere, UsesThere, AssignsThere, ZerosAreZero, given_agrees, used_agrees, assigned_agrees, given_zeros, used_zeros, assigned_zeros}
@@ -56,11 +58,23 @@ use Rattle.clif_simulation.proofs.OpenStanding.{IsAt, Running, Gets}
 use Rattle.clif_simulation.proofs.OwnEdges
 use Rattle.clif_simulation.proofs.OwnEdges.{last_item}
 use Rattle.clif_simulation.proofs.Placing.{at_second, contained, map_at, placed_item}
-use Rattle.clif_simulation.proofs.Stepping.{edge_passes, same_arguments}
+use Rattle.clif_simulation.proofs.Stepping.{edge_passes, function_along, none_passed, same_arguments, script_along, some_passed}
+use Rattle.clif_simulation.proofs.Unmoved
 use Rattle.clif_simulation.proofs.Straight.{next_arm}
 use Rattle.clif_simulation.proofs.OperandTypes.{outcomes_alike_so_far}
 use Rattle.clif_simulation.proofs.Targets
 use Rattle.clif_simulation.proofs.TwoParts.{nothing_assigned}
+
+-- where a run goes doesn't depend on the state before
+script_before : (calls : List AnsweredCall) (s : SsaState) (unknowns : Unknowns) (before : ScriptStanding) (was : ScriptState) (o : Option (Edge Name Name)) (state : ScriptState)
+    → script_goes calls s unknowns before o state ≡ script_goes calls s unknowns (record before { state = was }) o state
+script_before calls s unknowns before was None state = refl
+script_before calls s unknowns before was (Some edge) state = refl
+
+function_before : (s : SsaState) (unknowns : Unknowns) (before : FunctionStanding) (was : FunctionState) (o : Option (Edge ℕ ℕ)) (state : FunctionState)
+    → function_goes s unknowns before o state ≡ function_goes s unknowns (record before { state = was }) o state
+function_before s unknowns before was None state = refl
+function_before s unknowns before was (Some edge) state = refl
 
 stuck_not_on : (rest : List Item) → ◌≡◌ {A = Control Item} IsStuck (At rest) → ⊥
 stuck_not_on rest h = cc
@@ -68,7 +82,7 @@ stuck_not_on rest h = cc
 module _ (calls : List AnsweredCall) (f : Body) (ssa : SsaState) (consistent : IsConsistent f) (carries : Whole calls f ssa)
     (width : PointerWidth) (world : World) (tracked : Name → Bool) (collector : Collector) (unknowns : Unknowns) (entry : ℕ) (entry_name : Name)
     (growing : Name → Bool) (are_open : AreOpen calls f ssa growing) (signature : SignatureShape) (placed : IsWellPlaced (program_code (program_so_far calls)))
-    (typed : WellTypedSoFar growing (ledger_after (script_of calls)) (program_so_far calls) signature)
+    (typed : WellTypedSoFar growing (ledger_after (script_of calls)) (program_so_far calls) signature) (moves : MovesAlike calls tracked collector)
   where
     abbrev left_run : ScriptRun
     left_run = OpenStanding.left_run calls f ssa consistent carries width world tracked collector unknowns entry entry_name
@@ -289,18 +303,18 @@ module _ (calls : List AnsweredCall) (f : Body) (ssa : SsaState) (consistent : I
               ap (λ (o : Placed). outcome_of world o.instruction.operation o.instruction.controlling (map right_run.function.value_type o.instruction.operands) (map (value_bits right_run c.state) o.instruction.operands) c.state.memory) is
               ∙ same_outcomes world instruction.operation instruction.controlling _ _ _ _ _ _ (outcomes_alike_so_far calls f world carries.values_typed growing signature typed B k place instruction results stands) same_operands r.same_memory
 
-          left_goes : left_machine.next a ≡ script_goes calls ssa unknowns a (taken_of instruction.edges outcome) (script.carry_out left_run a.state instruction.edges results rest outcome)
+          left_goes : left_machine.next a ≡ script_goes calls ssa unknowns a (taken_of (script_answer left_run a.state) instruction.edges outcome) (script.carry_out left_run a.state instruction.edges results rest outcome)
           unfolding outcome
           left_goes =
               ap (λ (at : Control Item). script_goes calls ssa unknowns a (script_edge left_run a.state at) (script.step_at left_run a.state at)) r.script_at
 
           right_goes :
               right_machine.next c
-              ≡ function_goes ssa unknowns c (taken_of (placed_inst f i).instruction.edges outcome) (function_machine_of.carry_out right_run c.state (placed_inst f i) (map (placed_inst f) left) outcome)
+              ≡ function_goes ssa unknowns c (taken_of (function_answer right_run c.state (placed_inst f i)) (placed_inst f i).instruction.edges outcome) (function_machine_of.carry_out right_run c.state (placed_inst f i) (map (placed_inst f) left) outcome)
           right_goes =
               ap (λ (at : Control Placed). function_goes ssa unknowns c (function_edge right_run c.state at) (function_machine_of.step_at right_run c.state at)) r.function_at
               ∙ ap (λ (o : Outcome).
-              function_goes ssa unknowns c (taken_of (placed_inst f i).instruction.edges o) (function_machine_of.carry_out right_run c.state (placed_inst f i) (map (placed_inst f) left) o)) same_outcome
+              function_goes ssa unknowns c (taken_of (function_answer right_run c.state (placed_inst f i)) (placed_inst f i).instruction.edges o) (function_machine_of.carry_out right_run c.state (placed_inst f i) (map (placed_inst f) left) o)) same_outcome
 
           abbrev gives : (way : Path) → GivesThere live program function (next_arm b k) way results (answered calls)
           gives way = gives_there b B r.named k place instruction results stands way
@@ -308,14 +322,14 @@ module _ (calls : List AnsweredCall) (f : Body) (ssa : SsaState) (consistent : I
           same_results : (bits : List Bits) → assigned same_value (placed_inst f i).results bits c.state.values ≡ assigned same_value (map (answered calls) results) bits c.state.values
           same_results bits = ap (λ (o : Placed). assigned same_value o.results bits c.state.values) is
 
-          -- on to the next item
-          gives_results : (bits : List Bits) (memory : Memory)
-              → left_machine.next a ≡ script_goes calls ssa unknowns a None (script.give_results (record a.state { memory = memory }) results rest bits)
-              → right_machine.next c
+          -- On to the next item, from whatever states these two give the results in.
+          gives_results : (a0 : ScriptStanding) (c0 : FunctionStanding) (bits : List Bits) (memory : Memory)
+              → left_machine.next a0 ≡ script_goes calls ssa unknowns a None (script.give_results (record a.state { memory = memory }) results rest bits)
+              → right_machine.next c0
               ≡ function_goes ssa unknowns c None
               (function_machine_of.give_results (record c.state { memory = memory }) (placed_inst f i).results (map (placed_inst f) left) bits)
-              → Comes (left_machine.next a) c
-          gives_results bits memory left_next right_next = (
+              → Comes (left_machine.next a0) c0
+          gives_results a0 c0 bits memory left_next right_next = (
             1,
             subst₂ (λ (x : ScriptStanding) (y : FunctionStanding). Runs x y) (sym left_next) (sym right_next) (record {
               block = b;
@@ -372,7 +386,7 @@ module _ (calls : List AnsweredCall) (f : Body) (ssa : SsaState) (consistent : I
             may_pass true is_open = inr (are_open d edge.target target_named is_open)
             may_pass false settled =
                 inl (OwnEdges.passed_count calls f ssa consistent carries i n edge of_function
-                ∙ Targets.passes_as_many_so_far calls B k place instruction results stands n edge is_edge (item_plain calls B (carries.earlier B) k place instruction results stands) growing signature typed settled)
+                ∙ Targets.passes_as_many_so_far calls B k place instruction results stands n edge is_edge growing signature typed settled)
 
             abbrev arm : Arm
             arm = record { source = last_place tables b; target = front d; edge = n }
@@ -467,18 +481,18 @@ module _ (calls : List AnsweredCall) (f : Body) (ssa : SsaState) (consistent : I
                 OpenStanding.arrives calls f ssa consistent carries width world tracked collector unknowns entry entry_name d edge.target target_named (arm ∷ along) follows_there refl
                 a.entries p1 q1 refl refl refl r.same_events crossed.0 crossed.1
 
-            pub goes_along : left_machine.next a ≡ script_goes calls ssa unknowns a (Some edge) p1
-                → right_machine.next c
+            pub goes_along : (a0 : ScriptStanding) (c0 : FunctionStanding) → left_machine.next a0 ≡ script_goes calls ssa unknowns a (Some edge) p1
+                → right_machine.next c0
                 ≡ function_goes ssa unknowns c (slice_get (edges_of (inst_at f i).shape) n)
                 (function_machine_of.follow_edge right_run (record c.state { memory = memory }) given (slice_get (edges_of (inst_at f i).shape) n))
-                → Comes (left_machine.next a) c
-            goes_along left_next right_next = (
+                → Comes (left_machine.next a0) c0
+            goes_along a0 c0 left_next right_next = (
               suc arrived.0,
               subst₂ (λ (x : ScriptStanding) (y : FunctionStanding). Runs x y) (sym left_next)
-                  (sym (steps_behind right_machine arrived.0 c ∙ ap (steps_from right_machine arrived.0) right_is)) arrived.1,
+                  (sym (steps_behind right_machine arrived.0 c0 ∙ ap (steps_from right_machine arrived.0) right_is)) arrived.1,
             )
               where
-                right_is : right_machine.next c ≡ function_enters ssa unknowns d a.entries q1
+                right_is : right_machine.next c0 ≡ function_enters ssa unknowns d a.entries q1
                 right_is =
                     right_next
                     ∙ ap (λ (o : Option (Edge ℕ ℕ)). function_goes ssa unknowns c o (function_machine_of.follow_edge right_run (record c.state { memory = memory }) given o))
@@ -490,24 +504,175 @@ module _ (calls : List AnsweredCall) (f : Body) (ssa : SsaState) (consistent : I
                     ∙ ap (λ (so_many : ℕ). function_enters ssa unknowns d so_many q1) (sym entries)
 
           -- whatever it does, if the run goes on
-          goes : (n : ℕ) (given : List Bits) (memory : Memory) (o : Option (Edge Name Name)) → slice_get instruction.edges n ≡ o
-              → left_machine.next a ≡ script_goes calls ssa unknowns a o (script.follow_edge left_run (record a.state { memory = memory }) given o)
-              → right_machine.next c
+          goes : (a0 : ScriptStanding) (c0 : FunctionStanding) (n : ℕ) (given : List Bits) (memory : Memory) (o : Option (Edge Name Name)) → slice_get instruction.edges n ≡ o
+              → left_machine.next a0 ≡ script_goes calls ssa unknowns a o (script.follow_edge left_run (record a.state { memory = memory }) given o)
+              → right_machine.next c0
               ≡ function_goes ssa unknowns c (slice_get (edges_of (inst_at f i).shape) n)
               (function_machine_of.follow_edge right_run (record c.state { memory = memory }) given (slice_get (edges_of (inst_at f i).shape) n))
-              → (ahead : List Item) → (left_machine.next a).state.control ≡ At ahead → Comes (left_machine.next a) c
-          goes n given memory None is_edge left_next right_next ahead on =
+              → (ahead : List Item) → (left_machine.next a0).state.control ≡ At ahead → Comes (left_machine.next a0) c0
+          goes a0 c0 n given memory None is_edge left_next right_next ahead on =
               absurd (stuck_not_on ahead (sym (ap (λ (x : ScriptStanding). x.state.control) left_next) ∙ on))
-          goes n given memory (Some edge) is_edge left_next right_next ahead on = goes_along n edge is_edge given memory left_next right_next
+          goes a0 c0 n given memory (Some edge) is_edge left_next right_next ahead on = goes_along n edge is_edge given memory a0 c0 left_next right_next
 
-          after_outcome : (o : Outcome) → IsPlain o
-              → left_machine.next a ≡ script_goes calls ssa unknowns a (taken_of instruction.edges o) (script.carry_out left_run a.state instruction.edges results rest o)
+    -- An outside call -----------------------------------------------------------------------------------------------------
+
+    module _ (a : ScriptStanding) (c : FunctionStanding) (b : ℕ) (B : Name) (k : ℕ) (path : Path) (place_is : a.place ≡ behind B k) (entries : a.entries ≡ c.entries) where
+      -- Both show the same event and get the same answer, and nothing moves.
+      module _ (place : ℕ) (instruction : Instruction Name Name) (results : List Name) (rest : List Item) (i : ℕ) (left : List ℕ)
+          (r : Stands b B k (Instruct place instruction results ∷ rest) (i ∷ left) path a.state c.state)
+          (nothing : MovesNothing tracked collector) (callee : Callee) (call : CallShape) (arguments : List Bits)
+        where
+          abbrev p' : ScriptState
+          p' = script.call_outside left_run a.state callee call arguments
+
+          abbrev q' : FunctionState
+          q' = function_machine_of.call_outside right_run c.state (placed_inst f i).stack_map callee call arguments
+
+          abbrev a' : ScriptStanding
+          a' = record a { state = p' }
+
+          abbrev c' : FunctionStanding
+          c' = record c { state = q' }
+
+          placed_is : own_placed carries.own f i ≡ placed_item calls instruction results
+          placed_is = is a c b B k path place_is entries place instruction results rest i left r
+
+          no_map : (placed_inst f i).stack_map ≡ []
+          no_map = ap (λ (o : Placed). o.stack_map) placed_is
+
+          edges_are : as_passed (carries.own.passed i) 0 (edges_of (inst_at f i).shape) ≡ map (answered_edge calls) instruction.edges
+          edges_are = ap (λ (o : Placed). o.instruction.edges) placed_is
+
+          events_are : p'.events ≡ q'.events
+          events_are = Unmoved.events_are calls f world tracked collector nothing a.state c.state r.same_memory r.same_events (placed_inst f i).stack_map no_map callee call arguments
+
+          memory_is : p'.memory ≡ q'.memory
+          memory_is = Unmoved.memory_is calls f world tracked collector nothing a.state c.state r.same_memory r.same_events (placed_inst f i).stack_map no_map callee call arguments
+
+          variable_stays : (x : ℕ) → p'.variables x ≡ a.state.variables x
+          variable_stays = Unmoved.variable_stays calls f world tracked collector nothing a.state c.state r.same_memory r.same_events (placed_inst f i).stack_map no_map callee call arguments
+
+          name_stays : (x : Name) → p'.names x ≡ a.state.names x
+          name_stays = Unmoved.name_stays calls f world tracked collector nothing a.state c.state r.same_memory r.same_events (placed_inst f i).stack_map no_map callee call arguments
+
+          value_stays : (v : ℕ) → q'.values v ≡ c.state.values v
+          value_stays = Unmoved.value_stays calls f world tracked collector nothing a.state c.state r.same_memory r.same_events (placed_inst f i).stack_map no_map callee call arguments
+
+          called : Stands b B k (Instruct place instruction results ∷ rest) (i ∷ left) path p' q'
+          called = record {
+            named = r.named;
+            follows = r.follows;
+            ends = r.ends;
+            rest_is = r.rest_is;
+            within = r.within;
+            front = r.front;
+            own_is = r.own_is;
+            left_is = r.left_is;
+            script_at = r.script_at;
+            function_at = r.function_at;
+            same_memory = memory_is;
+            same_events = events_are;
+            agrees = record {
+              of_variable = λ x w is_live same. variable_stays x ∙ r.agrees.of_variable x w is_live same ∙ sym (value_stays w);
+              of_name = λ n w is_live same. name_stays n ∙ r.agrees.of_name n w is_live same ∙ sym (value_stays w);
+            };
+            zeros = record {
+              of_variable = λ x y zero_there. variable_stays x ∙ r.zeros.of_variable x y zero_there;
+              of_name = λ n y zero_there. name_stays n ∙ r.zeros.of_name n y zero_there;
+              of_value = λ w blank. value_stays w ∙ r.zeros.of_value w blank;
+            };
+          }
+
+          abbrev takes : List (Edge ℕ ℕ) → Answer → FunctionState
+          takes edges answer = function_machine_of.take_answer right_run q' edges (placed_inst f i).results (map (placed_inst f) left) answer
+
+          -- with the same memory on both sides
+          along_edge : (n : ℕ) (given : List Bits)
+              → left_machine.next a ≡ script_goes calls ssa unknowns a (slice_get instruction.edges n) (script.follow_edge left_run p' given (slice_get instruction.edges n))
               → right_machine.next c
-              ≡ function_goes ssa unknowns c (taken_of (placed_inst f i).instruction.edges o)
+              ≡ function_goes ssa unknowns c (slice_get (edges_of (inst_at f i).shape) n)
+              (function_machine_of.follow_edge right_run q' given (slice_get (edges_of (inst_at f i).shape) n))
+              → (ahead : List Item) → (left_machine.next a).state.control ≡ At ahead → Comes (left_machine.next a) c
+          along_edge n given left_next right_next ahead on =
+              goes a' c' b B k path place_is entries place instruction results rest i left called a c n given p'.memory (slice_get instruction.edges n) refl (left_next ∙ script_before calls ssa unknowns a p' (slice_get instruction.edges n) _)
+              (right_next ∙ function_before ssa unknowns c q' (slice_get (edges_of (inst_at f i).shape) n) _
+              ∙ ap (λ (memory : Memory). function_goes ssa unknowns c' (slice_get (edges_of (inst_at f i).shape) n)
+              (function_machine_of.follow_edge right_run (record q' { memory = memory }) given (slice_get (edges_of (inst_at f i).shape) n))) (sym memory_is))
+              ahead on
+
+          returns : (bits : List Bits) (edges : List (Edge Name Name)) → instruction.edges ≡ edges
+              → left_machine.next a ≡ script_goes calls ssa unknowns a (slice_get instruction.edges 0) (script.take_answer left_run p' instruction.edges results rest (Results bits))
+              → right_machine.next c ≡ function_goes ssa unknowns c (slice_get (edges_of (inst_at f i).shape) 0) (takes (edges_of (inst_at f i).shape) (Results bits))
+              → (ahead : List Item) → (left_machine.next a).state.control ≡ At ahead → Comes (left_machine.next a) c
+          returns bits [] none left_next right_next ahead on =
+              gives_results a' c' b B k path place_is entries place instruction results rest i left called a c bits p'.memory
+              (left_next
+              ∙ ap (λ (edges : List (Edge Name Name)).
+              script_goes calls ssa unknowns a (slice_get edges 0) (script.take_answer left_run p' edges results rest (Results bits))) none)
+              (right_next
+              ∙ ap (λ (edges : List (Edge ℕ ℕ)). function_goes ssa unknowns c (slice_get edges 0) (takes edges (Results bits)))
+              (none_passed (carries.own.passed i) 0 (edges_of (inst_at f i).shape) (edges_are ∙ ap (map (answered_edge calls)) none))
+              ∙ ap (λ (memory : Memory). function_goes ssa unknowns c None
+              (function_machine_of.give_results (record q' { memory = memory }) (placed_inst f i).results (map (placed_inst f) left) bits)) (sym memory_is))
+          returns bits (normal ∷ edges) some left_next right_next ahead on =
+              let first = some_passed (carries.own.passed i) 0 (edges_of (inst_at f i).shape) _ _ (edges_are ∙ ap (map (answered_edge calls)) some) in
+              along_edge 0 bits
+              (left_next
+              ∙ ap (script_goes calls ssa unknowns a (slice_get instruction.edges 0))
+              (ap (λ (es : List (Edge Name Name)). script.take_answer left_run p' es results rest (Results bits)) some
+              ∙ sym (ap (λ (es : List (Edge Name Name)). script.follow_edge left_run p' bits (slice_get es 0)) some)))
+              (right_next
+              ∙ ap (function_goes ssa unknowns c (slice_get (edges_of (inst_at f i).shape) 0))
+              (ap (λ (es : List (Edge ℕ ℕ)). takes es (Results bits)) first.2
+              ∙ sym (ap (λ (es : List (Edge ℕ ℕ)). function_machine_of.follow_edge right_run q' bits (slice_get es 0)) first.2)))
+              ahead on
+
+          after_answer : (answer : Answer)
+              → left_machine.next a ≡ script_goes calls ssa unknowns a (taken_by instruction.edges answer) (script.take_answer left_run p' instruction.edges results rest answer)
+              → right_machine.next c ≡ function_goes ssa unknowns c (taken_by (edges_of (inst_at f i).shape) answer) (takes (edges_of (inst_at f i).shape) answer)
+              → (ahead : List Item) → (left_machine.next a).state.control ≡ At ahead → Comes (left_machine.next a) c
+          after_answer (Results bits) left_next right_next ahead on = returns bits instruction.edges refl left_next right_next ahead on
+          after_answer (Exception item payload) left_next right_next ahead on =
+              along_edge (suc item) payload
+              (left_next ∙ ap (script_goes calls ssa unknowns a (slice_get instruction.edges (suc item))) (script_along left_run p' instruction.edges results rest item payload))
+              (right_next
+              ∙ ap (function_goes ssa unknowns c (slice_get (edges_of (inst_at f i).shape) (suc item)))
+              (function_along right_run q' (edges_of (inst_at f i).shape) (placed_inst f i).results (map (placed_inst f) left) item payload))
+              ahead on
+
+          call_step : left_machine.next a ≡ script_goes calls ssa unknowns a (taken_by instruction.edges (world.answer p'.events call)) (script.answer_call left_run p' call instruction.edges results rest)
+              → right_machine.next c
+              ≡ function_goes ssa unknowns c (taken_by (edges_of (inst_at f i).shape) (world.answer q'.events call))
+              (function_machine_of.answer_call right_run q' call (placed_inst f i) (map (placed_inst f) left))
+              → (ahead : List Item) → (left_machine.next a).state.control ≡ At ahead → Comes (left_machine.next a) c
+          call_step left_next right_next ahead on =
+              after_answer (world.answer p'.events call) left_next
+              (right_next
+              ∙ ap (λ (events : List Event). function_goes ssa unknowns c (taken_by (edges_of (inst_at f i).shape) (world.answer events call))
+              (takes (edges_of (inst_at f i).shape) (world.answer events call))) (sym events_are))
+              ahead on
+
+      -- Whatever an instruction does, if the run goes on ----------------------------------------------------------------------
+
+      module _ (place : ℕ) (instruction : Instruction Name Name) (results : List Name) (rest : List Item) (i : ℕ) (left : List ℕ)
+          (r : Stands b B k (Instruct place instruction results ∷ rest) (i ∷ left) path a.state c.state)
+        where
+          -- where nothing is called, this is no call
+          no_call : EachItem CallsNothing (program_so_far calls) → IsPlain (outcome a c b B k path place_is entries place instruction results rest i left r)
+          unfolding outcome
+          no_call nothing =
+              outcome_plain world instruction.operation (item_plain calls B (nothing B) k place instruction results (stands a c b B k path place_is entries place instruction results rest i left r)) instruction.controlling
+              (map left_run.name_type instruction.operands) (map a.state.names instruction.operands) a.state.memory
+
+          after_outcome : (o : Outcome) → (EachItem CallsNothing (program_so_far calls) → IsPlain o)
+              → left_machine.next a ≡ script_goes calls ssa unknowns a (taken_of (script_answer left_run a.state) instruction.edges o) (script.carry_out left_run a.state instruction.edges results rest o)
+              → right_machine.next c
+              ≡ function_goes ssa unknowns c (taken_of (function_answer right_run c.state (placed_inst f i)) (placed_inst f i).instruction.edges o)
               (function_machine_of.carry_out right_run c.state (placed_inst f i) (map (placed_inst f) left) o)
               → (ahead : List Item) → (left_machine.next a).state.control ≡ At ahead → Comes (left_machine.next a) c
-          after_outcome (Gives bits memory) plain left_next right_next ahead on = gives_results bits memory left_next right_next
-          after_outcome (Goes n given memory) plain left_next right_next ahead on = goes n given memory (slice_get instruction.edges n) refl left_next right_next ahead on
+          after_outcome (Gives bits memory) plain left_next right_next ahead on = gives_results a c b B k path place_is entries place instruction results rest i left r a c bits memory left_next right_next
+          after_outcome (Goes n given memory) plain left_next right_next ahead on =
+              goes a c b B k path place_is entries place instruction results rest i left r a c n given memory (slice_get instruction.edges n) refl left_next right_next ahead on
           after_outcome (Returns bits) plain left_next right_next ahead on =
               absurd (other (sym (ap (λ (x : ScriptStanding). x.state.control) left_next) ∙ on))
             where
@@ -518,13 +683,15 @@ module _ (calls : List AnsweredCall) (f : Body) (ssa : SsaState) (consistent : I
             where
               other : ◌≡◌ {A = Control Item} (HasTrapped reason) (At ahead) → ⊥
               other h = cc
-          after_outcome (Calls callee call arguments) plain left_next right_next ahead on = absurd plain
+          after_outcome (Calls callee call arguments) plain left_next right_next ahead on = by moves
+            where
+              by : MovesAlike calls tracked collector → Comes (left_machine.next a) c
+              by (inl none) = absurd (plain none)
+              by (inr nothing) = call_step place instruction results rest i left r nothing callee call arguments left_next right_next ahead on
           after_outcome NoStep plain left_next right_next ahead on = absurd (stuck_not_on ahead (sym (ap (λ (x : ScriptStanding). x.state.control) left_next) ∙ on))
 
           instruct_step : (ahead : List Item) → (left_machine.next a).state.control ≡ At ahead → Comes (left_machine.next a) c
-          unfolding outcome
-          instruct_step =
-              after_outcome outcome (outcome_plain world instruction.operation (item_plain calls B (carries.earlier B) k place instruction results stands) instruction.controlling (map left_run.name_type instruction.operands) (map a.state.names instruction.operands) a.state.memory) left_goes right_goes
+          instruct_step = after_outcome (outcome a c b B k path place_is entries place instruction results rest i left r) no_call (left_goes a c b B k path place_is entries place instruction results rest i left r) (right_goes a c b B k path place_is entries place instruction results rest i left r)
 
       running_step : (rest : List Item) (left : List ℕ) → Stands b B k rest left path a.state c.state
           → (ahead : List Item) → (left_machine.next a).state.control ≡ At ahead → Comes (left_machine.next a) c
@@ -533,8 +700,8 @@ module _ (calls : List AnsweredCall) (f : Body) (ssa : SsaState) (consistent : I
         where
           is : left_machine.next a ≡ script_goes calls ssa unknowns a None (record a.state { control = IsStuck })
           is = ap (λ (at : Control Item). script_goes calls ssa unknowns a (script_edge left_run a.state at) (script.step_at left_run a.state at)) r.script_at
-      running_step (Use x used ∷ rest) left r ahead on = use_step x used rest left r
-      running_step (Assign x from ∷ rest) left r ahead on = assign_step x from rest left r
+      running_step (Use x used ∷ rest) left r ahead on = use_step a c b B k path place_is entries x used rest left r
+      running_step (Assign x from ∷ rest) left r ahead on = assign_step a c b B k path place_is entries x from rest left r
       running_step (Instruct place instruction results ∷ rest) (i ∷ left) r ahead on = instruct_step place instruction results rest i left r ahead on
       running_step (Instruct place instruction results ∷ rest) [] r ahead on = absurd (none (placed_item calls instruction results) (flat_map (carried calls) rest) r.left_is)
         where

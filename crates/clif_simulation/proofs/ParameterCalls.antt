@@ -3,7 +3,7 @@ use Rattle.std.proofs.Common.{◌≡◌, ◌≢◌, ◌⊎◌, ℕ, zero, suc, �
 use Rattle.std.specs.Prelude.{slice_get, Contains, IsTrue, is_some, if◌then◌else◌}
 use Rattle.std.specs.List.{AllByRecursion}
 use Rattle.std.proofs.Math.Decide.{ℕ_discrete}
-use Rattle.std.proofs.lemmas.List.{append-nil, map-append}
+use Rattle.std.proofs.lemmas.List.{map-append}
 use Rattle.clif_types.specs.declared.types.«Type».{«Type»}
 use Rattle.clif_instructions.specs.declared.block_call.BlockArg.{BlockArg}
 use Rattle.clif_ir.specs.Body.{Body, block_at}
@@ -27,8 +27,10 @@ use Rattle.clif_simulation.specs.Carries.{Carries, IsEarlier, IsValue, NamesBloc
 use Rattle.clif_simulation.specs.Structure.{HasCallersAlone}
 use Rattle.clif_simulation.proofs.Appending
 use Rattle.clif_simulation.proofs.Appending.{among, decide, goes_on-params, own_after, own_elsewhere, own_here, own_insts, own_passed, tables_after, typed_now, typed_still, Numbered}
-use Rattle.clif_simulation.proofs.Calls.{longer_calls, name_stays}
-use Rattle.clif_simulation.proofs.Carrying.{all_append, all_mapped, declared_kept, holds_on, leads_kept, numbers_kept, spares_before}
+use Rattle.clif_simulation.proofs.Calls.{longer_calls, name_stays, structured_so_far}
+use Rattle.clif_simulation.proofs.Carrying.{all_append, all_mapped, declared_kept, holds_on, edges_there, leads_kept, numbers_kept}
+use Rattle.clif_simulation.proofs.FreeEntry.{free_before}
+use Rattle.clif_simulation.proofs.Numbering.{values_alone}
 use Rattle.clif_simulation.proofs.Codes
 use Rattle.clif_simulation.proofs.Giving.{In, contained_in, in_contained}
 use Rattle.clif_simulation.proofs.GivenNames.{named_earlier}
@@ -446,15 +448,18 @@ module _ (calls : List AnsweredCall) (f : Body) (s : SsaState) (c : Carries call
   pub carries_params : Carries after g s
   carries_params = record {
     own = mine;
-    holds = holds_on calls call stays c.own mine f g s s c.holds kept keeps.more laid same_own own_parameters parameters_values values_typed blocks
+    holds = holds_on calls call stays c.own mine f g s s c.holds kept keeps.more laid (λ i. keeps.maps i ∙ c.holds.no_maps i)
+        (λ index is. values_alone types index (ap (λ (answers : List Answered). slice_get answers index) (sym answers_are) ∙ is)) same_own own_parameters parameters_values values_typed blocks
         (λ d N is. inl (was d N is)) items
         (λ d i k target here to. declared_kept c.own f g s s keeps (λ e. refl) c.holds.own_exist c.holds.declared d i k target (subst (λ (is : List ℕ). Contains is i) (same_own d) here) to)
         (leads_kept calls call c.own mine s s stays (λ d i here. subst (λ (is : List ℕ). Contains is i) (sym (same_own d)) here) (λ d. refl) c.holds.leads_own)
+        (edges_there f g s s keeps (λ d. refl) (structured_so_far calls f s c).leading c.holds.have_edges)
         (entry_stays calls after f g entry (ap (λ (l : List ℕ). slice_get l 0) (Appending.same_layout f b types)) stays c.holds.entry)
         (λ declared are.
         Appending.params_structured b (length calls) declared c.own f s types (firm_from f consistent) there bare (c.holds.structured declared (types_before calls call declared are)));
-    on_paths = λ spares.
-        let p : SoundOnPaths calls c.own f s = c.on_paths (spares_before calls call (λ e is. entry ∙ is) (λ N. ([], items N ∙ sym (append-nil ((program_so_far calls).items N)))) spares) in
+    on_paths = λ free.
+        let p : SoundOnPaths calls c.own f s = c.on_paths
+        (free_before f g s s (λ e is. ap (λ (l : List ℕ). slice_get l 0) (Appending.same_layout f b types) ∙ is) (λ d sealed. (sealed, refl)) free) in
         let described = Appending.params_soundly b (length calls) c.own f s p.tables 0 types (firm_from f consistent) there bare (λ k later. next_is_new calls p.tables k p.program)
         (p.describes, p.sound, p.counts) in
         record {

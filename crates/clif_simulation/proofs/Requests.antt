@@ -157,8 +157,3 @@ entry_begun calls calls' f g b B program layout named names has = by (program_so
           none = λ none. absurd (some_differs E (program_so_far calls').entry now none);
           some = λ entry some. (e.0, same ∙ first.1 e.0 e.1, names e.0 E e.2 ∙ ap (λ (N : Name). Some N) (one E entry (program_so_far calls').entry now some));
         }
-
--- the entry is the first of two blocks
-pub entry_first : (calls calls' : List AnsweredCall) (B : Name) → (program_so_far calls').entry ≡ first_block (program_so_far calls).entry (Some B)
-    → (entry : Name) → (program_so_far calls).entry ≡ Some entry → (program_so_far calls').entry ≡ Some entry
-entry_first calls calls' B program entry is = program ∙ ap (λ (o : Option Name). first_block o (Some B)) is

@@ -17,7 +17,7 @@ use Rattle.clif_meaning.specs.FunctionMachine.{Collector, FunctionRun, FunctionS
 use Rattle.clif_meaning.specs.View.{view_of}
 use Rattle.clif_meaning.specs.Headline.{IsWorldOf}
 use Rattle.clif_simulation.specs.Tables.{program_so_far, block_name}
-use Rattle.clif_simulation.specs.Reading.{PremisesSoFar, may_grow, script_run_so_far, function_run_so_far, starting_at, SideBySide, StartAlike, RunSideBySide}
+use Rattle.clif_simulation.specs.Reading.{MovesAlike, PremisesSoFar, may_grow, script_run_so_far, function_run_so_far, starting_at, SideBySide, StartAlike, RunSideBySide}
 use Rattle.clif_simulation.proofs.Unbranched.{CarriesUnbranched}
 use Rattle.clif_simulation.proofs.Starting.{arguments_count}
 use Rattle.clif_simulation.proofs.Reaching.{reached_entry}
@@ -28,7 +28,7 @@ use Rattle.clif_simulation.proofs.Setting
 
 module _ (calls : List AnsweredCall) (signature : SignatureShape) (f : Body) (ssa : SsaState) (consistent : IsConsistent f) (carries : CarriesUnbranched calls f ssa)
     (width : PointerWidth) (world : World) (tracked : Name → Bool) (collector : Collector)
-    (fits : IsWorldOf signature (view_of f) width world) (premises : PremisesSoFar (may_grow calls) calls signature)
+    (fits : IsWorldOf signature (view_of f) width world) (premises : PremisesSoFar (may_grow calls) calls signature) (moves : MovesAlike calls tracked collector)
   where
     abbrev left_run : ScriptRun
     left_run = script_run_so_far calls f world tracked
@@ -80,21 +80,21 @@ module _ (calls : List AnsweredCall) (signature : SignatureShape) (f : Body) (ss
       begun unsealed p q start_alike =
           let opens = Opened.opens-unsealed calls f ssa carries entry is_entry unsealed in
           let starts = Setting.from_any calls f ssa consistent carries entry is_entry premises.given_before
-          (Opened.sealed_now calls f ssa carries entry is_entry) (Opened.joins_now calls f ssa carries entry is_entry) opens width world tracked collector alike unsealed p q start_alike in
+          (Opened.sealed_now calls f ssa carries entry is_entry) (Opened.joins_now calls f ssa carries entry is_entry) opens width world tracked collector alike moves unsealed p q start_alike in
           Setting.side_by_side calls f ssa consistent carries entry is_entry premises.given_before
-          (Opened.sealed_now calls f ssa carries entry is_entry) (Opened.joins_now calls f ssa carries entry is_entry) opens width world tracked collector alike p q starts.0 starts.1
+          (Opened.sealed_now calls f ssa carries entry is_entry) (Opened.joins_now calls f ssa carries entry is_entry) opens width world tracked collector alike moves p q starts.0 starts.1
 
       entered : (sealed : Bool) → is_yes (sealed_of ssa e) ≡ sealed → FromStart e entry
       entered true is =
           let opens = Opened.opens-sealed calls f ssa carries entry is_entry is in
           let starts = Setting.from_start calls f ssa consistent carries entry is_entry premises.given_before
-          carries.whole.tables.sealed carries.whole.tables.joins opens width world tracked collector alike as_many is in
+          carries.whole.tables.sealed carries.whole.tables.joins opens width world tracked collector alike moves as_many is in
           started (Setting.side_by_side calls f ssa consistent carries entry is_entry premises.given_before
-          carries.whole.tables.sealed carries.whole.tables.joins opens width world tracked collector alike p0 q0 starts.0 starts.1)
+          carries.whole.tables.sealed carries.whole.tables.joins opens width world tracked collector alike moves p0 q0 starts.0 starts.1)
       entered false is =
           started (begun is p0 q0 (Setting.starts_alike calls f ssa consistent carries entry is_entry premises.given_before
           (Opened.sealed_now calls f ssa carries entry is_entry) (Opened.joins_now calls f ssa carries entry is_entry)
-          (Opened.opens-unsealed calls f ssa carries entry is_entry is) width world tracked collector alike as_many))
+          (Opened.opens-unsealed calls f ssa carries entry is_entry is) width world tracked collector alike moves as_many))
 
     pub runs : RunSideBySide calls f ssa left_run right_run
     runs = record {

@@ -34,7 +34,7 @@ use Rattle.clif_meaning.specs.WellPlaced.{program_code, IsWellPlaced}
 use Rattle.clif_meaning.proofs.StraightLine.{nothing_contained}
 use Rattle.clif_simulation.specs.Tables.{code, answered, block_name, program_so_far}
 use Rattle.clif_simulation.specs.Carries.{carried}
-use Rattle.clif_simulation.specs.Reading.{starting_at, IsAtEnd, StandAlike, StartAlike, SideBySide}
+use Rattle.clif_simulation.specs.Reading.{MovesAlike, starting_at, IsAtEnd, StandAlike, StartAlike, SideBySide}
 use Rattle.clif_simulation.proofs.Unbranched.{CarriesUnbranched}
 use Rattle.clif_simulation.proofs.Agreement.{any_value, Agrees, IsBlank, ZerosAreZero, zeros_agree}
 use Rattle.clif_simulation.proofs.Entered.{ComesAlong, EntersThere, entered_agrees, entered_zeros}
@@ -58,16 +58,16 @@ use Rattle.clif_simulation.proofs.Alongside
 module _ (calls : List AnsweredCall) (f : Body) (ssa : SsaState) (consistent : IsConsistent f) (carries : CarriesUnbranched calls f ssa)
     (entry : Name) (is_entry : (program_so_far calls).entry ≡ Some entry) (placed : IsWellPlaced (program_code (program_so_far calls)))
     (sealed : ℕ → Bool) (joins : Edges) (opens : Opens carries.whole.tables (Entry.e calls f ssa carries entry is_entry) sealed joins)
-    (width : PointerWidth) (world : World) (tracked : Name → Bool) (collector : Collector) (alike : OutcomesAlike calls f world)
+    (width : PointerWidth) (world : World) (tracked : Name → Bool) (collector : Collector) (alike : OutcomesAlike calls f world) (moves : MovesAlike calls tracked collector)
   where
     abbrev pub left_run : ScriptRun
-    left_run = Alongside.left_run calls f ssa consistent carries entry is_entry placed sealed joins opens width world tracked collector alike
+    left_run = Alongside.left_run calls f ssa consistent carries entry is_entry placed sealed joins opens width world tracked collector alike moves
 
     abbrev pub right_run : FunctionRun
-    right_run = Alongside.right_run calls f ssa consistent carries entry is_entry placed sealed joins opens width world tracked collector alike
+    right_run = Alongside.right_run calls f ssa consistent carries entry is_entry placed sealed joins opens width world tracked collector alike moves
 
     abbrev pub IsAlongside : ℕ → ScriptState → FunctionState → Type 0
-    IsAlongside = Alongside.Alongside calls f ssa consistent carries entry is_entry placed sealed joins opens width world tracked collector alike
+    IsAlongside = Alongside.Alongside calls f ssa consistent carries entry is_entry placed sealed joins opens width world tracked collector alike moves
 
     abbrev pub items : List Item
     items = Entry.items calls f ssa carries entry is_entry
@@ -111,7 +111,7 @@ module _ (calls : List AnsweredCall) (f : Body) (ssa : SsaState) (consistent : I
         met (suc k) rest on =
             let before = went_on (state_after left k) (state_after left k).control refl rest on in
             let now : IsMet k = met k before.0 before.1 in
-            by now.0 (Alongside.step calls f ssa consistent carries entry is_entry placed sealed joins opens width world tracked collector alike
+            by now.0 (Alongside.step calls f ssa consistent carries entry is_entry placed sealed joins opens width world tracked collector alike moves
             k (state_after left k) (state_after right now.0) now.1 rest on)
           where
             by : (steps : ℕ) → IsAlongside (suc k) (state_after left (suc k)) (state_after right steps)
@@ -122,12 +122,12 @@ module _ (calls : List AnsweredCall) (f : Body) (ssa : SsaState) (consistent : I
         records_alike : (k : ℕ) (a : ScriptState) (b : FunctionState) → IsAlongside k a b → (ahead : List Item) → drop k items ≡ ahead → IsAtEnd ahead
             → (x v : ℕ) → record_of ssa x e ≡ Some v → a.variables x ≡ b.values (resolved f v)
         records_alike k a b s [] here at_end x v is =
-            Alongside.recorded_bits calls f ssa consistent carries entry is_entry placed sealed joins opens width world tracked collector alike
+            Alongside.recorded_bits calls f ssa consistent carries entry is_entry placed sealed joins opens width world tracked collector alike moves
             k a b s (omega (arith, s.within, nothing_behind items k here)) x v is
         records_alike k a b s (Instruct place instruction results ∷ rest) here at_end x v is =
             let stands : slice_get items k ≡ Some (Instruct place instruction results) = item_here items k (Instruct place instruction results) rest here in
             let last : length items ≤ suc k = nothing_behind items (suc k) (rest_behind items k (Instruct place instruction results) rest here ∙ at_end.1) in
-            Alongside.recorded_before_end calls f ssa consistent carries entry is_entry placed sealed joins opens width world tracked collector alike
+            Alongside.recorded_before_end calls f ssa consistent carries entry is_entry placed sealed joins opens width world tracked collector alike moves
             k a b s place instruction results stands (omega (arith, last, place_within items k (Instruct place instruction results) stands))
             (gives_results (script_of calls) entry k (Instruct place instruction results) stands ∙ terminator_gives_none place instruction at_end.0) x v is
         records_alike k a b s (Use y used ∷ rest) here at_end x v is = absurd at_end
@@ -140,7 +140,7 @@ module _ (calls : List AnsweredCall) (f : Body) (ssa : SsaState) (consistent : I
           same_memory = s.same_memory;
           same_events = s.same_events;
           names = λ x given.
-              Alongside.given_bits calls f ssa consistent carries entry is_entry placed sealed joins opens width world tracked collector alike k a b s x
+              Alongside.given_bits calls f ssa consistent carries entry is_entry placed sealed joins opens width world tracked collector alike moves k a b s x
               (Entry.is_earlier calls f ssa carries entry is_entry k x (Reaching.given_behind calls entry is_entry x k s.within given));
           records = λ at_end x v is. records_alike k a b s (drop k items) refl at_end x v is;
         }
@@ -197,10 +197,10 @@ module _ (calls : List AnsweredCall) (f : Body) (ssa : SsaState) (consistent : I
     -- At the front of the entry ---------------------------------------------------------------------------------------
 
     abbrev program : Program
-    program = Alongside.program calls f ssa consistent carries entry is_entry placed sealed joins opens width world tracked collector alike
+    program = Alongside.program calls f ssa consistent carries entry is_entry placed sealed joins opens width world tracked collector alike moves
 
     abbrev function : Function
-    function = Alongside.function calls f ssa consistent carries entry is_entry placed sealed joins opens width world tracked collector alike
+    function = Alongside.function calls f ssa consistent carries entry is_entry placed sealed joins opens width world tracked collector alike moves
 
     abbrev parameters : List Name
     parameters = (program_so_far calls).parameters entry
@@ -267,7 +267,7 @@ module _ (calls : List AnsweredCall) (f : Body) (ssa : SsaState) (consistent : I
         same_denoted : (path : Path) (w : ℕ) → carries.whole.tables.function.resolve w ≡ w → denotes program function path w ≡ denotes program carries.whole.tables.function path w
         same_denoted =
             denotes-end carries.whole.tables.function program
-            (Alongside.ends calls f ssa consistent carries entry is_entry placed sealed joins opens width world tracked collector alike)
+            (Alongside.ends calls f ssa consistent carries entry is_entry placed sealed joins opens width world tracked collector alike moves)
 
         comes : (w : ℕ) → Dec (carries.whole.tables.function.resolve w ≡ w)
             → ((n : Name) × In n parameters × (w ≡ answered calls n)) ⊎ ComesAlong any_value program function (first_arm e) [] (λ v. 0) (λ v. 0) w

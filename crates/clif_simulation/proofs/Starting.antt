@@ -38,15 +38,10 @@ use Rattle.clif_simulation.proofs.Fronts
 use Rattle.clif_simulation.proofs.Fronts.{HasFront, has_front, placed_inst, quiet}
 use Rattle.clif_simulation.proofs.Placing.{map_length}
 use Rattle.clif_simulation.proofs.Straight.{arms, first_arm}
+use Rattle.clif_simulation.proofs.Counted.{as_many_values}
 use Rattle.clif_simulation.proofs.Stepping
 
 -- What is passed to the entry --------------------------------------------------------------------------------------------
-
-as_many_values : (types : List «Type») (values : List Bits) → AreValues types values → length values ≡ length types
-as_many_values [] [] are = refl
-as_many_values [] (bits ∷ values) are = absurd are
-as_many_values (ty ∷ types) [] are = absurd are
-as_many_values (ty ∷ types) (bits ∷ values) are = ap suc (as_many_values types values are.1)
 
 -- the world gives as many arguments as the entry has parameters
 pub arguments_count : (calls : List AnsweredCall) (entry : Name) (types : List «Type») (world : World) → (program_so_far calls).entry ≡ Some entry

@@ -1,7 +1,7 @@
 -- One step of the script's machine is matched by the function's machine: both stand before the same items of a block and
 -- agree, or ended in one way. A step along an edge is matched by that and the zeros of the block that it leads to.
-use Rattle.std.proofs.Common.{◌≡◌, ℕ, zero, suc, ◌+◌, ◌-◌, ◌<◌, ◌≤◌, nat_lt, true, List, [], ◌∷◌, ◌++◌, map, length, drop, flat_map, slice_get, Option, Some, None, Contains, ◌⊎◌, inl, inr, refl, sym, ◌∙◌, ap, ap₂, subst, subst₂, arith}
-use Rattle.std.specs.Prelude.{IsTrue}
+use Rattle.std.proofs.Common.{◌≡◌, ℕ, suc, ◌+◌, ◌-◌, ◌<◌, ◌≤◌, nat_lt, true, List, [], ◌∷◌, ◌++◌, map, length, drop, flat_map, slice_get, Option, Some, None, Contains, ◌⊎◌, inl, inr, refl, sym, ◌∙◌, ap, ap₂, subst, subst₂, arith}
+use Rattle.std.specs.Prelude.{Bool, IsTrue, if◌then◌else◌}
 use Rattle.std.proofs.lemmas.Bool.Decides.{nat_tests}
 use Rattle.clif_types.specs.Signature.{SignatureShape}
 use Rattle.clif_types.specs.declared.target.PointerWidth.{PointerWidth}
@@ -17,7 +17,7 @@ use Rattle.clif_ssa.specs.Ssa.{SsaState}
 use Rattle.clif_ssa.specs.Sound.{edges_at}
 use Rattle.clif_meaning.specs.Bits.{Bits}
 use Rattle.clif_meaning.specs.Memory.{Memory}
-use Rattle.clif_meaning.specs.Event.{Event}
+use Rattle.clif_meaning.specs.Event.{Answer, CallShape, Callee, Event, Exception, Results}
 use Rattle.clif_meaning.specs.Name.{Name, same_name}
 use Rattle.clif_meaning.specs.Request.{AnsweredCall, script_of}
 use Rattle.clif_meaning.specs.Ledger.{ledger_after, is_filled}
@@ -25,7 +25,7 @@ use Rattle.clif_meaning.specs.Instruction.{Argument, Known, CallResult, CallPayl
 use Rattle.clif_meaning.specs.Program.{Item, Instruct, Use, Assign}
 use Rattle.clif_meaning.specs.World.{World}
 use Rattle.clif_meaning.specs.Outcome.{Outcome, Gives, Goes, Returns, Traps, Calls, NoStep, outcome_of}
-use Rattle.clif_meaning.specs.Store.{assigned, argument_bits, shown_memory}
+use Rattle.clif_meaning.specs.Store.{assigned, argument_bits, memory_beside, shown_memory}
 use Rattle.clif_meaning.specs.Machine.{Machine, Control, At, HasReturned, HasTrapped, IsStuck, Observation, Ending, ending_of}
 use Rattle.clif_meaning.specs.ScriptMachine as script
 use Rattle.clif_meaning.specs.ScriptMachine.{ScriptRun, ScriptState, script_machine}
@@ -39,7 +39,8 @@ use Rattle.clif_meaning.specs.WellPlaced.{item_names, known_argument, passed_ope
 use Rattle.clif_meaning.proofs.Stuttering.{Matched, steps_from}
 use Rattle.clif_simulation.specs.Tables.{code, answered, program_so_far, block_name}
 use Rattle.clif_simulation.proofs.Whole.{Whole}
-use Rattle.clif_simulation.specs.Carries.{answered_argument, carried, own_placed}
+use Rattle.clif_instructions.specs.declared.block_call.BlockArg.{BlockArg}
+use Rattle.clif_simulation.specs.Carries.{answered_argument, answered_edge, as_passed, carried, own_placed}
 use Rattle.clif_simulation.specs.Laws.{IsFinished}
 use Rattle.clif_simulation.proofs.Giving.{In, in_contained}
 use Rattle.clif_simulation.proofs.InLists.{among_all}
@@ -50,7 +51,7 @@ use Rattle.clif_simulation.proofs.Straight.{arms, next_arm}
 use Rattle.clif_simulation.proofs.Edges
 use Rattle.clif_simulation.proofs.Flow
 use Rattle.clif_simulation.proofs.Fronts
-use Rattle.clif_simulation.proofs.Fronts.{HasFront, has_front, placed_inst, goes_on_quietly, steps_behind}
+use Rattle.clif_simulation.proofs.Fronts.{HasFront, has_front, placed_inst, steps_behind}
 use Rattle.clif_simulation.proofs.ItemsAt
 use Rattle.clif_simulation.proofs.Listed.{place_within}
 use Rattle.clif_simulation.proofs.OwnEdges
@@ -59,7 +60,8 @@ use Rattle.clif_simulation.proofs.OperandTypes.{outcomes_alike}
 use Rattle.clif_simulation.proofs.Targets
 use Rattle.clif_simulation.proofs.Placing.{at_second, map_at, map_length, placed_item}
 use Rattle.clif_simulation.proofs.TwoParts.{nothing_assigned}
-use Rattle.clif_simulation.proofs.Matching.{script_still, function_still, observation, remaining, first_is, rest_is, item_here, rest_behind, same_bits, matched_by_one, matched_by_none, matched_by_more, SameEnd, same_ending, IsPlain, item_plain, outcome_plain, same_outcomes}
+use Rattle.clif_simulation.proofs.Unmarked.{none_marked, none_tracked}
+use Rattle.clif_simulation.proofs.Matching.{script_still, function_still, observation, remaining, first_is, rest_is, item_here, rest_behind, same_bits, matched_by_one, matched_by_none, matched_by_more, SameEnd, same_ending, same_outcomes}
 
 -- what is passed has the same bits where the names have those of their answers
 pub same_arguments : (calls : List AnsweredCall) (names : Name → ℕ) (values : ℕ → ℕ) (given : List ℕ) (arguments : List (Argument Name))
@@ -72,6 +74,26 @@ same_arguments calls names values given (CallResult index ∷ arguments) same =
     ap (λ (rest : List ℕ). argument_bits values given (CallResult index) ∷ rest) (same_arguments calls names values given arguments same)
 same_arguments calls names values given (CallPayload index ∷ arguments) same =
     ap (λ (rest : List ℕ). argument_bits values given (CallPayload index) ∷ rest) (same_arguments calls names values given arguments same)
+
+-- An exception takes the edge of its item, behind the normal one.
+pub script_along : (run : ScriptRun) (state : ScriptState) (edges : List (Edge Name Name)) (results : List Name) (rest : List Item) (item : ℕ) (payload : List Bits)
+    → script.take_answer run state edges results rest (Exception item payload) ≡ script.follow_edge run state payload (slice_get edges (suc item))
+script_along run state [] results rest item payload = refl
+script_along run state (normal ∷ edges) results rest item payload = refl
+
+pub function_along : (run : FunctionRun) (state : FunctionState) (edges : List (Edge ℕ ℕ)) (results : List ℕ) (rest : List Placed) (item : ℕ) (payload : List Bits)
+    → function_machine_of.take_answer run state edges results rest (Exception item payload) ≡ function_machine_of.follow_edge run state payload (slice_get edges (suc item))
+function_along run state [] results rest item payload = refl
+function_along run state (normal ∷ edges) results rest item payload = refl
+
+pub none_passed : (passed : ℕ → List BlockArg) (n : ℕ) (edges : List (Edge ℕ ℕ)) → as_passed passed n edges ≡ [] → edges ≡ []
+none_passed passed n [] none = refl
+none_passed passed n (edge ∷ edges) none = cc
+
+pub some_passed : (passed : ℕ → List BlockArg) (n : ℕ) (edges : List (Edge ℕ ℕ)) (first : Edge ℕ ℕ) (others : List (Edge ℕ ℕ)) → as_passed passed n edges ≡ first ∷ others
+    → (edge : Edge ℕ ℕ) × (rest : List (Edge ℕ ℕ)) × (edges ≡ edge ∷ rest)
+some_passed passed n [] first others some = cc
+some_passed passed n (edge ∷ edges) first others some = (edge, edges, refl)
 
 -- what an edge of an instruction passes the instruction passes
 pub edge_passes : (instruction : Instruction Name Name) (n : ℕ) (edge : Edge Name Name) → slice_get instruction.edges n ≡ Some edge
@@ -335,12 +357,13 @@ module _ (calls : List AnsweredCall) (f : Body) (ssa : SsaState) (consistent : I
         same_results : (bits : List Bits) → assigned same_value (placed_inst f i).results bits q.values ≡ assigned same_value (map (answered calls) results) bits q.values
         same_results bits = ap (λ (o : Placed). assigned same_value o.results bits q.values) is
 
-        -- on to the next item
-        gives_results : (bits : List Bits) (memory : Memory) → left_machine.next p ≡ script.give_results (record p { memory = memory }) results rest bits
-            → right_machine.next q ≡ function_machine_of.give_results (record q { memory = memory }) (placed_inst f i).results (map (placed_inst f) left) bits → IsMatched p q
-        gives_results bits memory left_next right_next =
-            by_one p (script.give_results (record p { memory = memory }) results rest bits)
-            q (function_machine_of.give_results (record q { memory = memory }) (placed_inst f i).results (map (placed_inst f) left) bits) left_next right_next
+        -- On to the next item, from whatever states these two give the results in.
+        gives_results : (p0 : ScriptState) (q0 : FunctionState) (bits : List Bits) (memory : Memory)
+            → left_machine.next p0 ≡ script.give_results (record p { memory = memory }) results rest bits
+            → right_machine.next q0 ≡ function_machine_of.give_results (record q { memory = memory }) (placed_inst f i).results (map (placed_inst f) left) bits → IsMatched p0 q0
+        gives_results p0 q0 bits memory left_next right_next =
+            by_one p0 (script.give_results (record p { memory = memory }) results rest bits)
+            q0 (function_machine_of.give_results (record q { memory = memory }) (placed_inst f i).results (map (placed_inst f) left) bits) left_next right_next
             (inl (record {
               block = b;
               name = B;
@@ -371,13 +394,13 @@ module _ (calls : List AnsweredCall) (f : Body) (ssa : SsaState) (consistent : I
             one_more [] = refl
             one_more (x ∷ front) = ap (λ (xs : List ℕ). x ∷ xs) (one_more front)
 
-        -- along an edge
-        module _ (n : ℕ) (edge : Edge Name Name) (is_edge : slice_get instruction.edges n ≡ Some edge) (given : List Bits) (memory : Memory)
-            (left_next : left_machine.next p ≡ script.follow_edge left_run (record p { memory = memory }) given (Some edge))
-            (right_next : right_machine.next q ≡ function_machine_of.follow_edge right_run (record q { memory = memory }) given (slice_get (edges_of (inst_at f i).shape) n))
+        -- along an edge, from whatever states
+        module _ (p0 : ScriptState) (q0 : FunctionState) (n : ℕ) (edge : Edge Name Name) (is_edge : slice_get instruction.edges n ≡ Some edge) (given : List Bits) (memory : Memory)
+            (left_next : left_machine.next p0 ≡ script.follow_edge left_run (record p { memory = memory }) given (Some edge))
+            (right_next : right_machine.next q0 ≡ function_machine_of.follow_edge right_run (record q { memory = memory }) given (slice_get (edges_of (inst_at f i).shape) n))
           where
             as_many : length edge.arguments ≡ length ((program_so_far calls).parameters edge.target)
-            as_many = Targets.passes_as_many calls B k place instruction results stands n edge is_edge (item_plain calls B (carries.earlier B) k place instruction results stands) signature typed
+            as_many = Targets.passes_as_many calls B k place instruction results stands n edge is_edge signature typed
 
             filled : IsTrue (is_filled (ledger_after (script_of calls)) edge.target)
             filled = Targets.target_filled calls B k place instruction results stands n edge is_edge targets
@@ -400,7 +423,7 @@ module _ (calls : List AnsweredCall) (f : Body) (ssa : SsaState) (consistent : I
                 function_machine_of.enter_block right_run (record q { memory = memory }) d
                 (map (argument_bits (value_bits right_run q) given) (map argument_of of_function.call.args))
 
-            right_is : right_machine.next q ≡ q1
+            right_is : right_machine.next q0 ≡ q1
             right_is =
                 right_next
                 ∙ ap (function_machine_of.follow_edge right_run (record q { memory = memory }) given)
@@ -514,8 +537,8 @@ module _ (calls : List AnsweredCall) (f : Body) (ssa : SsaState) (consistent : I
             left_after : (j m : ℕ) → j + m ≡ length has.zeros → Left m (steps_from right_machine j q1)
             left_after j m sum = Fronts.zeros_left right_run f (λ v. refl) tables d has.zeros has.in_turn (map (placed_inst f) (carries.own.insts d)) q1 j m (length has.zeros) sum all_left
 
-            after_first : (j : ℕ) → steps_from right_machine (suc j) q ≡ steps_from right_machine j q1
-            after_first j = steps_behind right_machine j q ∙ ap (steps_from right_machine j) right_is
+            after_first : (j : ℕ) → steps_from right_machine (suc j) q0 ≡ steps_from right_machine j q1
+            after_first j = steps_behind right_machine j q0 ∙ ap (steps_from right_machine j) right_is
 
             -- where the zeros are done
             abbrev q2 : FunctionState
@@ -554,50 +577,164 @@ module _ (calls : List AnsweredCall) (f : Body) (ssa : SsaState) (consistent : I
               };
             }
 
-            quietly : (j : ℕ) → j ≤ suc (length has.zeros) → right_machine.shown (steps_from right_machine j q) ≡ right_machine.shown q
-            quietly zero within = refl
-            quietly (suc j) within =
+            -- behind the first step, all steps show the same
+            quietly : (j : ℕ) → j ≤ length has.zeros
+                → right_machine.shown (steps_from right_machine (suc j) q0) ≡ right_machine.shown (steps_from right_machine (suc (length has.zeros)) q0)
+            quietly j within =
                 ap right_machine.shown (after_first j)
                 ∙ Fronts.shown_quietly right_run f (λ v. refl) tables d has.zeros has.in_turn (map (placed_inst f) (carries.own.insts d)) q1 (length has.zeros - j) (steps_from right_machine j q1)
                 (left_after j (length has.zeros - j) (omega (arith, within)))
-                ∙ sym (goes_on_quietly right_run q (map (placed_inst f) (i ∷ left)) q.events r.function_at refl)
+                ∙ sym (Fronts.shown_quietly right_run f (λ v. refl) tables d has.zeros has.in_turn (map (placed_inst f) (carries.own.insts d)) q1 0 q2 done)
+                ∙ sym (ap right_machine.shown (after_first (length has.zeros)))
 
-            pub goes_along : IsMatched p q
+            pub goes_along : IsMatched p0 q0
             goes_along =
-                matched_by_more left_machine right_machine Related measure p q (length has.zeros)
+                matched_by_more left_machine right_machine Related measure p0 q0 (length has.zeros)
                 (subst₂ (λ (x : ScriptState) (y : FunctionState). Related x y) (sym left_next) (sym (after_first (length has.zeros))) (inl running)) quietly
 
-        goes : (n : ℕ) (given : List Bits) (memory : Memory) (o : Option (Edge Name Name)) → slice_get instruction.edges n ≡ o
-            → left_machine.next p ≡ script.follow_edge left_run (record p { memory = memory }) given (slice_get instruction.edges n)
-            → right_machine.next q ≡ function_machine_of.follow_edge right_run (record q { memory = memory }) given (slice_get (edges_of (inst_at f i).shape) n) → IsMatched p q
-        goes n given memory None none left_next right_next =
-            by_one p (record p { memory = memory; control = IsStuck }) q (record q { memory = memory; control = IsStuck })
+        goes : (p0 : ScriptState) (q0 : FunctionState) (n : ℕ) (given : List Bits) (memory : Memory) (o : Option (Edge Name Name)) → slice_get instruction.edges n ≡ o
+            → left_machine.next p0 ≡ script.follow_edge left_run (record p { memory = memory }) given (slice_get instruction.edges n)
+            → right_machine.next q0 ≡ function_machine_of.follow_edge right_run (record q { memory = memory }) given (slice_get (edges_of (inst_at f i).shape) n) → IsMatched p0 q0
+        goes p0 q0 n given memory None none left_next right_next =
+            by_one p0 (record p { memory = memory; control = IsStuck }) q0 (record q { memory = memory; control = IsStuck })
             (left_next ∙ ap (script.follow_edge left_run (record p { memory = memory }) given) none)
             (right_next
             ∙ ap (function_machine_of.follow_edge right_run (record q { memory = memory }) given) (OwnEdges.no_edge_in_function calls f ssa consistent carries i instruction results is n none))
             (inr (record { same_end = tt; same_memory = refl; same_events = r.same_events }))
-        goes n given memory (Some edge) is_edge left_next right_next =
-            goes_along n edge is_edge given memory (left_next ∙ ap (script.follow_edge left_run (record p { memory = memory }) given) is_edge) right_next
+        goes p0 q0 n given memory (Some edge) is_edge left_next right_next =
+            goes_along p0 q0 n edge is_edge given memory (left_next ∙ ap (script.follow_edge left_run (record p { memory = memory }) given) is_edge) right_next
 
-        after_outcome : (o : Outcome) → IsPlain o → left_machine.next p ≡ script.carry_out left_run p instruction.edges results rest o
+    -- An outside call ---------------------------------------------------------------------------------------------------------
+
+    -- Both show the same event, nothing that a script names moves so far, and both get the same answer.
+    module _ (b : ℕ) (B : Name) (k : ℕ) (path : Path) (place : ℕ) (instruction : Instruction Name Name) (results : List Name) (rest : List Item) (i : ℕ) (left : List ℕ)
+        (p : ScriptState) (q : FunctionState) (r : IsAt b B k (Instruct place instruction results ∷ rest) (i ∷ left) path p q)
+        (callee : Callee) (call : CallShape) (arguments : List Bits)
+      where
+        abbrev p' : ScriptState
+        p' = script.call_outside left_run p callee call arguments
+
+        abbrev q' : FunctionState
+        q' = function_machine_of.call_outside right_run q (placed_inst f i).stack_map callee call arguments
+
+        placed_is : own_placed carries.own f i ≡ placed_item calls instruction results
+        placed_is = is b B k path place instruction results rest i left p q r
+
+        no_map : (placed_inst f i).stack_map ≡ []
+        no_map = ap (λ (o : Placed). o.stack_map) placed_is
+
+        edges_are : as_passed (carries.own.passed i) 0 (edges_of (inst_at f i).shape) ≡ map (answered_edge calls) instruction.edges
+        edges_are = ap (λ (o : Placed). o.instruction.edges) placed_is
+
+        events_are : p'.events ≡ q'.events
+        events_are =
+            ap₂ (λ (memory : Memory) (events : List Event).
+            record { callee = callee; arguments = arguments; memory = shown_memory left_run.hidden memory } ∷ events) r.same_memory r.same_events
+
+        memory_is : p'.memory ≡ q'.memory
+        memory_is =
+            ap₂ (λ (memory : Memory) (events : List Event). memory_beside left_run.hidden memory (world.memory_after events call)) r.same_memory events_are
+            ∙ sym (ap (λ (entries : _).
+            memory_beside left_run.hidden (function_machine_of.entries_moved right_run (world.moved q'.events call) entries q.memory) (world.memory_after q'.events call)) no_map)
+
+        variable_stays : (x : ℕ) → p'.variables x ≡ p.variables x
+        variable_stays x =
+            ap (λ (t : Bool). if t then world.moved p'.events call (left_run.variable_type x) (p.variables x) else p.variables x) (none_marked (script_of calls) x)
+
+        name_stays : (x : Name) → p'.names x ≡ p.names x
+        name_stays x = ap (λ (t : Bool). if t then world.moved p'.events call (left_run.name_type x) (p.names x) else p.names x) (none_tracked (script_of calls) x)
+
+        called : IsAt b B k (Instruct place instruction results ∷ rest) (i ∷ left) path p' q'
+        called = record {
+          named = r.named;
+          follows = r.follows;
+          ends = r.ends;
+          behind = r.behind;
+          front = r.front;
+          own_is = r.own_is;
+          left_is = r.left_is;
+          script_at = r.script_at;
+          function_at = r.function_at;
+          same_memory = memory_is;
+          same_events = events_are;
+          agrees = record {
+            of_variable = λ x w is_live same. variable_stays x ∙ r.agrees.of_variable x w is_live same;
+            of_name = λ n w is_live same. name_stays n ∙ r.agrees.of_name n w is_live same;
+          };
+          zeros = record {
+            of_variable = λ x y zero_there. variable_stays x ∙ r.zeros.of_variable x y zero_there;
+            of_name = λ n y zero_there. name_stays n ∙ r.zeros.of_name n y zero_there;
+            of_value = r.zeros.of_value;
+          };
+        }
+
+        abbrev takes : List (Edge ℕ ℕ) → Answer → FunctionState
+        takes edges answer = function_machine_of.take_answer right_run q' edges (placed_inst f i).results (map (placed_inst f) left) answer
+
+        -- with the same memory on both sides
+        along_edge : (n : ℕ) (given : List Bits) → left_machine.next p ≡ script.follow_edge left_run p' given (slice_get instruction.edges n)
+            → right_machine.next q ≡ function_machine_of.follow_edge right_run q' given (slice_get (edges_of (inst_at f i).shape) n) → IsMatched p q
+        along_edge n given left_next right_next =
+            goes b B k path place instruction results rest i left p' q' called p q n given p'.memory (slice_get instruction.edges n) refl left_next
+            (right_next
+            ∙ ap (λ (memory : Memory). function_machine_of.follow_edge right_run (record q' { memory = memory }) given (slice_get (edges_of (inst_at f i).shape) n)) (sym memory_is))
+
+        returns : (bits : List Bits) (edges : List (Edge Name Name)) → instruction.edges ≡ edges
+            → left_machine.next p ≡ script.take_answer left_run p' instruction.edges results rest (Results bits)
+            → right_machine.next q ≡ takes (edges_of (inst_at f i).shape) (Results bits) → IsMatched p q
+        returns bits [] none left_next right_next =
+            gives_results b B k path place instruction results rest i left p' q' called p q bits p'.memory
+            (left_next ∙ ap (λ (edges : List (Edge Name Name)). script.take_answer left_run p' edges results rest (Results bits)) none)
+            (right_next
+            ∙ ap (λ (edges : List (Edge ℕ ℕ)). takes edges (Results bits))
+            (none_passed (carries.own.passed i) 0 (edges_of (inst_at f i).shape) (edges_are ∙ ap (map (answered_edge calls)) none))
+            ∙ ap (λ (memory : Memory). function_machine_of.give_results (record q' { memory = memory }) (placed_inst f i).results (map (placed_inst f) left) bits) (sym memory_is))
+        returns bits (normal ∷ edges) some left_next right_next =
+            let first = some_passed (carries.own.passed i) 0 (edges_of (inst_at f i).shape) _ _ (edges_are ∙ ap (map (answered_edge calls)) some) in
+            along_edge 0 bits
+            (left_next
+            ∙ ap (λ (es : List (Edge Name Name)). script.take_answer left_run p' es results rest (Results bits)) some
+            ∙ sym (ap (λ (es : List (Edge Name Name)). script.follow_edge left_run p' bits (slice_get es 0)) some))
+            (right_next
+            ∙ ap (λ (es : List (Edge ℕ ℕ)). takes es (Results bits)) first.2
+            ∙ sym (ap (λ (es : List (Edge ℕ ℕ)). function_machine_of.follow_edge right_run q' bits (slice_get es 0)) first.2))
+
+        after_answer : (answer : Answer) → left_machine.next p ≡ script.take_answer left_run p' instruction.edges results rest answer
+            → right_machine.next q ≡ takes (edges_of (inst_at f i).shape) answer → IsMatched p q
+        after_answer (Results bits) left_next right_next = returns bits instruction.edges refl left_next right_next
+        after_answer (Exception item payload) left_next right_next =
+            along_edge (suc item) payload
+            (left_next ∙ script_along left_run p' instruction.edges results rest item payload)
+            (right_next ∙ function_along right_run q' (edges_of (inst_at f i).shape) (placed_inst f i).results (map (placed_inst f) left) item payload)
+
+        pub call_step : left_machine.next p ≡ script.answer_call left_run p' call instruction.edges results rest
+            → right_machine.next q ≡ function_machine_of.answer_call right_run q' call (placed_inst f i) (map (placed_inst f) left) → IsMatched p q
+        call_step left_next right_next =
+            after_answer (world.answer p'.events call) left_next
+            (right_next ∙ ap (λ (events : List Event). takes (edges_of (inst_at f i).shape) (world.answer events call)) (sym events_are))
+
+    -- Whatever an instruction does --------------------------------------------------------------------------------------------
+
+    module _ (b : ℕ) (B : Name) (k : ℕ) (path : Path) (place : ℕ) (instruction : Instruction Name Name) (results : List Name) (rest : List Item) (i : ℕ) (left : List ℕ)
+        (p : ScriptState) (q : FunctionState) (r : IsAt b B k (Instruct place instruction results ∷ rest) (i ∷ left) path p q)
+      where
+        after_outcome : (o : Outcome) → left_machine.next p ≡ script.carry_out left_run p instruction.edges results rest o
             → right_machine.next q ≡ function_machine_of.carry_out right_run q (placed_inst f i) (map (placed_inst f) left) o → IsMatched p q
-        after_outcome (Gives bits memory) plain left_next right_next = gives_results bits memory left_next right_next
-        after_outcome (Goes n given memory) plain left_next right_next = goes n given memory (slice_get instruction.edges n) refl left_next right_next
-        after_outcome (Returns bits) plain left_next right_next =
+        after_outcome (Gives bits memory) left_next right_next = gives_results b B k path place instruction results rest i left p q r p q bits memory left_next right_next
+        after_outcome (Goes n given memory) left_next right_next = goes b B k path place instruction results rest i left p q r p q n given memory (slice_get instruction.edges n) refl left_next right_next
+        after_outcome (Returns bits) left_next right_next =
             by_one p (record p { control = HasReturned bits }) q (record q { control = HasReturned bits }) left_next right_next
             (inr (record { same_end = refl; same_memory = r.same_memory; same_events = r.same_events }))
-        after_outcome (Traps reason) plain left_next right_next =
+        after_outcome (Traps reason) left_next right_next =
             by_one p (record p { control = HasTrapped reason }) q (record q { control = HasTrapped reason }) left_next right_next
             (inr (record { same_end = refl; same_memory = r.same_memory; same_events = r.same_events }))
-        after_outcome (Calls callee call arguments) plain left_next right_next = absurd plain
-        after_outcome NoStep plain left_next right_next =
+        after_outcome (Calls callee call arguments) left_next right_next = call_step b B k path place instruction results rest i left p q r callee call arguments left_next right_next
+        after_outcome NoStep left_next right_next =
             by_one p (record p { control = IsStuck }) q (record q { control = IsStuck }) left_next right_next
             (inr (record { same_end = tt; same_memory = r.same_memory; same_events = r.same_events }))
 
         pub instruct_step : IsMatched p q
-        unfolding outcome
-        instruct_step =
-            after_outcome outcome (outcome_plain world instruction.operation (item_plain calls B (carries.earlier B) k place instruction results stands) instruction.controlling (map left_run.name_type instruction.operands) (map p.names instruction.operands) p.memory) left_goes right_goes
+        instruct_step = after_outcome (outcome b B k path place instruction results rest i left p q r) (left_goes b B k path place instruction results rest i left p q r) (right_goes b B k path place instruction results rest i left p q r)
 
     running_step : (b : ℕ) (B : Name) (k : ℕ) (rest : List Item) (left : List ℕ) (path : Path) (p : ScriptState) (q : FunctionState) → IsAt b B k rest left path p q → IsMatched p q
     running_step b B k [] left path p q r = stuck_step b B k path left p q r

@@ -1,5 +1,5 @@
 -- One instruction is declared at several blocks in turn, once for each.
-use Rattle.std.proofs.Common.{◌≡◌, ◌≢◌, ℕ, ◌<◌, true, false, List, [], ◌∷◌, ◌++◌, length, refl, sym, ◌∙◌, ap, subst, Some, ◌⊎◌, inl, inr}
+use Rattle.std.proofs.Common.{◌≡◌, ◌≢◌, ℕ, suc, ◌<◌, true, false, List, [], ◌∷◌, ◌++◌, length, refl, sym, ◌∙◌, ap, subst, Some, ◌⊎◌, inl, inr}
 use Rattle.std.specs.Prelude.{Contains, slice_get}
 use Rattle.std.proofs.lemmas.Bool.{cases_eq}
 use Rattle.std.proofs.lemmas.List.Elements.{Contains-append_left, Contains-push, Contains-push_cases}
@@ -11,7 +11,7 @@ use Rattle.clif_ssa.specs.LookUp.{branch_block}
 use Rattle.clif_ssa.specs.Own.{Own}
 use Rattle.clif_records.specs.Tables.{is_yes}
 use Rattle.clif_ssa.specs.Ssa.{SsaState, predecessors_of, sealed_of, Declares, SameBlocks}
-use Rattle.clif_ssa.specs.Sound.{PassesOwn, args_of, edges_at, entry_of, has_entry}
+use Rattle.clif_ssa.specs.Sound.{PassesOwn, args_of, edges_at, has_entry}
 use Rattle.clif_ssa.specs.SoundLaws.{DescribesSoundly}
 use Rattle.clif_ssa.specs.Structured.{Structured, VariableTypes}
 use Rattle.clif_ssa.proofs.Counting.{declared_soundly}
@@ -52,14 +52,6 @@ module _ (s t : SsaState) (block i : ℕ) (declares : Declares s t block i) wher
   it_leads : Contains (predecessors_of t block) i
   it_leads = subst (λ (is : List ℕ). Contains is i) (sym (here_is block refl)) (Contains-push (predecessors_of s block) i)
 
-pub along_old_or_it : (told : List ℕ) (s t : SsaState) (i : ℕ) → DeclaredAlong s i told t → (c j : ℕ) → Contains (predecessors_of t c) j → Contains (predecessors_of s c) j ⊎ (j ≡ i)
-along_old_or_it [] s t i along c j here = inl (subst (λ (is : List ℕ). Contains is j) (along.2 c) here)
-along_old_or_it (block ∷ told) s t i along c j here =
-    elim (along_old_or_it told along.0 t i along.4 c j here) [
-      | inl before ↦ old_or_it s along.0 block i along.3 c j before
-      | inr is ↦ inr is
-    ]
-
 pub along_stays : (told : List ℕ) (s t : SsaState) (i : ℕ) → DeclaredAlong s i told t → (c j : ℕ) → Contains (predecessors_of s c) j → Contains (predecessors_of t c) j
 along_stays [] s t i along c j old = subst (λ (is : List ℕ). Contains is j) (sym (along.2 c)) old
 along_stays (block ∷ told) s t i along c j old = along_stays told along.0 t i along.4 c j (old_stays s along.0 block i along.3 c j old)
@@ -72,6 +64,47 @@ along_leads (block ∷ told) s t i along c here =
           subst (λ (d : ℕ). Contains (predecessors_of t d) i) same (along_stays told along.0 t i along.4 block i (it_leads s along.0 block i along.3))
       | inr later ↦ along_leads told along.0 t i along.4 c later
     ]
+
+-- what is in a list stands at a place of it
+pub contained_get : (xs : List ℕ) (x : ℕ) → Contains xs x → (k : ℕ) × (slice_get xs k ≡ Some x)
+contained_get [] x here = absurd (none_contained x here)
+contained_get (y ∷ xs) x here =
+    let later : Contains xs x → (k : ℕ) × (slice_get xs k ≡ Some x) = λ there. contained_get xs x there in
+    elim (contains_cons y xs x here) [
+      | inl same ↦ (0, ap Some same)
+      | inr there ↦ let at = later there in (suc at.0, at.1)
+    ]
+
+-- what is new is the instruction, at a block where it is declared
+pub along_told : (told : List ℕ) (s t : SsaState) (i : ℕ) → DeclaredAlong s i told t → (c j : ℕ) → Contains (predecessors_of t c) j
+    → Contains (predecessors_of s c) j ⊎ ((j ≡ i) × Contains told c)
+along_told [] s t i along c j here = inl (subst (λ (is : List ℕ). Contains is j) (along.2 c) here)
+along_told (block ∷ told) s t i along c j here =
+    elim (along_told told along.0 t i along.4 c j here) [
+      | inl before ↦
+          elim (cases_eq c block) [
+            | inl same ↦
+                elim (old_or_it s along.0 block i along.3 c j before) [
+                  | inl old ↦ inl old
+                  | inr is ↦ inr (is, subst (Contains (block ∷ told)) (sym same) (contains_first block told))
+                ]
+            | inr other ↦ inl (subst (λ (is : List ℕ). Contains is j) (other_is s along.0 block i along.3 c other) before)
+          ]
+      | inr later ↦ inr (later.0, contains_more block told c later.1)
+    ]
+
+-- other blocks, sealed ones among them, stay as they are
+pub along_sealed : (told : List ℕ) (s t : SsaState) (i : ℕ) → DeclaredAlong s i told t → ((c : ℕ) → Contains told c → is_yes (sealed_of s c) ≡ false)
+    → (c : ℕ) → is_yes (sealed_of s c) ≡ true → (is_yes (sealed_of t c) ≡ true) × (predecessors_of t c ≡ predecessors_of s c)
+along_sealed [] s t i along unsealed c sealed = (ap is_yes (along.1 c) ∙ sealed, along.2 c)
+along_sealed (block ∷ told) s t i along unsealed c sealed =
+    let other : c ≢ block = λ same. true_false (sym sealed ∙ ap (λ (d : ℕ). is_yes (sealed_of s d)) same ∙ unsealed block (contains_first block told)) in
+    let rest : (is_yes (sealed_of t c) ≡ true) × (predecessors_of t c ≡ predecessors_of along.0 c) =
+    along_sealed told along.0 t i along.4 (λ d later. ap is_yes (along.2 d) ∙ unsealed d (contains_more block told d later)) c (ap is_yes (along.2 c) ∙ sealed) in
+    (rest.0, rest.1 ∙ other_is s along.0 block i along.3 c other)
+  where
+    true_false : true ≡ false → ⊥
+    true_false same = cc
 
 -- The block is unsealed, and each branch that leads to it stands in another block than the instruction.
 pub record MayLead (f : Body) (s : SsaState) (i block : ℕ) : Type 0 where
@@ -88,19 +121,19 @@ may_lead_still f s t i block c same declares other may = record {
 -- THE STATE ON PATHS ----------------------------------------------------------------------------------------------------
 
 pub along_soundly : (told : List ℕ) (own : Own) (f : Body) (s t : SsaState) (tables : Blocks) (i : ℕ) → i < length f.insts → has_entry f.layout ≡ true → Once told
-    → ((block : ℕ) → Contains told block → MayLead f s i block) → ((block : ℕ) → Contains told block → entry_of f ≢ Some block)
+    → ((block : ℕ) → Contains told block → MayLead f s i block)
     → ((block : ℕ) → PassesOwn own f block i) → DeclaredAlong s i told t → DescribesSoundly own f s tables → DescribesSoundly own f t tables
-along_soundly [] own f s t tables i exists entry once may no_entry passes along before = (
+along_soundly [] own f s t tables i exists entry once may passes along before = (
   same_state own f s t tables along.0 along.1 along.2 before.0,
   before.1,
   counts_kept own f s t tables tables before.2 along.2 (λ v. refl),
 )
-along_soundly (block ∷ told) own f s t tables i exists entry once may no_entry passes along before =
+along_soundly (block ∷ told) own f s t tables i exists entry once may passes along before =
     let first : MayLead f s i block = may block (contains_first block told) in
     along_soundly told own f along.0 t tables i exists entry (Once-tail block told once)
     (λ c later. may_lead_still f s along.0 i block c along.2 along.3 (once_first block told c once later) (may c (contains_more block told c later)))
-    (λ c later. no_entry c (contains_more block told c later)) passes along.4
-    (declared_soundly own f s along.0 tables block i before exists entry first.unsealed (no_entry block (contains_first block told)) first.apart (passes block) along.1 along.2 along.3)
+    passes along.4
+    (declared_soundly own f s along.0 tables block i before exists entry first.unsealed first.apart (passes block) along.1 along.2 along.3)
 
 -- THE STRUCTURE ---------------------------------------------------------------------------------------------------------
 

@@ -35,7 +35,7 @@ PlainlyEarlier calls (Assign variable name) = IsEarlier calls name
 abbrev pub PlainlyHasItems : List AnsweredCall → Body → (ℕ → List ℕ) → Type 0
 PlainlyHasItems calls f own =
     (block : ℕ) (name : Name) → block_name calls block ≡ Some name
-    → map (λ inst. placed_of f (inst_at f inst)) (own block) ≡ flat_map (carried calls) ((program_so_far calls).items name)
+    → map (placed_of f) (own block) ≡ flat_map (carried calls) ((program_so_far calls).items name)
 
 -- a function without branches carries a list of calls
 pub record CarriesUnbranched (calls : List AnsweredCall) (f : Body) (s : SsaState) : Type 0 where
@@ -49,18 +49,18 @@ pub record CarriesUnbranched (calls : List AnsweredCall) (f : Body) (s : SsaStat
 abbrev HasNoEdges : Placed → Type 0
 HasNoEdges placed = placed.instruction.edges ≡ []
 
-nothing_passes : (own : Own) (f : Body) (inst : ℕ) → edges_of (inst_at f inst).shape ≡ [] → own_placed own f inst ≡ placed_of f (inst_at f inst)
+nothing_passes : (own : Own) (f : Body) (inst : ℕ) → edges_of (inst_at f inst).shape ≡ [] → own_placed own f inst ≡ placed_of f inst
 nothing_passes own f inst none =
-    ap (λ (edges : List (Edge ℕ ℕ)). record (placed_of f (inst_at f inst)) { instruction = record (placed_of f (inst_at f inst)).instruction { edges = edges } })
+    ap (λ (edges : List (Edge ℕ ℕ)). record (placed_of f inst) { instruction = record (placed_of f inst).instruction { edges = edges } })
     (ap (as_passed (own.passed inst) 0) none ∙ sym none)
 
 pub all_nothing_passes : (own : Own) (f : Body) (insts : List ℕ) → ((inst : ℕ) → In inst insts → edges_of (inst_at f inst).shape ≡ [])
-    → map (own_placed own f) insts ≡ map (λ inst. placed_of f (inst_at f inst)) insts
+    → map (own_placed own f) insts ≡ map (placed_of f) insts
 all_nothing_passes own f [] none = refl
 all_nothing_passes own f (inst ∷ insts) none =
     ap₂ (λ (p : Placed) (ps : List Placed). p ∷ ps) (nothing_passes own f inst (none inst (inl refl))) (all_nothing_passes own f insts (λ i there. none i (inr there)))
 
-all_without : (f : Body) (insts : List ℕ) → ((inst : ℕ) → In inst insts → edges_of (inst_at f inst).shape ≡ []) → AllByRecursion HasNoEdges (map (λ inst. placed_of f (inst_at f inst)) insts)
+all_without : (f : Body) (insts : List ℕ) → ((inst : ℕ) → In inst insts → edges_of (inst_at f inst).shape ≡ []) → AllByRecursion HasNoEdges (map (placed_of f) insts)
 all_without f [] none = tt
 all_without f (inst ∷ insts) none = (none inst (inl refl), all_without f insts (λ i there. none i (inr there)))
 

@@ -1,6 +1,6 @@
 -- A block without a terminator: none of its instructions has an edge, and no branch that leads somewhere stands in it.
 use Rattle.clif_ssa.specs.Zeros.{insts_of_zeros}
-use Rattle.std.proofs.Common.{◌≡◌, ◌≢◌, ℕ, List, [], ◌∷◌, ◌++◌, map, refl, sym, ◌∙◌, ap, subst, Some, ◌⊎◌, inl, inr, false}
+use Rattle.std.proofs.Common.{◌≡◌, ℕ, List, [], ◌∷◌, ◌++◌, map, refl, sym, ◌∙◌, ap, subst, Some, inl, inr, false}
 use Rattle.std.specs.Prelude.{Contains, IsTrue, flat_map, slice_get, slice_index}
 use Rattle.std.specs.List.{AllByRecursion}
 use Rattle.std.proofs.lemmas.List.Elements.{Contains-append_right}
@@ -13,7 +13,6 @@ use Rattle.clif_ssa.specs.Own.{Own}
 use Rattle.clif_ssa.specs.Ssa.{SsaState, predecessors_of}
 use Rattle.clif_ssa.specs.SoundLaws.{IsOpen}
 use Rattle.clif_ssa.proofs.Ordering.{entry_any, contains_first, contains_more}
-use Rattle.clif_meaning.specs.Instruction.{Edge}
 use Rattle.clif_meaning.specs.Ledger.{ledger_after, is_filled}
 use Rattle.clif_meaning.specs.Name.{Name}
 use Rattle.clif_meaning.specs.Request.{AnsweredCall, script_of}
@@ -21,10 +20,11 @@ use Rattle.clif_meaning.specs.Program.{Item, Instruct, Use, Assign}
 use Rattle.clif_meaning.specs.FunctionView.{Placed}
 use Rattle.clif_meaning.specs.View.{edge_of}
 use Rattle.clif_simulation.specs.Tables.{program_so_far, block_name}
-use Rattle.clif_simulation.specs.Carries.{Carries, EdgesEnd, Holds, NothingLeads, SparesBlock, SparesEntry, answered_edge, as_passed, carried, own_placed}
+use Rattle.clif_simulation.specs.Carries.{Carries, EdgesEnd, Holds, NothingLeads, answered_edge, as_passed, carried, own_placed}
 use Rattle.clif_simulation.proofs.Extending.{one_answer}
+use Rattle.clif_simulation.proofs.FreeEntry.{free_nowhere}
 use Rattle.clif_simulation.proofs.Listed.{none_mapped}
-use Rattle.clif_simulation.proofs.Unbranched.{CarriesUnbranched, none_leads, unbranched}
+use Rattle.clif_simulation.proofs.Unbranched.{CarriesUnbranched, unbranched}
 use Rattle.clif_simulation.proofs.Values.{false_is}
 use Rattle.clif_simulation.proofs.Whole.{are_declared, declared_types, whole}
 
@@ -51,14 +51,7 @@ items_of calls (Instruct place instruction results ∷ items) all = (none_mapped
 items_of calls (Use variable name ∷ items) all = (tt, items_of calls items all)
 items_of calls (Assign variable name ∷ items) all = (tt, items_of calls items all)
 
--- items without edges spare each block, and one more may have edges behind them
-pub spare : (block : Name) (items : List Item) → AllByRecursion HasNoEdges items → AllByRecursion (SparesBlock block) items
-spare block [] all = tt
-spare block (Instruct place instruction results ∷ items) all =
-    (subst (AllByRecursion (λ (edge : Edge Name Name). edge.target ≢ block)) (sym all.0) tt, spare block items all.1)
-spare block (Use variable name ∷ items) all = (tt, spare block items all.1)
-spare block (Assign variable name ∷ items) all = (tt, spare block items all.1)
-
+-- behind items without edges one more may have edges
 pub one_more_ends : (items : List Item) (item : Item) → AllByRecursion HasNoEdges items → EdgesEnd (items ++ item ∷ [])
 one_more_ends [] (Instruct place instruction results) all = (inr refl, tt)
 one_more_ends [] (Use variable name) all = tt
@@ -85,16 +78,6 @@ module _ (calls : List AnsweredCall) (own : Own) (f : Body) (s : SsaState) (hold
       (subst (AllByRecursion PlacedWithout) (holds.items block name named)
       (placed_without own f (own.insts block) (λ inst here. own_without block inst here (λ target leads. nowhere target inst leads here))))
 
-  -- where no branch leads anywhere, none names the entry
-  pub spares_nowhere : NothingLeads s → SparesEntry calls
-  spares_nowhere nothing entry is block = by (holds.blocks.only block)
-    where
-      by : ((program_so_far calls).items block ≡ []) ⊎ ((b : ℕ) × (block_name calls b ≡ Some block)) → AllByRecursion (SparesBlock entry) ((program_so_far calls).items block)
-      by (inl none) = subst (AllByRecursion (SparesBlock entry)) (sym none) tt
-      by (inr named) =
-          spare entry ((program_so_far calls).items block)
-          (items_without named.0 block named.1 (λ target inst leads here. none_leads s nothing target inst leads))
-
   module _ (consistent : IsConsistent f) where
     -- an instruction of the caller's stands in its block
     pub own_block : (block inst : ℕ) → Contains (own.insts block) inst → branch_block f inst ≡ block
@@ -120,9 +103,6 @@ module _ (calls : List AnsweredCall) (own : Own) (f : Body) (s : SsaState) (hold
       pub no_edges : AllByRecursion HasNoEdges ((program_so_far calls).items B)
       no_edges = items_without b B named (λ target inst leads here. is_open target inst leads (own_block b inst here))
 
-pub spares : (calls : List AnsweredCall) (f : Body) (s : SsaState) → Carries calls f s → NothingLeads s → SparesEntry calls
-spares calls f s carries nothing = spares_nowhere calls carries.own f s carries.holds nothing
-
 -- a function without branches that carries calls
 abbrev pub plainly : (calls : List AnsweredCall) (f : Body) (s : SsaState) → IsConsistent f → Carries calls f s → NothingLeads s → CarriesUnbranched calls f s
-plainly calls f s consistent carries nothing = unbranched calls f s (whole calls f s consistent carries (spares calls f s carries nothing)) nothing
+plainly calls f s consistent carries nothing = unbranched calls f s (whole calls f s consistent carries (free_nowhere f s nothing)) nothing

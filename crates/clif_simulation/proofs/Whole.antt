@@ -1,4 +1,4 @@
--- All that a function holds which carries a list of calls, where no branch names their entry.
+-- All that a function holds which carries a list of calls, where the entry is free.
 use Rattle.std.proofs.Common.{true, ◌≡◌, ◌≢◌, ℕ, List, [], ◌∷◌, ◌++◌, map, refl, sym, ◌∙◌, ap, Some}
 use Rattle.std.specs.Prelude.{Contains, slice_get}
 use Rattle.std.specs.List.{AllByRecursion}
@@ -14,7 +14,7 @@ use Rattle.clif_records.specs.declared.tables.Sealed.TheVariants.{No, Yes}
 use Rattle.clif_ssa.specs.Own.{Own}
 use Rattle.clif_records.specs.Tables.{is_yes, pending_of}
 use Rattle.clif_ssa.specs.Ssa.{SsaState, sealed_of, predecessors_of}
-use Rattle.clif_ssa.specs.Sound.{Describes, CountsArguments, args_of, edges_at, edge_target}
+use Rattle.clif_ssa.specs.Sound.{Describes, CountsArguments, EntryIsFree, args_of, edges_at, edge_target}
 use Rattle.clif_ssa.specs.Structured.{HasParameters, Structured, VariableTypes, waiting_of}
 use Rattle.clif_meaning.specs.Name.{Name}
 use Rattle.clif_meaning.specs.Request.{AnsweredCall, script_of}
@@ -24,6 +24,7 @@ use Rattle.clif_meaning.specs.Premises.{EachItem, HasGoodTargets, IsGoodTarget}
 use Rattle.clif_meaning.specs.Program.{Item, Instruct, Use, Assign}
 use Rattle.clif_simulation.specs.Tables.{program_so_far, IsProgramOf}
 use Rattle.clif_simulation.specs.Carries.{AreDeclared, AreTypes, Carries, EdgesEnd, HasEntry, HasItems, Holds, LeadsOwn, NamesEarlier, OwnExist, OwnInserted, OwnNamed, OwnParameters, SoundOnPaths, SparesBlock, SparesEntry, ValuesGiven, ValuesTyped}
+use Rattle.clif_simulation.proofs.FreeEntry.{free_spared}
 
 -- each edge of a branch that leads to a block passes what the caller passed, and then more
 abbrev pub PassesOwnFirst : Own → Body → SsaState → Type 0
@@ -94,9 +95,9 @@ parameters_first own f s types structured block =
     let has : HasParameters own f s [] block = structured.parameters block in
     (has.complete ++ map (λ (p : Pending). p.param) (waiting_of f (sealed_of s block) [] block), has.in_order)
 
-pub whole : (calls : List AnsweredCall) (f : Body) (s : SsaState) → IsConsistent f → Carries calls f s → SparesEntry calls → Whole calls f s
-whole calls f s consistent carries spares =
-    let paths : SoundOnPaths calls carries.own f s = carries.on_paths spares in
+pub whole : (calls : List AnsweredCall) (f : Body) (s : SsaState) → IsConsistent f → Carries calls f s → EntryIsFree f s → Whole calls f s
+whole calls f s consistent carries free =
+    let paths : SoundOnPaths calls carries.own f s = carries.on_paths free in
     let holds : Holds calls carries.own f s = carries.holds in
     let structured : Structured (declared_types calls) carries.own f s [] = holds.structured (declared_types calls) (are_declared calls) in
     record {
@@ -137,5 +138,10 @@ module _ (calls : List AnsweredCall) (entry : Name) (is_entry : (program_so_far 
   items_spare (Use variable name ∷ items) good = (tt, items_spare items good.1)
   items_spare (Assign variable name ∷ items) good = (tt, items_spare items good.1)
 
-pub spared : (calls : List AnsweredCall) → EachItem (HasGoodTargets (ledger_after (script_of calls)) (program_so_far calls)) (program_so_far calls) → SparesEntry calls
+spared : (calls : List AnsweredCall) → EachItem (HasGoodTargets (ledger_after (script_of calls)) (program_so_far calls)) (program_so_far calls) → SparesEntry calls
 spared calls good entry is block = items_spare calls entry is ((program_so_far calls).items block) (good block)
+
+-- so the entry is free then
+pub freed : (calls : List AnsweredCall) (f : Body) (s : SsaState) → Carries calls f s
+    → EachItem (HasGoodTargets (ledger_after (script_of calls)) (program_so_far calls)) (program_so_far calls) → EntryIsFree f s
+freed calls f s carries good = free_spared calls carries.own f s carries.holds (spared calls good)

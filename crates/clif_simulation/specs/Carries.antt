@@ -1,24 +1,25 @@
 -- When a function, with the state of its construction, carries a list of calls: its blocks hold the program's
 -- instructions in order, operands being the answers of the names, with only zeros before them, whatever the program is;
--- and the state on paths is sound where no branch names the entry. Its edges may pass more than the program's: arguments
--- for variables. Source: own.
+-- and the state on paths is sound where the entry is free. Its edges may pass more than the program's: arguments for
+-- variables. Source: own.
 use Rattle.std.specs.Prelude.{◌≡◌, ◌≢◌, ◌<◌, ◌⊎◌, ℕ, suc, List, [], ◌∷◌, length, map, flat_map, Some, None, IsTrue, Contains, false}
 use Rattle.std.specs.List.{AllByRecursion}
 use Rattle.clif_types.specs.declared.types.«Type».{«Type»}
 use Rattle.clif_instructions.specs.declared.block_call.BlockArg.{BlockArg}
-use Rattle.clif_ir.specs.Body.{Body, inst_at}
+use Rattle.clif_ir.specs.Body.{Body}
 use Rattle.clif_ir.specs.Changes.{with_param}
+use Rattle.clif_tables.specs.Lists.{stack_map_at}
 use Rattle.clif_instructions.specs.Members.{stands_in}
 use Rattle.clif_ssa.specs.Own.{Own}
 use Rattle.clif_ssa.specs.Ssa.{SsaState, predecessors_of, Declares, SameBlocks, SamePredecessors, SameRecords}
-use Rattle.clif_ssa.specs.Sound.{Describes, CountsArguments, entry_of, edge_target}
+use Rattle.clif_ssa.specs.Sound.{Describes, CountsArguments, EntryIsFree, entry_of, edge_target}
 use Rattle.clif_ssa.specs.Structured.{HasType, Structured, VariableTypes}
 use Rattle.clif_paths.specs.Places.{start}
 use Rattle.clif_paths.specs.Blocks.{Blocks}
 use Rattle.clif_paths.specs.BlockLaws.{BlocksSound}
-use Rattle.clif_meaning.specs.Name.{Name}
+use Rattle.clif_meaning.specs.Name.{Name, answer_of}
 use Rattle.clif_meaning.specs.Request.{AnsweredCall, script_of}
-use Rattle.clif_meaning.specs.Ledger.{ledger_after, has_value, is_filled, type_of, variable_type}
+use Rattle.clif_meaning.specs.Ledger.{AnInstruction, answer_at, ledger_after, has_value, is_filled, type_of, variable_type}
 use Rattle.clif_meaning.specs.Instruction.{Instruction, Argument, Known, CallResult, CallPayload, Edge}
 use Rattle.clif_meaning.specs.Program.{Item, Instruct, Use, Assign}
 use Rattle.clif_meaning.specs.FunctionView.{Placed}
@@ -44,7 +45,7 @@ answered_instruction calls instruction = record {
   edges = map (answered_edge calls) instruction.edges;
 }
 
--- What an item is in the function: an instruction with its results, or nothing. There are no stack maps so far.
+-- What an item is in the function: an instruction with its results, or nothing. No call gives an instruction a stack map.
 abbrev pub carried : List AnsweredCall → Item → List Placed
 carried calls (Instruct place instruction results) =
     record { instruction = answered_instruction calls instruction; results = map (answered calls) results; stack_map = [] } ∷ []
@@ -60,7 +61,7 @@ as_passed passed k (edge ∷ edges) = record edge { arguments = map argument_of 
 -- variables are put behind that
 abbrev pub own_placed : Own → Body → ℕ → Placed
 own_placed own f inst =
-    let placed = placed_of f (inst_at f inst) in
+    let placed = placed_of f inst in
     record placed { instruction = record placed.instruction { edges = as_passed (own.passed inst) 0 placed.instruction.edges } }
 
 -- a block's own instructions are those of the program's items, in order
@@ -83,6 +84,33 @@ IsEarlier calls name = name.place < length calls
 abbrev pub IsValue : List AnsweredCall → Name → Type 0
 IsValue calls name = IsTrue (has_value (ledger_after (script_of calls)) name)
 
+-- a name was answered by an instruction
+abbrev pub IsInstruction : List AnsweredCall → Name → Type 0
+IsInstruction calls name = answer_at (ledger_after (script_of calls)) name ≡ Some AnInstruction
+
+-- Instructions that were answered are among so many, and no two names were answered by one.
+pub record InstructionsApart (calls : List AnsweredCall) (count : ℕ) : Type 0 where
+  pub exist : (name : Name) → IsInstruction calls name → answered calls name < count
+  pub differ : (a b : Name) → IsInstruction calls a → IsInstruction calls b → answered calls a ≡ answered calls b → a ≡ b
+
+-- the instruction that an item is, by its number
+abbrev pub instruction_of : List AnsweredCall → Item → List ℕ
+instruction_of calls (Instruct place instruction results) = answered calls (answer_of place 0) ∷ []
+instruction_of calls (Use variable name) = []
+instruction_of calls (Assign variable name) = []
+
+-- it was answered by the call at its place
+abbrev pub IsBuilt : List AnsweredCall → Item → Type 0
+IsBuilt calls (Instruct place instruction results) = IsInstruction calls (answer_of place 0)
+IsBuilt calls (Use variable name) = Unit {0}
+IsBuilt calls (Assign variable name) = Unit {0}
+
+-- a block's own instructions are the answers of its items, in order
+abbrev pub OwnAnswers : List AnsweredCall → Own → Type 0
+OwnAnswers calls own =
+    (block : ℕ) (name : Name) → block_name calls block ≡ Some name
+    → own.insts block ≡ flat_map (instruction_of calls) ((program_so_far calls).items name)
+
 -- what an edge passes was answered by a value
 abbrev pub PassesEarlier : List AnsweredCall → Argument Name → Type 0
 PassesEarlier calls (Known name) = IsValue calls name
@@ -95,13 +123,18 @@ pub record EdgeEarlier (calls : List AnsweredCall) (edge : Edge Name Name) : Typ
   pub leads : block_name calls (answered calls edge.target) ≡ Some edge.target
   pub passes : AllByRecursion (PassesEarlier calls) edge.arguments
 
--- what an item names, and what it gives, was answered; and no instruction makes an outside call so far
+-- what an item names, and what it gives, was answered
 abbrev pub NamesEarlier : List AnsweredCall → Item → Type 0
 NamesEarlier calls (Instruct place instruction results) =
     AllByRecursion (IsEarlier calls) instruction.operands × AllByRecursion (IsEarlier calls) results × AllByRecursion (EdgeEarlier calls) instruction.edges
-    × (call_shape instruction.operation ≡ None)
 NamesEarlier calls (Use variable name) = IsEarlier calls name
 NamesEarlier calls (Assign variable name) = IsEarlier calls name
+
+-- an item makes no outside call
+abbrev pub CallsNothing : Item → Type 0
+CallsNothing (Instruct place instruction results) = call_shape instruction.operation ≡ None
+CallsNothing (Use variable name) = Unit {0}
+CallsNothing (Assign variable name) = Unit {0}
 
 -- an instruction with edges is the last item of its block
 abbrev pub EdgesEnd : List Item → Type 0
@@ -109,6 +142,10 @@ EdgesEnd [] = Unit {0}
 EdgesEnd (Instruct place instruction results ∷ rest) = ((instruction.edges ≡ []) ⊎ (rest ≡ [])) × EdgesEnd rest
 EdgesEnd (Use variable name ∷ rest) = EdgesEnd rest
 EdgesEnd (Assign variable name ∷ rest) = EdgesEnd rest
+
+-- no instruction has a stack map
+abbrev pub HasNoMaps : Body → Type 0
+HasNoMaps f = (inst : ℕ) → stack_map_at f.tables inst ≡ []
 
 -- the caller's instructions exist
 abbrev pub OwnExist : Body → (ℕ → List ℕ) → Type 0
@@ -126,6 +163,10 @@ OwnInserted f own = (block : ℕ) → stands_in block f.layout ≡ false → own
 abbrev pub AreDeclared : Body → SsaState → (ℕ → List ℕ) → Type 0
 AreDeclared f s own =
     (block inst k target : ℕ) → Contains (own block) inst → edge_target f inst k ≡ Some target → Contains (predecessors_of s target) inst
+
+-- each branch that leads to a block has an edge to it
+abbrev pub HaveEdges : Body → SsaState → Type 0
+HaveEdges f s = (target inst : ℕ) → Contains (predecessors_of s target) inst → (k : ℕ) × (edge_target f inst k ≡ Some target)
 
 -- the caller's parameters of each block are the values that answered the program's, in order
 abbrev pub OwnParameters : List AnsweredCall → Own → Type 0
@@ -165,13 +206,18 @@ AreTypes calls types = (x : ℕ) (ty : «Type») → variable_type (ledger_after
 pub record Holds (calls : List AnsweredCall) (own : Own) (f : Body) (s : SsaState) : Type 0 where
   pub blocks : NamesBlocks calls
   pub items : HasItems calls f own
+  pub own_answers : OwnAnswers calls own
+  pub items_built : (name : Name) → AllByRecursion (IsBuilt calls) ((program_so_far calls).items name)
+  pub instructions : InstructionsApart calls (length f.insts)
   pub earlier : (name : Name) → AllByRecursion (NamesEarlier calls) ((program_so_far calls).items name)
   pub edges_end : (name : Name) → EdgesEnd ((program_so_far calls).items name)
+  pub no_maps : HasNoMaps f
   pub own_exist : OwnExist f own.insts
   pub own_named : OwnNamed calls own.insts
   pub own_inserted : OwnInserted f own.insts
   pub declared : AreDeclared f s own.insts
   pub leads_own : LeadsOwn calls own s
+  pub have_edges : HaveEdges f s
   pub parameters : OwnParameters calls own
   pub parameters_values : (name : Name) → AllByRecursion (IsValue calls) ((program_so_far calls).parameters name)
   pub values_typed : ValuesTyped calls f
@@ -199,13 +245,13 @@ SparesEntry calls =
     (entry : Name) → (program_so_far calls).entry ≡ Some entry
     → (block : Name) → AllByRecursion (SparesBlock entry) ((program_so_far calls).items block)
 
--- The function carries the calls: it holds what they say, in every program; and the state on paths is sound where no
--- branch names the entry.
+-- The function carries the calls: it holds what they say, in every program; and the state on paths is sound where the
+-- entry is free. It is where no branch names it, and while it is unsealed.
 pub record Carries (calls : List AnsweredCall) (f : Body) (s : SsaState) : Type 0 where
   -- what the caller made
   pub own : Own
   pub holds : Holds calls own f s
-  pub on_paths : SparesEntry calls → SoundOnPaths calls own f s
+  pub on_paths : EntryIsFree f s → SoundOnPaths calls own f s
 
 -- one instruction is declared at each of these blocks in turn, once for each, and nothing else changes
 abbrev pub DeclaredAlong : SsaState → ℕ → List ℕ → SsaState → Type 0

@@ -6,6 +6,7 @@ use Rattle.clif_types.specs.Signature.{SignatureShape}
 use Rattle.clif_types.specs.declared.target.PointerWidth.{PointerWidth}
 use Rattle.clif_ir.specs.Body.{Body, block_at, resolved}
 use Rattle.clif_records.specs.declared.tables.Pending.{Pending}
+use Rattle.clif_ssa.specs.Sound.{EntryIsFree}
 use Rattle.clif_ssa.specs.Ssa.{SsaState, record_of, sealed_of}
 use Rattle.clif_records.specs.Tables.{is_yes, pending_of}
 use Rattle.clif_meaning.specs.Bits.{Bits}
@@ -13,11 +14,14 @@ use Rattle.clif_meaning.specs.Name.{Name}
 use Rattle.clif_meaning.specs.Request.{AnsweredCall}
 use Rattle.clif_meaning.specs.Instruction.{Edge}
 use Rattle.clif_meaning.specs.Program.{Item, Instruct, Use, Assign}
+use Rattle.clif_meaning.specs.Event.{Answer, CallShape, Callee, Exception, Results}
 use Rattle.clif_meaning.specs.World.{World}
 use Rattle.clif_meaning.specs.Outcome.{Outcome, Gives, Goes, Returns, Traps, Calls, NoStep, outcome_of}
 use Rattle.clif_meaning.specs.Store.{assigned}
 use Rattle.clif_meaning.specs.Machine.{Machine, Control, At, HasReturned, HasTrapped, IsStuck, Observation, state_after}
+use Rattle.clif_meaning.specs.ScriptMachine as script
 use Rattle.clif_meaning.specs.ScriptMachine.{ScriptRun, ScriptState, script_machine}
+use Rattle.clif_meaning.specs.FunctionMachine as machine
 use Rattle.clif_meaning.specs.FunctionMachine.{Collector, FunctionRun, FunctionState, function_machine, value_bits, same_value}
 use Rattle.clif_meaning.specs.FunctionView.{Placed}
 use Rattle.clif_meaning.specs.View.{view_of, block_of}
@@ -25,17 +29,22 @@ use Rattle.clif_meaning.specs.Path.{Place}
 use Rattle.clif_meaning.specs.WellPlaced.{IsGivenBefore}
 use Rattle.clif_meaning.specs.Headline.{IsWorldOf}
 use Rattle.clif_simulation.specs.Tables.{answered, block_name, program_so_far}
-use Rattle.clif_simulation.specs.Carries.{carried, SparesEntry}
-use Rattle.clif_simulation.specs.Reading.{code_so_far, behind, may_grow, PremisesSoFar, script_run_so_far, function_run_so_far, IsAtEnd}
+use Rattle.clif_simulation.specs.Carries.{carried}
+use Rattle.clif_simulation.specs.Reading.{code_so_far, behind, may_grow, MovesAlike, PremisesSoFar, script_run_so_far, function_run_so_far, IsAtEnd}
 
--- The edge that an instruction takes. An outside call takes none: no call of a script makes a try call so far.
-abbrev pub taken_of : {Block Operand : Type 0} → List (Edge Block Operand) → Outcome → Option (Edge Block Operand)
-taken_of edges (Gives results memory) = None
-taken_of edges (Goes edge given memory) = slice_get edges edge
-taken_of edges (Returns results) = None
-taken_of edges (Traps reason) = None
-taken_of edges (Calls callee call arguments) = None
-taken_of edges NoStep = None
+-- The edge that an answer takes: a return the normal one, the first, and an exception that of an item. A plain call has no edges.
+abbrev pub taken_by : {Block Operand : Type 0} → List (Edge Block Operand) → Answer → Option (Edge Block Operand)
+taken_by edges (Results results) = slice_get edges 0
+taken_by edges (Exception item payload) = slice_get edges (suc item)
+
+-- the edge that an instruction takes, where outside calls get these answers
+abbrev pub taken_of : {Block Operand : Type 0} → (Callee → CallShape → List Bits → Answer) → List (Edge Block Operand) → Outcome → Option (Edge Block Operand)
+taken_of answer edges (Gives results memory) = None
+taken_of answer edges (Goes edge given memory) = slice_get edges edge
+taken_of answer edges (Returns results) = None
+taken_of answer edges (Traps reason) = None
+taken_of answer edges (Calls callee call arguments) = taken_by edges (answer callee call arguments)
+taken_of answer edges NoStep = None
 
 -- what variables hold as a run enters a block after so many others, if that block isn't sealed
 abbrev pub Unknowns : Type 0
@@ -49,10 +58,14 @@ pub record ScriptStanding : Type 0 where
   pub place : Place Name
   pub entries : ℕ
 
+-- what the world answers to an outside call, behind its event
+abbrev pub script_answer : ScriptRun → ScriptState → Callee → CallShape → List Bits → Answer
+script_answer run state callee call arguments = run.world.answer (script.call_outside run state callee call arguments).events call
+
 -- the edge that the next step takes
 abbrev pub item_edge : ScriptRun → ScriptState → Item → Option (Edge Name Name)
 item_edge run state (Instruct place instruction results) =
-    taken_of instruction.edges (outcome_of run.world instruction.operation instruction.controlling
+    taken_of (script_answer run state) instruction.edges (outcome_of run.world instruction.operation instruction.controlling
     (map run.name_type instruction.operands) (map state.names instruction.operands) state.memory)
 item_edge run state (Use variable name) = None
 item_edge run state (Assign variable name) = None
@@ -97,10 +110,13 @@ pub record FunctionStanding : Type 0 where
   pub state : FunctionState
   pub entries : ℕ
 
+abbrev pub function_answer : FunctionRun → FunctionState → Placed → Callee → CallShape → List Bits → Answer
+function_answer run state placed callee call arguments = run.world.answer (machine.call_outside run state placed.stack_map callee call arguments).events call
+
 abbrev pub function_edge : FunctionRun → FunctionState → Control Placed → Option (Edge ℕ ℕ)
 function_edge run state (At []) = None
 function_edge run state (At (placed ∷ rest)) =
-    taken_of placed.instruction.edges
+    taken_of (function_answer run state placed) placed.instruction.edges
     (outcome_of run.world placed.instruction.operation placed.instruction.controlling
     (map run.function.value_type placed.instruction.operands) (map (value_bits run state) placed.instruction.operands) state.memory)
 function_edge run state (HasReturned results) = None
@@ -172,12 +188,12 @@ AreOpen calls f s growing =
     (block : ℕ) (name : Name) → block_name calls block ≡ Some name → IsTrue (growing name)
     → (is_yes (sealed_of s block) ≡ false) ⊎ ((block_at f block).params ≡ map (answered calls) ((program_so_far calls).parameters name))
 
--- In every world, whatever names are tracked and whatever the collector is: no call moves anything yet. Edges into growing
--- blocks need not match.
+-- In every world, where both runs move the same things at outside calls, if there are any. Edges into growing blocks need not
+-- match.
 abbrev pub ReadsRightWhere : (Name → Bool) → List AnsweredCall → SignatureShape → Body → SsaState → Type 0
 ReadsRightWhere growing calls signature f s =
     (width : PointerWidth) (world : World) (tracked : Name → Bool) (collector : Collector)
-    → IsWorldOf signature (view_of f) width world → PremisesSoFar growing calls signature → SparesEntry calls
+    → IsWorldOf signature (view_of f) width world → PremisesSoFar growing calls signature → EntryIsFree f s → MovesAlike calls tracked collector
     → (block : ℕ) (name : Name) → block_name calls block ≡ Some name → (program_so_far calls).entry ≡ Some name
     → RunsBeside calls f s (script_run_so_far calls f world tracked) (function_run_so_far calls f world collector) block name
 

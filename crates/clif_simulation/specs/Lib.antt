@@ -8,3 +8,4 @@ pub mod CarryingExamples
 pub mod InterruptedExamples
 pub mod Structure
 pub mod ParameterCarryingExamples
+pub mod CallCarryingExamples

@@ -1,7 +1,7 @@
 -- An unfinished function, read on runs and bits: from each start both machines of the calls so far run side by side. A
 -- name's value has the name's bits then, and at a block's end so far each record has its variable's bits. It is a law
 -- of `Carries`, which speaks of paths, where no branch was made; with branches, `Interrupted` says it. Own.
-use Rattle.std.specs.Prelude.{◌≡◌, ℕ, suc, not, ◌||◌, false, Bool, List, [], ◌∷◌, drop, flat_map, Option, Some, None, Contains, IsTrue}
+use Rattle.std.specs.Prelude.{◌≡◌, ℕ, suc, not, ◌||◌, false, Bool, List, [], ◌∷◌, drop, flat_map, Option, Some, None, Contains, IsTrue, ◌⊎◌}
 use Rattle.std.specs.List.{AllByRecursion}
 use Rattle.clif_types.specs.declared.types.«Type».{«Type»}
 use Rattle.clif_types.specs.Signature.{SignatureShape}
@@ -21,14 +21,14 @@ use Rattle.clif_meaning.specs.Program.{Program, Item, Instruct, Use, Assign}
 use Rattle.clif_meaning.specs.World.{World}
 use Rattle.clif_meaning.specs.Machine.{Machine, At, Observation, state_after}
 use Rattle.clif_meaning.specs.ScriptMachine.{ScriptRun, ScriptState, script_machine}
-use Rattle.clif_meaning.specs.FunctionMachine.{Collector, FunctionRun, FunctionState, function_machine}
+use Rattle.clif_meaning.specs.FunctionMachine.{Collector, ByMaps, OverSet, FunctionRun, FunctionState, function_machine}
 use Rattle.clif_meaning.specs.View.{view_of, block_of}
 use Rattle.clif_meaning.specs.Path.{Place, IsReachable}
 use Rattle.clif_meaning.specs.WellPlaced.{Code, IsGivenBefore, IsWellPlaced, program_code}
 use Rattle.clif_meaning.specs.Premises.{EachItem, EntryTakes, IsItemWellTyped, parameter_types}
 use Rattle.clif_meaning.specs.Headline.{script_run, function_run, IsWorldOf}
 use Rattle.clif_simulation.specs.Tables.{answered, block_name, program_so_far}
-use Rattle.clif_simulation.specs.Carries.{carried}
+use Rattle.clif_simulation.specs.Carries.{CallsNothing, carried}
 
 -- Code so far: each block has one more place, its end so far, at which nothing stands yet.
 abbrev pub with_ends : {Block Thing : Type 0} → Code Block Thing → Code Block Thing
@@ -75,6 +75,21 @@ pub record WellTypedSoFar (growing : Name → Bool) (ledger : Ledger) (program :
 pub record PremisesSoFar (growing : Name → Bool) (calls : List AnsweredCall) (signature : SignatureShape) : Type 0 where
   pub well_typed : WellTypedSoFar growing (ledger_after (script_of calls)) (program_so_far calls) signature
   pub given_before : IsWellPlaced (program_code (program_so_far calls))
+
+-- A collector that leaves all values: it is by maps, or over no value.
+abbrev pub LeavesValues : Collector → Type 0
+LeavesValues ByMaps = Unit {0}
+LeavesValues (OverSet members) = (value : ℕ) → members value ≡ false
+
+-- nothing is tracked, and nothing moves
+pub record MovesNothing (tracked : Name → Bool) (collector : Collector) : Type 0 where
+  pub untracked : (x : Name) → tracked x ≡ false
+  pub leaves : LeavesValues collector
+
+-- Both runs move the same things at outside calls: the calls make none, whatever names are tracked and whatever the collector is;
+-- or nothing moves, since no call declares or marks anything as tracked so far.
+abbrev pub MovesAlike : List AnsweredCall → (Name → Bool) → Collector → Type 0
+MovesAlike calls tracked collector = EachItem CallsNothing (program_so_far calls) ⊎ MovesNothing tracked collector
 
 -- what a run of the calls so far goes by, where these names are tracked
 abbrev pub script_run_so_far : List AnsweredCall → Body → World → (Name → Bool) → ScriptRun
@@ -132,10 +147,10 @@ pub record RunSideBySide (calls : List AnsweredCall) (f : Body) (s : SsaState) (
       → is_yes (sealed_of s block) ≡ false → (p : ScriptState) (q : FunctionState) → StartAlike calls f s block name p q
       → SideBySide calls f s block name (starting_at (script_machine left) p) (starting_at (function_machine right) q)
 
--- In every world, whatever names are tracked and whatever the collector is: no call moves anything yet. At an unsealed
--- entry names, values, memory and events are any ones too.
+-- In every world, where both runs move the same things at outside calls, if there are any. At an unsealed entry names, values,
+-- memory and events are any ones too.
 abbrev pub ReadsRightFromAnywhere : List AnsweredCall → SignatureShape → Body → SsaState → Type 0
 ReadsRightFromAnywhere calls signature f s =
     (width : PointerWidth) (world : World) (tracked : Name → Bool) (collector : Collector)
-    → IsWorldOf signature (view_of f) width world → PremisesSoFar (may_grow calls) calls signature
+    → IsWorldOf signature (view_of f) width world → PremisesSoFar (may_grow calls) calls signature → MovesAlike calls tracked collector
     → RunSideBySide calls f s (script_run_so_far calls f world tracked) (function_run_so_far calls f world collector)

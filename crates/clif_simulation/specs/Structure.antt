@@ -7,6 +7,7 @@ use Rattle.clif_ir.specs.Body.{Body, block_at}
 use Rattle.clif_ir.specs.Consistent.{IsConsistent}
 use Rattle.clif_ssa.specs.Ssa.{SsaState, record_of, sealed_of, predecessors_of}
 use Rattle.clif_ssa.specs.Own.{Own}
+use Rattle.clif_ssa.specs.Sound.{EntryIsFree}
 use Rattle.clif_ssa.specs.Structured.{VariableTypes, Structured}
 use Rattle.clif_records.specs.Tables.{is_yes, pending_of}
 use Rattle.clif_meaning.specs.Name.{Name}
@@ -81,12 +82,16 @@ CarryingMatchesEdges =
     → CallersEdgesMatch (script_of calls)
     → EdgesMatch (view_of f)
 
+-- Where no branch of the calls names the entry, it is free.
+abbrev pub SparedEntryIsFree : Type 0
+SparedEntryIsFree = (calls : List AnsweredCall) (f : Body) (s : SsaState) → Carries calls f s → SparesEntry calls → EntryIsFree f s
+
 -- Where the names of the program are given before they are named, the function's values are defined before they are, finished
 -- or not: on each path from the entry, with branches, joins and loops, and what the construction passes to parameters too.
 abbrev pub CarryingIsWellPlaced : Type 0
 CarryingIsWellPlaced =
     (calls : List AnsweredCall) (f : Body) (s : SsaState)
-    → IsConsistent f → Carries calls f s → SparesEntry calls
+    → IsConsistent f → Carries calls f s → EntryIsFree f s
     → IsWellPlaced (program_code (program_of (script_of calls)))
     → WellPlaced (view_of f)
 
@@ -111,7 +116,7 @@ pub record AreRecords (calls : List AnsweredCall) (f : Body) (s : SsaState) (rec
 abbrev pub RecordsAreWellPlaced : Type 0
 RecordsAreWellPlaced =
     (calls : List AnsweredCall) (f : Body) (s : SsaState) (records : Records)
-    → IsConsistent f → Carries calls f s → SparesEntry calls
+    → IsConsistent f → Carries calls f s → EntryIsFree f s
     → IsWellPlaced (program_code (program_of (script_of calls)))
     → AreRecords calls f s records
     → RecordsWellPlaced (view_of f) records

@@ -1,5 +1,6 @@
 //! Worked examples of the definitions.
 
+ghost use Rattle.clif_simulation.specs.CallCarryingExamples.{CallCarryingExamples};
 ghost use Rattle.clif_simulation.specs.CarryingExamples.{CarryingExamples, LoopMeetsPremises, SampleMeetsPremises};
 ghost use Rattle.clif_simulation.specs.InterruptedExamples.{InterruptedExamples};
 ghost use Rattle.clif_simulation.specs.ParameterCarryingExamples.{ParameterCarryingExamples};
@@ -38,4 +39,9 @@ pub fn sample_meets_premises()
 /// A block with a parameter of the caller's is carried; where the parameter is missing, or of another type, it isn't.
 pub fn parameter_is_carried()
     ensures { ParameterCarryingExamples }
+{}
+
+/// A block with an outside call is carried; where the call's result has another type, it isn't.
+pub fn call_is_carried()
+    ensures { CallCarryingExamples }
 {}

@@ -1,6 +1,6 @@
 //! What holds of a function that carries a list of calls, beside what it means.
 
-ghost use Rattle.clif_simulation.specs.Structure.{CarryingIsWellPlaced, CarryingLeavesNoParameters, CarryingMatchesEdges, ConstructionLeavesFewParameters, ConstructionMatchesEdges, RecordsAreWellPlaced};
+ghost use Rattle.clif_simulation.specs.Structure.{SparedEntryIsFree, CarryingIsWellPlaced, CarryingLeavesNoParameters, CarryingMatchesEdges, ConstructionLeavesFewParameters, ConstructionMatchesEdges, RecordsAreWellPlaced};
 
 /// In every program, a block to which at most one branch leads has no variable's parameter once it is sealed.
 pub fn construction_leaves_few_parameters()
@@ -22,8 +22,13 @@ pub fn carrying_matches_edges()
     ensures { CarryingMatchesEdges }
 {}
 
-/// Its values are defined before they are named, finished or not, where the program's names are given before and no branch
-/// names the entry: with branches, joins and loops.
+/// Where no branch of the calls names the entry, it is free: once it is sealed, no branch leads to it.
+pub fn spared_entry_is_free()
+    ensures { SparedEntryIsFree }
+{}
+
+/// Its values are defined before they are named, finished or not, where the program's names are given before and the entry is
+/// free: with branches, joins and loops.
 pub fn carrying_is_well_placed()
     ensures { CarryingIsWellPlaced }
 {}

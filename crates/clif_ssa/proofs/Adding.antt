@@ -153,7 +153,7 @@ parameter_with own f s t listed listed' blocks x b ty recorded firm before there
       led = arms.led;
       leading = arms.leading;
       leading_apart = arms.leading_apart;
-      entry_apart = arms.entry_apart;
+      entry_free = arms.entry_free;
       resolves = λ v. before.resolves v ∙ sym (param_resolved f b ty firm v);
       recorded = written.says;
       records_exist = λ c y v is. let below : v < n + 1 = written.exist c y v is in omega (arith, below, long);

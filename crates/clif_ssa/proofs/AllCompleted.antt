@@ -14,7 +14,7 @@ use Rattle.clif_ssa.specs.Ssa.{SsaState, record_of, sealed_of, SameRecords, Same
 use Rattle.clif_records.specs.Stacks.{LookUpState}
 use Rattle.clif_ssa.specs.LookUp.{Stage}
 use Rattle.clif_ssa.specs.Running.{CompletesAll}
-use Rattle.clif_ssa.specs.Sound.{Describes, CountsArguments, SameProgram, Keeps}
+use Rattle.clif_ssa.specs.Sound.{Describes, CountsArguments, SameProgram, Keeps, SparesIfEntry}
 use Rattle.clif_ssa.specs.SoundLaws.{DescribesSoundly, with_seal, arms_into}
 use Rattle.clif_ssa.proofs.Bodies.{Firm, firm_from}
 use Rattle.clif_ssa.proofs.Housing.{Housed, housed_from}
@@ -91,13 +91,13 @@ seal_counted own f s t (entry ∷ layout) false b into tables counts same = coun
 
 -- A block is sealed, and what waited in it is completed: the tables stay sound.
 pub sealing_keeps : (own : Own) (f : Body) (s t : SsaState) (tables : Blocks) (b : ℕ) (look_up : LookUpState) (n : Stage) → IsConsistent f
-    → DescribesSoundly own f s tables → SameRecords s t → Seals s t b → SamePredecessors s t
+    → DescribesSoundly own f s tables → SameRecords s t → Seals s t b → SamePredecessors s t → SparesIfEntry f s b
     → look_up.calls ≡ [] → look_up.results ≡ [] → CompletesAll b (pending_of (sealed_of s b)) (record { function = f; state = t; look_up = look_up }) n
     → Keeps own tables n.function n.state
-sealing_keeps own f s t tables b look_up n known both records seals same calls results all =
+sealing_keeps own f s t tables b look_up n known both records seals same spares calls results all =
     let before : Describes own f s [] tables = both.0 in
     let sealed : Blocks = with_seal f.layout (is_yes (sealed_of s b)) b (arms_into f s tables b) tables in
-    let now : Describes own f t (pending_of (sealed_of s b)) sealed × BlocksSound sealed × SameProgram tables sealed = seal_described own f s t tables b before both.1 records seals same in
+    let now : Describes own f t (pending_of (sealed_of s b)) sealed × BlocksSound sealed × SameProgram tables sealed = seal_described own f s t tables b before both.1 records seals same spares in
     let m : Stage = record { function = f; state = t; look_up = look_up } in
     let wait : AllWait f t b (pending_of (sealed_of s b)) = record {
       home = λ p here. (before.waiting b p here).parameter;

@@ -228,7 +228,7 @@ module _ (own : Own) (f : Body) (s : SsaState) (blocks : Blocks) (b n : ℕ) (ty
       led = arms.led;
       leading = arms.leading;
       leading_apart = arms.leading_apart;
-      entry_apart = arms.entry_apart;
+      entry_free = arms.entry_free;
       resolves = λ v. before.resolves v ∙ sym (same_end v);
       recorded = before.recorded;
       records_exist = λ c x v is. omega (arith, before.records_exist c x v is, long);

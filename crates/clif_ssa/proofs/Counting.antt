@@ -27,7 +27,7 @@ use Rattle.clif_ssa.specs.Own.{Own, no_own}
 use Rattle.clif_records.specs.Tables.{is_yes}
 use Rattle.clif_ssa.specs.Ssa.{SsaState, sealed_of, predecessors_of, SameRecords, SameBlocks, SamePredecessors, zero_value}
 use Rattle.clif_ssa.specs.LookUp.{branch_block}
-use Rattle.clif_ssa.specs.Sound.{Describes, CountsArguments, HomeFits, IsBehind, IsCounted, PassesOwn, edge_target, args_of, passed_count, has_entry, entry_of}
+use Rattle.clif_ssa.specs.Sound.{Describes, CountsArguments, HomeFits, IsBehind, IsCounted, PassesOwn, edge_target, args_of, passed_count, has_entry}
 use Rattle.clif_ssa.specs.SoundLaws.{DescribesSoundly}
 use Rattle.clif_ssa.proofs.Bodies.{param_exists}
 use Rattle.clif_ssa.proofs.Describing.{SameGiven}
@@ -224,42 +224,47 @@ declared_counted own f s t blocks b i counts new declared =
 complete_kind : {k : Kind} (d : Definition) → d.kind ≡ k → d ≡ record { home = d.home; kind = k }
 complete_kind d is = ap (λ (kind : Kind). record d { kind = kind }) is
 
--- edges that pass what the caller passed, to an unsealed block: no parameter of it is complete
+-- An edge to an unsealed block that passes what the caller passed: no parameter of the block is complete.
+pub open_counts : (own : Own) (f : Body) (s : SsaState) (blocks : Blocks) (b : ℕ) → Describes own f s [] blocks → CountsArguments own f s blocks
+    → is_yes (sealed_of s b) ≡ false → (v count given : ℕ) → count ≡ given → param_home f v ≡ Some b
+    → IsCounted (blocks.function.definition v).kind (place_of v (block_at f b).params) (length (own.params b)) count given
+open_counts own f s blocks b before counts unsealed v count given passes is = by (blocks.function.definition v).kind refl (counts.behind b v is)
+  where
+    false_true : ◌≡◌ {A = Bool} false true → ⊥
+    false_true same = cc
+
+    never_complete : (blocks.function.definition v).kind ≡ complete → ⊥
+    never_complete kind =
+        let home : (c : ℕ) × ((blocks.function.definition v).home ≡ front c) × (blocks.sealed c ≡ true) = subst (λ (k : Kind). HomeFits blocks v k) kind (before.homes v) in
+        let defined : blocks.function.definition v ≡ record { home = front home.0; kind = complete } =
+        complete_kind (blocks.function.definition v) kind ∙ ap (λ (place : Place). record { home = place; kind = complete }) home.1 in
+        let there : param_home f v ≡ Some home.0 = before.complete_there home.0 v defined in
+        let same : home.0 ≡ b = cc in
+        let sealed : (is_yes (sealed_of s home.0) && has_entry f.layout) ≡ true = sym (before.sealed home.0) ∙ home.2 in
+        let yes : is_yes (sealed_of s home.0) ≡ true = (both_true (is_yes (sealed_of s home.0)) (has_entry f.layout) sealed).0 in
+        false_true (sym unsealed ∙ ap (λ c. is_yes (sealed_of s c)) (sym same) ∙ yes)
+
+    by : (kind : Kind) → (blocks.function.definition v).kind ≡ kind
+        → IsBehind (blocks.function.definition v).kind (place_of v (block_at f b).params) (length (own.params b))
+        → IsCounted (blocks.function.definition v).kind (place_of v (block_at f b).params) (length (own.params b)) count given
+    by unborn kind behind = rw kind tt
+    by (born n) kind behind = rw kind tt
+    by (zero_of x) kind behind = rw kind tt
+    by (pending x) kind behind =
+        let first : length (own.params b) ≤ place_of v (block_at f b).params = rw kind at behind in
+        rw kind (omega (arith, passes, first))
+    by complete kind behind = absurd (never_complete kind)
+
 own_counted : (own : Own) (f : Body) (s : SsaState) (blocks : Blocks) (b i : ℕ) → Describes own f s [] blocks → CountsArguments own f s blocks
     → is_yes (sealed_of s b) ≡ false → PassesOwn own f b i → EdgesCount own f blocks b i
 own_counted own f s blocks b i before counts unsealed passes = record {
-  counted = λ k v leads is. by v k (passes k leads) is (blocks.function.definition v).kind refl (counts.behind b v is);
+  counted = λ k v leads is. open_counts own f s blocks b before counts unsealed v (passed_count f i k) (length (own.passed i k)) (passes k leads) is;
   no_fewer = λ k leads. let given : passed_count f i k ≡ length (own.passed i k) = passes k leads in omega (arith, given);
   no_more = λ k leads.
       let given : passed_count f i k ≡ length (own.passed i k) = passes k leads in
       let fits : length (own.params b) ≤ length (block_at f b).params = counts.callers b in
       omega (arith, given, fits);
 }
-  where
-    by : (v k : ℕ) → passed_count f i k ≡ length (own.passed i k) → param_home f v ≡ Some b → (kind : Kind) → (blocks.function.definition v).kind ≡ kind
-        → IsBehind (blocks.function.definition v).kind (place_of v (block_at f b).params) (length (own.params b))
-        → IsCounted (blocks.function.definition v).kind (place_of v (block_at f b).params) (length (own.params b)) (passed_count f i k) (length (own.passed i k))
-    by v k given is unborn kind behind = rw kind tt
-    by v k given is (born n) kind behind = rw kind tt
-    by v k given is (zero_of x) kind behind = rw kind tt
-    by v k given is (pending x) kind behind =
-        let first : length (own.params b) ≤ place_of v (block_at f b).params = rw kind at behind in
-        rw kind (omega (arith, given, first))
-    by v k given is complete kind behind = absurd (never_complete v is kind)
-      where
-        false_true : ◌≡◌ {A = Bool} false true → ⊥
-        false_true same = cc
-
-        never_complete : (v : ℕ) → param_home f v ≡ Some b → (blocks.function.definition v).kind ≡ complete → ⊥
-        never_complete v is kind =
-            let home : (c : ℕ) × ((blocks.function.definition v).home ≡ front c) × (blocks.sealed c ≡ true) = subst (λ (k : Kind). HomeFits blocks v k) kind (before.homes v) in
-            let defined : blocks.function.definition v ≡ record { home = front home.0; kind = complete } =
-            complete_kind (blocks.function.definition v) kind ∙ ap (λ (place : Place). record { home = place; kind = complete }) home.1 in
-            let there : param_home f v ≡ Some home.0 = before.complete_there home.0 v defined in
-            let same : home.0 ≡ b = cc in
-            let sealed : (is_yes (sealed_of s home.0) && has_entry f.layout) ≡ true = sym (before.sealed home.0) ∙ home.2 in
-            let yes : is_yes (sealed_of s home.0) ≡ true = (both_true (is_yes (sealed_of s home.0)) (has_entry f.layout) sealed).0 in
-            false_true (sym unsealed ∙ ap (λ c. is_yes (sealed_of s c)) (sym same) ∙ yes)
 
 -- no branch leads anywhere, and no block has a parameter of the caller's
 pub first_counted : (f : Body) (s : SsaState) (blocks : Blocks) → ((b i : ℕ) → Contains (predecessors_of s b) i → ⊥) → ((v b : ℕ) → param_home f v ≡ Some b → ⊥)
@@ -285,13 +290,13 @@ removed_counted own f s t blocks b i counts removed =
 
 -- a branch, whose edges pass what they have to, is put behind those that lead to an unsealed block
 pub declared_soundly : (own : Own) (f : Body) (s t : SsaState) (blocks : Blocks) (b i : ℕ) → DescribesSoundly own f s blocks
-    → i < length f.insts → has_entry f.layout ≡ true → is_yes (sealed_of s b) ≡ false → entry_of f ≢ Some b
+    → i < length f.insts → has_entry f.layout ≡ true → is_yes (sealed_of s b) ≡ false
     → ((j : ℕ) → Contains (predecessors_of s b) j → branch_block f j ≢ branch_block f i)
     → PassesOwn own f b i → SameRecords s t → SameBlocks s t
     → ((c : ℕ) → predecessors_of t c ≡ (if c == b then predecessors_of s c ++ i ∷ [] else predecessors_of s c))
     → DescribesSoundly own f t blocks
-declared_soundly own f s t blocks b i both exists entry unsealed no_entry apart new records same declared =
-    let now : Describes own f t [] blocks × BlocksSound blocks = predecessor_declared own f s t blocks b i both exists entry unsealed no_entry apart records same declared in
+declared_soundly own f s t blocks b i both exists entry unsealed apart new records same declared =
+    let now : Describes own f t [] blocks × BlocksSound blocks = predecessor_declared own f s t blocks b i both exists entry unsealed apart records same declared in
     (now.0, now.1, declared_counted own f s t blocks b i both.2 (own_counted own f s blocks b i both.0 both.2 unsealed new) declared)
 
 -- a branch leads no longer to an unsealed block

@@ -24,7 +24,7 @@ use Rattle.clif_ssa.specs.LookUp.{branch_block}
 use Rattle.clif_ssa.specs.Zeros.{ZeroAt, value_of_zero}
 use Rattle.clif_ssa.proofs.Pooled.{KeepsConstants}
 use Rattle.clif_ssa.proofs.ZeroTable.{has_zero_kept, zero_exists}
-use Rattle.clif_ssa.specs.Sound.{Describes, IsZero, HasInstructions, IsWaiting, HomeFits, IsEdgeInto, InOrder, parameters_of, is_some_block, has_entry, entry_of, edge_target, args_of, passed_at, BelongsTo}
+use Rattle.clif_ssa.specs.Sound.{Describes, EntryIsFree, IsZero, HasInstructions, IsWaiting, HomeFits, IsEdgeInto, InOrder, parameters_of, is_some_block, has_entry, entry_of, edge_target, args_of, passed_at, BelongsTo}
 use Rattle.clif_ssa.proofs.Bodies.{param_exists}
 use Rattle.clif_ssa.proofs.Ordering.{map_same, parameters_same}
 
@@ -129,7 +129,7 @@ pub record Arms (f : Body) (s : SsaState) (blocks : Blocks) : Type 0 where
       → blocks.joins arm ≡ true
   pub leading : (b i : ℕ) → Contains (predecessors_of s b) i → (i < length f.insts) × (has_entry f.layout ≡ true)
   pub leading_apart : (b : ℕ) → Once (map (branch_block f) (predecessors_of s b))
-  pub entry_apart : (entry : ℕ) → entry_of f ≡ Some entry → predecessors_of s entry ≡ []
+  pub entry_free : EntryIsFree f s
 
 pub arms_of : (own : Own) (f : Body) (s : SsaState) (completing : List Pending) (blocks : Blocks) → Describes own f s completing blocks → Arms f s blocks
 arms_of own f s completing blocks before = record {
@@ -139,7 +139,7 @@ arms_of own f s completing blocks before = record {
   led = before.led;
   leading = before.leading;
   leading_apart = before.leading_apart;
-  entry_apart = before.entry_apart;
+  entry_free = before.entry_free;
 }
 
 -- the branches that lead to blocks, where their edges lead, and the last places of their blocks are as before
@@ -222,7 +222,8 @@ arms_kept f g s t blocks blocks' same arms = record {
   leading_apart = λ b.
       subst (λ xs. Once (map (branch_block g) xs)) (sym (same.edges.predecessors_same b))
       (subst Once (sym (map_same (branch_block g) (branch_block f) (predecessors_of s b) (same.edges.block_same b))) (arms.leading_apart b));
-  entry_apart = λ entry is. same.edges.predecessors_same entry ∙ arms.entry_apart entry (sym same.entry ∙ is);
+  entry_free = λ entry is sealed.
+      same.edges.predecessors_same entry ∙ arms.entry_free entry (sym same.entry ∙ is) (sym (same.same_yes entry) ∙ sealed);
 }
 
 -- PARAMETERS ------------------------------------------------------------------------------------------------------

@@ -66,7 +66,7 @@ relaid own f layout s t completing completing' blocks sealed joins before same l
       led = arms.led;
       leading = arms.leading;
       leading_apart = arms.leading_apart;
-      entry_apart = arms.entry_apart;
+      entry_free = arms.entry_free;
       resolves = before.resolves;
       recorded = λ b x. before.recorded b x ∙ sym (same x b);
       records_exist = λ b x v is. before.records_exist b x v (sym (same x b) ∙ is);
@@ -174,7 +174,7 @@ first_arms own f s completing blocks b before empty = record {
   led = λ c arm sealed at edge. absurd (none_leads own f s completing blocks before empty c edge.branch edge.leads);
   leading = λ c i here. ((before.leading c i here).0, refl);
   leading_apart = before.leading_apart;
-  entry_apart = λ entry is. nothing_contained (predecessors_of s entry) (none_leads own f s completing blocks before empty entry);
+  entry_free = λ entry is sealed. nothing_contained (predecessors_of s entry) (none_leads own f s completing blocks before empty entry);
 }
   where
     some_same : {x y : ℕ} → ◌≡◌ {A = Option ℕ} (Some x) (Some y) → x ≡ y
@@ -211,7 +211,7 @@ same_entry_arms f layout s blocks entry_same has_same arms =
       led = λ b arm sealed at edge. arms.led b arm sealed at (edge_before f g s s blocks blocks b arm edges edge);
       leading = λ b i here. ((arms.leading b i here).0, has_same ∙ (arms.leading b i here).1);
       leading_apart = arms.leading_apart;
-      entry_apart = λ entry is. arms.entry_apart entry (sym entry_same ∙ is);
+      entry_free = λ entry is sealed. arms.entry_free entry (sym entry_same ∙ is) sealed;
     }
 
 -- a block behind others

@@ -142,7 +142,7 @@ filled_with own f insts s p ps blocks b given before first sealed passing passed
       led = arms.led;
       leading = arms.leading;
       leading_apart = arms.leading_apart;
-      entry_apart = arms.entry_apart;
+      entry_free = arms.entry_free;
       resolves = before.resolves;
       recorded = before.recorded;
       records_exist = before.records_exist;

@@ -278,13 +278,20 @@ arm_from own f s waiting tables b arm before joins at =
     let here : there.0 ≡ b = same_front (sym there.1 ∙ at) in
     subst (λ d. ((arm.source ≡ start) × (entry_of f ≡ Some d)) ⊎ IsEdgeInto f s tables d arm) here there.3
 
+-- a block into which an arm is known is sealed
+into_sealed : (own : Own) (f : Body) (s : SsaState) (waiting : List Pending) (tables : Blocks) (b : ℕ) (arm : Arm) → Describes own f s waiting tables
+    → tables.joins arm ≡ true → arm.target ≡ front b → is_yes (sealed_of s b) ≡ true
+into_sealed own f s waiting tables b arm before joins at =
+    let there : (d : ℕ) × (arm.target ≡ front d) × (is_yes (sealed_of s d) ≡ true) × (((arm.source ≡ start) × (entry_of f ≡ Some d)) ⊎ IsEdgeInto f s tables d arm) = before.joined arm joins in
+    ap (λ d. is_yes (sealed_of s d)) (sym (same_front (sym there.1 ∙ at))) ∙ there.2
+
 -- into a block that has predecessors none comes from the start
 pub edges_from : (c : Setting) (frames : List Frame) (tables : Blocks) (m : Stage) (b : ℕ) → Base c frames tables m → predecessors_of m.state b ≢ []
     → LeavesOneOf tables b (comes_from c b)
 edges_from c frames tables m b base some = record {
   from = λ arm joins at.
       elim (arm_from c.own m.function m.state (completing_of c frames) tables b arm base.describes joins at) [
-        | inl entry ↦ absurd (some (base.describes.entry_apart b entry.1))
+        | inl entry ↦ absurd (some (base.describes.entry_free b entry.1 (into_sealed c.own m.function m.state (completing_of c frames) tables b arm base.describes joins at)))
         | inr edge ↦ edge_from c frames tables m b arm base edge
       ];
 }

@@ -50,7 +50,7 @@ contains_map h (x ∷ xs) y here =
       | inr later ↦ let there : (z : ℕ) × Contains xs z × (h z ≡ y) = induction later in (there.0, contains_more x xs there.0 there.1, there.2)
     ]
 
-map_push : (h : ℕ → ℕ) (xs : List ℕ) (y : ℕ) → map h (xs ++ y ∷ []) ≡ map h xs ++ h y ∷ []
+pub map_push : (h : ℕ → ℕ) (xs : List ℕ) (y : ℕ) → map h (xs ++ y ∷ []) ≡ map h xs ++ h y ∷ []
 map_push h [] y = refl
 map_push h (x ∷ xs) y = ap (λ ys. h x ∷ ys) (map_push h xs y)
 
@@ -101,7 +101,6 @@ record NewLeads (f : Body) (s t : SsaState) (b : ℕ) : Type 0 where
   others : (c : ℕ) → c ≢ b → predecessors_of t c ≡ predecessors_of s c
   exist : (i : ℕ) → Contains (predecessors_of t b) i → (i < length f.insts) × (has_entry f.layout ≡ true)
   apart : Once (map (branch_block f) (predecessors_of t b))
-  not_entry : entry_of f ≡ Some b → predecessors_of t b ≡ []
 
 leads_changed : (own : Own) (f : Body) (s t : SsaState) (blocks : Blocks) (b : ℕ) → Describes own f s [] blocks → SameRecords s t → SameBlocks s t → NewLeads f s t b
     → Describes own f t [] blocks
@@ -148,11 +147,9 @@ leads_changed own f s t blocks b before records same new =
             | inl at ↦ subst (λ d. Once (map (branch_block f) (predecessors_of t d))) (sym at) new.apart
             | inr apart ↦ subst (λ xs. Once (map (branch_block f) xs)) (sym (new.others c apart)) (before.leading_apart c)
           ];
-      entry_apart = λ entry is.
-          elim (cases_eq entry b) [
-            | inl at ↦ ap (λ d. predecessors_of t d) at ∙ new.not_entry (is ∙ ap Some at)
-            | inr apart ↦ new.others entry apart ∙ before.entry_apart entry is
-          ];
+      entry_free = λ entry is sealed.
+          let was : is_yes (sealed_of s entry) ≡ true = ap is_yes (sym (same entry)) ∙ sealed in
+          new.others entry (other entry was) ∙ before.entry_free entry is was;
     } in
     let leads : NoNewLeads s t blocks =
     λ c i known here.
@@ -162,12 +159,12 @@ leads_changed own f s t blocks b before records same new =
 
 -- a branch is put behind those that lead to an unsealed block
 pub predecessor_declared : (own : Own) (f : Body) (s t : SsaState) (blocks : Blocks) (b i : ℕ) → DescribesSoundly own f s blocks
-    → i < length f.insts → has_entry f.layout ≡ true → is_yes (sealed_of s b) ≡ false → entry_of f ≢ Some b
+    → i < length f.insts → has_entry f.layout ≡ true → is_yes (sealed_of s b) ≡ false
     → ((j : ℕ) → Contains (predecessors_of s b) j → branch_block f j ≢ branch_block f i)
     → SameRecords s t → SameBlocks s t
     → ((c : ℕ) → predecessors_of t c ≡ (if c == b then predecessors_of s c ++ i ∷ [] else predecessors_of s c))
     → Describes own f t [] blocks × BlocksSound blocks
-predecessor_declared own f s t blocks b i both exists entry unsealed no_entry apart records same declared =
+predecessor_declared own f s t blocks b i both exists entry unsealed apart records same declared =
     let before : Describes own f s [] blocks = both.0 in
     let here : predecessors_of t b ≡ predecessors_of s b ++ i ∷ [] = declared b ∙ if_true b b _ _ refl in (
       leads_changed own f s t blocks b before records same
@@ -186,7 +183,6 @@ predecessor_declared own f s t blocks b i both exists entry unsealed no_entry ap
                 (λ y stands one.
                 let from : (j : ℕ) × Contains (predecessors_of s b) j × (branch_block f j ≡ y) = contains_map (branch_block f) (predecessors_of s b) y stands in
                 apart from.0 from.1 (from.2 ∙ one)) (before.leading_apart b)));
-            not_entry = λ is. absurd (no_entry is);
           }),
       both.1,
     )
@@ -205,7 +201,6 @@ predecessor_removed own f s t blocks b i both unsealed records same removed =
             others = λ c other. removed c ∙ if_false c b _ _ other;
             exist = λ j there. before.leading b j (contains_without i (predecessors_of s b) j (subst (λ xs. Contains xs j) here there));
             apart = subst (λ xs. Once (map (branch_block f) xs)) (sym here) (once_map_without (branch_block f) i (predecessors_of s b) (before.leading_apart b));
-            not_entry = λ is. here ∙ ap (without i) (before.entry_apart b is);
           }),
       both.1,
     )

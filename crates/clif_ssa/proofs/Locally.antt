@@ -1,7 +1,7 @@
 -- Uses and sealings in any block, with what edges pass: where no branch leads to the block, and where the machine looks
 -- the variable up.
-use Rattle.std.proofs.Common.{◌≡◌, ◌≢◌, ℕ, ◌+◌, ◌<◌, true, false, Bool, List, [], ◌∷◌, length, refl, ap, arith, sym, ◌∙◌, subst, inl, inr}
-use Rattle.std.specs.Prelude.{Option, Some, None, Contains, IfSome}
+use Rattle.std.proofs.Common.{◌≡◌, ◌≢◌, ℕ, ◌+◌, ◌<◌, true, false, List, [], ◌∷◌, length, refl, ap, arith, sym, ◌∙◌, subst, inl, inr}
+use Rattle.std.specs.Prelude.{Some, None, Contains}
 use Rattle.clif_types.specs.declared.types.«Type».{«Type»}
 use Rattle.clif_ir.specs.Body.{Body, value_at, resolved}
 use Rattle.clif_ir.specs.Changes.{with_param, with_alias, inserted_in}
@@ -14,9 +14,6 @@ use Rattle.clif_records.specs.declared.tables.Pending.{Pending}
 use Rattle.clif_ssa.specs.Own.{Own}
 use Rattle.clif_records.specs.Tables.{is_yes, pending_of}
 use Rattle.clif_ssa.specs.Ssa.{SsaState, record_of, sealed_of, predecessors_of, zeroed, zeroed_in, completed, SameRecords, SamePredecessors, Seals, Waits, Zeroes, zero_value}
-use Rattle.clif_records.specs.Stacks.{LookUpState, no_look_up}
-use Rattle.clif_ssa.specs.LookUp.{UsesVariable}
-use Rattle.clif_ssa.specs.Running.{CompletesAll}
 use Rattle.clif_ssa.specs.Sound.{Describes, CountsArguments, SameProgram, Keeps, KeepsAndKnows}
 use Rattle.clif_ssa.specs.SoundLaws.{DescribesSoundly, with_entry, with_zeroed, with_seal, arms_into}
 use Rattle.clif_ssa.proofs.Bodies.{Firm, firm_from, param_exists, home-set_other}
@@ -32,8 +29,7 @@ use Rattle.clif_ssa.proofs.Parameters.{param_firm, param_resolved, param_home_ne
 use Rattle.clif_ssa.proofs.Adding.{add_completing, add_waiting, add_housed, add_counted}
 use Rattle.clif_ssa.proofs.Framing.{completing_apart}
 use Rattle.clif_ssa.proofs.FrameEnds.{own_end}
-use Rattle.clif_ssa.proofs.AllCompleted.{seal_counted, sealing_keeps}
-use Rattle.clif_ssa.proofs.Machine.{uses_keeps}
+use Rattle.clif_ssa.proofs.AllCompleted.{seal_counted}
 use Rattle.clif_ssa.proofs.Sealing.{seal_described}
 use Rattle.clif_ssa.proofs.ZeroSteps.{put_resolved, put_param_home, put_firm, put_zero, zero_count, past_unaliased, param_zero_value}
 use Rattle.clif_ssa.specs.Zeros.{steps_before}
@@ -109,7 +105,7 @@ pub seals_locally : (own : Own) (f : Body) (s t : SsaState) (tables : Blocks) (b
 seals_locally own f s t tables b known both alone records seals same =
     let before : Describes own f s [] tables = both.0 in
     let sealed : Blocks = with_seal f.layout (is_yes (sealed_of s b)) b (arms_into f s tables b) tables in
-    let now : Describes own f t (pending_of (sealed_of s b)) sealed × BlocksSound sealed × SameProgram tables sealed = seal_described own f s t tables b before both.1 records seals same in
+    let now : Describes own f t (pending_of (sealed_of s b)) sealed × BlocksSound sealed × SameProgram tables sealed = seal_described own f s t tables b before both.1 records seals same (λ is. alone) in
     let done : Keeps own sealed (completed f (pending_of (sealed_of s b))) t =
     completed_locally own t b (pending_of (sealed_of s b)) f sealed (firm_from f known) (housed_from f known) now.0
     (seal_counted own f s t f.layout (is_yes (sealed_of s b)) b (arms_into f s tables b) tables both.2 same) now.1 (same b ∙ alone)
@@ -177,68 +173,3 @@ zeroes_locally own f g s t tables x ty b firm housed before counts sound alone t
         resolves = first ∙ sym second ∙ ap (λ w. after.function.resolve w) count;
       };
     })
-
--- A use that succeeds, whatever its case: the tables stay sound, and know its answer in the block.
-pub use_sound : (own : Own) (f g : Body) (s t : SsaState) (tables : Blocks) (x : ℕ) (ty : «Type») (b value : ℕ) (look_up : LookUpState) → IsConsistent f
-    → DescribesSoundly own f s tables → b < length f.blocks → SamePredecessors s t
-    → IfSome (record_of s x b) (λ v. ((g ≡ f) × (t ≡ s)) × (value ≡ v))
-    → (record_of s x b ≡ None → is_yes (sealed_of s b) ≡ false → Waits s t f g x ty b × (value ≡ length f.values))
-    → (record_of s x b ≡ None → is_yes (sealed_of s b) ≡ true → predecessors_of s b ≡ [] → Zeroes s t f g x ty b × (value ≡ length f.values + 1 + steps_before ty))
-    → (record_of s x b ≡ None → is_yes (sealed_of s b) ≡ true → predecessors_of s b ≢ []
-    → UsesVariable x ty b (record { function = f; state = s; look_up = no_look_up }) value (record { function = g; state = t; look_up = look_up }))
-    → KeepsAndKnows own tables g t b x value
-use_sound own f g s t tables x ty b value look_up known both there same found waits zeroes looks = by (record_of s x b) refl found
-  where
-    before : Describes own f s [] tables
-    before = both.0
-
-    firm : Firm f
-    firm = firm_from f known
-
-    by_branches : record_of s x b ≡ None → is_yes (sealed_of s b) ≡ true → (branches : List ℕ) → predecessors_of s b ≡ branches → KeepsAndKnows own tables g t b x value
-    by_branches none is_sealed [] alone =
-        let case : Zeroes s t f g x ty b × (value ≡ length f.values + 1 + steps_before ty) = zeroes none is_sealed alone in
-        subst (λ v. KeepsAndKnows own tables g t b x v) (sym case.1) (zeroes_locally own f g s t tables x ty b firm (housed_from f known) before both.2 both.1 alone there none is_sealed case.0 same)
-    by_branches none is_sealed (i ∷ branches) some =
-        let leads : predecessors_of s b ≢ [] = λ empty. some_none (sym some ∙ empty) in
-        uses_keeps own tables x ty b (record { function = f; state = s; look_up = no_look_up }) (record { function = g; state = t; look_up = look_up }) value refl known both there
-        (looks none is_sealed leads)
-      where
-        some_none : ◌≡◌ {A = List ℕ} (i ∷ branches) [] → ⊥
-        some_none same = cc
-
-    by_sealed : record_of s x b ≡ None → (sealed : Bool) → is_yes (sealed_of s b) ≡ sealed → KeepsAndKnows own tables g t b x value
-    by_sealed none true is_sealed = by_branches none is_sealed (predecessors_of s b) refl
-    by_sealed none false unsealed =
-        let case : Waits s t f g x ty b × (value ≡ length f.values) = waits none unsealed in
-        subst (λ v. KeepsAndKnows own tables g t b x v) (sym case.1) (waits_locally own f g s t tables x ty b firm before both.2 both.1 there none unsealed case.0 same)
-
-    by : (entry : Option ℕ) → record_of s x b ≡ entry → IfSome entry (λ v. ((g ≡ f) × (t ≡ s)) × (value ≡ v)) → KeepsAndKnows own tables g t b x value
-    by None is case = by_sealed is (is_yes (sealed_of s b)) refl
-    by (Some v) is case =
-        subst (λ w. KeepsAndKnows own tables g t b x w) (sym case.1)
-        (subst (λ h. KeepsAndKnows own tables h t b x v) (sym case.0.0) (subst (λ r. KeepsAndKnows own tables f r b x v) (sym case.0.1) (record {
-          kept = record { tables = tables; describes = before; sound = both.1; same = same_program tables; counts = both.2 };
-          known = record { value = v; is_recorded = before.recorded b x ∙ is; resolves = refl };
-        })))
-
--- A sealing that succeeds, whatever its case: the tables stay sound.
-pub seal_sound : (own : Own) (f g : Body) (s t : SsaState) (tables : Blocks) (b : ℕ) (look_up : LookUpState) → IsConsistent f
-    → DescribesSoundly own f s tables → SamePredecessors s t
-    → (predecessors_of s b ≡ [] → SameRecords s t × Seals s t b × (g ≡ completed f (pending_of (sealed_of s b))))
-    → (predecessors_of s b ≢ [] → (r : SsaState) × SameRecords s r × Seals s r b × SamePredecessors s r
-    × CompletesAll b (pending_of (sealed_of s b)) (record { function = f; state = r; look_up = no_look_up }) (record { function = g; state = t; look_up = look_up }))
-    → Keeps own tables g t
-seal_sound own f g s t tables b look_up known both same locally looks = by (predecessors_of s b) refl
-  where
-    by : (branches : List ℕ) → predecessors_of s b ≡ branches → Keeps own tables g t
-    by [] alone =
-        let case : SameRecords s t × Seals s t b × (g ≡ completed f (pending_of (sealed_of s b))) = locally alone in
-        subst (λ h. Keeps own tables h t) (sym case.2) (seals_locally own f s t tables b known both alone case.0 case.1 same)
-    by (i ∷ branches) some =
-        let leads : predecessors_of s b ≢ [] = λ empty. some_none (sym some ∙ empty) in
-        let (r, records, seals, leads_same, all) = looks leads in
-        sealing_keeps own f s r tables b no_look_up (record { function = g; state = t; look_up = look_up }) known both records seals leads_same refl refl all
-      where
-        some_none : ◌≡◌ {A = List ℕ} (i ∷ branches) [] → ⊥
-        some_none same = cc

@@ -149,7 +149,7 @@ results_described own f s blocks b k names shape types loc firm both there as_ma
         led = kept.arms.led;
         leading = kept.arms.leading;
         leading_apart = kept.arms.leading_apart;
-        entry_apart = kept.arms.entry_apart;
+        entry_free = kept.arms.entry_free;
         resolves = λ v. before.resolves v ∙ sym (same_end v);
         recorded = before.recorded;
         records_exist = λ c x v is. omega (arith, before.records_exist c x v is, long);

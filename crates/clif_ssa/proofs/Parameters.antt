@@ -221,7 +221,7 @@ parameter_described own f s t completing blocks x b ty firm before there none wr
       led = arms.led;
       leading = arms.leading;
       leading_apart = arms.leading_apart;
-      entry_apart = arms.entry_apart;
+      entry_free = arms.entry_free;
       resolves = λ v. before.resolves v ∙ sym (param_resolved f b ty firm v);
       recorded = λ c y. record_changed blocks.recorded b x n c y ∙ ap (λ r. cond (y == x && c == b) (Some n) r) (before.recorded c y) ∙ sym (written y c);
       records_exist = λ c y v is.

@@ -1,6 +1,6 @@
 -- What a use and a sealing keep of the tables, by how they end.
-use Rattle.std.proofs.Common.{◌≡◌, ◌≢◌, ℕ, ◌+◌, ◌<◌, true, false, Bool, List, [], ◌∷◌, length, refl, ap, arith, sym, ◌∙◌, subst}
-use Rattle.std.specs.Prelude.{Some, None, Result, Ok, Err, OnOk, IfOk, Contains}
+use Rattle.std.proofs.Common.{◌≡◌, ◌≢◌, ℕ, ◌+◌, ◌<◌, true, false, Bool, List, [], ◌∷◌, ◌++◌, length, refl, ap, arith, sym, ◌∙◌, subst}
+use Rattle.std.specs.Prelude.{Some, None, Option, Result, Ok, Err, OnOk, IfOk, Contains, slice_get}
 use Rattle.clif_types.specs.declared.error.BuildError.{BuildError}
 use Rattle.clif_types.specs.declared.types.«Type».{«Type»}
 use Rattle.clif_ir.specs.Body.{Body}
@@ -15,7 +15,8 @@ use Rattle.clif_records.specs.Stacks.{LookUpState, no_look_up}
 use Rattle.clif_ssa.specs.LookUp.{LooksUp, UsesVariable}
 use Rattle.clif_ssa.specs.Running.{stage, found, CompletesAll, MakesAll}
 use Rattle.clif_ssa.specs.Sealing.{SealsLocally, SealsByLookUp}
-use Rattle.clif_ssa.specs.Sound.{Keeps, KeepsAndKnows}
+use Rattle.clif_ssa.specs.Sound.{Keeps, KeepsAndKnows, SparesIfEntry, has_entry}
+use Rattle.clif_ssa.specs.Constructs.{OnlyConstructs}
 use Rattle.clif_ssa.specs.SoundLaws.{DescribesSoundly}
 use Rattle.clif_ssa.proofs.Bodies.{firm_from}
 use Rattle.clif_ssa.proofs.Housing.{housed_from}
@@ -117,12 +118,12 @@ seals_by_look_up f g s r t b waiting first last told records seals same list not
 
 -- a sealing, whether a branch leads to the block or none does
 pub seal_keeps : (own : Own) (f g : Body) (s t : SsaState) (tables : Blocks) (b : ℕ) (result : Result SideEffects BuildError)
-    → IsConsistent f → DescribesSoundly own f s tables → SamePredecessors s t
+    → IsConsistent f → SparesIfEntry f s b → DescribesSoundly own f s tables → SamePredecessors s t
     → (predecessors_of s b ≡ [] → SealsLocally f s g t b result)
     → (predecessors_of s b ≢ [] → IfOk result (λ r. SealsByLookUp f s g t b r.instructions_added_to_blocks.items))
     → OnOk result (Keeps own tables g t)
-seal_keeps own f g s t tables b (Err error) known both same locally looks = tt
-seal_keeps own f g s t tables b (Ok r) known both same locally looks = by (predecessors_of s b) refl
+seal_keeps own f g s t tables b (Err error) known spares both same locally looks = tt
+seal_keeps own f g s t tables b (Ok r) known spares both same locally looks = by (predecessors_of s b) refl
   where
     some_none : {i : ℕ} {is : List ℕ} → ◌≡◌ {A = List ℕ} (i ∷ is) [] → ⊥
     some_none same = cc
@@ -133,7 +134,7 @@ seal_keeps own f g s t tables b (Ok r) known both same locally looks = by (prede
         subst (λ h. Keeps own tables h t) (sym case.function) (seals_locally own f s t tables b known both alone case.records case.sealed same)
     by (i ∷ branches) some =
         let case : SealsByLookUp f s g t b r.instructions_added_to_blocks.items = looks (λ empty. some_none (sym some ∙ empty)) in
-        sealing_keeps own f s case.sealed tables b no_look_up (stage g t case.look_up) known both case.records case.seals case.predecessors refl refl case.completes
+        sealing_keeps own f s case.sealed tables b no_look_up (stage g t case.look_up) known both case.records case.seals case.predecessors spares refl refl case.completes
 
 -- what is kept in turn
 pub keeps_then : (own : Own) (tables : Blocks) (f g : Body) (s t : SsaState) (first : Keeps own tables f s)
@@ -144,3 +145,23 @@ keeps_then own tables f g s t first next =
 
 pub keeps_itself : (own : Own) (tables : Blocks) (f : Body) (s : SsaState) → DescribesSoundly own f s tables → Keeps own tables f s
 keeps_itself own tables f s both = record { tables = tables; describes = both.0; sound = both.1; same = same_program tables; counts = both.2 }
+
+-- a block that is no entry with branches is none later: the layout may have more blocks behind, and the branches stay
+pub spares_later : (f g : Body) (s t : SsaState) → OnlyConstructs f g → SamePredecessors s t → ((b i : ℕ) → Contains (predecessors_of s b) i → has_entry f.layout ≡ true)
+    → (b : ℕ) → SparesIfEntry f s b → SparesIfEntry g t b
+spares_later f g s t constructs same leading b spares is = same b ∙ by f.layout refl
+  where
+    same_some : {x y : ℕ} → ◌≡◌ {A = Option ℕ} (Some x) (Some y) → x ≡ y
+    same_some eq = cc
+
+    false_true : false ≡ true → ⊥
+    false_true eq = cc
+
+    none : (xs : List ℕ) → ((i : ℕ) → Contains xs i → ⊥) → xs ≡ []
+    none [] empty = refl
+    none (x ∷ xs) empty = absurd (empty x (contains_first x xs))
+
+    by : (layout : List ℕ) → f.layout ≡ layout → predecessors_of s b ≡ []
+    by [] empty = none (predecessors_of s b) (λ i here. false_true (sym (ap has_entry empty) ∙ leading b i here))
+    by (entry ∷ layout) first =
+        spares (ap (λ l. slice_get l 0) first ∙ ap Some (same_some (sym (ap (λ l. slice_get l 0) (constructs.layout.1 ∙ ap (λ l. l ++ constructs.layout.0) first)) ∙ is)))

@@ -17,7 +17,7 @@ use Rattle.clif_ssa.specs.Own.{Own}
 use Rattle.clif_records.specs.Tables.{is_yes, pending_of}
 use Rattle.clif_ssa.specs.Ssa.{SsaState, sealed_of, predecessors_of, SameRecords, SamePredecessors, Seals}
 use Rattle.clif_ssa.specs.LookUp.{branch_block}
-use Rattle.clif_ssa.specs.Sound.{Describes, IsEdgeInto, InOrder, parameters_of, is_some_block, edge_target, has_entry, entry_of, SameProgram}
+use Rattle.clif_ssa.specs.Sound.{Describes, IsEdgeInto, InOrder, parameters_of, is_some_block, edge_target, has_entry, entry_of, SameProgram, SparesIfEntry}
 use Rattle.clif_ssa.specs.SoundLaws.{enters, edges_into, arms_into, with_seal}
 use Rattle.clif_ssa.proofs.Ordering.{same_number, none_contained, nothing_contained, contains_first, contains_more, contains_cons, parameters_all, parameters_none, is_parameter, is_parameter_elsewhere, in_order_small}
 use Rattle.clif_ssa.proofs.Describing.{KeepsSealed, Arms, arms_of, arms_kept, SameEdges, same_edges, edge_kept, edge_before}
@@ -190,7 +190,7 @@ empty_arms own f s t blocks b before same seals empty =
       led = λ c arm known at edge. absurd (nowhere c edge.branch edge.leads);
       leading = λ c i here. absurd (nowhere c i here);
       leading_apart = λ c. subst (λ xs. Once (map (branch_block f) xs)) (sym (same c)) (before.leading_apart c);
-      entry_apart = λ entry is. nothing_contained (predecessors_of t entry) (nowhere entry);
+      entry_free = λ entry is known. nothing_contained (predecessors_of t entry) (nowhere entry);
     }
   where
     not_joined : (arm : Arm) → (c : ℕ) × (arm.target ≡ front c) × (is_yes (sealed_of s c) ≡ true) × (((arm.source ≡ start) × (entry_of f ≡ Some c)) ⊎ IsEdgeInto f s blocks c arm) → ⊥
@@ -219,9 +219,9 @@ again_arms own f s t blocks b before same seals was =
     (arms_of own f s [] blocks before)
 
 -- a block that is sealed now
-new_arms : (own : Own) (f : Body) (s t : SsaState) (blocks : Blocks) (b : ℕ) → Describes own f s [] blocks → SamePredecessors s t → Seals s t b → has_entry f.layout ≡ true
+new_arms : (own : Own) (f : Body) (s t : SsaState) (blocks : Blocks) (b : ℕ) → Describes own f s [] blocks → SamePredecessors s t → Seals s t b → SparesIfEntry f s b → has_entry f.layout ≡ true
     → Arms f t (with_block_sealed blocks b (arms_into f s blocks b))
-new_arms own f s t blocks b before same seals has =
+new_arms own f s t blocks b before same seals spares has =
     let into : Edges = arms_into f s blocks b in
     let after : Blocks = with_block_sealed blocks b into in
     let edges : SameEdges f f s t blocks after = seal_edges own f s t blocks after.sealed after.joins before same in
@@ -282,15 +282,19 @@ new_arms own f s t blocks b before same seals has =
           ];
       leading = λ c i here. before.leading c i (subst (λ xs. Contains xs i) (same c) here);
       leading_apart = λ c. subst (λ xs. Once (map (branch_block f) xs)) (sym (same c)) (before.leading_apart c);
-      entry_apart = λ entry is. same entry ∙ before.entry_apart entry is;
+      entry_free = λ entry is known.
+          elim (cases_eq entry b) [
+            | inl at ↦ same entry ∙ ap (λ d. predecessors_of s d) at ∙ spares (is ∙ ap Some at)
+            | inr apart ↦ same entry ∙ before.entry_free entry is (ap is_yes (sym (sealed_same s t b seals entry apart)) ∙ known)
+          ];
     }
 
 -- A block is sealed: the tables describe the state while what waited in the block is completed.
-pub seal_described : (own : Own) (f : Body) (s t : SsaState) (blocks : Blocks) (b : ℕ) → Describes own f s [] blocks → BlocksSound blocks → SameRecords s t → Seals s t b → SamePredecessors s t
+pub seal_described : (own : Own) (f : Body) (s t : SsaState) (blocks : Blocks) (b : ℕ) → Describes own f s [] blocks → BlocksSound blocks → SameRecords s t → Seals s t b → SamePredecessors s t → SparesIfEntry f s b
     → Describes own f t (pending_of (sealed_of s b)) (with_seal f.layout (is_yes (sealed_of s b)) b (arms_into f s blocks b) blocks)
     × BlocksSound (with_seal f.layout (is_yes (sealed_of s b)) b (arms_into f s blocks b) blocks)
     × SameProgram blocks (with_seal f.layout (is_yes (sealed_of s b)) b (arms_into f s blocks b) blocks)
-seal_described own f s t blocks b before sound records seals same = by f.layout refl (is_yes (sealed_of s b)) refl
+seal_described own f s t blocks b before sound records seals same spares = by f.layout refl (is_yes (sealed_of s b)) refl
   where
     relaid_to : (sealed : ℕ → Bool) (joins : Edges) → KeepsSealed blocks (record blocks { sealed = sealed; joins = joins }) → Arms f t (record blocks { sealed = sealed; joins = joins })
         → Describes own f t (pending_of (sealed_of s b)) (record blocks { sealed = sealed; joins = joins })
@@ -316,7 +320,7 @@ seal_described own f s t blocks b before sound records seals same = by f.layout 
     by (entry ∷ layout) is false is_was =
         let into : Edges = arms_into f s blocks b in
         let after : Blocks = with_block_sealed blocks b into in (
-          relaid_to after.sealed after.joins (stay_sealed into) (new_arms own f s t blocks b before same seals (ap has_entry is)),
+          relaid_to after.sealed after.joins (stay_sealed into) (new_arms own f s t blocks b before same seals spares (ap has_entry is)),
           seal_block_keeps blocks b into (unsealed false is_was refl) sound,
           record { count = λ k. refl; assigned = λ p x. refl; naming = λ n. refl; answer = λ n. refl },
         )

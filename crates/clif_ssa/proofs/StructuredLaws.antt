@@ -147,7 +147,7 @@ instruction_structured types own f s b shape results loc firm there before =
       leading_once = before.leading_once;
     }
 
-append_none : {X : Type 0} (xs : List X) → xs ++ [] ≡ xs
+pub append_none : {X : Type 0} (xs : List X) → xs ++ [] ≡ xs
 append_none [] = refl
 append_none (x ∷ xs) = ap (λ ys. x ∷ ys) (append_none xs)
 
@@ -199,7 +199,7 @@ parameter_structured types own f s b ty firm there bare before =
 -- BRANCHES --------------------------------------------------------------------------------------------------------
 
 -- an unsealed block has no complete parameters
-none_complete : (own : Own) (f : Body) (s : SsaState) (ps : List Pending) (b : ℕ) (has : HasParameters own f s ps b) → is_yes (sealed_of s b) ≡ false → has.complete ≡ []
+pub none_complete : (own : Own) (f : Body) (s : SsaState) (ps : List Pending) (b : ℕ) (has : HasParameters own f s ps b) → is_yes (sealed_of s b) ≡ false → has.complete ≡ []
 none_complete own f s ps b has unsealed = by has.complete (λ some. off (sym (has.several some).0 ∙ unsealed))
   where
     off : ◌≡◌ {A = Bool} true false → ⊥

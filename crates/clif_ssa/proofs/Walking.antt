@@ -57,7 +57,7 @@ comes_from own f s completing blocks x block next before none is =
           let same : there.0 ≡ block = front_same (sym there.1 ∙ at) in
           elim there.3 [
             | inl enters ↦
-                let empty : predecessors_of s block ≡ [] = before.entry_apart block (enters.1 ∙ ap Some same) in
+                let empty : predecessors_of s block ≡ [] = before.entry_free block (enters.1 ∙ ap Some same) alone.is_sealed in
                 absurd (none_contained alone.branch (subst (λ xs. Contains xs alone.branch) empty here))
             | inr edge ↦ edge.from ∙ ap (λ c. last_place blocks c) (by arm there.0 edge same alone)
           ];
@@ -155,7 +155,7 @@ records_described own f s t completing blocks recorded before same_blocks same_p
       led = arms.led;
       leading = arms.leading;
       leading_apart = arms.leading_apart;
-      entry_apart = arms.entry_apart;
+      entry_free = arms.entry_free;
       resolves = before.resolves;
       recorded = says;
       records_exist = exist;

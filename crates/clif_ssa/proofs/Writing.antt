@@ -154,7 +154,7 @@ blocks_described own f nodes layout lists keeps s blocks same_params same_insts 
       led = arms.led;
       leading = arms.leading;
       leading_apart = arms.leading_apart;
-      entry_apart = arms.entry_apart;
+      entry_free = arms.entry_free;
       resolves = before.resolves;
       recorded = before.recorded;
       records_exist = before.records_exist;
@@ -194,7 +194,7 @@ first_described name signature =
         led = λ b arm known at edge. absurd (none_contained edge.branch edge.leads);
         leading = λ b i here. absurd (none_contained i here);
         leading_apart = λ b j k below inside. absurd (omega (arith, inside));
-        entry_apart = λ entry is. refl;
+        entry_free = λ entry is sealed. refl;
         resolves = λ v. sym (follow_nothing [] 0 v refl);
         recorded = λ b x. sym (record_at-empty x b);
         records_exist = λ b x v is. absurd (let nothing : ◌≡◌ {A = Option ℕ} None (Some v) = sym (record_at-empty x b) ∙ is in cc);
@@ -279,7 +279,7 @@ item_described own f s blocks b given open_block =
         led = kept.arms.led;
         leading = kept.arms.leading;
         leading_apart = kept.arms.leading_apart;
-        entry_apart = kept.arms.entry_apart;
+        entry_free = kept.arms.entry_free;
         resolves = before.resolves;
         recorded = before.recorded;
         records_exist = before.records_exist;
@@ -371,7 +371,7 @@ write_described own f s t blocks b x n both open_block given none written same l
         led = still.arms.led;
         leading = still.arms.leading;
         leading_apart = still.arms.leading_apart;
-        entry_apart = still.arms.entry_apart;
+        entry_free = still.arms.entry_free;
         resolves = before.resolves;
         recorded = λ c y. record_changed blocks.recorded b x v c y ∙ ap (λ r. cond (y == x && c == b) (Some v) r) (before.recorded c y) ∙ sym (written y c);
         records_exist = λ c y u is.
@@ -468,7 +468,7 @@ read_described own f s blocks b n x v both name none known exists =
         led = kept.arms.led;
         leading = kept.arms.leading;
         leading_apart = kept.arms.leading_apart;
-        entry_apart = kept.arms.entry_apart;
+        entry_free = kept.arms.entry_free;
         resolves = before.resolves;
         recorded = before.recorded;
         records_exist = before.records_exist;

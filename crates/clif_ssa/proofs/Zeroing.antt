@@ -108,7 +108,7 @@ zero_described own f s completing blocks b x ty firm before there =
       led = arms.led;
       leading = arms.leading;
       leading_apart = arms.leading_apart;
-      entry_apart = arms.entry_apart;
+      entry_free = arms.entry_free;
       resolves = λ v. before.resolves v ∙ sym (same_end v);
       recorded = before.recorded;
       records_exist = λ c y v is. omega (arith, before.records_exist c y v is, long);
@@ -446,7 +446,7 @@ alias_described own f s p ps blocks z b can sealed before =
       led = arms.led;
       leading = arms.leading;
       leading_apart = arms.leading_apart;
-      entry_apart = arms.entry_apart;
+      entry_free = arms.entry_free;
       resolves = λ u.
           aliased_ap blocks.function.resolve (λ w. resolved f w) v z u (before.resolves u)
           ∙ ap (λ t. aliased (λ w. resolved f w) v t u) (sym can.own_end) ∙ sym (alias_resolved f v z b can u);

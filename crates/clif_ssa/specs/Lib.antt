@@ -14,3 +14,4 @@ pub mod SoundLaws
 pub mod Structure
 pub mod Structured
 pub mod Within
+pub mod Moving

@@ -26,6 +26,14 @@ use Rattle.clif_ssa.specs.Zeros.{ZeroAt, HasZero, insts_of_zeros, value_of_zero}
 abbrev pub entry_of : Body → Option ℕ
 entry_of f = slice_get f.layout 0
 
+-- The entry is free: once it is sealed, no branch leads to it. While it is unsealed any branches may.
+abbrev pub EntryIsFree : Body → SsaState → Type 0
+EntryIsFree f s = (entry : ℕ) → entry_of f ≡ Some entry → is_yes (sealed_of s entry) ≡ true → predecessors_of s entry ≡ []
+
+-- no branch leads to this block, if it is the entry
+abbrev pub SparesIfEntry : Body → SsaState → ℕ → Type 0
+SparesIfEntry f s block = entry_of f ≡ Some block → predecessors_of s block ≡ []
+
 abbrev pub has_entry : List ℕ → Bool
 has_entry [] = false
 has_entry (block ∷ layout) = true
@@ -122,10 +130,10 @@ pub record Describes (own : Own) (f : Body) (s : SsaState) (completing : List Pe
   pub led : (b : ℕ) (arm : Arm) → is_yes (sealed_of s b) ≡ true → arm.target ≡ front b → IsEdgeInto f s blocks b arm
       → blocks.joins arm ≡ true
   -- branches that lead somewhere exist, and there is an entry then; those that lead to one block stand in different
-  -- blocks; none leads to the entry
+  -- blocks; the entry is free
   pub leading : (b i : ℕ) → Contains (predecessors_of s b) i → (i < length f.insts) × (has_entry f.layout ≡ true)
   pub leading_apart : (b : ℕ) → Once (map (branch_block f) (predecessors_of s b))
-  pub entry_apart : (entry : ℕ) → entry_of f ≡ Some entry → predecessors_of s entry ≡ []
+  pub entry_free : EntryIsFree f s
   -- aliases, and records
   pub resolves : (v : ℕ) → blocks.function.resolve v ≡ resolved f v
   pub recorded : (b x : ℕ) → blocks.recorded b x ≡ record_of s x b

@@ -1,6 +1,6 @@
 -- How the tables of the theory of variables on paths change as a function and the state of its construction do.
 -- Source: own.
-use Rattle.std.specs.Prelude.{◌≡◌, ◌≢◌, ℕ, suc, ◌<◌, ◌==◌, ◌&&◌, ◌||◌, List, [], ◌∷◌, ◌++◌, ◌+◌, length, Bool, true, false, Some, None, Contains, slice_get, if◌then◌else◌}
+use Rattle.std.specs.Prelude.{◌≡◌, ◌≢◌, ℕ, suc, ◌<◌, ◌==◌, ◌&&◌, ◌||◌, List, [], ◌∷◌, ◌++◌, ◌+◌, length, Bool, true, false, None, Contains, slice_get, if◌then◌else◌}
 use Rattle.std.specs.List.{AllByRecursion}
 use Rattle.clif_types.specs.declared.types.«Type».{«Type»}
 use Rattle.clif_types.specs.declared.extname.UserFuncName.{UserFuncName}
@@ -201,7 +201,7 @@ SealingKeeps =
 abbrev pub PredecessorDeclared : Type 0
 PredecessorDeclared =
     (own : Own) (f : Body) (s t : SsaState) (blocks : Blocks) (b i : ℕ) → DescribesSoundly own f s blocks →
-    i < length f.insts → has_entry f.layout ≡ true → is_yes (sealed_of s b) ≡ false → entry_of f ≢ Some b →
+    i < length f.insts → has_entry f.layout ≡ true → is_yes (sealed_of s b) ≡ false →
     ((j : ℕ) → Contains (predecessors_of s b) j → branch_block f j ≢ branch_block f i) →
     PassesOwn own f b i → SameRecords s t → SameBlocks s t →
     ((c : ℕ) → predecessors_of t c ≡ (if c == b then predecessors_of s c ++ i ∷ [] else predecessors_of s c)) →

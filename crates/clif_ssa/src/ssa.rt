@@ -5,13 +5,14 @@ ghost use Rattle.clif_ir.specs.Body.{Body, block_at, value_at};
 ghost use Rattle.clif_instructions.specs.Members.{Stands};
 ghost use Rattle.clif_ssa.specs.Constructs.{OnlyConstructs, TellsMore, TellsZeros};
 ghost use Rattle.clif_ssa.specs.Limits.{ConstructionIsFull};
+ghost use Rattle.clif_ssa.specs.Moving.{MovesBranch};
 ghost use Rattle.clif_ssa.specs.Pools.{types_of, MayPool, MayPoolAll, MayPoolWaiting, SealingIsFull, UseIsFull, WaitsWithType};
 ghost use Rattle.clif_records.specs.Tables.{is_yes, pending_of};
 ghost use Rattle.clif_records.specs.declared.tables.Pending.{Pending};
 ghost use Rattle.clif_paths.specs.Places.{start};
 ghost use Rattle.clif_paths.specs.Blocks.{Blocks, last_place, with_write};
 ghost use Rattle.clif_ssa.specs.Own.{Own};
-ghost use Rattle.clif_ssa.specs.Sound.{Describes, PassesOwn, Keeps, KeepsAndKnows, entry_of, has_entry, args_of, edge_target, edges_at};
+ghost use Rattle.clif_ssa.specs.Sound.{Describes, PassesOwn, Keeps, KeepsAndKnows, SparesIfEntry, has_entry, args_of, edge_target, edges_at};
 ghost use Rattle.clif_ssa.specs.SoundLaws.{DescribesSoundly, IsOpen};
 ghost use Rattle.clif_ssa.specs.Structure.{HasRecordOf, LooksOnce, LosesWaiting, Remembers};
 ghost use Rattle.clif_ssa.specs.Structured.{HasType, Structured, VariableTypes};
@@ -111,7 +112,7 @@ impl SSABuilder {
         ensures err { OnErr result (SamePredecessors self.old self.new) }
         ensures records { self.new.records ≡ self.old.records }
         ensures blocks { SameBlocks self.old self.new }
-        ensures described { (own : Own) (f : Body) (tables : Blocks) → inst < length f.insts → has_entry f.layout ≡ true → entry_of f ≢ Some block → ((j : ℕ) → Contains (predecessors_of self.old block) j → branch_block f j ≢ branch_block f inst) → PassesOwn own f block inst → DescribesSoundly own f self.old tables → OnOk result (DescribesSoundly own f self.new tables) }
+        ensures described { (own : Own) (f : Body) (tables : Blocks) → inst < length f.insts → has_entry f.layout ≡ true → ((j : ℕ) → Contains (predecessors_of self.old block) j → branch_block f j ≢ branch_block f inst) → PassesOwn own f block inst → DescribesSoundly own f self.old tables → OnOk result (DescribesSoundly own f self.new tables) }
         ensures looks_once { LooksOnce self.old → LooksOnce self.new }
         ensures structured { (types : VariableTypes) (own : Own) (f : Body) → inst < length f.insts → ((j : ℕ) → Contains (predecessors_of self.old block) j → j ≢ inst) → ((k : ℕ) → edge_target f inst k ≡ Some block → args_of (slice_get (edges_at f inst) k) ≡ own.passed inst k) → Structured types own f self.old [] → OnOk result (Structured types own f self.new []) }
         ensures no_more { KnowsNoMore self.old self.new (block + 1) }
@@ -134,6 +135,66 @@ impl SSABuilder {
         ensures no_more { length self.new.blocks ≤ length self.old.blocks }
     {
         self.tables.remove_predecessor(block, inst);
+    }
+
+    /// Moves a branch from a block to another one, both of which aren't sealed: each of its edges to `from` goes to `to`,
+    /// and passes what it passed.
+    ///
+    /// The branch is put behind those that lead to `to`, unless it is one of them, and is taken away from those that lead
+    /// to `from`; the others keep their order. Where both are one block nothing changes. The only error is `Memory`; the
+    /// function and the branches that lead to each block are as before then.
+    pub fn move_branch(
+        &mut self,
+        func: &mut Function,
+        inst: Inst,
+        from: Block,
+        to: Block,
+    ) -> Result<(), BuildError>
+        requires inst_exists { inst < length func.old.insts }
+        requires target_exists { to < length func.old.blocks }
+        requires from_unsealed { is_yes (sealed_of self.old from) ≡ false }
+        requires to_unsealed { is_yes (sealed_of self.old to) ≡ false }
+        requires leads { Stands inst (predecessors_of self.old from) }
+        ensures ok { OnOk result (MovesBranch func.old self.old func.new self.new inst from to) }
+        ensures err { OnErr result ((func.new ≡ func.old) × SamePredecessors self.old self.new) }
+        ensures records { self.new.records ≡ self.old.records }
+        ensures blocks { SameBlocks self.old self.new }
+        ensures described { (own : Own) (tables : Blocks) → PassesOwn own func.old from inst → PassesOwn own func.old to inst → ((j : ℕ) → Contains (predecessors_of self.old to) j → j ≢ inst → branch_block func.old j ≢ branch_block func.old inst) → DescribesSoundly own func.old self.old tables → OnOk result (DescribesSoundly own func.new self.new tables) }
+        ensures structured { (types : VariableTypes) (own : Own) → ((k : ℕ) → edge_target func.old inst k ≡ Some to → args_of (slice_get (edges_at func.old inst) k) ≡ own.passed inst k) → Structured types own func.old self.old [] → OnOk result (Structured types own func.new self.new []) }
+        ensures looks_once { LooksOnce self.old → LooksOnce self.new }
+        ensures no_more { KnowsNoMore self.old self.new (to + 1) }
+        ensures only_memory { OnErr result (result ≡ Err BuildError.Memory) }
+    {
+        func.law_consistent();
+        self.move_leads(func, inst, from, to)
+    }
+
+    // Moves the edges of a branch, and what is known of them.
+    fn move_leads(
+        &mut self,
+        func: &mut Function,
+        inst: Inst,
+        from: Block,
+        to: Block,
+    ) -> Result<(), BuildError>
+        requires inst_exists { inst < length func.old.insts }
+        requires target_exists { to < length func.old.blocks }
+        requires leads { Stands inst (predecessors_of self.old from) }
+        ensures ok { OnOk result (MovesBranch func.old self.old func.new self.new inst from to) }
+        ensures err { OnErr result ((func.new ≡ func.old) × SamePredecessors self.old self.new) }
+        ensures records { self.new.records ≡ self.old.records }
+        ensures blocks { SameBlocks self.old self.new }
+        ensures looks_once { LooksOnce self.old → LooksOnce self.new }
+        ensures no_more { KnowsNoMore self.old self.new (to + 1) }
+        ensures only_memory { OnErr result (result ≡ Err BuildError.Memory) }
+    {
+        if from == to {
+            return Ok(());
+        }
+        self.tables.lead_once(to, inst)?;
+        func.change_branch_target(inst, from, to);
+        self.tables.remove_predecessor(from, inst);
+        Ok(())
     }
 
     /// Whether any branch leads to a block.
@@ -501,7 +562,7 @@ impl SSABuilder {
         ensures sealed { OnOk result (SealsOne self.old self.new block) }
         ensures err { OnErr result (SealedStays self.old self.new ⊎ SealsOne self.old self.new block) }
         ensures local { predecessors_of self.old block ≡ [] → SealsLocally func.old self.old func.new self.new block result }
-        ensures keeps { (own : Own) (tables : Blocks) → DescribesSoundly own func.old self.old tables → OnOk result (Keeps own tables func.new self.new) }
+        ensures keeps { (own : Own) (tables : Blocks) → SparesIfEntry func.old self.old block → DescribesSoundly own func.old self.old tables → OnOk result (Keeps own tables func.new self.new) }
         ensures remembers { (x b : ℕ) → OnOk result (Remembers x b func.old self.old func.new self.new) }
         ensures parameters { predecessors_of self.old block ≡ [] → OnOk result (LosesWaiting func.old func.new (pending_of (sealed_of self.old block))) }
         ensures structured { (types : VariableTypes) (own : Own) → Structured types own func.old self.old [] → OnOk result (Structured types own func.new self.new []) }
@@ -533,7 +594,7 @@ impl SSABuilder {
         ensures sealed_stays { (b : ℕ) → is_yes (sealed_of self.old b) ≡ true → is_yes (sealed_of self.new b) ≡ true }
         ensures others { (b : ℕ) → length func.old.blocks ≤ b → is_yes (sealed_of self.new b) ≡ is_yes (sealed_of self.old b) }
         ensures in_turn { IfOk result (λ r. SealsBelow func.old self.old (length func.old.blocks) func.new self.new r.instructions_added_to_blocks.items) }
-        ensures keeps { (own : Own) (tables : Blocks) → DescribesSoundly own func.old self.old tables → OnOk result (Keeps own tables func.new self.new) }
+        ensures keeps { (own : Own) (tables : Blocks) → ((b : ℕ) → b < length func.old.blocks → SparesIfEntry func.old self.old b) → DescribesSoundly own func.old self.old tables → OnOk result (Keeps own tables func.new self.new) }
         ensures remembers { (x b : ℕ) → OnOk result (Remembers x b func.old self.old func.new self.new) }
         ensures looks_once { LooksOnce self.old → LooksOnce self.new }
         ensures structured { (types : VariableTypes) (own : Own) → Structured types own func.old self.old [] → OnOk result (Structured types own func.new self.new []) }

@@ -7,6 +7,7 @@ ghost use Rattle.clif_ssa.specs.Constructs.{TellsMore};
 ghost use Rattle.clif_records.specs.Tables.{is_yes, pending_of};
 ghost use Rattle.clif_records.specs.declared.tables.Sealed.{Sealed};
 ghost use Rattle.clif_ssa.specs.Ssa.{no_state, Declares, Removes, Seals, record_of, sealed_of, predecessors_of, lookups_of, Named, Records, KnowsNoMore, SameRecords, SameBlocks, SamePredecessors, SameLookups, CountsLookup};
+ghost use Rattle.clif_ssa.specs.Moving.{LeadsOnce};
 ghost use Rattle.clif_ssa.specs.Pools.{UseIsFull};
 ghost use Rattle.clif_ssa.specs.Running.{stage, Got};
 ghost use Rattle.clif_ssa.specs.Steps.{StepKeeps, StepEnds, UsesLocally};
@@ -100,6 +101,21 @@ impl SsaTables {
         ensures no_more { KnowsNoMore self.old self.new (block + 1) }
         ensures only_memory { OnErr result (result ≡ Err BuildError.Memory) }
     {
+        self.blocks.declare_predecessor(block, branch)
+    }
+
+    /// Puts a branch behind those that lead to a block, unless it is one of them.
+    pub(crate) fn lead_once(&mut self, block: Block, branch: Inst) -> Result<(), BuildError>
+        ensures ok { OnOk result (LeadsOnce self.old self.new block branch) }
+        ensures err { OnErr result (SamePredecessors self.old self.new) }
+        ensures records { self.new.records ≡ self.old.records }
+        ensures blocks { SameBlocks self.old self.new }
+        ensures no_more { KnowsNoMore self.old self.new (block + 1) }
+        ensures only_memory { OnErr result (result ≡ Err BuildError.Memory) }
+    {
+        if self.blocks.predecessors(block).contains(&branch) {
+            return Ok(());
+        }
         self.blocks.declare_predecessor(block, branch)
     }
 

@@ -9,9 +9,7 @@ ghost use Rattle.clif_ssa.specs.Ssa.{Declares, NamesExist};
 use clif_instructions::insert_at::InsertAt;
 use clif_ir::{BlockCall, Function, InstructionData};
 use clif_ssa::{SSABuilder, SideEffects, Variable};
-use clif_types::{
-    Block, CallConv, EntityRef, Inst, Signature, SourceLoc, Type, UserFuncName, Value,
-};
+use clif_types::{Block, EntityRef, Inst, SourceLoc, Type, Value};
 use std::alloc::Global;
 use std::fmt::Write;
 use std::process::Abort;
@@ -43,8 +41,8 @@ pub fn var(number: u8) -> Variable {
     Variable::from_u32(u32::from(number))
 }
 
-// Whether these values exist.
-fn has_operands(func: &Function, args: &[Value]) -> bool
+/// Whether these values exist.
+pub fn has_operands(func: &Function, args: &[Value]) -> bool
     ensures { IsTrue result → EachIndex args.now (λ k. slice_index args.now k < length func.now.values) }
 {
     let count = func.value_count();
@@ -58,7 +56,8 @@ fn has_edge(func: &Function, edge: &BlockCall) -> bool
     edge.block.index() < func.block_count() && edge.args.as_slice().is_empty()
 }
 
-fn has_edges(func: &Function, edges: &[BlockCall]) -> bool
+/// Whether the targets of these edges exist, to which nothing is passed.
+pub fn has_edges(func: &Function, edges: &[BlockCall]) -> bool
     ensures { IsTrue result → All (EdgeExists func.now) edges.now }
 {
     edges.iter().all(|edge| has_edge(func, edge))
@@ -78,8 +77,7 @@ pub struct Fixture {
 impl Fixture {
     /// The empty function `u0:0` and a builder that knows nothing.
     pub fn new(alloc: Global) -> Self {
-        let signature = Signature::new(alloc, CallConv::Fast);
-        let func = Function::with_name_signature(alloc, UserFuncName::user(0, 0), signature);
+        let func = Function::new(alloc);
         Fixture {
             func,
             ssa: SSABuilder::new(alloc),

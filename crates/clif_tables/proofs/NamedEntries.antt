@@ -9,7 +9,7 @@ use Rattle.std.proofs.lemmas.Map.Views.{All-values-insert_entry}
 use Rattle.clif_types.specs.declared.extfunc.ExtFuncData.{ExtFuncData}
 use Rattle.clif_types.specs.declared.stackmap.UserStackMapEntry.{UserStackMapEntry}
 use Rattle.clif_instructions.specs.declared.block_call.BlockCall.{BlockCall}
-use Rattle.clif_instructions.specs.declared.exception_table.ExceptionTableData.{ExceptionTableData}
+use Rattle.clif_instructions.specs.ExceptionTables.{ExceptionShape}
 use Rattle.clif_tables.specs.declared.labels.ValueLabelStart.{ValueLabelStart}
 use Rattle.clif_tables.specs.Entries.{TableEntry, AStackSlot, ADynamicStackSlot, AGlobalValue, ASignature, AFunction, with_entry, NamesEntries, NamesSlots, SignaturesExist, NamedExist}
 use Rattle.clif_tables.specs.Lists.{TableLists, no_entries, with_constant, with_jump_table, with_exception_table, with_table_served, with_exception_table_served, with_stack_map, with_labels_collected, with_label}
@@ -59,7 +59,7 @@ named_with_constant t bytes known = record { signatures = known.signatures; slot
 pub named_with_jump_table : (t : TableLists) (edges : List BlockCall) → NamedExist t → NamedExist (with_jump_table t edges)
 named_with_jump_table t edges known = record { signatures = known.signatures; slots = known.slots }
 
-pub named_with_exception_table : (t : TableLists) (table : ExceptionTableData) → NamedExist t → NamedExist (with_exception_table t table)
+pub named_with_exception_table : (t : TableLists) (table : ExceptionShape) → NamedExist t → NamedExist (with_exception_table t table)
 named_with_exception_table t table known = record { signatures = known.signatures; slots = known.slots }
 
 pub named_with_table_served : (t : TableLists) (table : ℕ) → NamedExist t → NamedExist (with_table_served t table)

@@ -9,8 +9,7 @@ use Rattle.clif_types.specs.declared.globalvalue.GlobalValueData.{GlobalValueDat
 use Rattle.clif_types.specs.declared.stackmap.UserStackMapEntry.{UserStackMapEntry}
 use Rattle.clif_types.specs.declared.stackslot.DynamicStackSlotData.{DynamicStackSlotData}
 use Rattle.clif_instructions.specs.declared.block_call.BlockCall.{BlockCall}
-use Rattle.clif_instructions.specs.ExceptionTables.{ExceptionShape, exception_shape}
-use Rattle.clif_instructions.specs.declared.exception_table.ExceptionTableData.{ExceptionTableData}
+use Rattle.clif_instructions.specs.ExceptionTables.{ExceptionShape}
 use Rattle.clif_tables.specs.Constants as pool
 use Rattle.clif_tables.specs.Sparse.{list_at, with_list, with_one_more}
 use Rattle.clif_tables.specs.declared.labels.ValueLabelStart.{ValueLabelStart}
@@ -69,8 +68,8 @@ with_function t function = record t { functions = t.functions ++ function ∷ []
 abbrev pub with_jump_table : TableLists → List BlockCall → TableLists
 with_jump_table t edges = record t { jump_tables = t.jump_tables ++ Some edges ∷ [] }
 
-abbrev pub with_exception_table : TableLists → ExceptionTableData → TableLists
-with_exception_table t table = record t { exception_tables = t.exception_tables ++ Some (exception_shape table) ∷ [] }
+abbrev pub with_exception_table : TableLists → ExceptionShape → TableLists
+with_exception_table t table = record t { exception_tables = t.exception_tables ++ Some table ∷ [] }
 
 -- with these bytes among the constants, at the end unless they are there
 abbrev pub with_constant : TableLists → List ℕ → TableLists

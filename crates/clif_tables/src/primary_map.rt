@@ -7,11 +7,11 @@ use clif_types::{BuildError, EntityRef};
 use std::alloc::Global;
 use std::marker::{Model, PhantomData};
 
-/// How many entries a table holds at most.
-const TABLE_LIMIT: usize = 0xffff_ffff;
+/// How many entries a table of a function holds at most.
+pub const TABLE_LIMIT: usize = 0xffff_ffff;
 
-// The number of the next entry of a table that holds `len` entries.
-pub(crate) fn next_number(len: usize) -> Result<u32, BuildError>
+/// The number of the next entry of a table that holds `len` entries.
+pub fn next_number(len: usize) -> Result<u32, BuildError>
     ensures ok { IfOk result (λ n. (n ≡ len) × (n < 2 ^ 32 - 1)) }
     ensures full { OnErr result ((result ≡ Err BuildError.Full) × (TABLE_LIMIT ≤ len)) }
 {

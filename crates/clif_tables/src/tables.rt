@@ -3,6 +3,7 @@ ghost use Rattle.std.specs.Prelude.{◌≡◌, ◌<◌, ◌^◌, length, slice_g
 ghost use Rattle.std.specs.Borrow.{sem};
 ghost use Rattle.clif_tables.specs.Makes.{Makes, Pools};
 ghost use Rattle.clif_tables.specs.Lends.{lends_regions};
+ghost use Rattle.clif_instructions.specs.ExceptionTables.{exception_shape};
 ghost use Rattle.clif_tables.specs.Lists.{no_entries, with_stack_slot, with_dynamic_stack_slot, with_global_value, with_signature, with_function, with_constant, with_jump_table, with_exception_table, with_exception_table_served, with_table_served, unserved, stack_map_at, with_stack_map, labels_at, with_labels_collected, with_label};
 
 use crate::constants::{ConstantData, ConstantPool};
@@ -159,7 +160,7 @@ impl Tables {
         &mut self,
         table: ExceptionTableData,
     ) -> Result<ExceptionTable, BuildError>
-        ensures { Makes (length self.old.exception_tables) self.old self.new (with_exception_table self.old table) result }
+        ensures { Makes (length self.old.exception_tables) self.old self.new (with_exception_table self.old (exception_shape table)) result }
     {
         self.exception_tables.check_room()?;
         let targets = ExceptionTargets::new(self.alloc, table)?;

@@ -3,6 +3,7 @@ use Rattle.std.specs.Prelude.{◌≡◌, ◌≢◌, ℕ, ◌+◌, ◌==◌, ◌�
 use Rattle.clif_calls.specs.declared.call.Name.{Name}
 use Rattle.clif_calls.specs.declared.call.Call.{Call}
 use Rattle.clif_calls.specs.declared.call.Call.TheVariants as call
+use Rattle.clif_calls.specs.declared.entry.EntryCall.TheVariants as entry
 use Rattle.clif_text.specs.declared.scope.Kind.{Kind}
 use Rattle.clif_text.specs.declared.scope.Kind.TheVariants as kind
 use Rattle.clif_text.specs.declared.scope.Numbered.{Numbered}
@@ -13,7 +14,8 @@ use Rattle.clif_text.specs.Grammar.{Names}
 -- of what kind the call answers one, if it answers any by number
 abbrev pub numbered_kind : Call → Option Kind
 numbered_kind (call.DeclareVar ty) = Some kind.Variable
-numbered_kind (call.CreateSizedStackSlot size align_shift) = Some kind.StackSlot
+numbered_kind (call.Entry (entry.CreateSizedStackSlot size align_shift)) = Some kind.StackSlot
+numbered_kind (call.Entry (entry.ImportSignature signature)) = Some kind.Signature
 numbered_kind (call.CreateJumpTable default entries) = Some kind.JumpTable
 numbered_kind _ = None
 
@@ -31,13 +33,14 @@ is_instruction _ = false
 
 -- how many there are of each kind at first
 abbrev pub no_totals : Totals
-no_totals = record { variables = 0; stack_slots = 0; jump_tables = 0 }
+no_totals = record { variables = 0; stack_slots = 0; jump_tables = 0; signatures = 0 }
 
 -- how many there are of this kind
 abbrev pub total_of : Kind → Totals → ℕ
 total_of kind.Variable totals = totals.variables
 total_of kind.StackSlot totals = totals.stack_slots
 total_of kind.JumpTable totals = totals.jump_tables
+total_of kind.Signature totals = totals.signatures
 
 -- how many there are of each kind behind a call that answers one of this kind, or none
 abbrev pub totals_behind : Option Kind → Totals → Totals
@@ -45,6 +48,7 @@ totals_behind None totals = totals
 totals_behind (Some kind.Variable) totals = record totals { variables = totals.variables + 1 }
 totals_behind (Some kind.StackSlot) totals = record totals { stack_slots = totals.stack_slots + 1 }
 totals_behind (Some kind.JumpTable) totals = record totals { jump_tables = totals.jump_tables + 1 }
+totals_behind (Some kind.Signature) totals = record totals { signatures = totals.signatures + 1 }
 
 -- what such a call answers by number
 abbrev pub next_of : Option Kind → Totals → Numbered
@@ -52,6 +56,7 @@ next_of None totals = numbered.Nothing
 next_of (Some kind.Variable) totals = numbered.Variable totals.variables
 next_of (Some kind.StackSlot) totals = numbered.StackSlot totals.stack_slots
 next_of (Some kind.JumpTable) totals = numbered.JumpTable totals.jump_tables
+next_of (Some kind.Signature) totals = numbered.Signature totals.signatures
 
 -- how many there are of each kind behind these calls, where there were so many before them
 abbrev pub totals_from : Totals → List Call → Totals
@@ -68,6 +73,7 @@ abbrev pub number_as : Kind → Numbered → Option ℕ
 number_as kind.Variable (numbered.Variable number) = Some number
 number_as kind.StackSlot (numbered.StackSlot number) = Some number
 number_as kind.JumpTable (numbered.JumpTable number) = Some number
+number_as kind.Signature (numbered.Signature number) = Some number
 number_as _ _ = None
 
 -- the number of the one of this kind that a call answers, or else this number
@@ -86,6 +92,7 @@ names_with answered totals given = record {
   variable = number_in kind.Variable answered totals;
   slot = number_in kind.StackSlot answered totals;
   jump_table = number_in kind.JumpTable answered totals;
+  signature = number_in kind.Signature answered totals;
 }
 
 -- what names stand for behind these calls, where names were given so

@@ -1,23 +1,33 @@
 -- Which words stand for which call. Source: own; docs/SCRIPTS.md describes the same format.
 use Rattle.std.specs.Prelude.{◌≡◌, ℕ, ℤ, pos, ◌⊎◌, ◌++◌, List, [], ◌∷◌, Option, Some, None, codes}
-use Rattle.clif_types.specs.Texts.{int_cc_text}
+use Rattle.clif_types.specs.Texts.{int_cc_text, lib_call_text}
+use Rattle.clif_types.specs.declared.extfunc.ExtFuncData.{ExtFuncData}
+use Rattle.clif_types.specs.declared.extname.ExternalName.{ExternalName}
+use Rattle.clif_types.specs.declared.extname.ExternalName.TheVariants as name
+use Rattle.clif_types.specs.declared.extname.UserFuncName.TheVariants as func_name
+use Rattle.clif_types.specs.declared.globalvalue.GlobalValueData.{GlobalValueData}
+use Rattle.clif_types.specs.declared.globalvalue.GlobalValueData.TheVariants as global
 use Rattle.clif_opcodes.specs.Names.{binary_name, cond_trap_name, convert_name, float_const_name, stack_name, unary_name}
-use Rattle.clif_words.specs.Spelling.{AreFlags, IsBytes, IsDecimal, IsMagnitude, IsNumber, IsOffset, IsTrapCode, IsTypeWord}
+use Rattle.clif_words.specs.Spelling.{AreFlags, IsBytes, IsDecimal, IsMagnitude, IsNumber, IsOffset, IsTrapCode, IsTypeWord, flag_word}
 use Rattle.clif_calls.specs.declared.call.Name.{Name}
 use Rattle.clif_calls.specs.declared.call.Edge.{Edge}
 use Rattle.clif_calls.specs.declared.call.Call.{Call}
 use Rattle.clif_calls.specs.declared.call.Call.TheVariants as call
+use Rattle.clif_calls.specs.declared.entry.EntryCall.{EntryCall}
+use Rattle.clif_calls.specs.declared.entry.EntryCall.TheVariants as entry
 use Rattle.clif_calls.specs.Plan.{plan_of}
 use Rattle.clif_calls.specs.declared.plan.Plan.{Plan}
 use Rattle.clif_calls.specs.declared.plan.Plan.TheVariants as plan
+use Rattle.clif_text.specs.Header.{IsFunctionName, IsSignature}
 
--- what names stand for: the answer that a given name stands for, and the number of the variable, of the stack slot, or of the
--- jump table that an answer is
+-- what names stand for: the answer that a given name stands for, and the number of the variable, of the stack slot, of the
+-- jump table, or of the signature that an answer is
 pub record Names : Type 0 where
   pub given : List ℕ → Option Name
   pub variable : Name → ℕ
   pub slot : Name → ℕ
   pub jump_table : Name → ℕ
+  pub signature : Name → ℕ
 
 -- `$P.K`, with the place and the answer in decimal digits
 abbrev pub IsPlaceName : List ℕ → Name → Type 0
@@ -43,6 +53,10 @@ IsSlot names = IsNumbered (codes "ss") names.slot names
 -- the jump table of this number: as the answer of the call that made it, or as `jtN`
 abbrev pub IsJumpTable : Names → List ℕ → ℕ → Type 0
 IsJumpTable names = IsNumbered (codes "jt") names.jump_table names
+
+-- the signature of this number: as the answer of the call that imported it, or as `sigN`
+abbrev pub IsSignatureName : Names → List ℕ → ℕ → Type 0
+IsSignatureName names = IsNumbered (codes "sig") names.signature names
 
 -- the words stand for the answers, one for one
 abbrev pub AreAnswers : Names → List (List ℕ) → List Name → Type 0
@@ -96,6 +110,32 @@ IsPlain names words (plan.CondTrap opcode arg code) =
     (c reason : List ℕ) × (words ≡ cond_trap_name opcode ∷ c ∷ reason ∷ []) × IsAnswer names c arg × IsTrapCode reason code
 IsPlain names words _ = ⊥
 
+-- the name of a function or of a symbol: as that of the function that is built, or that of a function of the C library
+abbrev pub IsExternalName : List (List ℕ) → ExternalName → Type 0
+IsExternalName words (name.TestCase text) = (word : List ℕ) × (words ≡ word ∷ []) × IsFunctionName word (func_name.Testcase text)
+IsExternalName words (name.User user) = (word : List ℕ) × (words ≡ word ∷ []) × IsFunctionName word (func_name.User user)
+IsExternalName words (name.LibCall call) = words ≡ codes "libcall" ∷ lib_call_text call ∷ []
+
+-- what a global value is
+abbrev pub IsGlobalValue : List (List ℕ) → GlobalValueData → Type 0
+IsGlobalValue words global.VMContext = words ≡ codes "vmctx" ∷ []
+IsGlobalValue words (global.Symbol name) = (n : List (List ℕ)) × (words ≡ codes "symbol" ∷ n) × IsExternalName n name
+
+-- a function that is imported: whether it is near and whether its calls can be patched, its name, and its signature
+abbrev pub IsImported : Names → List (List ℕ) → ExtFuncData → Type 0
+IsImported names words function =
+    (n : List (List ℕ)) × (s : List ℕ)
+    × (words ≡ flag_word function.colocated (codes "colocated") ++ (flag_word function.patchable (codes "patchable") ++ (n ++ s ∷ [])))
+    × IsExternalName n function.name × IsSignatureName names s function.signature
+
+-- The words stand for a call that makes an entry of a table.
+abbrev pub IsEntry : Names → List (List ℕ) → EntryCall → Type 0
+IsEntry names words (entry.CreateSizedStackSlot size align_shift) = (a b : List ℕ) × (words ≡ codes "create_sized_stack_slot" ∷ a ∷ b ∷ []) × IsMagnitude a size × IsMagnitude b align_shift
+IsEntry names words (entry.CreateDynamicStackSlot slot) = (a : List ℕ) × (words ≡ codes "create_dynamic_stack_slot" ∷ a ∷ []) × IsMagnitude a slot.dyn_ty
+IsEntry names words (entry.CreateGlobalValue value) = (v : List (List ℕ)) × (words ≡ codes "create_global_value" ∷ v) × IsGlobalValue v value
+IsEntry names words (entry.ImportSignature signature) = (s : List (List ℕ)) × (words ≡ codes "import_signature" ∷ s) × IsSignature s signature
+IsEntry names words (entry.ImportFunction function) = (f : List (List ℕ)) × (words ≡ codes "import_function" ∷ f) × IsImported names f function
+
 -- The words stand for the call: its name, and then what it takes, in order.
 abbrev pub IsCall : Names → List (List ℕ) → Call → Type 0
 IsCall names words call.CreateBlock = words ≡ codes "create_block" ∷ []
@@ -108,7 +148,7 @@ IsCall names words call.EnsureInsertedBlock = words ≡ codes "ensure_inserted_b
 IsCall names words (call.AppendBlockParam block ty) = (b t : List ℕ) × (words ≡ codes "append_block_param" ∷ b ∷ t ∷ []) × IsAnswer names b block × IsTypeWord t ty
 IsCall names words (call.AppendBlockParamsForFunctionParams block) = (b : List ℕ) × (words ≡ codes "append_block_params_for_function_params" ∷ b ∷ []) × IsAnswer names b block
 IsCall names words (call.AppendBlockParamsForFunctionReturns block) = (b : List ℕ) × (words ≡ codes "append_block_params_for_function_returns" ∷ b ∷ []) × IsAnswer names b block
-IsCall names words (call.CreateSizedStackSlot size align_shift) = (a b : List ℕ) × (words ≡ codes "create_sized_stack_slot" ∷ a ∷ b ∷ []) × IsMagnitude a size × IsMagnitude b align_shift
+IsCall names words (call.Entry entry) = IsEntry names words entry
 IsCall names words (call.BlockCall edge) = (e : List (List ℕ)) × (words ≡ codes "block_call" ∷ e) × IsLastEdge names e edge
 IsCall names words (call.CreateJumpTable default entries) =
     (d : List ℕ) × (e : List (List ℕ)) × (words ≡ codes "create_jump_table" ∷ d ∷ e) × IsAnswer names d default × AreAnswers names e entries.items

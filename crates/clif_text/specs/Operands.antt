@@ -2,7 +2,7 @@
 use Rattle.std.specs.Prelude.{List, [], ◌++◌, ℕ, codes}
 use Rattle.std.specs.Fmt.{decimal}
 use Rattle.clif_types.specs.Texts.{bytes_text, type_text}
-use Rattle.clif_text.specs.Texts.{answer_text, answers_text, edge_text, plan_text, variable_text}
+use Rattle.clif_text.specs.Texts.{answer_text, answers_text, edge_text, entry_text, plan_text, variable_text}
 use Rattle.clif_text.specs.declared.writer.Operands.{Operands}
 use Rattle.clif_text.specs.declared.writer.Operands.TheVariants as operands
 
@@ -13,7 +13,7 @@ operands_text (operands.Answer x) = codes " " ++ answer_text x
 operands_text (operands.Answers x y) = codes " " ++ (answer_text x ++ (codes " " ++ answer_text y))
 operands_text (operands.Param block ty) = codes " " ++ (answer_text block ++ (codes " " ++ type_text ty))
 operands_text (operands.«Type» ty) = codes " " ++ type_text ty
-operands_text (operands.Slot size align_shift) = codes " " ++ (decimal size ++ (codes " " ++ decimal align_shift))
+operands_text (operands.Entry entry) = entry_text entry.now
 operands_text (operands.Definition variable x) = codes " " ++ (variable_text variable ++ (codes " " ++ answer_text x))
 operands_text (operands.Variable variable) = codes " " ++ variable_text variable
 operands_text (operands.Bytes bytes) = codes " " ++ bytes_text bytes.now

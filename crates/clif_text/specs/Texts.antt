@@ -2,15 +2,22 @@
 use Rattle.std.specs.Prelude.{ℕ, ℤ, List, [], ◌∷◌, ◌++◌, ◌==◌, codes, flat_map, nat_abs, if◌then◌else◌}
 use Rattle.std.specs.Fmt.{decimal, signed_decimal}
 use Rattle.clif_opcodes.specs.Names.{binary_name, cond_trap_name, convert_name, float_const_name, stack_name, unary_name}
-use Rattle.clif_types.specs.Texts.{bytes_text, type_text, call_conv_text, int_cc_text, mem_flags_text, signature_text, trap_code_text, user_func_name_text}
+use Rattle.clif_types.specs.Texts.{bytes_text, type_text, call_conv_text, external_name_text, int_cc_text, lib_call_text, mem_flags_text, signature_text, trap_code_text, user_func_name_text}
 use Rattle.clif_types.specs.Signature.{SignatureShape}
+use Rattle.clif_types.specs.declared.extfunc.ExtFuncData.{ExtFuncData}
+use Rattle.clif_types.specs.declared.extname.ExternalName.{ExternalName}
+use Rattle.clif_types.specs.declared.extname.ExternalName.TheVariants as name
 use Rattle.clif_types.specs.declared.extname.UserFuncName.{UserFuncName}
+use Rattle.clif_types.specs.declared.globalvalue.GlobalValueData.{GlobalValueData}
+use Rattle.clif_types.specs.declared.globalvalue.GlobalValueData.TheVariants as global
 use Rattle.clif_types.specs.declared.target.TargetFrontendConfig.{TargetFrontendConfig}
 use Rattle.clif_words.specs.Spelling.{pointer_text}
 use Rattle.clif_calls.specs.declared.call.Name.{Name}
 use Rattle.clif_calls.specs.declared.call.Edge.{Edge}
 use Rattle.clif_calls.specs.declared.call.Call.{Call}
 use Rattle.clif_calls.specs.declared.call.Call.TheVariants as call
+use Rattle.clif_calls.specs.declared.entry.EntryCall.{EntryCall}
+use Rattle.clif_calls.specs.declared.entry.EntryCall.TheVariants as entry
 use Rattle.clif_calls.specs.Plan.{plan_of}
 use Rattle.clif_calls.specs.declared.plan.Plan.{Plan}
 use Rattle.clif_calls.specs.declared.plan.Plan.TheVariants as plan
@@ -60,6 +67,31 @@ plan_text (plan.Jump destination) = codes "jump " ++ edge_text destination.now
 plan_text (plan.Brif condition first second) = codes "brif " ++ (answer_text condition ++ (codes " " ++ (edge_text first.now ++ (codes " " ++ edge_text second.now))))
 plan_text (plan.MultiAry args) = codes "return" ++ answers_text args.now
 
+-- the name of a function or of a symbol: `%f`, `u0:1` or `libcall Memcpy`
+abbrev pub imported_name_text : ExternalName → List ℕ
+imported_name_text (name.LibCall call) = codes "libcall " ++ lib_call_text call
+imported_name_text (name.User user) = external_name_text (name.User user)
+imported_name_text (name.TestCase text) = external_name_text (name.TestCase text)
+
+-- `vmctx` or `symbol %s`
+abbrev pub global_text : GlobalValueData → List ℕ
+global_text global.VMContext = codes "vmctx"
+global_text (global.Symbol name) = codes "symbol " ++ imported_name_text name
+
+-- `colocated patchable %f sig0`
+abbrev pub imported_text : ExtFuncData → List ℕ
+imported_text function =
+    (if function.colocated then codes "colocated " else [])
+    ++ ((if function.patchable then codes "patchable " else []) ++ (imported_name_text function.name ++ (codes " sig" ++ decimal function.signature)))
+
+-- a call that makes an entry of a table
+abbrev pub entry_text : EntryCall → List ℕ
+entry_text (entry.CreateSizedStackSlot size align_shift) = codes "create_sized_stack_slot " ++ (decimal size ++ (codes " " ++ decimal align_shift))
+entry_text (entry.CreateDynamicStackSlot slot) = codes "create_dynamic_stack_slot " ++ decimal slot.dyn_ty
+entry_text (entry.CreateGlobalValue value) = codes "create_global_value " ++ global_text value
+entry_text (entry.ImportSignature signature) = codes "import_signature " ++ signature_text signature
+entry_text (entry.ImportFunction function) = codes "import_function " ++ imported_text function
+
 abbrev pub call_text : Call → List ℕ
 call_text call.CreateBlock = codes "create_block"
 call_text (call.SwitchToBlock block) = codes "switch_to_block " ++ answer_text block
@@ -71,7 +103,7 @@ call_text call.EnsureInsertedBlock = codes "ensure_inserted_block"
 call_text (call.AppendBlockParam block ty) = codes "append_block_param " ++ (answer_text block ++ (codes " " ++ type_text ty))
 call_text (call.AppendBlockParamsForFunctionParams block) = codes "append_block_params_for_function_params " ++ answer_text block
 call_text (call.AppendBlockParamsForFunctionReturns block) = codes "append_block_params_for_function_returns " ++ answer_text block
-call_text (call.CreateSizedStackSlot size align_shift) = codes "create_sized_stack_slot " ++ (decimal size ++ (codes " " ++ decimal align_shift))
+call_text (call.Entry entry) = entry_text entry
 call_text (call.BlockCall edge) = codes "block_call " ++ edge_text edge
 call_text (call.CreateJumpTable default entries) = codes "create_jump_table " ++ (answer_text default ++ answers_text entries.items)
 call_text (call.DeclareVar ty) = codes "declare_var " ++ type_text ty

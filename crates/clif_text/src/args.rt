@@ -2,15 +2,19 @@
 ghost use Rattle.std.specs.Prelude.{◌≡◌, ◌<◌, ◌-◌, ◌^◌, ◌++◌, ◌∷◌, [], ℕ, List, IfSome, codes};
 ghost use Rattle.clif_words.specs.Spelling.{IsDecimal};
 
+use crate::header::{function_name, last_signature};
 use crate::scope::{Kind, Scope, is_name};
 use clif_calls::{Edge, Name};
 use clif_records::Variable;
-use clif_types::{EntityRef, IntCC, JumpTable, MemFlagsData, StackSlot, TrapCode, Type};
+use clif_types::{
+    EntityRef, ExternalName, IntCC, JumpTable, MemFlagsData, SigRef, Signature, StackSlot,
+    TrapCode, Type, UserFuncName,
+};
 use clif_words::bytes::bytes;
 use clif_words::cursor::Cursor;
 use clif_words::error::{Expected, Fault, LineError};
 use clif_words::number::{decimal, magnitude, number, offset};
-use clif_words::types::{condition_named, trap_code_named, type_named};
+use clif_words::types::{condition_named, lib_call_named, trap_code_named, type_named};
 use std::alloc::Global;
 
 /// The words that are left, and what names in them stand for.
@@ -27,8 +31,9 @@ impl<'w, 'a> Args<'w, 'a> {
     ghost use Rattle.std.specs.Prelude.{IfOk, OnOk};
     ghost use Rattle.clif_types.specs.Texts.{int_cc_text};
     ghost use Rattle.clif_words.specs.Cursor.{TakesFlags, texts, words_left};
-    ghost use Rattle.clif_words.specs.Spelling.{IsBytes, IsMagnitude, IsNumber, IsTrapCode, IsTypeWord};
-    ghost use Rattle.clif_text.specs.Grammar.{AreAnswers, AreLast, IsEdge, IsJumpTable, IsLastEdge, IsLastOffset, IsNumbered, IsSlot, IsVariable};
+    ghost use Rattle.clif_words.specs.Spelling.{IsBytes, IsMagnitude, IsNumber, IsTrapCode, IsTypeWord, flag_word};
+    ghost use Rattle.clif_text.specs.Grammar.{AreAnswers, AreLast, IsEdge, IsExternalName, IsJumpTable, IsLastEdge, IsLastOffset, IsNumbered, IsSignatureName, IsSlot, IsVariable};
+    ghost use Rattle.clif_text.specs.Header.{IsSignature};
     ghost use Rattle.clif_text.specs.Reading.{TakesAnswer, TakesAnswers, TakesWord, TakesWords, names_in, numbers_in};
 
     pub(crate) fn new(words: &'w [&'a str], scope: &'w Scope<'a>) -> Args<'w, 'a>
@@ -136,6 +141,17 @@ impl<'w, 'a> Args<'w, 'a> {
         Ok(JumpTable::new(number))
     }
 
+    /// A signature: the one that a name or `$P.K` stands for, or `sigN`, which is signature N unless that name was
+    /// given.
+    pub(crate) fn signature(&mut self) -> Result<SigRef, LineError<'a>>
+        ensures scope { self.new.scope ≡ self.old.scope }
+        ensures ok { IfOk result (TakesWord self.old self.new
+            (IsSignatureName (names_in self.old))) }
+    {
+        let number = self.numbered("sig", Kind::Signature, Expected::Signature)?;
+        Ok(SigRef::new(number))
+    }
+
     /// An edge that `block_call` answered.
     pub(crate) fn edge_name(&mut self) -> Result<Name, LineError<'a>>
         ensures scope { self.new.scope ≡ self.old.scope }
@@ -219,6 +235,57 @@ impl<'w, 'a> Args<'w, 'a> {
             Ok(shift) => Ok(shift),
             Err(_) => Err(LineError::wanted(Expected::AlignShift)),
         }
+    }
+
+    /// The number of a dynamic type.
+    pub(crate) fn dynamic_type(&mut self) -> Result<u32, LineError<'a>>
+        ensures scope { self.new.scope ≡ self.old.scope }
+        ensures ok { IfOk result (TakesWord self.old self.new IsMagnitude) }
+    {
+        match u32::try_from(self.magnitude(Expected::DynamicType)?) {
+            Ok(number) => Ok(number),
+            Err(_) => Err(LineError::wanted(Expected::DynamicType)),
+        }
+    }
+
+    /// Whether the next word is this one, which is taken then.
+    pub(crate) fn has(&mut self, word: &str) -> bool
+        ensures scope { self.new.scope ≡ self.old.scope }
+        ensures taken { words_left self.old.words ≡
+            flag_word result word.now ++ words_left self.new.words }
+    {
+        self.words.skips(word)
+    }
+
+    /// The name of a function, or of what `expected` says.
+    pub(crate) fn external_name(
+        &mut self,
+        alloc: Global,
+        expected: Expected,
+    ) -> Result<ExternalName, LineError<'a>>
+        ensures scope { self.new.scope ≡ self.old.scope }
+        ensures ok { IfOk result (TakesWords self.old self.new IsExternalName) }
+    {
+        if self.words.skips("libcall") {
+            let word = self.words.take(Expected::LibCall)?;
+            return match lib_call_named(word) {
+                Some(call) => Ok(ExternalName::LibCall(call)),
+                None => Err(LineError::wanted(Expected::LibCall)),
+            };
+        }
+        let word = self.words.take(expected)?;
+        match function_name(alloc, word, expected)? {
+            UserFuncName::User(name) => Ok(ExternalName::User(name)),
+            UserFuncName::Testcase(name) => Ok(ExternalName::TestCase(name)),
+        }
+    }
+
+    /// A signature that ends the line, with its types.
+    pub(crate) fn last_signature(&mut self, alloc: Global) -> Result<Signature, LineError<'a>>
+        ensures scope { self.new.scope ≡ self.old.scope }
+        ensures ok { IfOk result (TakesWords self.old self.new IsSignature) }
+    {
+        last_signature(alloc, &mut self.words)
     }
 
     /// A condition.

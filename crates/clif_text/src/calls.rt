@@ -7,6 +7,7 @@ ghost use Rattle.clif_text.specs.Reading.{ReadsCall};
 ghost use Rattle.clif_text.specs.Scope.{names_of};
 
 use crate::args::Args;
+use crate::entries::read_entry_call;
 use crate::instructions::{
     binary_named, cond_trap_named, convert_named, float_const_named, read_binary_call,
     read_cond_trap_call, read_convert_call, read_f128const_call, read_float_const_call,
@@ -21,13 +22,9 @@ use clif_words::types::type_named;
 use std::alloc::Global;
 
 // The calls of the format that aren't understood so far, without the type that may follow their name.
-const NOT_SUPPORTED: [&str; 26] = [
+const NOT_SUPPORTED: [&str; 22] = [
     "declare_var_needs_stack_map",
     "declare_value_needs_stack_map",
-    "import_signature",
-    "import_function",
-    "create_dynamic_stack_slot",
-    "create_global_value",
     "create_exception_table",
     "change_jump_destination",
     "set_srcloc",
@@ -59,10 +56,11 @@ fn read_call<'a>(
     ensures { IfOk result (ReadsCall args.old args.new head.now) }
 {
     match head {
-        "create_sized_stack_slot" => Ok(Call::CreateSizedStackSlot {
-            size: args.slot_size()?,
-            align_shift: args.align_shift()?,
-        }),
+        "create_sized_stack_slot"
+        | "create_dynamic_stack_slot"
+        | "create_global_value"
+        | "import_signature"
+        | "import_function" => read_entry_call(alloc, head, args),
         "block_call" => Ok(Call::BlockCall {
             edge: args.last_edge(alloc)?,
         }),
@@ -286,7 +284,7 @@ pub(crate) fn answers_of(call: &Call) -> Answers
     let (instruction, names) = match call {
         Call::CreateBlock
         | Call::AppendBlockParam { .. }
-        | Call::CreateSizedStackSlot { .. }
+        | Call::Entry(_)
         | Call::BlockCall { .. }
         | Call::CreateJumpTable { .. }
         | Call::DeclareVar { .. }

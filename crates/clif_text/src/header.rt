@@ -2,7 +2,7 @@
 ghost use Rattle.std.specs.Prelude.{◌≡◌, ◌++◌, ◌∷◌, [], ℕ, List, None, Some, IfOk, IfSome, OnOk, codes};
 ghost use Rattle.clif_types.specs.Texts.{call_conv_text};
 ghost use Rattle.clif_words.specs.Cursor.{texts, words_left};
-ghost use Rattle.clif_text.specs.Header.{AreReturned, AreTypes, IsFunction, IsFunctionName, IsUserName, name_in, signature_in};
+ghost use Rattle.clif_text.specs.Header.{AreReturned, AreTypes, IsFunction, IsFunctionName, IsSignature, IsUserName, name_in, signature_in};
 ghost use Rattle.clif_words.specs.Spelling.{pointer_text};
 
 use clif_types::{
@@ -121,7 +121,8 @@ fn last_call_conv<'a>(
     words: &mut Cursor<'_, 'a>,
     expected: Expected,
 ) -> Result<CallConv, LineError<'a>>
-    ensures { IfOk result (λ conv. words_left words.old ≡ call_conv_text conv ∷ []) }
+    ensures conv { IfOk result (λ conv. words_left words.old ≡ call_conv_text conv ∷ []) }
+    ensures end { OnOk result (words_left words.new ≡ []) }
 {
     let word = words.take(expected)?;
     let conv = call_conv_named(word).ok_or(LineError::wanted(expected))?;
@@ -129,19 +130,23 @@ fn last_call_conv<'a>(
     Ok(conv)
 }
 
-// The name of a function: `%` and a text, or `u0:0`.
-fn function_name<'a>(alloc: Global, word: &'a str) -> Result<UserFuncName, LineError<'a>>
+// The name of a function, or of what `expected` says: `%` and a text, or `u0:0`.
+pub(crate) fn function_name<'a>(
+    alloc: Global,
+    word: &'a str,
+    expected: Expected,
+) -> Result<UserFuncName, LineError<'a>>
     ensures { IfOk result (IsFunctionName word.now) }
 {
     if let Some(text) = word.strip_prefix('%') {
         if text.is_empty() {
-            return Err(LineError::wanted(Expected::FunctionName));
+            return Err(LineError::wanted(expected));
         }
         return Ok(UserFuncName::testcase(String::from_str(alloc, text)?));
     }
     match user_name(word) {
         Some(name) => Ok(UserFuncName::User(name)),
-        None => Err(LineError::wanted(Expected::FunctionName)),
+        None => Err(LineError::wanted(expected)),
     }
 }
 
@@ -205,7 +210,30 @@ fn take_returns<'a>(
     }
 }
 
-// `%name (types) -> types CONV`, or the same without the arrow.
+// `(types) -> types CONV`, or the same without the arrow, which ends a line.
+pub(crate) fn last_signature<'a>(
+    alloc: Global,
+    words: &mut Cursor<'_, 'a>,
+) -> Result<Signature, LineError<'a>>
+    ensures signature { IfOk result (IsSignature (words_left words.old)) }
+    ensures end { OnOk result (words_left words.new ≡ []) }
+{
+    let params = take_params(alloc, words)?;
+    let returns = take_returns(alloc, words)?;
+    let expected = if returns.is_empty() {
+        Expected::ArrowOrCallConv
+    } else {
+        Expected::TypeOrCallConv
+    };
+    let call_conv = last_call_conv(words, expected)?;
+    Ok(Signature {
+        params,
+        returns,
+        call_conv,
+    })
+}
+
+// `%name`, and a signature.
 fn function_of<'a>(
     alloc: Global,
     rest: &[&'a str],
@@ -213,19 +241,8 @@ fn function_of<'a>(
     ensures { IfOk result (IsFunction (texts rest.now)) }
 {
     let mut words = Cursor::new(rest);
-    let name = function_name(alloc, words.take(Expected::FunctionName)?)?;
-    let params = take_params(alloc, &mut words)?;
-    let returns = take_returns(alloc, &mut words)?;
-    let expected = if returns.is_empty() {
-        Expected::ArrowOrCallConv
-    } else {
-        Expected::TypeOrCallConv
-    };
-    let call_conv = last_call_conv(&mut words, expected)?;
-    let signature = Signature {
-        params,
-        returns,
-        call_conv,
-    };
+    let word = words.take(Expected::FunctionName)?;
+    let name = function_name(alloc, word, Expected::FunctionName)?;
+    let signature = last_signature(alloc, &mut words)?;
     Ok((name, signature))
 }

@@ -3,6 +3,7 @@
 
 mod args;
 mod calls;
+mod entries;
 mod header;
 mod instructions;
 mod reader;

@@ -9,7 +9,7 @@ ghost use Rattle.clif_text.specs.Script as script;
 use crate::calls::{Answers, answers_of, call_of};
 use crate::header::{Header, is_header};
 use crate::scope::{Kind, Scope, is_name};
-use clif_calls::{Call, Name};
+use clif_calls::{Call, EntryCall, Name};
 use clif_types::{Signature, TargetFrontendConfig, UserFuncName};
 use clif_words::error::{Expected, Fault, LineError, ReadError};
 use clif_words::words::words_of;
@@ -124,7 +124,8 @@ fn kind_answered(call: &Call) -> Option<Kind>
 {
     match call {
         Call::DeclareVar { .. } => Some(Kind::Variable),
-        Call::CreateSizedStackSlot { .. } => Some(Kind::StackSlot),
+        Call::Entry(EntryCall::CreateSizedStackSlot { .. }) => Some(Kind::StackSlot),
+        Call::Entry(EntryCall::ImportSignature(_)) => Some(Kind::Signature),
         Call::CreateJumpTable { .. } => Some(Kind::JumpTable),
         _ => None,
     }

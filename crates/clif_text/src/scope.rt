@@ -17,6 +17,8 @@ pub(crate) enum Kind {
     StackSlot,
     /// A jump table.
     JumpTable,
+    /// A signature.
+    Signature,
 }
 
 // What a call answers by number.
@@ -25,6 +27,7 @@ enum Numbered {
     Variable(usize),
     StackSlot(usize),
     JumpTable(usize),
+    Signature(usize),
     Nothing,
 }
 
@@ -34,6 +37,7 @@ struct Totals {
     variables: usize,
     stack_slots: usize,
     jump_tables: usize,
+    signatures: usize,
 }
 
 /// The names that the lines so far gave, and what their calls answered by number.
@@ -46,6 +50,7 @@ pub(crate) struct Scope<'a> {
     ghost variables_counted: { totals.variables ≤ vec_len numbered },
     ghost slots_counted: { totals.stack_slots ≤ vec_len numbered },
     ghost tables_counted: { totals.jump_tables ≤ vec_len numbered },
+    ghost signatures_counted: { totals.signatures ≤ vec_len numbered },
 }
 
 impl Numbered {
@@ -56,7 +61,8 @@ impl Numbered {
         match (self, kind) {
             (Numbered::Variable(number), Kind::Variable)
             | (Numbered::StackSlot(number), Kind::StackSlot)
-            | (Numbered::JumpTable(number), Kind::JumpTable) => Some(number),
+            | (Numbered::JumpTable(number), Kind::JumpTable)
+            | (Numbered::Signature(number), Kind::Signature) => Some(number),
             _ => None,
         }
     }
@@ -71,6 +77,7 @@ impl Totals {
             Kind::Variable => self.variables,
             Kind::StackSlot => self.stack_slots,
             Kind::JumpTable => self.jump_tables,
+            Kind::Signature => self.signatures,
         }
     }
 }
@@ -117,6 +124,7 @@ impl<'a> Scope<'a> {
                 variables: 0,
                 stack_slots: 0,
                 jump_tables: 0,
+                signatures: 0,
             },
         }
     }
@@ -171,6 +179,11 @@ impl<'a> Scope<'a> {
                 let number = self.totals.jump_tables;
                 self.numbered.push(Numbered::JumpTable(number))?;
                 self.totals.jump_tables += 1;
+            }
+            Some(Kind::Signature) => {
+                let number = self.totals.signatures;
+                self.numbered.push(Numbered::Signature(number))?;
+                self.totals.signatures += 1;
             }
             None => self.numbered.push(Numbered::Nothing)?,
         }

@@ -1,12 +1,13 @@
 //! Scripts as text, written.
 ghost use Rattle.std.specs.Prelude.{◌≡◌, ◌++◌, Some, IfOk, string_bytes};
-ghost use Rattle.clif_text.specs.Texts.{answer_text, answers_text, edge_text, offset_text, plan_text, call_text, calls_text, header_text};
+ghost use Rattle.clif_text.specs.Texts.{answer_text, answers_text, edge_text, entry_text, global_text, imported_name_text, imported_text, offset_text, plan_text, call_text, calls_text, header_text};
 ghost use Rattle.clif_text.specs.Operands.{operands_text};
 
-use clif_calls::{Call, Edge, Name, Plan};
+use clif_calls::{Call, Edge, EntryCall, Name, Plan};
 use clif_records::Variable;
 use clif_types::{
-    HexBytes, JumpTable, PointerWidth, Signature, TargetFrontendConfig, Type, UserFuncName,
+    ExtFuncData, ExternalName, GlobalValueData, HexBytes, JumpTable, PointerWidth, Signature,
+    TargetFrontendConfig, Type, UserFuncName,
 };
 use std::alloc::{AllocError, Global};
 use std::fmt;
@@ -139,7 +140,85 @@ impl fmt::Display for PlanText<'_, '_> {
     }
 }
 
-// What is written behind the name of a call, or, of an instruction, with its name.
+// The name of a function or of a symbol.
+#[derive(Clone, Copy)]
+struct ImportedName<'a>(&'a ExternalName);
+
+impl fmt::Display for ImportedName<'_> {
+    ghost output = { λ text. Some (imported_name_text text.0.now) };
+
+    fn fmt<W: fmt::Write>(&self, f: &mut fmt::Formatter<W>) -> fmt::Result {
+        match self.0 {
+            ExternalName::LibCall(call) => write!(f, "libcall {call}"),
+            ExternalName::User(name) => write!(f, "{name}"),
+            ExternalName::TestCase(name) => write!(f, "{name}"),
+        }
+    }
+}
+
+// What a global value is.
+#[derive(Clone, Copy)]
+struct GlobalText<'a>(&'a GlobalValueData);
+
+impl fmt::Display for GlobalText<'_> {
+    ghost output = { λ text. Some (global_text text.0.now) };
+
+    fn fmt<W: fmt::Write>(&self, f: &mut fmt::Formatter<W>) -> fmt::Result {
+        match self.0 {
+            GlobalValueData::VMContext => f.write_str("vmctx"),
+            GlobalValueData::Symbol(name) => write!(f, "symbol {}", ImportedName(name)),
+        }
+    }
+}
+
+// A function that is imported.
+#[derive(Clone, Copy)]
+struct Imported<'a>(&'a ExtFuncData);
+
+impl fmt::Display for Imported<'_> {
+    ghost output = { λ text. Some (imported_text text.0.now) };
+
+    fn fmt<W: fmt::Write>(&self, f: &mut fmt::Formatter<W>) -> fmt::Result {
+        let function = self.0;
+        if function.colocated {
+            f.write_str("colocated ")?;
+        }
+        if function.patchable {
+            f.write_str("patchable ")?;
+        }
+        let (name, signature) = (ImportedName(&function.name), function.signature);
+        write!(f, "{name} {signature}")
+    }
+}
+
+// A call that makes an entry of a table.
+#[derive(Clone, Copy)]
+struct EntryText<'a>(&'a EntryCall);
+
+impl fmt::Display for EntryText<'_> {
+    ghost output = { λ text. Some (entry_text text.0.now) };
+
+    fn fmt<W: fmt::Write>(&self, f: &mut fmt::Formatter<W>) -> fmt::Result {
+        match self.0 {
+            EntryCall::CreateSizedStackSlot { size, align_shift } => {
+                write!(f, "create_sized_stack_slot {size} {align_shift}")
+            }
+            EntryCall::CreateDynamicStackSlot(slot) => {
+                let dyn_ty = slot.dyn_ty;
+                write!(f, "create_dynamic_stack_slot {dyn_ty}")
+            }
+            EntryCall::CreateGlobalValue(value) => {
+                write!(f, "create_global_value {}", GlobalText(value))
+            }
+            EntryCall::ImportSignature(signature) => write!(f, "import_signature {signature}"),
+            EntryCall::ImportFunction(function) => {
+                write!(f, "import_function {}", Imported(function))
+            }
+        }
+    }
+}
+
+// What is written behind the name of a call, or, of an instruction or of an entry, with its name.
 #[derive(Clone, Copy)]
 enum Operands<'a> {
     None,
@@ -147,7 +226,7 @@ enum Operands<'a> {
     Answers(Name, Name),
     Param(Name, Type),
     Type(Type),
-    Slot(u32, u8),
+    Entry(&'a EntryCall),
     Definition(Variable, Name),
     Variable(Variable),
     Bytes(&'a [u8]),
@@ -168,7 +247,7 @@ impl fmt::Display for Operands<'_> {
             Operands::Answers(x, y) => write!(f, " {} {}", AnswerText(*x), AnswerText(*y)),
             Operands::Param(block, ty) => write!(f, " {} {ty}", AnswerText(*block)),
             Operands::Type(ty) => write!(f, " {ty}"),
-            Operands::Slot(size, align_shift) => write!(f, " {size} {align_shift}"),
+            Operands::Entry(entry) => write!(f, "{}", EntryText(entry)),
             Operands::Definition(variable, x) => write!(f, " {variable} {}", AnswerText(*x)),
             Operands::Variable(variable) => write!(f, " {variable}"),
             Operands::Bytes(bytes) => write!(f, " {}", HexBytes(bytes)),
@@ -209,10 +288,7 @@ fn parts(call: &Call) -> (&'static str, Operands<'_>)
         ),
         Call::AppendBlockParamsForFunctionParams { block } => (PARAMS, Operands::Answer(*block)),
         Call::AppendBlockParamsForFunctionReturns { block } => (RETURNS, Operands::Answer(*block)),
-        Call::CreateSizedStackSlot { size, align_shift } => (
-            "create_sized_stack_slot",
-            Operands::Slot(*size, *align_shift),
-        ),
+        Call::Entry(entry) => ("", Operands::Entry(entry)),
         Call::BlockCall { edge } => ("block_call", Operands::Edge(edge)),
         Call::CreateJumpTable { default, entries } => (
             "create_jump_table",
@@ -253,8 +329,8 @@ fn parts(call: &Call) -> (&'static str, Operands<'_>)
 }
 
 /// A call as a line of a script, without the line's end. It is printed with `$P.K` for each answer, `varN` for
-/// each variable, `ssN` for each stack slot and `jtN` for each jump table, so it needs no names. The region of a
-/// load or a store is written as it is printed, though no script can name it.
+/// each variable, `ssN` for each stack slot, `jtN` for each jump table and `sigN` for each signature, so it needs
+/// no names. The region of a load or a store is written as it is printed, though no script can name it.
 #[derive(Clone, Copy)]
 pub struct CallText<'a>(pub &'a Call);
 

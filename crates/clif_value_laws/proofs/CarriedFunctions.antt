@@ -88,12 +88,12 @@ module _ (calls : List AnsweredCall) (f : Body) (typed : ValuesTyped calls f) wh
 
 -- with what its edges pass aside, an instruction of the caller's is that of the function
 of_own : (own : Own) (f : Body) (insts : List ℕ) → AllByRecursion (GivesFitting (view_of f)) (map (own_placed own f) insts)
-    → AllByRecursion (λ inst. GivesFitting (view_of f) (placed_of f (inst_at f inst))) insts
+    → AllByRecursion (λ inst. GivesFitting (view_of f) (placed_of f inst)) insts
 of_own own f [] all = tt
 of_own own f (inst ∷ insts) all = (all.0, of_own own f insts all.1)
 
-of_insts : (f : Body) (insts : List ℕ) → AllByRecursion (λ inst. GivesFitting (view_of f) (placed_of f (inst_at f inst))) insts
-    → AllByRecursion (GivesFitting (view_of f)) (map (λ inst. placed_of f (inst_at f inst)) insts)
+of_insts : (f : Body) (insts : List ℕ) → AllByRecursion (λ inst. GivesFitting (view_of f) (placed_of f inst)) insts
+    → AllByRecursion (GivesFitting (view_of f)) (map (placed_of f) insts)
 of_insts f [] all = tt
 of_insts f (inst ∷ insts) all = (all.0, of_insts f insts all.1)
 
@@ -109,24 +109,24 @@ module _ (calls : List AnsweredCall) (f : Body) (s : SsaState) (carries : Carrie
   structured = holds.structured (declared_types calls) (are_declared calls)
 
   own_fit : (block : ℕ) (o : Option Name) → block_name calls block ≡ o
-      → AllByRecursion (λ inst. GivesFitting (view_of f) (placed_of f (inst_at f inst))) (own.insts block)
-  own_fit block None none = subst (AllByRecursion (λ inst. GivesFitting (view_of f) (placed_of f (inst_at f inst)))) (sym (holds.own_named block none)) tt
+      → AllByRecursion (λ inst. GivesFitting (view_of f) (placed_of f inst)) (own.insts block)
+  own_fit block None none = subst (AllByRecursion (λ inst. GivesFitting (view_of f) (placed_of f inst))) (sym (holds.own_named block none)) tt
   own_fit block (Some name) named =
       of_own own f (own.insts block)
       (subst (AllByRecursion (GivesFitting (view_of f))) (sym (holds.items block name named))
       (items_fit calls f holds.values_typed ((program_so_far calls).items name) (well.items name) (calls_given calls name) (values name)))
 
-  insts_fit : (block : ℕ) → AllByRecursion (λ inst. GivesFitting (view_of f) (placed_of f (inst_at f inst))) (block_at f block).insts
+  insts_fit : (block : ℕ) → AllByRecursion (λ inst. GivesFitting (view_of f) (placed_of f inst)) (block_at f block).insts
   insts_fit block =
       let here = structured.zeros block in
-      subst (AllByRecursion (λ inst. GivesFitting (view_of f) (placed_of f (inst_at f inst)))) (sym here.in_order)
-      (all_append (λ inst. GivesFitting (view_of f) (placed_of f (inst_at f inst))) (insts_of_zeros here.zeros) (own.insts block)
+      subst (AllByRecursion (λ inst. GivesFitting (view_of f) (placed_of f inst))) (sym here.in_order)
+      (all_append (λ inst. GivesFitting (view_of f) (placed_of f inst)) (insts_of_zeros here.zeros) (own.insts block)
       (zeros_fit f here.zeros here.needed) (own_fit block (block_name calls block) refl))
 
   gives_fit : (block : ℕ) → AllByRecursion (GivesFitting (view_of f)) (items_of f block)
   gives_fit block = by (list_any (λ other. other == block) f.layout)
     where
-      by : (placed : Bool) → AllByRecursion (GivesFitting (view_of f)) (if placed then map (λ inst. placed_of f (inst_at f inst)) (block_at f block).insts else [])
+      by : (placed : Bool) → AllByRecursion (GivesFitting (view_of f)) (if placed then map (placed_of f) (block_at f block).insts else [])
       by true = of_insts f (block_at f block).insts (insts_fit block)
       by false = tt
 

@@ -30,11 +30,11 @@ in_layout P f (other ∷ layout) block is all = by (other == block) refl is (λ 
     by false same found rest = rest found
 
 module _ (f : Body) where
-  placed_typed : (inst : ℕ) → IsWellTyped f inst → HasResults f inst → IsPlacedTyped (view_of f) (placed_of f (inst_at f inst))
+  placed_typed : (inst : ℕ) → IsWellTyped f inst → HasResults f inst → IsPlacedTyped (view_of f) (placed_of f inst)
   placed_typed inst well_typed results = let both = agrees f inst in record { takes = both.0 well_typed; gives = results }
 
   all_typed : (insts : List ℕ) → AllByRecursion (IsWellTyped f) insts → AllByRecursion (HasResults f) insts
-      → AllByRecursion (IsPlacedTyped (view_of f)) (map (λ inst. placed_of f (inst_at f inst)) insts)
+      → AllByRecursion (IsPlacedTyped (view_of f)) (map (placed_of f) insts)
   all_typed [] well_typed results = tt
   all_typed (inst ∷ insts) well_typed results = (placed_typed inst well_typed.0 results.0, all_typed insts well_typed.1 results.1)
 
@@ -42,7 +42,7 @@ module _ (f : Body) where
   items_typed checked block = by (list_any (λ other. other == block) f.layout) refl
     where
       by : (placed : Bool) → list_any (λ other. other == block) f.layout ≡ placed
-          → AllByRecursion (IsPlacedTyped (view_of f)) (if placed then map (λ inst. placed_of f (inst_at f inst)) (block_at f block).insts else [])
+          → AllByRecursion (IsPlacedTyped (view_of f)) (if placed then map (placed_of f) (block_at f block).insts else [])
       by true is =
           all_typed (block_at f block).insts
           (in_layout (IsWellTyped f) f f.layout block is (recursion_from_All (IsWellTyped f) (insts_in_order f) checked.well_typed))

@@ -93,7 +93,7 @@ module _ (f : Body) where
   at_place (first ∷ steps) zero step all is = subst (StepFits f) (same_some is) all.0
   at_place (first ∷ steps) (suc k) step all is = at_place steps k step all.1 is
 
-  zero_fits : (z : ZeroAt) → HasZero f z → (k : ℕ) → k < length (zero_steps z.ty) → GivesFitting (view_of f) (placed_of f (inst_at f (z.inst + k)))
+  zero_fits : (z : ZeroAt) → HasZero f z → (k : ℕ) → k < length (zero_steps z.ty) → GivesFitting (view_of f) (placed_of f (z.inst + k))
   zero_fits z has k inside =
       let step : (s : ZeroStep) × (slice_get (zero_steps z.ty) k ≡ Some s) = step_there z.ty k inside in
       let at : IsStep f (z.inst + k) (z.value + k) step.0 = has k step.0 step.1 in
@@ -101,17 +101,17 @@ module _ (f : Body) where
       subst (λ (shape : InstructionData). ShapeFits f shape (inst_at f (z.inst + k)).results) (sym at.shape)
       (subst (ShapeFits f (step.0.shape at.constant ((z.value + k) - 1))) (sym at.result) fits)
 
-  insts_fit : (z : ZeroAt) → HasZero f z → AllByRecursion (λ inst. GivesFitting (view_of f) (placed_of f (inst_at f inst))) (insts_of_zero z)
+  insts_fit : (z : ZeroAt) → HasZero f z → AllByRecursion (λ inst. GivesFitting (view_of f) (placed_of f inst)) (insts_of_zero z)
   insts_fit z has =
-      recursion_from_All (λ inst. GivesFitting (view_of f) (placed_of f (inst_at f inst))) (insts_of_zero z)
+      recursion_from_All (λ inst. GivesFitting (view_of f) (placed_of f inst)) (insts_of_zero z)
       (λ k d below.
       let inside : k < length (zero_steps z.ty) = subst (λ n. k < n) (length-range_with_len z.inst (length (zero_steps z.ty))) below in
-      subst (λ inst. GivesFitting (view_of f) (placed_of f (inst_at f inst))) (sym (get_or-range_with_len z.inst (length (zero_steps z.ty)) k d inside)) (zero_fits z has k inside))
+      subst (λ inst. GivesFitting (view_of f) (placed_of f inst)) (sym (get_or-range_with_len z.inst (length (zero_steps z.ty)) k d inside)) (zero_fits z has k inside))
 
   -- what each instruction of needed zeros gives fits
   pub zeros_fit : (zeros : List ZeroAt) → AllByRecursion (IsNeededZero f) zeros
-      → AllByRecursion (λ inst. GivesFitting (view_of f) (placed_of f (inst_at f inst))) (insts_of_zeros zeros)
+      → AllByRecursion (λ inst. GivesFitting (view_of f) (placed_of f inst)) (insts_of_zeros zeros)
   zeros_fit [] needed = tt
   zeros_fit (z ∷ zeros) needed =
-      all_append (λ inst. GivesFitting (view_of f) (placed_of f (inst_at f inst))) (insts_of_zero z) (insts_of_zeros zeros)
+      all_append (λ inst. GivesFitting (view_of f) (placed_of f inst)) (insts_of_zero z) (insts_of_zeros zeros)
       (insts_fit z needed.0.stands) (zeros_fit zeros needed.1)

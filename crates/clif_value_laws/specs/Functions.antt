@@ -25,7 +25,7 @@ use Rattle.clif_value_laws.specs.ValuesFit.{AliasesTyped, EntryHas, FunctionFits
 -- an instruction's results have the types that the typing table gives at the type that it is made at
 abbrev pub HasResults : Body → ℕ → Type 0
 HasResults f inst =
-    let placed : Placed = placed_of f (inst_at f inst) in
+    let placed : Placed = placed_of f inst in
     types_at f placed.results ≡ result_types placed.instruction.operation placed.instruction.controlling
 
 -- A function passes the check, which asks of operands, returned values and edges; and results, aliases and the entry's first

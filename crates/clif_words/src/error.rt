@@ -28,10 +28,16 @@ pub enum Expected {
     Edge,
     /// A jump table.
     JumpTable,
+    /// A signature that was imported.
+    Signature,
     /// The size of a stack slot, in 32 bits.
     SlotSize,
     /// The shift that makes the alignment of a stack slot, in 8 bits.
     AlignShift,
+    /// The number of a dynamic type, in 32 bits.
+    DynamicType,
+    /// What a global value is.
+    GlobalValue,
     /// A type.
     Type,
     /// A number of 64 bits.
@@ -52,6 +58,10 @@ pub enum Expected {
     Offset,
     /// The name of a function, as `%sample` or `u0:0`.
     FunctionName,
+    /// The name of a symbol, as that of a function.
+    SymbolName,
+    /// A function of the C library.
+    LibCall,
     /// A convention.
     CallConv,
     /// The width of a pointer.
@@ -84,8 +94,11 @@ impl fmt::Display for Expected {
             Expected::StackSlot => "a stack slot",
             Expected::Edge => "a block call",
             Expected::JumpTable => "a jump table",
+            Expected::Signature => "a signature",
             Expected::SlotSize => "a size of 32 bits",
             Expected::AlignShift => "a shift of 8 bits",
+            Expected::DynamicType => "a dynamic type of 32 bits",
+            Expected::GlobalValue => "vmctx or symbol",
             Expected::Type => "a type",
             Expected::Number => "a number of 64 bits",
             Expected::F16Bits => "the bits of an f16",
@@ -96,6 +109,8 @@ impl fmt::Display for Expected {
             Expected::TrapCode => "a trap code",
             Expected::Offset => "an offset",
             Expected::FunctionName => "the name of a function",
+            Expected::SymbolName => "the name of a symbol",
+            Expected::LibCall => "Memcpy, Memmove, Memset or Memcmp",
             Expected::CallConv => "a convention",
             Expected::PointerWidth => "16, 32 or 64",
             Expected::Open => "(",

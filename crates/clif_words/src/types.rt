@@ -1,12 +1,12 @@
 //! Types, conventions, conditions and reasons for traps as words.
 ghost use Rattle.std.specs.Prelude.{◌≡◌, IfSome};
-ghost use Rattle.clif_types.specs.Texts.{call_conv_text, int_cc_text, lane_text};
+ghost use Rattle.clif_types.specs.Texts.{call_conv_text, int_cc_text, lane_text, lib_call_text};
 ghost use Rattle.clif_types.specs.Types.{lanes_of};
 ghost use Rattle.std.specs.Fmt.{decimal};
 ghost use Rattle.clif_words.specs.Spelling.{IsTrapCode, IsTypeWord, pointer_text};
 
 use crate::number::short_decimal;
-use clif_types::{CallConv, IntCC, LaneCount, LaneType, PointerWidth, TrapCode, Type};
+use clif_types::{CallConv, IntCC, LaneCount, LaneType, LibCall, PointerWidth, TrapCode, Type};
 
 fn lane_named(word: &str) -> Option<LaneType>
     ensures { IfSome result (λ lane. word.now ≡ lane_text lane) }
@@ -58,6 +58,19 @@ pub fn call_conv_named(word: &str) -> Option<CallConv>
         "fast" => Some(CallConv::Fast),
         "system_v" => Some(CallConv::SystemV),
         "tail" => Some(CallConv::Tail),
+        _ => None,
+    }
+}
+
+/// The function of the C library of this name.
+pub fn lib_call_named(word: &str) -> Option<LibCall>
+    ensures { IfSome result (λ call. word.now ≡ lib_call_text call) }
+{
+    match word {
+        "Memcpy" => Some(LibCall::Memcpy),
+        "Memmove" => Some(LibCall::Memmove),
+        "Memset" => Some(LibCall::Memset),
+        "Memcmp" => Some(LibCall::Memcmp),
         _ => None,
     }
 }

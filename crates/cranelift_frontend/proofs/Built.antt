@@ -62,6 +62,14 @@ appended-left (Ok inst) old new block shape ty at position ends appends = record
       ∙ ap (λ (t : Bool). if t then Filled else begun (status_of old.ctx.now block)) ends);
 }
 
+-- how many results it has
+appended-count : (r : Result ℕ BuildError) (old new : FunctionBuilder) (block : ℕ) (shape : InstructionData) (ty : «Type») → IfOk r (Appends old new block shape ty)
+    → IfOk r (λ inst. length (inst_at new.func.now inst).results ≡ count_of_results old.func.now.tables shape)
+appended-count (Err e) old new block shape ty appends = tt
+appended-count (Ok inst) old new block shape ty appends =
+    ap (λ (xs : List ℕ). length xs) (appended_range _ old.func.now old.ctx.now new.func.now new.ctx.now block shape ty inst appends)
+    ∙ range_count (length (inserted_in old.func.now block).values) (length (types_of_results old.func.now.tables shape ty)) ∙ length-types_of_results old.func.now.tables shape ty
+
 -- an instruction was appended to the current block, or that was refused
 module _ (old new : FunctionBuilder) (shape : InstructionData) (ty : «Type») (block : ℕ) (r : Result ℕ BuildError)
     (sound : old.failed ≡ false) (current : HasCurrent old) (at : old.position ≡ Some block) (consistent : IsConsistent old.func.now)
@@ -110,6 +118,7 @@ module _ (old new : FunctionBuilder) (shape : InstructionData) (ty : «Type») (
             stands consistent has (λ k below. operands_exist k 0 below) at (current_exists old current block at) (current_open old current block at) appends edges declares ssa
             (agrees_after calls table instruction stands.ledger has));
         exists = append_exists _ r old.func.now old.ctx.now new.func.now new.ctx.now block shape ty appends;
+        results = appended-count r old new block shape ty appends;
         grows = append_grows _ r old.func.now old.ctx.now new.func.now new.ctx.now block shape ty appends;
         remembers = λ v b.
             remembers_appended _ r v b old.func.now new.func.now old.ctx.now new.ctx.now block shape ty consistent appends declares;
@@ -243,13 +252,6 @@ pub both_below : (xs : List ℕ) (a b bound : ℕ) → xs ≡ a ∷ b ∷ [] →
 both_below xs a b bound are each =
     let here : (k : ℕ) → k < 2 → slice_index (a ∷ b ∷ []) k < bound = subst (λ (ys : List ℕ). (k : ℕ) → k < length ys → slice_index ys k < bound) are each in
     (here 0 (omega arith), here 1 (omega arith))
-
-pub pair_count : (old new : FunctionBuilder) (shape : InstructionData) (ty : «Type») (inst : ℕ) → HasCurrent old → Builds old new shape ty (Ok inst) → count_of_results old.func.now.tables shape ≡ 2
-    → length (inst_at new.func.now inst).results ≡ 2
-pair_count old new shape ty inst current built two =
-    ap (λ (xs : List ℕ). length xs)
-    (appended_range _ old.func.now old.ctx.now new.func.now new.ctx.now current.0 shape ty inst (at_current old (λ block. Appends old new block shape ty inst) current built.appends))
-    ∙ range_count (length (inserted_in old.func.now current.0).values) (length (types_of_results old.func.now.tables shape ty)) ∙ length-types_of_results old.func.now.tables shape ty ∙ two
 
 -- its two results are answered
 module _ (old new : FunctionBuilder) (shape : InstructionData) (ty : «Type») (inst : ℕ) (pair : ℕ × ℕ)

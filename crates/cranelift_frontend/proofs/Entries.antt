@@ -35,7 +35,7 @@ use Rattle.cranelift_frontend.proofs.Calls.{refused, same_looks, told_by}
 use Rattle.cranelift_frontend.proofs.Framed.{filled-same}
 use Rattle.cranelift_frontend.proofs.LedgerBlocks.{agrees-kept}
 use Rattle.cranelift_frontend.proofs.LedgerKept.{answers-one, concluded}
-use Rattle.cranelift_frontend.proofs.Named.{kept_by}
+use Rattle.cranelift_frontend.proofs.Named.{kept_by, kept_still}
 use Rattle.cranelift_frontend.proofs.StandingCallers.{alone_after, kept_alone, same_callers}
 
 -- the agreement, with other tables
@@ -253,6 +253,15 @@ tables_kept {A} lists answer f g c was now constants sound fails ok err kept =
     order_made : (r : Result A BuildError) → OnOk r (g ≡ with_tables f lists) → IsInOrder f c → OnOk r (IsInOrder g c)
     order_made (Ok n) is order = subst (λ (h : Body). IsInOrder h c) (sym is) (order_tabled f c lists constants order)
     order_made (Err e) is order = tt
+
+-- the same of a call that can't fail
+pub tables_still : (lists : TableLists) (f g : Body) (c : ContextState) (failed : Bool) → KeepsConstants f (with_tables f lists)
+    → g ≡ with_tables f lists → ∥ IsKept f c failed ∥₁ → ∥ IsKept g c failed ∥₁
+tables_still lists f g c failed constants made kept =
+    kept_still f g c c failed
+    (λ named. subst (λ (h : Body). NamesExist h c.ssa) (sym made) (names_tabled f c.ssa lists named))
+    (λ order. subst (λ (h : Body). IsInOrder h c) (sym made) (order_tabled f c lists constants order))
+    kept
 
 pub entry_kept : (entry : TableEntry) (answer : Result ℕ BuildError) (f g : Body) (c : ContextState) (was now : Bool) → was ≡ false → now ≡ is_err answer
     → MakesIn entry f g answer → ∥ IsKept f c was ∥₁ → ∥ IsKept g c now ∥₁

@@ -24,7 +24,7 @@ use Rattle.clif_simulation.specs.Tables as simulation
 use Rattle.clif_simulation.specs.Laws.{IsFinished}
 use Rattle.clif_simulation.specs.Structure.{AreRecords, LeavesNoParameter, NoneWaits}
 use Rattle.clif_simulation.proofs.Values.{false_is}
-use Rattle.clif_simulation.proofs.Whole.{spared, whole}
+use Rattle.clif_simulation.proofs.Whole.{freed, whole}
 use Rattle.clif_simulation.proofs.CarriedStructure.{no_parameters}
 use Rattle.clif_simulation.proofs.Defined.{well_placed}
 use Rattle.clif_simulation.proofs.RecordsDefined.{records_well_placed}
@@ -188,12 +188,12 @@ pub finished_placed : (declared : SignatureShape) (calls : List AnsweredCall) (b
     → PlacementPremises (script_of calls) declared → OnOk (verdict_of b.failed b.ctx.now (length b.func.now.blocks)) (WellPlaced (view_of b.func.now))
 finished_placed declared calls b stands consistent premises =
     on_finished declared calls b stands consistent (WellPlaced (view_of b.func.now)) (λ finished.
-    well_placed calls b.func.now b.ctx.now.ssa consistent (whole calls b.func.now b.ctx.now.ssa consistent stands.carries (spared calls premises.targets_filled)) premises.given_before)
+    well_placed calls b.func.now b.ctx.now.ssa consistent (whole calls b.func.now b.ctx.now.ssa consistent stands.carries (freed calls b.func.now b.ctx.now.ssa stands.carries premises.targets_filled)) premises.given_before)
 
 pub finished_records : (declared : SignatureShape) (calls : List AnsweredCall) (records : Records) (b : FunctionBuilder) → StandsFor declared calls b → IsConsistent b.func.now
     → AreRecords calls b.func.now b.ctx.now.ssa records → PlacementPremises (script_of calls) declared
     → OnOk (verdict_of b.failed b.ctx.now (length b.func.now.blocks)) (RecordsWellPlaced (view_of b.func.now) records)
 finished_records declared calls records b stands consistent are premises =
     on_finished declared calls b stands consistent (RecordsWellPlaced (view_of b.func.now) records) (λ finished.
-    records_well_placed calls b.func.now b.ctx.now.ssa consistent (whole calls b.func.now b.ctx.now.ssa consistent stands.carries (spared calls premises.targets_filled)) premises.given_before
+    records_well_placed calls b.func.now b.ctx.now.ssa consistent (whole calls b.func.now b.ctx.now.ssa consistent stands.carries (freed calls b.func.now b.ctx.now.ssa stands.carries premises.targets_filled)) premises.given_before
     records are)

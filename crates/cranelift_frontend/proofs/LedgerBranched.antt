@@ -17,7 +17,7 @@ use Rattle.clif_ssa.specs.Own.{Own}
 use Rattle.clif_records.specs.Tables.{is_yes}
 use Rattle.clif_ssa.specs.LookUp.{branch_block}
 use Rattle.clif_ssa.specs.Ssa.{predecessors_of, sealed_of}
-use Rattle.clif_simulation.proofs.Telling.{along_old_or_it}
+use Rattle.clif_simulation.proofs.Telling.{along_told}
 use Rattle.cranelift_frontend.specs.Context.{ContextState, SameStatus}
 use Rattle.cranelift_frontend.specs.Builder.{is_empty_status, is_filled_status}
 use Rattle.cranelift_frontend.specs.Construction.{IsDeclared}
@@ -174,9 +174,9 @@ module _ (calls : List AnsweredCall) (old new : Ledger) (g : Body) (c d : Contex
           | inl alone ↦ inl (alone ∙ sym (callers b))
           | inr begun ↦ inr (begun_still b begun)
         ];
-        branches = λ b i here. elim (along_old_or_it declared.told c.ssa d.ssa inst declared.along b i here) [
+        branches = λ b i here. elim (along_told declared.told c.ssa d.ssa inst declared.along b i here) [
           | inl before ↦ ended_still (branch_block g i) (agrees.branches b i before)
-          | inr it ↦ subst (λ (n : ℕ). IsEnded g d (branch_block g n)) (sym it) ended
+          | inr it ↦ subst (λ (n : ℕ). IsEnded g d (branch_block g n)) (sym it.0) ended
         ];
         fresh = λ k above. (
           sealed k ∙ (agrees.fresh k above).0,

@@ -177,7 +177,7 @@ named-type calls f c p agrees name value names =
     ap or_invalid named.1 ∙ sym (ap (λ (n : ValueNode). n.ty) (get_or_from_slice_get f.values value node.0 no_value node.1) ∙ node.2)
 
 pub iconst-shape : (calls : List AnsweredCall) (f : Body) (ty : «Type») (imm : ℤ) → HasShape calls f (plain (Compute (Iconst imm)) ty []) (UnaryImm imm) ty
-iconst-shape calls f ty imm = record { operation = refl; controlling = refl; typed = refl; calls_nothing = refl; operands_numbered = refl; edges = tt }
+iconst-shape calls f ty imm = record { operation = refl; controlling = refl; typed = refl; operands_numbered = refl; edges = tt }
 
 pub unary-shape : (calls : List AnsweredCall) (f : Body) (c : ContextState) (p : Option ℕ) → LedgerAgrees calls (ledger_of calls) f c p
     → (opcode : UnaryOpcode) (a : Name) (x : ℕ) → NamesValue calls a x
@@ -187,7 +187,6 @@ unary-shape calls f c p agrees opcode a x first =
       operation = refl;
       typed = refl;
       controlling = named-type calls f c p agrees a x first;
-      calls_nothing = refl;
       operands_numbered = ap (λ (o : Option ℕ). o ∷ []) first.number;
       edges = tt;
     }
@@ -200,7 +199,6 @@ binary-shape calls f c p agrees opcode a b x y first second =
       operation = refl;
       typed = refl;
       controlling = named-type calls f c p agrees a x first;
-      calls_nothing = refl;
       operands_numbered =
           ap (λ (o : Option ℕ). o ∷ number_of calls b ∷ []) first.number ∙ ap (λ (o : Option ℕ). Some x ∷ o ∷ []) second.number;
       edges = tt;
@@ -209,7 +207,7 @@ binary-shape calls f c p agrees opcode a b x y first second =
 pub convert-shape : (calls : List AnsweredCall) (f : Body) (opcode : ConvertOpcode) (ty : «Type») (a : Name) (x : ℕ) → NamesValue calls a x
     → HasShape calls f (plain (Compute (operation.Convert opcode)) ty (a ∷ [])) (Convert opcode x) ty
 convert-shape calls f opcode ty a x names =
-    record { operation = refl; controlling = refl; typed = refl; calls_nothing = refl; operands_numbered = ap (λ (o : Option ℕ). o ∷ []) names.number; edges = tt }
+    record { operation = refl; controlling = refl; typed = refl; operands_numbered = ap (λ (o : Option ℕ). o ∷ []) names.number; edges = tt }
 
 pub select-shape : (calls : List AnsweredCall) (f : Body) (c : ContextState) (p : Option ℕ) → LedgerAgrees calls (ledger_of calls) f c p
     → (condition a b : Name) (n x y : ℕ) → NamesValue calls condition n → NamesValue calls a x → NamesValue calls b y
@@ -219,7 +217,6 @@ select-shape calls f c p agrees condition a b n x y tested first second =
       operation = refl;
       typed = refl;
       controlling = named-type calls f c p agrees a x first;
-      calls_nothing = refl;
       operands_numbered =
           ap (λ (o : Option ℕ). o ∷ number_of calls a ∷ number_of calls b ∷ []) tested.number
           ∙ ap (λ (o : Option ℕ). Some n ∷ o ∷ number_of calls b ∷ []) first.number
@@ -234,27 +231,27 @@ two-operands calls a b x y first second =
 
 pub float-shape : (calls : List AnsweredCall) (f : Body) (opcode : FloatConstOpcode) (bits : ℕ)
     → HasShape calls f (plain (Compute (operation.FloatConst opcode bits)) type.Invalid []) (UnaryIeee opcode bits) type.Invalid
-float-shape calls f F16const bits = record { operation = refl; controlling = refl; typed = refl; calls_nothing = refl; operands_numbered = refl; edges = tt }
-float-shape calls f F32const bits = record { operation = refl; controlling = refl; typed = refl; calls_nothing = refl; operands_numbered = refl; edges = tt }
-float-shape calls f F64const bits = record { operation = refl; controlling = refl; typed = refl; calls_nothing = refl; operands_numbered = refl; edges = tt }
+float-shape calls f F16const bits = record { operation = refl; controlling = refl; typed = refl; operands_numbered = refl; edges = tt }
+float-shape calls f F32const bits = record { operation = refl; controlling = refl; typed = refl; operands_numbered = refl; edges = tt }
+float-shape calls f F64const bits = record { operation = refl; controlling = refl; typed = refl; operands_numbered = refl; edges = tt }
 
 pub compare-shape : (calls : List AnsweredCall) (f : Body) (c : ContextState) (p : Option ℕ) → LedgerAgrees calls (ledger_of calls) f c p
     → (condition : IntCC) (a b : Name) (x y : ℕ) → NamesValue calls a x → NamesValue calls b y
     → HasShape calls f (plain (Compute (operation.Compare condition)) (or_invalid (type_of (ledger_of calls) a)) (a ∷ b ∷ [])) (IntCompare condition (x ∷ y ∷ [])) (value_at f x).ty
 compare-shape calls f c p agrees condition a b x y first second =
-    record { operation = refl; controlling = named-type calls f c p agrees a x first; typed = refl; calls_nothing = refl; operands_numbered = two-operands calls a b x y first second; edges = tt }
+    record { operation = refl; controlling = named-type calls f c p agrees a x first; typed = refl; operands_numbered = two-operands calls a b x y first second; edges = tt }
 
 pub concat-shape : (calls : List AnsweredCall) (f : Body) (c : ContextState) (p : Option ℕ) → LedgerAgrees calls (ledger_of calls) f c p
     → (a b : Name) (x y : ℕ) → NamesValue calls a x → NamesValue calls b y
     → HasShape calls f (plain (Compute operation.Concat) (or_invalid (type_of (ledger_of calls) a)) (a ∷ b ∷ [])) (Concat (x ∷ y ∷ [])) (value_at f x).ty
 concat-shape calls f c p agrees a b x y first second =
-    record { operation = refl; controlling = named-type calls f c p agrees a x first; typed = refl; calls_nothing = refl; operands_numbered = two-operands calls a b x y first second; edges = tt }
+    record { operation = refl; controlling = named-type calls f c p agrees a x first; typed = refl; operands_numbered = two-operands calls a b x y first second; edges = tt }
 
 pub split-shape : (calls : List AnsweredCall) (f : Body) (c : ContextState) (p : Option ℕ) → LedgerAgrees calls (ledger_of calls) f c p
     → (a : Name) (x : ℕ) → NamesValue calls a x
     → HasShape calls f (plain (Compute operation.Split) (or_invalid (type_of (ledger_of calls) a)) (a ∷ [])) (Split x) (value_at f x).ty
 split-shape calls f c p agrees a x names =
-    record { operation = refl; controlling = named-type calls f c p agrees a x names; typed = refl; calls_nothing = refl; operands_numbered = ap (λ (o : Option ℕ). o ∷ []) names.number; edges = tt }
+    record { operation = refl; controlling = named-type calls f c p agrees a x names; typed = refl; operands_numbered = ap (λ (o : Option ℕ). o ∷ []) names.number; edges = tt }
 
 -- a constant that is there has its bytes in the instruction's operation
 pooled-operation : (f : Body) (opcode : PooledConstOpcode) (bytes : List ℕ) (constant : ℕ) → slice_get f.tables.constants constant ≡ Some bytes
@@ -265,28 +262,28 @@ pooled-operation f opcode bytes constant found =
 pub f128const-shape : (calls : List AnsweredCall) (f : Body) (bytes : List ℕ) (constant : ℕ) → slice_get f.tables.constants constant ≡ Some bytes
     → HasShape calls f (plain (Compute (operation.PooledConst F128const bytes)) type.Invalid []) (UnaryConst F128const constant) type.Invalid
 f128const-shape calls f bytes constant found =
-    record { operation = pooled-operation f F128const bytes constant found; controlling = refl; typed = refl; calls_nothing = refl; operands_numbered = refl; edges = tt }
+    record { operation = pooled-operation f F128const bytes constant found; controlling = refl; typed = refl; operands_numbered = refl; edges = tt }
 
 pub vconst-shape : (calls : List AnsweredCall) (f : Body) (ty : «Type») (bytes : List ℕ) (constant : ℕ) → slice_get f.tables.constants constant ≡ Some bytes
     → HasShape calls f (plain (Compute (operation.PooledConst Vconst bytes)) ty []) (UnaryConst Vconst constant) ty
 vconst-shape calls f ty bytes constant found =
-    record { operation = pooled-operation f Vconst bytes constant found; controlling = refl; typed = refl; calls_nothing = refl; operands_numbered = refl; edges = tt }
+    record { operation = pooled-operation f Vconst bytes constant found; controlling = refl; typed = refl; operands_numbered = refl; edges = tt }
 
 pub load-shape : (calls : List AnsweredCall) (f : Body) (flags : MemFlagsShape) (ty : «Type») (a : Name) (x : ℕ) (offset : ℤ) → NamesValue calls a x
     → HasShape calls f (plain (operation.Load flags offset) ty (a ∷ [])) (Load flags x offset) ty
 load-shape calls f flags ty a x offset names =
-    record { operation = refl; controlling = refl; typed = refl; calls_nothing = refl; operands_numbered = ap (λ (o : Option ℕ). o ∷ []) names.number; edges = tt }
+    record { operation = refl; controlling = refl; typed = refl; operands_numbered = ap (λ (o : Option ℕ). o ∷ []) names.number; edges = tt }
 
 pub store-shape : (calls : List AnsweredCall) (f : Body) (c : ContextState) (p : Option ℕ) → LedgerAgrees calls (ledger_of calls) f c p
     → (flags : MemFlagsShape) (a b : Name) (x y : ℕ) (offset : ℤ) → NamesValue calls a x → NamesValue calls b y
     → HasShape calls f (plain (operation.Store flags offset) (or_invalid (type_of (ledger_of calls) a)) (a ∷ b ∷ [])) (Store flags (x ∷ y ∷ []) offset) type.Invalid
 store-shape calls f c p agrees flags a b x y offset first second =
-    record { operation = refl; controlling = named-type calls f c p agrees a x first; typed = refl; calls_nothing = refl; operands_numbered = two-operands calls a b x y first second; edges = tt }
+    record { operation = refl; controlling = named-type calls f c p agrees a x first; typed = refl; operands_numbered = two-operands calls a b x y first second; edges = tt }
 
 pub stack-shape : (calls : List AnsweredCall) (f : Body) (opcode : StackOpcode) (ty : «Type») (slot : ℕ) (offset : ℤ)
     → HasShape calls f (plain (operation.Stack opcode slot offset) ty []) (StackLoad opcode slot offset) ty
-stack-shape calls f stack.StackAddr ty slot offset = record { operation = refl; controlling = refl; typed = refl; calls_nothing = refl; operands_numbered = refl; edges = tt }
-stack-shape calls f stack.StackLoad ty slot offset = record { operation = refl; controlling = refl; typed = refl; calls_nothing = refl; operands_numbered = refl; edges = tt }
+stack-shape calls f stack.StackAddr ty slot offset = record { operation = refl; controlling = refl; typed = refl; operands_numbered = refl; edges = tt }
+stack-shape calls f stack.StackLoad ty slot offset = record { operation = refl; controlling = refl; typed = refl; operands_numbered = refl; edges = tt }
 
 pub stack_store-shape : (calls : List AnsweredCall) (f : Body) (c : ContextState) (p : Option ℕ) → LedgerAgrees calls (ledger_of calls) f c p
     → (a : Name) (x slot : ℕ) (offset : ℤ) → NamesValue calls a x
@@ -295,13 +292,12 @@ stack_store-shape calls f c p agrees a x slot offset names = record {
   operation = refl;
   controlling = named-type calls f c p agrees a x names;
   typed = refl;
-  calls_nothing = refl;
   operands_numbered = ap (λ (o : Option ℕ). o ∷ []) names.number;
   edges = tt;
 }
 
 pub trap-shape : (calls : List AnsweredCall) (f : Body) (code : TrapCode) → HasShape calls f (plain (operation.Trap code) type.Invalid []) (Trap code) type.Invalid
-trap-shape calls f code = record { operation = refl; controlling = refl; typed = refl; calls_nothing = refl; operands_numbered = refl; edges = tt }
+trap-shape calls f code = record { operation = refl; controlling = refl; typed = refl; operands_numbered = refl; edges = tt }
 
 pub cond_trap-shape : (calls : List AnsweredCall) (f : Body) (c : ContextState) (p : Option ℕ) → LedgerAgrees calls (ledger_of calls) f c p
     → (opcode : CondTrapOpcode) (a : Name) (x : ℕ) (code : TrapCode) → NamesValue calls a x
@@ -310,14 +306,13 @@ cond_trap-shape calls f c p agrees opcode a x code names = record {
   operation = refl;
   controlling = named-type calls f c p agrees a x names;
   typed = refl;
-  calls_nothing = refl;
   operands_numbered = ap (λ (o : Option ℕ). o ∷ []) names.number;
   edges = tt;
 }
 
 pub jump-shape : (calls : List AnsweredCall) (f : Body) (edge : Edge Name Name) (made : BlockCall) → NamesEdge calls edge made
     → HasShape calls f (record { operation = operation.Jump; controlling = type.Invalid; operands = []; edges = edge ∷ [] }) (Jump made) type.Invalid
-jump-shape calls f edge made names = record { operation = refl; controlling = refl; typed = refl; calls_nothing = refl; operands_numbered = refl; edges = (names, tt) }
+jump-shape calls f edge made names = record { operation = refl; controlling = refl; typed = refl; operands_numbered = refl; edges = (names, tt) }
 
 pub brif-shape : (calls : List AnsweredCall) (f : Body) (c : ContextState) (p : Option ℕ) → LedgerAgrees calls (ledger_of calls) f c p
     → (condition : Name) (value : ℕ) (taken other : Edge Name Name) (block_then block_else : BlockCall) (blocks : List BlockCall) → blocks ≡ block_then ∷ block_else ∷ []
@@ -329,7 +324,6 @@ brif-shape calls f c p agrees condition value taken other block_then block_else 
       operation = refl;
       typed = refl;
       controlling = named-type calls f c p agrees condition value names;
-      calls_nothing = refl;
       operands_numbered = ap (λ (o : Option ℕ). o ∷ []) names.number;
       edges = subst (NamesEdges calls (taken ∷ other ∷ [])) (sym same) (first, (second, tt));
     }
@@ -347,11 +341,10 @@ table-shape calls f index value edges table names named = record {
   operation = ap (λ (count : ℕ). operation.BrTable (count - 1)) (edges-count calls edges table named);
   typed = refl;
   controlling = refl;
-  calls_nothing = refl;
   operands_numbered = ap (λ (o : Option ℕ). o ∷ []) names.number;
   edges = named;
 }
 
 pub return-shape : (calls : List AnsweredCall) (f : Body) (names : List Name) (values : List ℕ) → map (number_of calls) names ≡ map Some values
     → HasShape calls f (plain operation.Return type.Invalid names) (MultiAry values) type.Invalid
-return-shape calls f names values numbered = record { operation = refl; controlling = refl; typed = refl; calls_nothing = refl; operands_numbered = numbered; edges = tt }
+return-shape calls f names values numbered = record { operation = refl; controlling = refl; typed = refl; operands_numbered = numbered; edges = tt }

@@ -18,6 +18,7 @@ pub mod LedgerVariables
 pub mod LedgerEnds
 pub mod Declaring
 pub mod Growing
+pub mod Labelling
 pub mod Laid
 pub mod Named
 mod Appending

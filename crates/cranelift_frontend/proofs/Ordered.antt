@@ -36,7 +36,7 @@ use Rattle.clif_ssa.proofs.StructuredLaws.{assigned_structured, block_structured
 use Rattle.clif_simulation.specs.Carries.{with_params}
 use Rattle.clif_simulation.proofs.Appending.{bare_still, own_after, own_elsewhere, params_elsewhere, params_structured, same_layout}
 use Rattle.clif_simulation.proofs.Further.{cold_insts, cold_params}
-use Rattle.clif_simulation.proofs.Telling.{MayLead, along_old_or_it, along_structured}
+use Rattle.clif_simulation.proofs.Telling.{MayLead, along_told, along_structured}
 use Rattle.cranelift_frontend.specs.declared.context.BlockStatus.{BlockStatus}
 use Rattle.cranelift_frontend.specs.declared.context.BlockStatus.TheVariants.{Empty, Filled}
 use Rattle.cranelift_frontend.specs.Builder.{AppendsIn, CanLeadIn}
@@ -380,9 +380,9 @@ module _ (place : ℕ) (f g : Body) (c d : ContextState) (block : ℕ) (shape : 
       | inl alone ↦ inl (alone ∙ makes.callers b)
       | inr was ↦ inr (record { inserted = was.inserted; begun = was.begun })
     ];
-    branches = λ b i here. elim (along_old_or_it declared.told c.ssa d.ssa inst declared.along b i here) [
+    branches = λ b i here. elim (along_told declared.told c.ssa d.ssa inst declared.along b i here) [
       | inl before ↦ (let was = makes.branches b i before in record { inserted = was.inserted; filled = was.filled })
-      | inr it ↦ subst (λ (n : ℕ). IsEnded g d (branch_block g n)) (sym it) (subst (IsEnded g d) (sym stands) (ended-here f g c d block makes.layout sets))
+      | inr it ↦ subst (λ (n : ℕ). IsEnded g d (branch_block g n)) (sym it.0) (subst (IsEnded g d) (sym stands) (ended-here f g c d block makes.layout sets))
     ];
     fresh = λ k above.
         let past : length f.blocks ≤ k = omega (arith, above, makes.extends.block_count) in

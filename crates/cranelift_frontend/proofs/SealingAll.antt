@@ -131,7 +131,7 @@ sealed_all_stands declared calls f g c d p (Ok u) stands consistent are after le
     record {
       signature = ap (λ (h : Body). h.signature) seals.constructs.same ∙ stands.signature;
       ledger = ledger;
-      carries = carries_sealed_all calls f c.ssa stands.carries g d.ssa consistent seals.keeps seals.structured seals.constructs layout seals.predecessors;
+      carries = carries_sealed_all calls f c.ssa stands.carries g d.ssa (λ b. ltb b (length f.blocks)) consistent seals.sealed seals.keeps seals.structured seals.constructs layout seals.predecessors;
       begun = λ b there. begins_not_empty c d are.0 are.2 b (inl (stands.begun b (ap (λ (blocks : List ℕ). slice_get blocks 0) (sym layout) ∙ there)));
       callers_alone = λ b.
           alone_after calls seals_all f g c d stands.carries.own stands.carries.holds.parameters (same_callers calls seals_all f c.ssa stands.carries tt tt) b

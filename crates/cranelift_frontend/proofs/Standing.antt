@@ -138,7 +138,7 @@ module _ (declared : SignatureShape) (calls : List AnsweredCall) (f : Body) (c :
   stands_sealed g d name block told consistent seals begins after layout ledger = record {
     signature = ap (λ (h : Body). h.signature) seals.constructs.same ∙ stands.signature;
     ledger = ledger;
-    carries = carries_sealed calls f c.ssa stands.carries g d.ssa name [] consistent seals.keeps seals.structured seals.constructs layout seals.predecessors;
+    carries = carries_sealed calls f c.ssa stands.carries g d.ssa name [] (λ b. b == block) consistent seals.sealed seals.keeps seals.structured seals.constructs layout seals.predecessors;
     begun = λ b there. begins_not_empty c d told begins b (inl (stands.begun b (ap (λ (blocks : List ℕ). slice_get blocks 0) (sym layout) ∙ there)));
     callers_alone = λ b.
         let call : AnsweredCall = record { request = SealBlock name; numbers = [] } in
@@ -197,7 +197,7 @@ module _ (declared : SignatureShape) (calls : List AnsweredCall) (f : Body) (c :
         signature = ap (λ (h : Body). h.signature) (constructs_then f (inserted_in f block) g (inserted_constructs f block) is_use.constructs).same ∙ stands.signature;
         ledger = ledger;
         carries = carries_used calls f c.ssa stands.carries consistent block current.0 current.1 (current_unfilled block current.0 current.1 open_block) g d.ssa variable value ty of_ledger
-            is_use.keeps (λ types own same before. (is_use.structured types own (sym same) before).0) is_use.constructs layout is_use.predecessors answer.1;
+            is_use.keeps (λ types own same before. (is_use.structured types own (sym same) before).0) is_use.constructs layout is_use.predecessors is_use.flags answer.1;
         begun = λ b there. begins_not_empty c d (block ∷ told) begins b (was b (first_cases f block b (ap (λ (blocks : List ℕ). slice_get blocks 0) (sym layout) ∙ there)));
         callers_alone = λ b.
             let call : AnsweredCall = record { request = UseVar variable; numbers = value ∷ [] } in

@@ -99,12 +99,11 @@ module _ (place : ℕ) (declared : SignatureShape) (calls : List AnsweredCall) (
   branch =
       let all = all_named calls instruction.operands (operands shape) has.operands_numbered in
       let edges = edges_named calls (name-number calls (ledger_of calls) f c p stands.ledger) instruction.edges (destinations shape) has.edges in
-      record { operation = sym has.operation; calls_nothing = has.calls_nothing; arguments = all.0; edges = edges.0; earlier = all.1; edges_earlier = edges.1 }
+      record { operation = sym has.operation; arguments = all.0; edges = edges.0; earlier = all.1; edges_earlier = edges.1 }
 
   plainly : destinations shape ≡ [] → SameInstruction calls f.tables shape instruction
   plainly none = record {
     operation = branch.operation;
-    calls_nothing = branch.calls_nothing;
     arguments = branch.arguments;
     no_edges = ap (map edge_of) none;
     edges = none_named calls instruction.edges (subst (NamesEdges calls instruction.edges) none has.edges);
@@ -137,7 +136,7 @@ module _ (place : ℕ) (declared : SignatureShape) (calls : List AnsweredCall) (
   stands_plain known same =
       let types : List «Type» = types_of_results f.tables shape ty in
       let carries = carries_plain calls f c.ssa stands.carries consistent block here.0 here.1 unfilled there shape table instruction place numbers (plainly known.no_edges)
-      types program_types (controlled_at types refl) numbered in
+      types program_types (controlled_at types refl) numbered (ap (λ (n : ℕ). Some n) appends.number) in
       finished types refl (subst (Carries (calls ++ call ∷ []) (with_inst (inserted_in f block) block Back shape types place)) (sym same) carries)
 
   -- it ends its block
@@ -145,7 +144,7 @@ module _ (place : ℕ) (declared : SignatureShape) (calls : List AnsweredCall) (
   stands_end known edges declares =
       finished [] known.none
       (carries_branch calls f c.ssa stands.carries consistent block here.0 here.1 unfilled there shape table instruction place numbers branch [] (program_types ∙ known.none) (controlled_at [] known.none) (λ k below. absurd (omega (arith, below)))
-      declares.told d.ssa (same_end calls f instruction shape ty has ∙ known.ends) declares.once
+      (ap (λ (n : ℕ). Some n) appends.number) declares.told d.ssa (same_end calls f instruction shape ty has ∙ known.ends) declares.once
       exactly (λ x told. let to = (exactly x).0 told in target_unsealed f c (destinations shape) to.0 x edges to.1 to.2)
       (subst (λ (i : ℕ). DeclaredAlong c.ssa i declares.told d.ssa) appends.number declares.along))
     where

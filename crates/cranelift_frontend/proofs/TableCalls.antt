@@ -9,6 +9,7 @@ use Rattle.clif_meaning.specs.Request.{AnsweredCall, MakeEdge, MakeJumpTable, sc
 use Rattle.clif_meaning.specs.Program.{Program, extended}
 use Rattle.clif_meaning.specs.Ledger.{AnEdge, AJumpTable, Answered, Ledger, answers_to, ledger_after, ledger_with}
 use Rattle.clif_simulation.proofs.Values.{is_value_at}
+use Rattle.clif_simulation.proofs.Numbering.{MakesNoInstruction}
 use Rattle.clif_simulation.proofs.Further.{carries_still}
 use Rattle.clif_simulation.proofs.NameLists.{MakesNoBlock}
 use Rattle.clif_simulation.proofs.Listed.{MakesNoParameter}
@@ -42,13 +43,13 @@ module _ (calls : List AnsweredCall) (f : Body) (c : ContextState) (p : Option �
 
 -- a call with one answer, which is no value, that adds nothing to the program
 module _ (declared : SignatureShape) (calls : List AnsweredCall) (f : Body) (c : ContextState) (p : Option ℕ) (call : AnsweredCall) (no_block : MakesNoBlock call.request)
-    (no_parameter : MakesNoParameter call.request) (leaves : (program : Program) → extended program call.request ≡ program)
+    (no_parameter : MakesNoParameter call.request) (no_instruction : MakesNoInstruction call.request) (leaves : (program : Program) → extended program call.request ≡ program)
     (no_value : (index : ℕ) → is_value_at (answers_to (ledger_after (script_of calls)) call.request) index ≡ false) where
   stands_still : StandsIn declared calls f c p → LedgerAgrees (calls ++ call ∷ []) (ledger_of (calls ++ call ∷ [])) f c p → StandsIn declared (calls ++ call ∷ []) f c p
   stands_still stands ledger = record {
     signature = stands.signature;
     ledger = ledger;
-    carries = carries_still calls f c.ssa stands.carries call no_block no_parameter leaves no_value;
+    carries = carries_still calls f c.ssa stands.carries call no_block no_parameter no_instruction leaves no_value;
     begun = stands.begun;
     callers_alone = λ b. unchanged_alone declared calls f c p stands call c no_block no_parameter (λ e. refl) b;
   }
@@ -57,7 +58,7 @@ module _ (declared : SignatureShape) (calls : List AnsweredCall) (f : Body) (c :
   pub edge_stands : (edge : Edge Name Name) (number : ℕ) → StandsIn declared calls f c p
       → StandsIn declared (calls ++ answered (MakeEdge edge) (number ∷ []) ∷ []) f c p
   edge_stands edge number stands =
-      stands_still declared calls f c p (answered (MakeEdge edge) (number ∷ [])) tt tt (λ program. refl) no_value stands
+      stands_still declared calls f c p (answered (MakeEdge edge) (number ∷ [])) tt tt tt (λ program. refl) no_value stands
       (edge_agrees calls f c p edge number stands.ledger)
     where
       no_value : (index : ℕ) → is_value_at (AnEdge edge ∷ []) index ≡ false
@@ -67,7 +68,7 @@ module _ (declared : SignatureShape) (calls : List AnsweredCall) (f : Body) (c :
   pub table_stands : (default : Name) (entries : List Name) (number : ℕ) → number ≡ length (ledger_of calls).jump_tables → StandsIn declared calls f c p
       → StandsIn declared (calls ++ answered (MakeJumpTable default entries) (number ∷ []) ∷ []) f c p
   table_stands default entries number counts stands =
-      stands_still declared calls f c p (answered (MakeJumpTable default entries) (number ∷ [])) tt tt (λ program. refl) no_value stands
+      stands_still declared calls f c p (answered (MakeJumpTable default entries) (number ∷ [])) tt tt tt (λ program. refl) no_value stands
       (table_agrees calls f c p default entries number counts stands.ledger)
     where
       no_value : (index : ℕ) → is_value_at (AJumpTable (length (ledger_of calls).jump_tables) ∷ []) index ≡ false

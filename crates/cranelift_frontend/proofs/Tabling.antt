@@ -1,4 +1,4 @@
--- Tables change that the calls of a list don't make: unless a ledger has them the agreement with the ledger is kept, and the builder
+-- Tables change that the calls of a list don't make: the agreement with the ledger is kept, and the builder
 -- stands for the same calls.
 use Rattle.std.proofs.Common.{◌≡◌, ◌≢◌, ◌<◌, ◌≤◌, ◌++◌, ◌∷◌, [], ℕ, List, Bool, length, refl, sym, ◌∙◌, ap, subst, arith, false, inl, inr}
 use Rattle.std.proofs.lemmas.Grind.{common_steps}
@@ -11,7 +11,8 @@ use Rattle.clif_instructions.specs.declared.block_call.BlockArg.{BlockArg}
 use Rattle.clif_instructions.specs.ExceptionTables.{ExceptionShape}
 use Rattle.clif_inst_builder.specs.Served.{TableKind, exception_tables}
 use Rattle.clif_tables.specs.Constants.{constant_of}
-use Rattle.clif_tables.specs.Lists.{TableLists, unserved, with_constant, with_exception_table_served, with_jump_table, with_table_served}
+use Rattle.clif_tables.specs.declared.labels.ValueLabelStart.{ValueLabelStart}
+use Rattle.clif_tables.specs.Lists.{TableLists, unserved, with_constant, with_exception_table_served, with_jump_table, with_label, with_labels_collected, with_table_served}
 use Rattle.clif_tables.specs.Makes.{MakesEntry, Pools}
 use Rattle.clif_ir.specs.Body.{Body}
 use Rattle.clif_ir.specs.Changes.{with_tables}
@@ -28,7 +29,7 @@ use Rattle.cranelift_frontend.specs.declared.builder.FunctionBuilder.{FunctionBu
 use Rattle.cranelift_frontend.specs.declared.context.BlockStatus.TheVariants.{Filled}
 use Rattle.cranelift_frontend.specs.Builder.{CanLeadIn, HasCurrent, SameLoans}
 use Rattle.cranelift_frontend.specs.Context.{ContextState, status_of}
-use Rattle.cranelift_frontend.specs.Entries.{CanBeNamed, Creates, MakesEdge, MayServeFor, PoolsConstant, SetsTables, Takes, Unless, table_held}
+use Rattle.cranelift_frontend.specs.Entries.{CanBeNamed, Creates, MakesEdge, MayServeFor, PoolsConstant, SetsTables, Takes, table_held}
 use Rattle.cranelift_frontend.specs.Growth.{EntriesStay, Grows, GrowsBesideTables, TypesStay}
 use Rattle.cranelift_frontend.specs.Ledger.{LedgerAgrees, ledger_of, tables_of_calls}
 use Rattle.cranelift_frontend.specs.StandsFor.{StandsIn}
@@ -38,19 +39,10 @@ use Rattle.cranelift_frontend.proofs.Entries.{tabled}
 use Rattle.cranelift_frontend.proofs.Framed.{filled-same}
 use Rattle.cranelift_frontend.proofs.LedgerLists.{get-front, get-last}
 
--- where one holds, unless that is so, so does what follows from it
-unless : (so : Bool) (P Q : Type 0) → (P → Q) → Unless so P → Unless so Q
-unless true P Q step here = tt
-unless false P Q step here = step here
-
-promised : (so : Bool) (P : Type 0) → P → Unless so P
-promised true P here = tt
-promised false P here = here
-
--- Each constant keeps its number, each entry that an instruction names stays, and there are as many stack slots; and the tables of
--- calls stay, unless the tables that change are among them.
-pub record AreAside (in_ledger : Bool) (f : Body) (lists : TableLists) : Type 0 where
-  pub of_calls : Unless in_ledger (tables_of_calls lists ≡ tables_of_calls f.tables)
+-- Each constant keeps its number, each entry that an instruction names stays, there are as many stack slots, and the tables of calls
+-- stay.
+pub record AreAside (f : Body) (lists : TableLists) : Type 0 where
+  pub of_calls : tables_of_calls lists ≡ tables_of_calls f.tables
   pub constants : KeepsConstants f (with_tables f lists)
   pub entries : KeepsEntries f.tables lists
   pub stay : EntriesStay f.tables lists
@@ -58,14 +50,14 @@ pub record AreAside (in_ledger : Bool) (f : Body) (lists : TableLists) : Type 0 
 
 module _ (f : Body) (lists : TableLists) (constants : KeepsConstants f (with_tables f lists)) (entries : KeepsEntries f.tables lists)
     (of_calls : tables_of_calls lists ≡ tables_of_calls f.tables) where
-  agrees_aside : (calls : List AnsweredCall) (ledger : Ledger) (c : ContextState) (p : Option ℕ) → LedgerAgrees calls ledger f c p
+  pub agrees_aside : (calls : List AnsweredCall) (ledger : Ledger) (c : ContextState) (p : Option ℕ) → LedgerAgrees calls ledger f c p
       → LedgerAgrees calls ledger (with_tables f lists) c p
   agrees_aside calls ledger c p agrees =
       subst (λ (tables : TableLists). LedgerAgrees calls (record ledger { tables = tables }) (with_tables f lists) c p)
       (of_calls ∙ sym agrees.tables)
       (tabled calls ledger f c p lists constants agrees)
 
-  stands_aside : (declared : SignatureShape) (calls : List AnsweredCall) (c : ContextState) (p : Option ℕ) → IsConsistent f
+  pub stands_aside : (declared : SignatureShape) (calls : List AnsweredCall) (c : ContextState) (p : Option ℕ) → IsConsistent f
       → StandsIn declared calls f c p → StandsIn declared calls (with_tables f lists) c p
   stands_aside declared calls c p consistent stands = record {
     signature = stands.signature;
@@ -80,7 +72,7 @@ module _ (f : Body) (lists : TableLists) (constants : KeepsConstants f (with_tab
 
 -- WHICH TABLES ------------------------------------------------------------------------------------------------------------
 
-pub pooled_aside : (f : Body) (bytes : List ℕ) → AreAside false f (with_constant f.tables bytes)
+pub pooled_aside : (f : Body) (bytes : List ℕ) → AreAside f (with_constant f.tables bytes)
 pooled_aside f bytes =
     let lists : TableLists = with_constant f.tables bytes in
     let pooled = is_pooled f.tables.constants bytes in
@@ -90,16 +82,16 @@ pooled_aside f bytes =
     record {
       of_calls = refl;
       constants = keeps;
-      entries = entries_pooled f.tables lists keeps refl refl;
+      entries = entries_pooled f.tables lists keeps refl refl refl;
       stay = entry_stays f.tables lists (omega arith) more (omega arith) (omega arith);
       slots = refl;
     }
 
 -- the tables whose entries instructions name stay
-beside_entries : (in_ledger : Bool) (f : Body) (lists : TableLists) → Unless in_ledger (tables_of_calls lists ≡ tables_of_calls f.tables)
-    → lists.stack_slots ≡ f.tables.stack_slots → lists.constants ≡ f.tables.constants → lists.signatures ≡ f.tables.signatures → lists.functions ≡ f.tables.functions
-    → AreAside in_ledger f lists
-beside_entries in_ledger f lists of_calls slots constants signatures functions =
+beside_entries : (f : Body) (lists : TableLists) → tables_of_calls lists ≡ tables_of_calls f.tables
+    → lists.stack_slots ≡ f.tables.stack_slots → lists.constants ≡ f.tables.constants → lists.signatures ≡ f.tables.signatures → lists.functions ≡ f.tables.functions → lists.stack_maps ≡ f.tables.stack_maps
+    → AreAside f lists
+beside_entries f lists of_calls slots constants signatures functions maps =
     let keeps : KeepsConstants f (with_tables f lists) = λ constant found here. ap (λ (pool : List (List ℕ)). slice_get pool constant) constants ∙ here in
     let slot_count : length lists.stack_slots ≡ length f.tables.stack_slots = ap length slots in
     let pool_count : length lists.constants ≡ length f.tables.constants = ap length constants in
@@ -108,25 +100,31 @@ beside_entries in_ledger f lists of_calls slots constants signatures functions =
     record {
       of_calls = of_calls;
       constants = keeps;
-      entries = entries_pooled f.tables lists keeps signatures functions;
+      entries = entries_pooled f.tables lists keeps signatures functions maps;
       stay = entry_stays f.tables lists (omega (arith, slot_count)) (omega (arith, pool_count)) (omega (arith, signature_count)) (omega (arith, function_count));
       slots = slot_count;
     }
 
-pub created_aside : (f : Body) (edges : List BlockCall) → AreAside false f (with_jump_table f.tables edges)
-created_aside f edges = beside_entries false f (with_jump_table f.tables edges) refl refl refl refl refl
+pub created_aside : (f : Body) (edges : List BlockCall) → AreAside f (with_jump_table f.tables edges)
+created_aside f edges = beside_entries f (with_jump_table f.tables edges) refl refl refl refl refl refl
 
-pub served_aside : (f : Body) (table : ℕ) → AreAside false f (with_table_served f.tables table)
-served_aside f table = beside_entries false f (with_table_served f.tables table) refl refl refl refl refl
+pub served_aside : (f : Body) (table : ℕ) → AreAside f (with_table_served f.tables table)
+served_aside f table = beside_entries f (with_table_served f.tables table) refl refl refl refl refl refl
 
-pub exception_created_aside : (f : Body) (held : ExceptionShape) → AreAside true f (exception_tables.with_table f.tables held)
-exception_created_aside f held = beside_entries true f (exception_tables.with_table f.tables held) tt refl refl refl refl
+pub exception_created_aside : (f : Body) (held : ExceptionShape) → AreAside f (exception_tables.with_table f.tables held)
+exception_created_aside f held = beside_entries f (exception_tables.with_table f.tables held) refl refl refl refl refl refl
 
-pub exception_served_aside : (f : Body) (table : ℕ) → AreAside true f (with_exception_table_served f.tables table)
-exception_served_aside f table = beside_entries true f (with_exception_table_served f.tables table) tt refl refl refl refl
+pub exception_served_aside : (f : Body) (table : ℕ) → AreAside f (with_exception_table_served f.tables table)
+exception_served_aside f table = beside_entries f (with_exception_table_served f.tables table) refl refl refl refl refl refl
 
-pub same_aside : (f : Body) → AreAside false f f.tables
-same_aside f = beside_entries false f f.tables refl refl refl refl refl
+pub labelled_aside : (f : Body) (value : ℕ) (start : ValueLabelStart) → AreAside f (with_label f.tables value start)
+labelled_aside f value start = beside_entries f (with_label f.tables value start) refl refl refl refl refl refl
+
+pub collected_aside : (f : Body) → AreAside f (with_labels_collected f.tables)
+collected_aside f = beside_entries f (with_labels_collected f.tables) refl refl refl refl refl refl
+
+pub same_aside : (f : Body) → AreAside f f.tables
+same_aside f = beside_entries f f.tables refl refl refl refl refl refl
 
 -- THE BUILDER -----------------------------------------------------------------------------------------------------------
 
@@ -136,7 +134,7 @@ module _ (lists : TableLists) (f g : Body) where
   on_ok P (Err e) is holds = tt
   on_ok P (Ok n) is holds = subst P (sym is) holds
 
-current_aside : {A : Type 0} (lists : TableLists) (old new : FunctionBuilder) (r : Result A BuildError) → new.position ≡ old.position → new.ctx.now ≡ old.ctx.now
+pub current_aside : {A : Type 0} (lists : TableLists) (old new : FunctionBuilder) (r : Result A BuildError) → new.position ≡ old.position → new.ctx.now ≡ old.ctx.now
     → OnOk r (new.func.now ≡ with_tables old.func.now lists) → HasCurrent old → OnOk r (HasCurrent new)
 current_aside lists old new (Err e) position context is current = tt
 current_aside lists old new (Ok n) position context is current = (
@@ -147,10 +145,10 @@ current_aside lists old new (Ok n) position context is current = (
 )
 
 -- a call on a builder that hasn't failed
-pub set_tables : {A : Type 0} (in_ledger : Bool) (lists : TableLists) (old new : FunctionBuilder) (answer : Result A BuildError) → AreAside in_ledger old.func.now lists → old.failed ≡ false → SameLoans old new
+pub set_tables : {A : Type 0} (lists : TableLists) (old new : FunctionBuilder) (answer : Result A BuildError) → AreAside old.func.now lists → old.failed ≡ false → SameLoans old new
     → new.position ≡ old.position → new.srcloc ≡ old.srcloc → new.ctx.now ≡ old.ctx.now → new.failed ≡ is_err answer → IsConsistent old.func.now → answer ≢ Err Failed
-    → OnOk answer (new.func.now ≡ with_tables old.func.now lists) → OnErr answer (new.func.now ≡ old.func.now) → SetsTables in_ledger lists old new answer
-set_tables {A} in_ledger lists old new answer aside fine loans position srcloc context fails consistent never_failed ok err =
+    → OnOk answer (new.func.now ≡ with_tables old.func.now lists) → OnErr answer (new.func.now ≡ old.func.now) → SetsTables lists old new answer
+set_tables {A} lists old new answer aside fine loans position srcloc context fails consistent never_failed ok err =
     let f : Body = old.func.now in
     let g : Body = new.func.now in
     let ssa : new.ctx.now.ssa ≡ old.ctx.now.ssa = ap (λ (c : ContextState). c.ssa) context in
@@ -162,14 +160,14 @@ set_tables {A} in_ledger lists old new answer aside fine loans position srcloc c
       function = ok;
       kept = err;
       context = context;
-      ledger = unless in_ledger _ _
-          (λ of_calls cs agrees. on_ok lists f g (λ h. LedgerAgrees cs (ledger_of cs) h new.ctx.now new.position) answer ok
+      ledger = λ cs agrees.
+          on_ok lists f g (λ h. LedgerAgrees cs (ledger_of cs) h new.ctx.now new.position) answer ok
           (parts (λ h e r. LedgerAgrees cs (ledger_of cs) h e r)
-          (agrees_aside f lists aside.constants aside.entries of_calls cs (ledger_of cs) old.ctx.now old.position agrees))) aside.of_calls;
-      stands = unless in_ledger _ _
-          (λ of_calls signature cs stands. on_ok lists f g (λ h. StandsIn signature cs h new.ctx.now new.position) answer ok
+          (agrees_aside f lists aside.constants aside.entries aside.of_calls cs (ledger_of cs) old.ctx.now old.position agrees));
+      stands = λ signature cs stands.
+          on_ok lists f g (λ h. StandsIn signature cs h new.ctx.now new.position) answer ok
           (parts (λ h e r. StandsIn signature cs h e r)
-          (stands_aside f lists aside.constants aside.entries of_calls signature cs old.ctx.now old.position consistent stands))) aside.of_calls;
+          (stands_aside f lists aside.constants aside.entries aside.of_calls signature cs old.ctx.now old.position consistent stands));
       grows = on_ok lists f g (GrowsBesideTables f) answer ok (omega arith, omega arith, omega arith, refl, refl, omega (arith, aside.slots), aside.stay);
       remembers = λ x b.
           on_ok lists f g (λ h. Remembers x b f old.ctx.now.ssa h new.ctx.now.ssa) answer ok
@@ -178,14 +176,14 @@ set_tables {A} in_ledger lists old new answer aside fine loans position srcloc c
     }
 
 -- a call on one that has
-pub set_refused : {A : Type 0} (in_ledger : Bool) (lists : TableLists) (old : FunctionBuilder) → old.failed ≡ true → SetsTables {A = A} in_ledger lists old old (Err Failed)
-set_refused {A} in_ledger lists old failed = record {
+pub set_refused : {A : Type 0} (lists : TableLists) (old : FunctionBuilder) → old.failed ≡ true → SetsTables {A = A} lists old old (Err Failed)
+set_refused {A} lists old failed = record {
   call = refused old failed;
   function = tt;
   kept = refl;
   context = refl;
-  ledger = promised in_ledger _ (λ calls agrees. tt);
-  stands = promised in_ledger _ (λ signature calls stands. tt);
+  ledger = λ calls agrees. tt;
+  stands = λ signature calls stands. tt;
   grows = tt;
   remembers = λ x b. tt;
   current = λ current. tt;
@@ -207,7 +205,7 @@ pub constant_pooled : (bytes : List ℕ) (old new : FunctionBuilder) (answer : R
 constant_pooled bytes old new answer fine loans position srcloc context fails consistent pools =
     let f : Body = old.func.now in
     record {
-      sets = set_tables false (with_constant f.tables bytes) old new answer (pooled_aside f bytes) fine loans position srcloc context fails consistent pools.never_failed pools.ok pools.err;
+      sets = set_tables (with_constant f.tables bytes) old new answer (pooled_aside f bytes) fine loans position srcloc context fails consistent pools.never_failed pools.ok pools.err;
       grows = on_ok (with_constant f.tables bytes) f new.func.now (Grows f) answer pools.ok (omega arith, omega arith, omega arith, refl, refl, omega arith, refl, (pooled_aside f bytes).stay, refl);
       number = pools.number;
       found = found_pooled bytes f new.func.now answer pools.ok pools.number;
@@ -216,7 +214,7 @@ constant_pooled bytes old new answer fine loans position srcloc context fails co
 
 pub constant_refused : (bytes : List ℕ) (old : FunctionBuilder) → old.failed ≡ true → PoolsConstant old old bytes (Err Failed)
 constant_refused bytes old failed = record {
-  sets = set_refused false (with_constant old.func.now.tables bytes) old failed;
+  sets = set_refused (with_constant old.func.now.tables bytes) old failed;
   grows = tt;
   number = tt;
   found = tt;
@@ -225,17 +223,17 @@ constant_refused bytes old failed = record {
 
 -- TABLES THAT SERVE ONE INSTRUCTION, AND EDGES -----------------------------------------------------------------------------
 
-module _ {T : Type 0} (kind : TableKind T) (in_ledger : Bool) where
+module _ {T : Type 0} (kind : TableKind T) where
   -- a table is put at the end of those of its kind
   pub table_created : (held : T) (old new : FunctionBuilder) (answer : Result ℕ BuildError)
-      → AreAside in_ledger old.func.now (kind.with_table old.func.now.tables held) → kind.tables (kind.with_table old.func.now.tables held) ≡ kind.tables old.func.now.tables ++ Some held ∷ []
+      → AreAside old.func.now (kind.with_table old.func.now.tables held) → kind.tables (kind.with_table old.func.now.tables held) ≡ kind.tables old.func.now.tables ++ Some held ∷ []
       → old.failed ≡ false → SameLoans old new → new.position ≡ old.position → new.srcloc ≡ old.srcloc
       → new.ctx.now ≡ old.ctx.now → new.failed ≡ is_err answer → IsConsistent old.func.now
       → MakesEntry (λ number. number) (length (kind.tables old.func.now.tables)) old.func.now new.func.now (with_tables old.func.now (kind.with_table old.func.now.tables held)) answer
-      → Creates kind in_ledger held old new answer
+      → Creates kind held old new answer
   table_created held old new answer aside last fine loans position srcloc context fails consistent makes =
       record {
-        sets = set_tables in_ledger (kind.with_table old.func.now.tables held) old new answer aside fine loans position srcloc context fails consistent makes.never_failed makes.ok makes.err;
+        sets = set_tables (kind.with_table old.func.now.tables held) old new answer aside fine loans position srcloc context fails consistent makes.never_failed makes.ok makes.err;
         number = makes.number;
         serves = created answer makes.ok makes.number;
         full = (λ is. (fine, makes.full.0 is), λ both. makes.full.1 both.1);
@@ -250,9 +248,9 @@ module _ {T : Type 0} (kind : TableKind T) (in_ledger : Bool) where
           ∙ ap unserved (get-last (kind.tables old.func.now.tables) (Some held))
       created (Err e) is number = tt
 
-  pub table_refused : (held : T) (old : FunctionBuilder) → old.failed ≡ true → Creates kind in_ledger held old old (Err Failed)
+  pub table_refused : (held : T) (old : FunctionBuilder) → old.failed ≡ true → Creates kind held old old (Err Failed)
   table_refused held old failed = record {
-    sets = set_refused in_ledger (kind.with_table old.func.now.tables held) old failed;
+    sets = set_refused (kind.with_table old.func.now.tables held) old failed;
     number = tt;
     serves = tt;
     full = (λ is. let no_way : ⊥ = cc in absurd no_way, λ both. let no_way : ⊥ = cc in absurd no_way);
@@ -271,22 +269,22 @@ module _ {T : Type 0} (kind : TableKind T) (in_ledger : Bool) where
       subst (λ (c : ContextState). NamedIn new.func.now c held) (sym context)
       (subst (λ (f : Body). NamedIn f old.ctx.now held) (sym made) (stay (subst (NamedIn old.func.now old.ctx.now) same named)))
 
-  pub table_taken : (table : ℕ) (held : T) (old new : FunctionBuilder) → AreAside in_ledger old.func.now (kind.with_served old.func.now.tables table)
+  pub table_taken : (table : ℕ) (held : T) (old new : FunctionBuilder) → AreAside old.func.now (kind.with_served old.func.now.tables table)
       → (NamedIn old.func.now old.ctx.now held → NamedIn (with_tables old.func.now (kind.with_served old.func.now.tables table)) old.ctx.now held)
       → old.failed ≡ false → SameLoans old new → new.position ≡ old.position → new.srcloc ≡ old.srcloc
       → new.ctx.now ≡ old.ctx.now → new.failed ≡ false → IsConsistent old.func.now → table_held kind old table ≡ Some held
-      → new.func.now ≡ with_tables old.func.now (kind.with_served old.func.now.tables table) → Takes kind in_ledger old new table (Ok held)
+      → new.func.now ≡ with_tables old.func.now (kind.with_served old.func.now.tables table) → Takes kind old new table (Ok held)
   table_taken table held old new aside stay fine loans position srcloc context fails consistent found made =
       record {
-        sets = set_tables in_ledger (kind.with_served old.func.now.tables table) old new (Ok held) aside fine loans position srcloc context fails consistent (calls.by_success held) made tt;
+        sets = set_tables (kind.with_served old.func.now.tables table) old new (Ok held) aside fine loans position srcloc context fails consistent (calls.by_success held) made tt;
         held = found;
         can_be_named = named_taken table held old new context found stay made;
         only_failed = tt;
       }
 
-  pub take_refused : (table : ℕ) (old : FunctionBuilder) → old.failed ≡ true → Takes kind in_ledger old old table (Err Failed)
+  pub take_refused : (table : ℕ) (old : FunctionBuilder) → old.failed ≡ true → Takes kind old old table (Err Failed)
   take_refused table old failed =
-      record { sets = set_refused in_ledger (kind.with_served old.func.now.tables table) old failed; held = tt; can_be_named = λ serves. tt; only_failed = refl }
+      record { sets = set_refused (kind.with_served old.func.now.tables table) old failed; held = tt; can_be_named = λ serves. tt; only_failed = refl }
 
 -- what holds, whatever is answered
 pub on_any : {X P : Type 0} (r : Result X BuildError) → P → OnOk r P
@@ -297,11 +295,16 @@ pub err_any : {X P : Type 0} (r : Result X BuildError) → P → OnErr r P
 err_any (Ok x) here = tt
 err_any (Err e) here = here
 
+-- a call whose only error is `Memory` answers no full table
+pub not_full : {A : Type 0} (r : Result A BuildError) → OnErr r (r ≡ Err Memory) → r ≢ Err Full
+not_full (Ok x) only is = let no_way : ⊥ = cc in absurd no_way
+not_full (Err e) only is = let no_way : ⊥ = cc in absurd no_way
+
 pub edge_made : (block : ℕ) (args : List BlockArg) (old new : FunctionBuilder) (answer : Result BlockCall BuildError) → old.failed ≡ false → SameLoans old new → new.position ≡ old.position → new.srcloc ≡ old.srcloc
     → new.ctx.now ≡ old.ctx.now → new.failed ≡ is_err answer → IsConsistent old.func.now → new.func.now ≡ old.func.now → OnErr answer (answer ≡ Err Memory)
     → IfOk answer (λ edge. (edge.block ≡ block) × (edge.args ≡ args)) → MakesEdge block args old new answer
 edge_made block args old new answer fine loans position srcloc context fails consistent same only_memory edge = record {
-  sets = set_tables false old.func.now.tables old new answer (same_aside old.func.now) fine loans position srcloc context fails consistent (calls.by_memory answer only_memory) (on_any answer same) (err_any answer same);
+  sets = set_tables old.func.now.tables old new answer (same_aside old.func.now) fine loans position srcloc context fails consistent (calls.by_memory answer only_memory) (on_any answer same) (err_any answer same);
   grows = on_any answer (subst (Grows old.func.now) (sym same) (omega arith, omega arith, omega arith, refl, refl, omega arith, refl, λ entry here. here, refl));
   edge = parts answer edge;
   never_full = not_full answer only_memory;
@@ -311,10 +314,6 @@ edge_made block args old new answer fine loans position srcloc context fails con
     parts (Ok e) is = subst (λ (b : ℕ). e ≡ record { block = b; args = args }) is.0 (subst (λ (as_are : List BlockArg). e ≡ record { block = e.block; args = as_are }) is.1 refl)
     parts (Err e) is = tt
 
-    not_full : (r : Result BlockCall BuildError) → OnErr r (r ≡ Err Memory) → r ≢ Err Full
-    not_full (Ok e) only is = let no_way : ⊥ = cc in absurd no_way
-    not_full (Err e) only is = let no_way : ⊥ = cc in absurd no_way
-
 pub edge_refused : (block : ℕ) (args : List BlockArg) (old : FunctionBuilder) → old.failed ≡ true → MakesEdge block args old old (Err Failed)
 edge_refused block args old failed =
-    record { sets = set_refused false old.func.now.tables old failed; grows = tt; edge = tt; never_full = λ is. let no_way : ⊥ = cc in absurd no_way }
+    record { sets = set_refused old.func.now.tables old failed; grows = tt; edge = tt; never_full = λ is. let no_way : ⊥ = cc in absurd no_way }

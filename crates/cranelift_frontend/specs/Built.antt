@@ -66,6 +66,8 @@ pub record Builds (old new : FunctionBuilder) (shape : InstructionData) (ty : «
       → StandsFor signature calls old → HasShape calls old.func.now instruction shape ty
       → IfOk answer (λ inst. StandsFor signature (after_build calls table instruction (numbers_of new inst)) new)
   pub exists : IfOk answer (λ inst. inst < length new.func.now.insts)
+  -- as many results as the typing table and the signature of what it calls say
+  pub results : IfOk answer (λ inst. length (inst_at new.func.now inst).results ≡ count_of_results old.func.now.tables shape)
   pub grows : OnOk answer (Grows old.func.now new.func.now)
   pub remembers : (v b : ℕ) → OnOk answer (RemembersIn v b old new)
   pub current : is_terminator shape ≡ false → OnOk answer (HasCurrent new)

@@ -7,7 +7,7 @@ use Rattle.clif_instructions.specs.Members.{stands_in, Once}
 use Rattle.clif_paths.specs.Blocks.{Blocks}
 use Rattle.clif_ssa.specs.Own.{Own}
 use Rattle.clif_ssa.specs.Ssa.{SsaState, RecordsStay, SamePredecessors, SealedStays, sealed_of}
-use Rattle.clif_ssa.specs.Sound.{Keeps, KeepsAndKnows}
+use Rattle.clif_ssa.specs.Sound.{Keeps, KeepsAndKnows, SparesIfEntry}
 use Rattle.clif_ssa.specs.SoundLaws.{DescribesSoundly}
 use Rattle.clif_ssa.specs.Structure.{HasRecordOf, Remembers}
 use Rattle.clif_ssa.specs.Structured.{HasType, Structured, VariableTypes}
@@ -40,7 +40,7 @@ pub record IsSealingOf (f : Body) (s : SsaState) (g : Body) (t : SsaState) (seal
   pub stay : RecordsStay s t
   pub remembers : (x b : ℕ) → Remembers x b f s g t
   pub structured : (types : VariableTypes) (own : Own) → Structured types own f s [] → Structured types own g t []
-  pub keeps : (own : Own) (tables : Blocks) → DescribesSoundly own f s tables → Keeps own tables g t
+  pub keeps : (own : Own) (tables : Blocks) → ((b : ℕ) → seals b ≡ true → SparesIfEntry f s b) → DescribesSoundly own f s tables → Keeps own tables g t
 
 -- A block is sealed.
 abbrev pub IsSealing : Body → SsaState → Body → SsaState → ℕ → List ℕ → Type 0

@@ -36,28 +36,22 @@ pub record MakesEntry (entry : TableEntry) (old new : FunctionBuilder) (answer :
   pub remembers : (x b : ℕ) → OnOk answer (RemembersIn x b old new)
   pub current : HasCurrent old → OnOk answer (HasCurrent new)
 
--- this holds, unless that is so
-abbrev pub Unless : Bool → Type 0 → Type 0
-Unless true P = Unit {0}
-Unless false P = P
-
 -- The function has these tables now, and nothing else changes. It is no call of a list: what instructions take of tables, they have
--- themselves. So a builder stands for the same list, unless the tables that change are among those that a ledger has.
-pub record SetsTables {A : Type 0} (in_ledger : Bool) (tables : TableLists) (old new : FunctionBuilder) (answer : Result A BuildError) : Type 0 where
+-- themselves. So a builder stands for the same list.
+pub record SetsTables {A : Type 0} (tables : TableLists) (old new : FunctionBuilder) (answer : Result A BuildError) : Type 0 where
   pub call : IsCall old new answer
   pub function : OnOk answer (new.func.now ≡ with_tables old.func.now tables)
   pub kept : OnErr answer (new.func.now ≡ old.func.now)
   pub context : new.ctx.now ≡ old.ctx.now
-  pub ledger : Unless in_ledger ((calls : List AnsweredCall) → AgreesWithLedger calls old → OnOk answer (AgreesWithLedger calls new))
-  pub stands : Unless in_ledger ((signature : SignatureShape) (calls : List AnsweredCall)
-      → StandsFor signature calls old → OnOk answer (StandsFor signature calls new))
+  pub ledger : (calls : List AnsweredCall) → AgreesWithLedger calls old → OnOk answer (AgreesWithLedger calls new)
+  pub stands : (signature : SignatureShape) (calls : List AnsweredCall) → StandsFor signature calls old → OnOk answer (StandsFor signature calls new)
   pub grows : OnOk answer (GrowsBesideTables old.func.now new.func.now)
   pub remembers : (x b : ℕ) → OnOk answer (RemembersIn x b old new)
   pub current : HasCurrent old → OnOk answer (HasCurrent new)
 
 -- Bytes are pooled: the answer is the number of the constant with them, and nothing but the constants changes.
 pub record PoolsConstant (old new : FunctionBuilder) (bytes : List ℕ) (answer : Result ℕ BuildError) : Type 0 where
-  pub sets : SetsTables false (with_constant old.func.now.tables bytes) old new answer
+  pub sets : SetsTables (with_constant old.func.now.tables bytes) old new answer
   pub grows : OnOk answer (Grows old.func.now new.func.now)
   pub number : IfOk answer (λ number. number ≡ constant_of old.func.now.tables.constants bytes)
   pub found : IfOk answer (λ number. slice_get new.func.now.tables.constants number ≡ Some bytes)
@@ -89,8 +83,8 @@ abbrev pub MayServeTry : FunctionBuilder → ℕ → Type 0
 MayServeTry b table = MayServeFor exception_tables b table
 
 -- A table of this kind that holds this gets the next number, and serves no instruction so far.
-pub record Creates {T : Type 0} (kind : TableKind T) (in_ledger : Bool) (held : T) (old new : FunctionBuilder) (answer : Result ℕ BuildError) : Type 0 where
-  pub sets : SetsTables in_ledger (kind.with_table old.func.now.tables held) old new answer
+pub record Creates {T : Type 0} (kind : TableKind T) (held : T) (old new : FunctionBuilder) (answer : Result ℕ BuildError) : Type 0 where
+  pub sets : SetsTables (kind.with_table old.func.now.tables held) old new answer
   pub number : IfOk answer (λ number. number ≡ length (kind.tables old.func.now.tables))
   pub serves : IfOk answer (λ number. table_held kind new number ≡ Some held)
   -- a full table is answered exactly where there are 2^32 - 1 tables of this kind
@@ -98,31 +92,30 @@ pub record Creates {T : Type 0} (kind : TableKind T) (in_ledger : Bool) (held : 
 
 -- A jump table of these edges, the default first, is created.
 abbrev pub CreatesJumpTable : List BlockCall → FunctionBuilder → FunctionBuilder → Result ℕ BuildError → Type 0
-CreatesJumpTable edges old new answer = Creates jump_tables false edges old new answer
+CreatesJumpTable edges old new answer = Creates jump_tables edges old new answer
 
--- An exception table of this signature, normal edge and items is created. The ledger of a list has none, since no call of a list
--- makes one, and its tables are to be those of the function: so a builder with an exception table stands for no list.
+-- An exception table of this signature, normal edge and items is created.
 abbrev pub CreatesExceptionTable : ExceptionTableData → FunctionBuilder → FunctionBuilder → Result ℕ BuildError → Type 0
-CreatesExceptionTable table old new answer = Creates exception_tables true (exception_shape table) old new answer
+CreatesExceptionTable table old new answer = Creates exception_tables (exception_shape table) old new answer
 
 -- The answer is what a table of this kind holds, which serves an instruction from now on.
-pub record Takes {T : Type 0} (kind : TableKind T) (in_ledger : Bool) (old new : FunctionBuilder) (table : ℕ) (answer : Result T BuildError) : Type 0 where
-  pub sets : SetsTables in_ledger (kind.with_served old.func.now.tables table) old new answer
+pub record Takes {T : Type 0} (kind : TableKind T) (old new : FunctionBuilder) (table : ℕ) (answer : Result T BuildError) : Type 0 where
+  pub sets : SetsTables (kind.with_served old.func.now.tables table) old new answer
   pub held : IfOk answer (λ held. table_held kind old table ≡ Some held)
   pub can_be_named : MayServeFor kind old table → IfOk answer (CanBeNamed kind new)
   pub only_failed : OnErr answer (answer ≡ Err Failed)
 
 -- the edges of a jump table are taken
 abbrev pub TakesJumpTable : FunctionBuilder → FunctionBuilder → ℕ → Result (List BlockCall) BuildError → Type 0
-TakesJumpTable old new table answer = Takes jump_tables false old new table answer
+TakesJumpTable old new table answer = Takes jump_tables old new table answer
 
 -- an exception table is taken
 abbrev pub TakesExceptionTable : FunctionBuilder → FunctionBuilder → ℕ → Result ExceptionShape BuildError → Type 0
-TakesExceptionTable old new table answer = Takes exception_tables true old new table answer
+TakesExceptionTable old new table answer = Takes exception_tables old new table answer
 
 -- The answer is an edge to a block that passes these arguments. Nothing changes.
 pub record MakesEdge (block : ℕ) (args : List BlockArg) (old new : FunctionBuilder) (answer : Result BlockCall BuildError) : Type 0 where
-  pub sets : SetsTables false old.func.now.tables old new answer
+  pub sets : SetsTables old.func.now.tables old new answer
   pub grows : OnOk answer (Grows old.func.now new.func.now)
   pub edge : IfOk answer (λ edge. edge ≡ record { block = block; args = args })
   pub never_full : answer ≢ Err Full

@@ -9,7 +9,8 @@ use Rattle.clif_meaning.specs.Typing.{EdgesMatch}
 use Rattle.clif_meaning.specs.Premises.{CallersEdgesMatch}
 use Rattle.clif_meaning.specs.WellPlaced.{program_code, IsWellPlaced, Records, RecordsWellPlaced, WellPlaced}
 use Rattle.clif_simulation.specs.Tables.{program_so_far}
-use Rattle.clif_simulation.specs.Carries.{NothingLeads, SparesEntry}
+use Rattle.clif_simulation.specs.Carries.{NothingLeads}
+use Rattle.clif_ssa.specs.Sound.{EntryIsFree}
 use Rattle.clif_simulation.specs.Structure.{AreRecords, NoneWaits}
 use Rattle.clif_simulation.specs.Reading.{ReadsRightFromAnywhere}
 use Rattle.clif_simulation.specs.Interrupted.{ReadsRight}
@@ -38,17 +39,17 @@ StandingMatchesEdges =
     (declared : SignatureShape) (calls : List AnsweredCall) (f : Body) (c : ContextState) (position : Option ℕ)
     → StandsIn declared calls f c position → NoneWaits c.ssa → CallersEdgesMatch (script_of calls) → EdgesMatch (view_of f)
 
--- Where the names of the list's program are given before they are named, and no branch names the entry, the unfinished
--- function's values are defined before they are named,
+-- Where the names of the list's program are given before they are named, and the entry is free (a branch may name it while it
+-- is unsealed), the unfinished function's values are defined before they are named,
 abbrev pub StandingIsWellPlaced : Type 0
 StandingIsWellPlaced =
     (declared : SignatureShape) (calls : List AnsweredCall) (f : Body) (c : ContextState) (position : Option ℕ)
-    → IsConsistent f → StandsIn declared calls f c position → SparesEntry calls → IsWellPlaced (program_code (program_so_far calls))
+    → IsConsistent f → StandsIn declared calls f c position → EntryIsFree f c.ssa → IsWellPlaced (program_code (program_so_far calls))
     → WellPlaced (view_of f)
 
 -- and so is what the builder recorded at the ends of its blocks, and what answered uses.
 abbrev pub StandingRecordsAreWellPlaced : Type 0
 StandingRecordsAreWellPlaced =
     (declared : SignatureShape) (calls : List AnsweredCall) (f : Body) (c : ContextState) (position : Option ℕ) (records : Records)
-    → IsConsistent f → StandsIn declared calls f c position → SparesEntry calls → IsWellPlaced (program_code (program_so_far calls))
+    → IsConsistent f → StandsIn declared calls f c position → EntryIsFree f c.ssa → IsWellPlaced (program_code (program_so_far calls))
     → AreRecords calls f c.ssa records → RecordsWellPlaced (view_of f) records

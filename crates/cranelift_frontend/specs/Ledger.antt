@@ -8,7 +8,6 @@ use Rattle.clif_instructions.specs.declared.block_call.BlockArg.TheVariants as a
 use Rattle.clif_instructions.specs.declared.block_call.BlockCall.{BlockCall}
 use Rattle.clif_instructions.specs.Instruction.{destinations, operands, result_types}
 use Rattle.clif_meaning.specs.Instruction.{Argument, CallPayload, CallResult, Edge, Instruction, Known}
-use Rattle.clif_meaning.specs.Typing.{call_shape}
 use Rattle.clif_meaning.specs.View.{made_at, operation_of}
 use Rattle.clif_tables.specs.Lists.{TableLists}
 use Rattle.clif_nodes.specs.declared.nodes.ValueNode.{ValueNode}
@@ -82,8 +81,6 @@ pub record HasShape (calls : List AnsweredCall) (f : Body) (instruction : Instru
   -- its results have the types that they have at that type: the two differ only where an operand tells the type, and the
   -- results' types follow from the one that is given
   pub typed : result_types shape ty ≡ result_types shape (made_at f shape ty)
-  -- no call of a list makes an outside call so far
-  pub calls_nothing : call_shape instruction.operation ≡ None
   pub operands_numbered : map (number_of calls) instruction.operands ≡ map Some (operands shape)
   pub edges : NamesEdges calls instruction.edges (destinations shape)
 
@@ -126,10 +123,10 @@ pub record AnswersAgree (ledger : Ledger) (f : Body) (place : ℕ) (answers : Li
 abbrev pub HaveTypes : Body → List ℕ → List «Type» → Type 0
 HaveTypes f values types = map (value_type f) values ≡ map Some types
 
--- the tables whose entries calls of a list make. Constants and jump tables are none: an instruction has its constant's bytes
--- and its table's edges itself
+-- the tables whose entries calls of a list make. Constants, jump tables and exception tables are none: an instruction has its
+-- constant's bytes and what its table holds itself. Nor are the labels of values, which mean nothing to a run
 abbrev pub tables_of_calls : TableLists → TableLists
-tables_of_calls tables = record tables { constants = []; jump_tables = [] }
+tables_of_calls tables = record tables { constants = []; jump_tables = []; exception_tables = []; value_labels = None }
 
 -- a ledger of calls agrees with the parts of a builder: its function, its context and its current block
 pub record LedgerAgrees (calls : List AnsweredCall) (ledger : Ledger) (f : Body) (c : ContextState) (position : Option ℕ) : Type 0 where

@@ -3,6 +3,7 @@ pub mod Context
 pub mod Builder
 pub mod Construction
 pub mod Order
+pub mod Labels
 pub mod Ledger
 pub mod Growth
 pub mod StandsFor

@@ -20,7 +20,7 @@ pub record StandsIn (declared : SignatureShape) (calls : List AnsweredCall) (f :
   -- the ledger of the calls agrees with what the queries answer
   pub ledger : LedgerAgrees calls (ledger_of calls) f c position
   -- each block's instructions are the program's, in order, operands being the answers of the names, with only zeros
-  -- before them; and where no branch names the entry the state on paths is sound
+  -- before them; and where the entry is free the state on paths is sound
   pub carries : Carries calls f c.ssa
   -- in the entry, the first block of the layout, something was made
   pub begun : (entry : ℕ) → slice_get f.layout 0 ≡ Some entry → status_of c entry ≢ Empty

@@ -41,6 +41,19 @@ impl<'a> FunctionBuilder<'a> {
     {
         self
     }
+
+    /// Lends the builder at the end of the current block, as upstream's cursor stands there:
+    /// `builder.cursor().ins().iadd(x, y)?`. Use it for instructions that neither branch nor end the block.
+    ///
+    /// There is a current block, which isn't filled. The block enters the layout with its first instruction; where
+    /// it is to stand there without one, call [`FunctionBuilder::ensure_inserted_block`].
+    pub fn cursor<'short>(&'short mut self) -> FuncInstBuilder<'short, 'a>
+        requires { HasCurrent self.old }
+        ensures same { result.ghost_name ≡ self.entry.ghost_name }
+        ensures builder { result.now ≡ self.old }
+    {
+        self
+    }
 }
 
 impl<'a> InstBuilderBase for FunctionBuilder<'a> {

@@ -29,7 +29,7 @@ pub fn standing_matches_edges()
 {}
 
 /// The values of the unfinished function of a builder that stands for a list of calls are defined before they are named, where
-/// the names of the list's program are given before and no branch names the entry.
+/// the names of the list's program are given before and the entry is free: once it is sealed, no branch leads to it.
 pub fn standing_is_well_placed()
     ensures { StandingIsWellPlaced }
 {}

@@ -10,14 +10,18 @@ pub mod error;
 pub mod finalize;
 pub mod frontend;
 pub mod instructions;
+pub mod labels;
 pub mod laws;
 
 pub use builder::FunctionBuilder;
+pub use clif_check::{CheckError, CheckErrorKind, check};
+pub use clif_cursor::FuncCursor;
 pub use clif_inst_builder::{InstBuilder, InstBuilderBase};
 pub use clif_ir::{
     BinaryOpcode, BlockArg, BlockArgs, BlockCall, CondTrapOpcode, ConvertOpcode, ExceptionItem,
     ExceptionTableData, ExceptionTableItem, ExceptionTargets, FloatConstOpcode, Function,
-    InstructionData, JumpTableData, PooledConstOpcode, UnaryOpcode, ValueDef, ValueList,
+    InstructionData, JumpTableData, PooledConstOpcode, UnaryOpcode, ValueDef, ValueLabelStart,
+    ValueList,
 };
 pub use clif_ssa::Variable;
 pub use clif_types::{

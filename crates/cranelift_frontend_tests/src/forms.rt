@@ -3,8 +3,8 @@
 
 ghost use Rattle.std.specs.Prelude.{◌≡◌};
 
+use crate::fixture::named;
 use crate::front_end::{asserts_current, asserts_value};
-use crate::steps::named;
 use clif_types::types::{F16, F32, F64, I8, I32, I64};
 use cranelift_frontend::{
     CondTrapOpcode, EntityRef, FloatConstOpcode, FunctionBuilder, Inst, InstBuilder,

@@ -7,9 +7,7 @@ mod branches;
 #[cfg(test)]
 mod by_calls;
 #[cfg(test)]
-mod calls;
-#[cfg(test)]
-mod entities;
+mod fixture;
 #[cfg(test)]
 mod forms;
 #[cfg(test)]
@@ -19,12 +17,8 @@ mod generic;
 #[cfg(test)]
 mod parameters;
 #[cfg(test)]
-mod places;
-#[cfg(test)]
 mod refusals;
 #[cfg(test)]
 mod steps;
-#[cfg(test)]
-mod try_calls;
 #[cfg(test)]
 mod undefined;

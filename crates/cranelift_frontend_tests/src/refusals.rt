@@ -1,10 +1,11 @@
 //! What `finalize` refuses.
 #![tactic(auto)]
 
+use crate::fixture::function;
 use crate::front_end;
 use crate::steps::Operand::Constant;
 use crate::steps::Step::{Create, Enter, Make, NoCurrent, Seal};
-use crate::steps::{built, function};
+use crate::steps::built;
 use cranelift_frontend::{
     Block, DefVariableError, EntityRef, FinalizeError, FunctionBuilder, FunctionBuilderContext,
     Inst, UseVariableError, VERSION, Value, Variable,

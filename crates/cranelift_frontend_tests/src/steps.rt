@@ -4,28 +4,20 @@
 //! one variable, which is declared before the first step.
 #![tactic(auto)]
 
-ghost use Rattle.std.specs.Prelude.{◌≡◌, slice_get, IfOk, Some};
-ghost use Rattle.clif_ir.specs.Body.{empty_body};
+ghost use Rattle.std.specs.Prelude.{◌≡◌, slice_get, Some};
 
+use crate::fixture::{CONFIG, function, named};
 use crate::forms::{Effect, Form};
 use crate::{forms, front_end};
 use clif_types::types::I32;
 use cranelift_frontend::{
-    AbiParam, BinaryOpcode, Block, CallConv, ConvertOpcode, FinalizeError, Function,
-    FunctionBuilder, FunctionBuilderContext, PointerWidth, Signature, TargetFrontendConfig,
-    UnaryOpcode, UserFuncName, Value, Variable,
+    BinaryOpcode, Block, ConvertOpcode, FinalizeError, FunctionBuilder, FunctionBuilderContext,
+    UnaryOpcode, Value, Variable,
 };
-use std::alloc::{AllocError, Global};
+use std::alloc::Global;
 use std::fmt::Write;
 use std::process::Abort;
 use std::test::Fail;
-
-/// The target of each function.
-pub const CONFIG: TargetFrontendConfig = TargetFrontendConfig {
-    default_call_conv: CallConv::SystemV,
-    pointer_width: PointerWidth::U64,
-    page_size_align_log2: 12,
-};
 
 /// A call on the builder, or an expectation.
 #[derive(Clone, Copy)]
@@ -102,11 +94,6 @@ pub enum State {
 
 fn block(number: u8) -> Block {
     Block::from_u32(u32::from(number))
-}
-
-/// The value at a place among the answers.
-pub fn named(rt: &impl Abort, values: &[Value], place: usize) -> Value {
-    *values.get(place).expect(rt, "an answer")
 }
 
 fn is(rt: &impl Abort, builder: &FunctionBuilder<'_>, state: State, block: Block) -> bool {
@@ -229,19 +216,6 @@ fn take_all(
         }
     }
     Ok(())
-}
-
-/// The function `name`, which takes so many parameters of type I32 and returns an I32.
-pub fn function(alloc: Global, name: &str, params: usize) -> Result<Function, AllocError>
-    ensures { IfOk result (λ func. func ≡ empty_body func.name func.signature) }
-{
-    let name = UserFuncName::testcase(String::from_str(alloc, name)?);
-    let mut signature = Signature::new(alloc, CallConv::SystemV);
-    for _ in 0..params {
-        signature.params.push(AbiParam::new(I32))?;
-    }
-    signature.returns.push(AbiParam::new(I32))?;
-    Ok(Function::with_name_signature(alloc, name, signature))
 }
 
 /// The text of the function `name` of so many parameters after the steps, or why it isn't finished.

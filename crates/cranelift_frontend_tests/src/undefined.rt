@@ -1,8 +1,8 @@
 //! Variables of several types that are read and never assigned: their zeros stand before the block's first instruction.
 #![tactic(auto)]
 
+use crate::fixture::{CONFIG, function};
 use crate::front_end;
-use crate::steps::{CONFIG, function};
 use clif_types::types::{F16, F32, F32X4, F64, F64X2, F128, I8, I8X16, I128};
 use cranelift_frontend::{Block, EntityRef, FunctionBuilder, FunctionBuilderContext, Type};
 use std::alloc::Global;

@@ -1,6 +1,6 @@
 -- What goes on holding of a builder's blocks and values while more calls are made.
 use Rattle.std.proofs.Common.{◌≡◌, ◌≢◌, ℕ, ◌<◌, ◌≤◌, false, List, [], ◌∷◌, ◌++◌, length, refl, sym, ◌∙◌, ap, subst, arith}
-use Rattle.std.specs.Prelude.{true, slice_index_or, slice_get, Some, Ok}
+use Rattle.std.specs.Prelude.{true, slice_index, slice_index_or, slice_get, Some, Ok}
 use Rattle.std.proofs.lemmas.Option.{slice_get_within}
 use Rattle.clif_types.specs.declared.types.«Type».{«Type»}
 use Rattle.clif_instructions.specs.Instruction.{is_terminator, result_type_of}
@@ -188,6 +188,12 @@ not_below below same = absurd (omega (arith, below, same))
 -- the one value of a list exists
 pub one_exists : {value count : ℕ} → value < count → (k d : ℕ) → k < 1 → slice_index_or {A = ℕ} (value ∷ []) k d < count
 one_exists {value} {count} here k d first = let e : k ≡ 0 = omega (arith, first) in subst (λ (j : ℕ). slice_index_or {A = ℕ} (value ∷ []) j d < count) (sym e) here
+
+-- the first value of a list exists where each does
+pub first_exists : {value bound : ℕ} (values : List ℕ) → value ≡ slice_index_or values 0 value → 0 < length values
+    → ((k : ℕ) → k < length values → slice_index values k < bound) → value < bound
+first_exists [] is some each = absurd (omega (arith, some))
+first_exists {bound = bound} (v ∷ values) is some each = subst (λ (x : ℕ). x < bound) (sym is) (each 0 some)
 
 -- a block that has its terminator now may be left
 pub left_ended : {lent built back : FunctionBuilder} {shape : InstructionData} {ty : «Type»} {inst : ℕ}

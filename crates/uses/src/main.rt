@@ -6,10 +6,12 @@ ghost use Rattle.cranelift_frontend.specs.Context.{IsClear, IsFresh};
 
 mod count_down;
 mod diamond;
+mod forward;
 mod straight_line;
 
 use crate::count_down::count_down;
 use crate::diamond::diamond;
+use crate::forward::forward;
 use crate::straight_line::straight_line;
 use clif_types::types::I32;
 use cranelift_frontend::{
@@ -31,6 +33,7 @@ enum Example {
     StraightLine,
     CountDown,
     Diamond,
+    Forward,
 }
 
 impl Example {
@@ -39,13 +42,14 @@ impl Example {
             Example::StraightLine => "straight_line",
             Example::CountDown => "count_down",
             Example::Diamond => "diamond",
+            Example::Forward => "forward",
         }
     }
 
     fn param_count(self) -> usize {
         match self {
             Example::StraightLine => 0,
-            Example::CountDown => 1,
+            Example::CountDown | Example::Forward => 1,
             Example::Diamond => 3,
         }
     }
@@ -62,12 +66,18 @@ impl Example {
             Example::StraightLine => straight_line(func, ctx, CONFIG),
             Example::CountDown => count_down(func, ctx, CONFIG),
             Example::Diamond => diamond(func, ctx, CONFIG),
+            Example::Forward => forward(func, ctx, CONFIG),
         }
     }
 }
 
 fn main(rt: HostRuntime) -> ExitCode {
-    for example in [Example::StraightLine, Example::CountDown, Example::Diamond] {
+    for example in [
+        Example::StraightLine,
+        Example::CountDown,
+        Example::Diamond,
+        Example::Forward,
+    ] {
         if let Err(error) = print(&rt, rt.alloc(), example) {
             let _ = eprintln!(rt; "{error}");
             return ExitCode::from(1);

@@ -41,8 +41,8 @@ returns-in-AppendBlockParamsForFunctionParams c = subst (λ (x : Call). MakesCal
 pub returns-in-AppendBlockParamsForFunctionReturns : goal.returns-in-AppendBlockParamsForFunctionReturns
 returns-in-AppendBlockParamsForFunctionReturns c = subst (λ (x : Call). MakesCall x c.args.builder.now c.append_block_params_for_function_returns.new.builder c.args.answers.now c.append_block_params_for_function_returns.result) (sym c.in-AppendBlockParamsForFunctionReturns.is) c.append_block_params_for_function_returns.ensures
 
-pub returns-in-CreateSizedStackSlot : goal.returns-in-CreateSizedStackSlot
-returns-in-CreateSizedStackSlot c = subst (λ (x : Call). MakesCall x c.args.builder.now c.create_sized_stack_slot.new.builder c.args.answers.now c.create_sized_stack_slot.result) (sym c.in-CreateSizedStackSlot.is) c.create_sized_stack_slot.ensures
+pub returns-in-Entry : goal.returns-in-Entry
+returns-in-Entry c = subst (λ (x : Call). MakesCall x c.args.builder.now c.make_entry.new.builder c.args.answers.now c.make_entry.result) (sym c.in-Entry.is) c.make_entry.ensures
 
 pub returns-in-CreateJumpTable : goal.returns-in-CreateJumpTable
 returns-in-CreateJumpTable c =

@@ -53,13 +53,6 @@ returns-in_ok-trap_code-in-trap c =
     let reason = c.in_ok-trap_code-in-trap.ensures.ok in
     (reason.0 ∷ [], reason.1, (reason.0, ap (λ (head : List ℕ). head ∷ reason.0 ∷ []) c.in-trap.is, reason.2))
 
-pub returns-in_ok-align_shift-in-create_sized_stack_slot : goal.returns-in_ok-align_shift-in-create_sized_stack_slot
-returns-in_ok-align_shift-in-create_sized_stack_slot c =
-    let size = c.in_ok-slot_size-in-create_sized_stack_slot.ensures.ok in
-    let shift = c.in_ok-align_shift-in-create_sized_stack_slot.ensures.ok in
-    let words = size.0 ∷ shift.0 ∷ [] in
-    (words, size.1 ∙ ap (λ rest. size.0 ∷ rest) shift.1, (size.0, shift.0, ap (λ (head : List ℕ). head ∷ words) c.in-create_sized_stack_slot.is, size.2, shift.2))
-
 pub returns-in_ok-last_edge_names-in-create_jump_table : goal.returns-in_ok-last_edge_names-in-create_jump_table
 returns-in_ok-last_edge_names-in-create_jump_table c =
     let default = c.in_ok-edge_name-in-create_jump_table.ensures.ok in

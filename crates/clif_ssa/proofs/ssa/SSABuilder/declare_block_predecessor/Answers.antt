@@ -6,10 +6,10 @@ use Rattle.clif_ssa.proofs.StructuredLaws.{declared_structured}
 use Rattle.clif_ssa.proofs.ssa.SSABuilder.declare_block_predecessor.Goals as goal
 
 pub returns-clause-described : goal.returns-clause-described
-returns-clause-described c = λ own f tables exists entry no_entry apart new both.
+returns-clause-described c = λ own f tables exists entry apart new both.
     on_ok c.declare_predecessor.result _ _
     (λ declares.
-    declared_soundly own f c.args.self.now c.declare_predecessor.new.self tables c.args.block c.args.inst both exists entry c.requires no_entry apart new
+    declared_soundly own f c.args.self.now c.declare_predecessor.new.self tables c.args.block c.args.inst both exists entry c.requires apart new
     (rw (← c.self.view_is) (λ v b. ap (λ rows. record_at rows v b) c.declare_predecessor.ensures.records)) (rw (← c.self.view_is) c.declare_predecessor.ensures.blocks) (rw (← c.self.view_is) declares))
     c.declare_predecessor.ensures.ok
 

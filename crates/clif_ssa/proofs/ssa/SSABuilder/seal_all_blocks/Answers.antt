@@ -6,7 +6,7 @@ use Rattle.clif_ssa.proofs.Constructing.{constructs_none, constructs_then, tells
 use Rattle.clif_ssa.proofs.Naming.{has_more, more-then}
 use Rattle.clif_ssa.proofs.Alongside.{seal_remembers, remembers_then}
 use Rattle.clif_ssa.proofs.Losing.{same_remembers}
-use Rattle.clif_ssa.proofs.Public.{seal_keeps, keeps_then, keeps_itself}
+use Rattle.clif_ssa.proofs.Public.{seal_keeps, spares_later, keeps_then, keeps_itself}
 use Rattle.clif_ssa.proofs.Waited.{named-kept, no_more-sealed, other-same, sealed-below, still-sealed}
 use Rattle.clif_ssa.proofs.PuttingSteps.{full_before}
 use Rattle.clif_ssa.proofs.SealPools.{first_pools, first_waits, next_full, next_pools, next_waits}
@@ -38,7 +38,7 @@ loop-number-init c = record {
   waits = λ named. first_waits c.args.func.now c.args.self.now;
   constructs = constructs_none c.args.func.now;
   tells = tells_more_none c.args.func.now c.new-side_effects.result.instructions_added_to_blocks.items;
-  keeps = λ own tables both. keeps_itself own tables c.args.func.now c.args.self.now both;
+  keeps = λ own tables spares both. keeps_itself own tables c.args.func.now c.args.self.now both;
   remembers = λ x b. same_remembers x b c.args.func.now c.args.self.now c.args.self.now refl;
   structured = λ types own before. before;
 }
@@ -85,11 +85,14 @@ loop-number-preserved c =
       tells =
           tells_more_then c.args.func.now c.loop-number.func c.seal_one_block.new.func _ _ _ c.seal_one_block.ensures.keeps.constructs c.loop-number.invariant.tells
           (_, c.in_ok-append.ensures.ok, c.in_ok-told.ensures.makes.tells);
-      keeps = λ own tables both.
-          keeps_then own tables c.loop-number.func c.seal_one_block.new.func c.loop-number.self c.seal_one_block.new.self (c.loop-number.invariant.keeps own tables both)
+      keeps = λ own tables spares both.
+          keeps_then own tables c.loop-number.func c.seal_one_block.new.func c.loop-number.self c.seal_one_block.new.self (c.loop-number.invariant.keeps own tables spares both)
           (λ blocks described.
           seal_keeps own c.loop-number.func c.seal_one_block.new.func c.loop-number.self c.seal_one_block.new.self blocks c.new-block.result (Ok c.in_ok-told.told)
-          c.law_consistent.ensures described c.seal_one_block.ensures.keeps.predecessors c.in_ok-told.ensures.makes.local c.in_ok-told.ensures.makes.completes);
+          c.law_consistent.ensures
+          (spares_later c.args.func.now c.loop-number.func c.args.self.now c.loop-number.self c.loop-number.invariant.constructs c.loop-number.invariant.same
+          (λ b i here. (both.0.leading b i here).1) c.new-block.result (spares c.new-block.result (omega (arith, number, inside))))
+          described c.seal_one_block.ensures.keeps.predecessors c.in_ok-told.ensures.makes.local c.in_ok-told.ensures.makes.completes);
       remembers = λ x b.
           remembers_then x b c.args.func.now c.loop-number.func c.seal_one_block.new.func c.args.self.now c.loop-number.self c.seal_one_block.new.self (c.loop-number.invariant.remembers x b)
           (seal_remembers x b c.loop-number.func c.seal_one_block.new.func c.loop-number.self c.seal_one_block.new.self c.new-block.result (Ok c.in_ok-told.told)
@@ -199,7 +202,7 @@ returns-in_err-told-clause-tells c =
 pub returns-in_err-told-clause-keeps : goal.returns-in_err-told-clause-keeps
 returns-in_err-told-clause-keeps c =
     let p = err_from_is_err_and c.from_residual.result c.from_residual.ensures.1 in
-    λ own tables both. rw p.1 tt
+    λ own tables spares both. rw p.1 tt
 
 pub returns-in_err-told-clause-remembers : goal.returns-in_err-told-clause-remembers
 returns-in_err-told-clause-remembers c =
@@ -244,7 +247,7 @@ returns-in_err-append-clause-tells c =
 pub returns-in_err-append-clause-keeps : goal.returns-in_err-append-clause-keeps
 returns-in_err-append-clause-keeps c =
     let p = err_from_is_err_and c.from_residual-in_err-append.result c.from_residual-in_err-append.ensures.1 in
-    λ own tables both. rw p.1 tt
+    λ own tables spares both. rw p.1 tt
 
 pub returns-in_err-append-clause-remembers : goal.returns-in_err-append-clause-remembers
 returns-in_err-append-clause-remembers c =

@@ -3,7 +3,7 @@ use Rattle.clif_paths.specs.Blocks.{Blocks}
 use Rattle.clif_ssa.specs.Own.{Own}
 use Rattle.clif_ssa.specs.Constructs.{OnlyConstructs, TellsMore}
 use Rattle.clif_ssa.specs.Sealing.{SealsBelow}
-use Rattle.clif_ssa.specs.Sound.{Keeps}
+use Rattle.clif_ssa.specs.Sound.{Keeps, SparesIfEntry}
 use Rattle.clif_ssa.specs.SoundLaws.{DescribesSoundly}
 use Rattle.clif_records.specs.Tables.{is_yes}
 use Rattle.clif_ssa.specs.Ssa.{sealed_of, SamePredecessors, RecordsStay, HasMore, Named, NamesExist}
@@ -25,7 +25,7 @@ invariant-loop-number l = record {
   same : SamePredecessors l.initial.self l.self;
   stay : RecordsStay l.initial.self l.self;
   more : HasMore l.initial.func l.func;
-  keeps : (own : Own) (tables : Blocks) → DescribesSoundly own l.initial.func l.initial.self tables → Keeps own tables l.func l.self;
+  keeps : (own : Own) (tables : Blocks) → ((b : ℕ) → b < length l.initial.func.blocks → SparesIfEntry l.initial.func l.initial.self b) → DescribesSoundly own l.initial.func l.initial.self tables → Keeps own tables l.func l.self;
   no_more : length l.initial.self.blocks ≤ length l.initial.func.blocks → length l.self.blocks ≤ length l.initial.func.blocks;
   pools : NamesExist l.initial.func l.initial.self → MayPoolWaiting l.initial.func l.initial.self l.func.tables;
   waits : NamesExist l.initial.func l.initial.self → WaitsAsFirst l.initial.func l.initial.self l.func l.self;

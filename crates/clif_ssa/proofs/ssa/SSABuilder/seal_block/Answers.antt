@@ -5,9 +5,9 @@ use Rattle.clif_ssa.proofs.WithinUses.{leads_of, seal_within}
 use Rattle.clif_ssa.proofs.ssa.SSABuilder.seal_block.Goals as goal
 
 pub returns-clause-keeps : goal.returns-clause-keeps
-returns-clause-keeps c = λ own tables both.
+returns-clause-keeps c = λ own tables spares both.
     seal_keeps own c.args.func.now c.seal_one_block-told.new.func c.args.self.now c.seal_one_block-told.new.self tables c.args.block c.seal_one_block-told.result
-    c.law_consistent.ensures both c.seal_one_block-told.ensures.keeps.predecessors c.seal_one_block-told.ensures.makes.local c.seal_one_block-told.ensures.makes.completes
+    c.law_consistent.ensures spares both c.seal_one_block-told.ensures.keeps.predecessors c.seal_one_block-told.ensures.makes.local c.seal_one_block-told.ensures.makes.completes
 
 pub returns-clause-remembers : goal.returns-clause-remembers
 returns-clause-remembers c = λ x b.

@@ -6,11 +6,11 @@ use Rattle.cranelift_frontend.proofs.Tabling.{exception_created_aside, table_cre
 use Rattle.cranelift_frontend.proofs.builder.FunctionBuilder.create_exception_table.Goals as goal
 
 pub returns-then-self : goal.returns-then-self
-returns-then-self c = table_refused exception_tables true (exception_shape c.args.table) c.args.self.now c.if-self.true
+returns-then-self c = table_refused exception_tables (exception_shape c.args.table) c.args.self.now c.if-self.true
 
 pub returns : goal.returns
 returns c =
-    table_created exception_tables true (exception_shape c.args.table) c.args.self.now _ c.create_exception_table-made.result (exception_created_aside c.args.self.now.func.now (exception_shape c.args.table)) refl c.if-self.false (record { func = refl; ctx = refl }) refl refl refl
+    table_created exception_tables (exception_shape c.args.table) c.args.self.now _ c.create_exception_table-made.result (exception_created_aside c.args.self.now.func.now (exception_shape c.args.table)) refl c.if-self.false (record { func = refl; ctx = refl }) refl refl refl
     c.is_err-self.ensures.value c.law_consistent.ensures c.create_exception_table-made.ensures
 
 pub invariant_of-self : goal.invariant_of-self

@@ -5,11 +5,11 @@ use Rattle.cranelift_frontend.proofs.Tabling.{created_aside, table_created, tabl
 use Rattle.cranelift_frontend.proofs.builder.FunctionBuilder.create_jump_table.Goals as goal
 
 pub returns-then-self : goal.returns-then-self
-returns-then-self c = table_refused jump_tables false c.args.table c.args.self.now c.if-self.true
+returns-then-self c = table_refused jump_tables c.args.table c.args.self.now c.if-self.true
 
 pub returns : goal.returns
 returns c =
-    table_created jump_tables false c.args.table c.args.self.now _ c.create_jump_table-made.result (created_aside c.args.self.now.func.now c.args.table) refl c.if-self.false (record { func = refl; ctx = refl }) refl refl refl
+    table_created jump_tables c.args.table c.args.self.now _ c.create_jump_table-made.result (created_aside c.args.self.now.func.now c.args.table) refl c.if-self.false (record { func = refl; ctx = refl }) refl refl refl
     c.is_err-self.ensures.value c.law_consistent.ensures c.create_jump_table-made.ensures
 
 pub invariant_of-self : goal.invariant_of-self

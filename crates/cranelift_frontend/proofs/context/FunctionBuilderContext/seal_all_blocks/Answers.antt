@@ -33,7 +33,7 @@ returns-clause-is_sealing c =
       stay = done.stay;
       remembers = done.remembers;
       structured = done.structured;
-      keeps = done.keeps;
+      keeps = λ own tables spares. done.keeps own tables (λ b below. spares b (lt-ltb b (length c.args.func.now.blocks) below));
     } in
     on_ok_step c.begin_all.result _ _ (λ begins. (
       told,

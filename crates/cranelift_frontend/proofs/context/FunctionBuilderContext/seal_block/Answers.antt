@@ -25,7 +25,7 @@ returns-clause-is_sealing c =
       stay = done.stay;
       remembers = done.remembers;
       structured = done.structured;
-      keeps = done.keeps;
+      keeps = λ own tables spares. done.keeps own tables (spares c.args.block (eq-eqb c.args.block c.args.block refl));
     } in
     on_ok_step c.begin_all.result _ _ (λ begins. (
       told,

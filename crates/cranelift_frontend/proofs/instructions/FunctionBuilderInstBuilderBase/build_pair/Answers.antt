@@ -5,7 +5,7 @@ use Rattle.clif_inst_builder.proofs.NoCalls.{two_results}
 use Rattle.clif_ir.specs.Body.{inst_at, value_at}
 use Rattle.cranelift_frontend.specs.declared.builder.FunctionBuilder.{FunctionBuilder}
 use Rattle.cranelift_frontend.specs.Built.{Builds, BuildsPair}
-use Rattle.cranelift_frontend.proofs.Built.{both_below, builds_pair, builds_pair_refused, pair_count}
+use Rattle.cranelift_frontend.proofs.Built.{both_below, builds_pair, builds_pair_refused}
 use Rattle.cranelift_frontend.proofs.Named.{same_builder}
 use Rattle.cranelift_frontend.proofs.instructions.FunctionBuilderInstBuilderBase.build_pair.Goals as goal
 
@@ -14,7 +14,7 @@ both_values-requires c =
     let built : Builds c.args.self.now c.build.new.self c.args.shape c.value_type-ty.result (Ok c.in_ok-inst.inst) =
     subst (λ (b : FunctionBuilder). Builds b c.build.new.self c.args.shape c.value_type-ty.result (Ok c.in_ok-inst.inst)) (same_builder c.args.self.now _) c.in_ok-inst.ensures.built in
     ap (λ (xs : List ℕ). length xs) c.inst_results.ensures.exact
-    ∙ pair_count c.args.self.now c.build.new.self c.args.shape c.value_type-ty.result c.in_ok-inst.inst c.requires.current built (two_results c.args.self.now.func.now.tables c.args.shape c.requires.pair)
+    ∙ built.results ∙ two_results c.args.self.now.func.now.tables c.args.shape c.requires.pair
 
 pub returns-in_err-inst : goal.returns-in_err-inst
 returns-in_err-inst c =

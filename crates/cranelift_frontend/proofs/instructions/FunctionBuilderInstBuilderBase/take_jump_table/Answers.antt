@@ -6,12 +6,12 @@ use Rattle.cranelift_frontend.proofs.Tabling.{served_aside, table_taken, take_re
 use Rattle.cranelift_frontend.proofs.instructions.FunctionBuilderInstBuilderBase.take_jump_table.Goals as goal
 
 pub returns-then-self : goal.returns-then-self
-returns-then-self c = record { taken = take_refused jump_tables false c.args.table c.args.self.now c.if-self.true }
+returns-then-self c = record { taken = take_refused jump_tables c.args.table c.args.self.now c.if-self.true }
 
 pub returns : goal.returns
 returns c = record {
   taken =
-      table_taken jump_tables false c.args.table c.in-Some.edges c.args.self.now _ (served_aside c.args.self.now.func.now c.args.table) (λ named. named) c.if-self.false (record { func = refl; ctx = refl }) refl refl refl c.if-self.false
+      table_taken jump_tables c.args.table c.in-Some.edges c.args.self.now _ (served_aside c.args.self.now.func.now c.args.table) (λ named. named) c.if-self.false (record { func = refl; ctx = refl }) refl refl refl c.if-self.false
       c.law_consistent.ensures (sym c.take_jump_table.ensures.taken ∙ c.in-Some.is) c.take_jump_table.ensures.served;
 }
 

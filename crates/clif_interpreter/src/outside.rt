@@ -1,0 +1,85 @@
+//! Outside calls: what is shown of them, and who answers them.
+use clif_operations::Memory;
+use clif_operations::arithmetic::greatest;
+use clif_types::{AbiParam, ExternalName, SigRef, Type, types};
+
+/// What is called.
+#[derive(PartialEq, Eq, Drop)]
+pub enum Callee {
+    /// The function of this name.
+    Named(ExternalName),
+    /// What lies at this address, by the signature of this number.
+    AtAddress(u128, SigRef),
+}
+
+/// An outside call as it is shown. What is in memory then isn't kept.
+#[derive(PartialEq, Eq, Drop)]
+pub struct Event {
+    /// What is called.
+    pub callee: Callee,
+    /// The bits of the arguments.
+    pub arguments: Vec<u128>,
+}
+
+/// What lies outside. It answers each call by the events so far, of which the call itself is the last.
+pub trait Outside {
+    /// Which of so many items with an edge a try call goes along, from 0 on, where it throws; `None` where it returns.
+    /// A call without such items returns.
+    fn thrown(&self, events: &[Event], items: usize) -> Option<usize>;
+
+    /// The bits of what is returned or thrown at a place, from 0 on. They are cut to its type.
+    fn value(&self, events: &[Event], place: usize) -> u128;
+
+    /// Makes memory what it is after the call.
+    fn change(&self, events: &[Event], memory: &mut Memory);
+}
+
+/// Answers each call with zeros, and leaves memory as it is.
+#[derive(Clone, Copy)]
+pub struct Zeros;
+
+impl Outside for Zeros {
+    fn thrown(&self, _events: &[Event], _items: usize) -> Option<usize> {
+        None
+    }
+
+    fn value(&self, _events: &[Event], _place: usize) -> u128 {
+        0
+    }
+
+    fn change(&self, _events: &[Event], _memory: &mut Memory) {}
+}
+
+/// How a call was answered: what the parts `ret0` or `exn0` of its edges hold.
+#[derive(Clone, Copy)]
+pub(crate) enum Payload<'a> {
+    /// The instruction is no call.
+    None,
+    /// It returned values of these types.
+    Returned(&'a [AbiParam]),
+    /// It threw.
+    Thrown,
+}
+
+impl Payload<'_> {
+    /// The type of what was returned at a place.
+    pub(crate) fn returned(self, place: usize) -> Option<Type> {
+        match self {
+            Payload::Returned(returns) => returns.get(place).map(|param| param.value_type),
+            Payload::None | Payload::Thrown => None,
+        }
+    }
+
+    /// The type of what was thrown at a place: two integers of 64 bits are.
+    pub(crate) fn thrown(self, place: usize) -> Option<Type> {
+        match self {
+            Payload::Thrown if place < 2 => Some(types::I64),
+            _ => None,
+        }
+    }
+}
+
+/// The low bits of an answer, as many as a type has.
+pub(crate) fn cut(ty: Type, bits: u128) -> u128 {
+    bits & greatest(ty)
+}
