@@ -16,14 +16,14 @@ use std::alloc::Global;
 use std::process::Abort;
 use std::test::Fail;
 
-const CONFIG: TargetFrontendConfig = TargetFrontendConfig {
+pub(crate) const CONFIG: TargetFrontendConfig = TargetFrontendConfig {
     default_call_conv: CallConv::SystemV,
     pointer_width: PointerWidth::U64,
     page_size_align_log2: 12,
 };
 
 // Asserts that a block exists and isn't sealed.
-fn asserts_target(rt: &impl Abort, builder: &FunctionBuilder<'_>, block: Block)
+pub(crate) fn asserts_target(rt: &impl Abort, builder: &FunctionBuilder<'_>, block: Block)
     ensures exists { block < length builder.now.func.now.blocks }
     ensures unsealed { is_yes (sealed_of builder.now.ctx.now.ssa block) ≡ false }
 {
@@ -32,7 +32,7 @@ fn asserts_target(rt: &impl Abort, builder: &FunctionBuilder<'_>, block: Block)
 }
 
 // Asserts that there is a current block, which isn't filled.
-fn asserts_current(rt: &impl Abort, builder: &FunctionBuilder<'_>)
+pub(crate) fn asserts_current(rt: &impl Abort, builder: &FunctionBuilder<'_>)
     ensures { HasCurrent builder.now }
 {
     let block = builder.current_block().expect(rt, "a current block");
@@ -41,14 +41,14 @@ fn asserts_current(rt: &impl Abort, builder: &FunctionBuilder<'_>)
 }
 
 // Asserts that a value exists.
-fn asserts_value(rt: &impl Abort, builder: &FunctionBuilder<'_>, value: Value)
+pub(crate) fn asserts_value(rt: &impl Abort, builder: &FunctionBuilder<'_>, value: Value)
     ensures { value < length builder.now.func.now.values }
 {
     assert!(rt; value.index() < builder.func().value_count());
 }
 
 // The edge to a block that passes these arguments.
-fn edge(
+pub(crate) fn edge(
     rt: &impl Abort,
     builder: &mut FunctionBuilder<'_>,
     block: Block,
@@ -86,7 +86,7 @@ fn branch(
 }
 
 // Makes a block the current one, where the one that was current is filled.
-fn enter(rt: &impl Abort, builder: &mut FunctionBuilder<'_>, block: Block) {
+pub(crate) fn enter(rt: &impl Abort, builder: &mut FunctionBuilder<'_>, block: Block) {
     assert!(rt; block.index() < builder.func().block_count());
     assert!(rt; !builder.is_filled(block));
     if let Some(current) = builder.current_block() {
@@ -96,7 +96,12 @@ fn enter(rt: &impl Abort, builder: &mut FunctionBuilder<'_>, block: Block) {
 }
 
 // Returns a value from a block.
-fn returns(rt: &impl Abort, builder: &mut FunctionBuilder<'_>, block: Block, value: Value) {
+pub(crate) fn returns(
+    rt: &impl Abort,
+    builder: &mut FunctionBuilder<'_>,
+    block: Block,
+    value: Value,
+) {
     enter(rt, builder, block);
     asserts_current(rt, builder);
     asserts_value(rt, builder, value);

@@ -10,6 +10,8 @@ mod instructions;
 #[cfg(test)]
 mod memory;
 #[cfg(test)]
+mod notes;
+#[cfg(test)]
 mod refusals;
 #[cfg(test)]
 mod support;

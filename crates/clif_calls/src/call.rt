@@ -1,7 +1,9 @@
 //! The calls of a script, and the names of their answers.
 use crate::entry::EntryCall;
 use clif_records::Variable;
-use clif_types::{IntCC, JumpTable, MemFlagsData, StackSlot, TrapCode, Type};
+use clif_types::{
+    IntCC, JumpTable, MemFlagsData, SourceLoc, StackSlot, TrapCode, Type, ValueLabel,
+};
 
 /// An answer of an earlier call: which call, and which of its answers.
 ///
@@ -209,7 +211,7 @@ pub enum PlainInstruction {
 
 /// One call on a builder, with names in place of what earlier calls answered.
 ///
-/// Each variant but `Entry` and `Plain` is the builder's method, or the instruction, of its name, and has its
+/// Each variant but `Entry`, `Plain` and `Cursor` is the builder's method, or the instruction, of its name, and has its
 /// conditions. A variable is named by its number.
 #[derive(Drop)]
 pub enum Call {
@@ -295,6 +297,19 @@ pub enum Call {
     /// An instruction that neither branches nor ends a block. There is a current block that isn't filled, as for each
     /// instruction.
     Plain(PlainInstruction),
+    /// The same, made through `cursor()`.
+    Cursor(PlainInstruction),
+    /// `set_srcloc(srcloc)`: answers nothing, and has no condition. Each later instruction gets this place in the source.
+    SetSrcloc {
+        srcloc: SourceLoc,
+    },
+    /// `collect_debug_info()`: answers nothing, and has no condition. Labels of values are kept from here on.
+    CollectDebugInfo,
+    /// `set_val_label(value, label)`: answers nothing. It has no condition but that the name leads to a value.
+    SetValLabel {
+        value: Name,
+        label: ValueLabel,
+    },
     /// `f128const bytes`: the float with the bits that these 16 bytes make, the lowest first. It has one result.
     F128const {
         bytes: Vec<u8>,

@@ -54,8 +54,6 @@ pub enum Cause {
     Assigned(Operand),
     /// The arguments of an edge don't have the types of its target's parameters.
     Edge,
-    /// The instruction calls a function of the C library, which no interpreter has so far.
-    LibraryCall,
     /// The operands of a call don't have the types of its signature's parameters.
     CallArguments,
     /// The instruction calls a function that wasn't imported.
@@ -67,7 +65,6 @@ impl Cause {
     pub fn is_limit(self) -> bool {
         match self {
             Cause::Fault(fault) => fault.is_limit(),
-            Cause::LibraryCall => true,
             _ => false,
         }
     }
@@ -85,7 +82,6 @@ impl Cause {
             Cause::EntryTarget => "a branch leads to the entry block",
             Cause::NotFilled => "a branch leads to a block without a terminator",
             Cause::NoTarget => "a branch leads to no block",
-            Cause::LibraryCall => "a function of the C library is called",
             Cause::CallArguments => "the operands of a call don't fit its signature",
             Cause::NoFunction => "a function is called that wasn't imported",
             _ => "the arguments of an edge don't fit its target's parameters",

@@ -4,10 +4,13 @@ use crate::outside::{Callee, Event, Outside, Payload, cut};
 use crate::run::{End, Ending, World};
 use clif_ir::{BlockArg, BlockCall, ExceptionTargets, Function, InstructionData};
 use clif_operations::arithmetic::bits_of_bytes;
-use clif_operations::{Fault, Operation, Outcome, Store, Typed, bits_of, carry_out, kept};
+use clif_operations::{
+    Fault, LibraryCall, Operation, Outcome, Store, Typed, bits_of, carry_out, is_library_signature,
+    kept, library_result,
+};
 use clif_types::{
-    Block, Constant, EntityRef, ExternalName, FuncRef, Inst, SigRef, Signature, StackSlot, Type,
-    Value,
+    Block, Constant, EntityRef, ExternalName, FuncRef, Inst, PointerWidth, SigRef, Signature,
+    StackSlot, Type, Value,
 };
 use std::alloc::Global;
 
@@ -29,8 +32,11 @@ struct State<'a, O> {
     func: &'a Function,
     values: Vec<Option<u128>>,
     store: Store,
+    pointer_width: PointerWidth,
     outside: &'a O,
     events: Vec<Event>,
+    // what the last function of the C library gave to a try call
+    given: Option<Typed>,
 }
 
 /// A call by its parts.
@@ -143,15 +149,21 @@ impl<'a, O: Outside> State<'a, O> {
         Ok(kept(ty, cut(ty, bits))?)
     }
 
+    // What a call returned at a place. A function of the C library returns one value.
+    fn returned(&self, payload: Payload<'_>, place: u32) -> Result<Typed, Cause> {
+        match payload {
+            Payload::Gave if place == 0 => self.given.ok_or(Cause::Edge),
+            other => self.answered(other.returned(place as usize), place),
+        }
+    }
+
     // What an edge passes.
     fn passed(&self, args: &[BlockArg], payload: Payload<'_>) -> Result<Vec<Typed>, Cause> {
         let mut passed = Vec::new(self.alloc);
         for arg in args {
             let value = match arg {
                 BlockArg::Value(value) => self.value(*value)?,
-                BlockArg::TryCallRet(place) => {
-                    self.answered(payload.returned(*place as usize), *place)?
-                }
+                BlockArg::TryCallRet(place) => self.returned(payload, *place)?,
                 BlockArg::TryCallExn(place) => {
                     self.answered(payload.thrown(*place as usize), *place)?
                 }
@@ -240,20 +252,32 @@ impl<'a, O: Outside> State<'a, O> {
         Ok(arguments)
     }
 
-    // A call of an imported function.
-    fn direct(&self, function: FuncRef, values: &[Value]) -> Result<CallParts<'a>, Cause> {
+    // An imported function, and the signature that it is called by: its own, or that of a try call's table.
+    fn named(
+        &self,
+        function: FuncRef,
+        by: Option<SigRef>,
+    ) -> Result<(&'a ExternalName, &'a Signature), Cause> {
         let func = self.func;
         let Some(data) = func.tables().function(function) else {
             return Err(Cause::NoFunction);
         };
-        if matches!(&data.name, ExternalName::LibCall(_)) {
-            return Err(Cause::LibraryCall);
+        match func.tables().signature(by.unwrap_or(data.signature)) {
+            Some(signature) => Ok((&data.name, signature)),
+            None => Err(Cause::NoFunction),
         }
-        let Some(signature) = func.tables().signature(data.signature) else {
-            return Err(Cause::NoFunction);
-        };
+    }
+
+    // A call of an imported function.
+    fn direct(
+        &self,
+        function: FuncRef,
+        by: Option<SigRef>,
+        values: &[Value],
+    ) -> Result<CallParts<'a>, Cause> {
+        let (name, signature) = self.named(function, by)?;
         Ok(CallParts {
-            callee: Callee::Named(data.name.clone()?),
+            callee: Callee::Named(name.clone()?),
             signature,
             arguments: self.arguments(signature, values)?,
         })
@@ -311,12 +335,72 @@ impl<'a, O: Outside> State<'a, O> {
         }
     }
 
+    // What a function of the C library gives, if a function is one: it does its work.
+    fn library(
+        &mut self,
+        function: FuncRef,
+        by: Option<SigRef>,
+        values: &[Value],
+    ) -> Result<Option<Typed>, Cause> {
+        let (name, signature) = self.named(function, by)?;
+        let ExternalName::LibCall(callee) = name else {
+            return Ok(None);
+        };
+        let (callee, pointer_width) = (*callee, self.pointer_width);
+        if !is_library_signature(callee, pointer_width, signature) {
+            return Err(Cause::Fault(Fault::LibrarySignature));
+        }
+        let arguments = self.arguments(signature, values)?;
+        let [first, second, size] = arguments.as_slice() else {
+            return Err(Cause::CallArguments);
+        };
+        let call = LibraryCall {
+            callee,
+            pointer_width,
+            first: *first,
+            second: *second,
+            size: *size,
+        };
+        let bits = call.run(self.alloc, &mut self.store.memory)?;
+        let ty = library_result(callee, pointer_width);
+        Ok(Some(Typed { ty, bits }))
+    }
+
+    // Calls a function, which gives its results.
+    fn call_direct(
+        &mut self,
+        function: FuncRef,
+        values: &[Value],
+        results: &[Value],
+    ) -> Result<Next, Cause> {
+        if let Some(value) = self.library(function, None, values)? {
+            self.give_all(results, &[value.bits])?;
+            return Ok(Next::InBlock);
+        }
+        let call = self.direct(function, None, values)?;
+        self.plain_call(call, results)
+    }
+
+    // Tries to call a function. One of the C library returns, and is no outside call.
+    fn try_direct(
+        &mut self,
+        function: FuncRef,
+        values: &[Value],
+        table: &ExceptionTargets,
+    ) -> Result<Next, Cause> {
+        if let Some(value) = self.library(function, Some(table.signature()), values)? {
+            self.given = Some(value);
+            return self.follow(table.all_branches().first(), Payload::Gave);
+        }
+        let call = self.direct(function, Some(table.signature()), values)?;
+        self.try_call(call, table)
+    }
+
     // Makes a call, if the instruction is one.
     fn call(&mut self, shape: &InstructionData, results: &[Value]) -> Result<Next, Cause> {
         match shape {
             InstructionData::Call { func_ref, args } => {
-                let call = self.direct(*func_ref, args.as_slice())?;
-                self.plain_call(call, results)
+                self.call_direct(*func_ref, args.as_slice(), results)
             }
             InstructionData::CallIndirect { sig_ref, args } => {
                 let call = self.indirect(*sig_ref, args.as_slice())?;
@@ -326,10 +410,7 @@ impl<'a, O: Outside> State<'a, O> {
                 func_ref,
                 args,
                 exception,
-            } => {
-                let call = self.direct(*func_ref, args.as_slice())?;
-                self.try_call(call, exception)
-            }
+            } => { self.try_direct(*func_ref, args.as_slice(), exception) }
             InstructionData::TryCallIndirect { args, exception } => {
                 let call = self.indirect(exception.signature(), args.as_slice())?;
                 self.try_call(call, exception)
@@ -408,9 +489,10 @@ impl<'a, O: Outside> State<'a, O> {
 ///
 /// # Errors
 ///
-/// Where the function is wrong on the path of the run: a value isn't given yet, types don't fit, or what a load or a
-/// store claims isn't true. And where memory is refused, a value has more than 128 bits, a stack slot has no place, or
-/// a function of the C library is called.
+/// Where the function is wrong on the path of the run: a value isn't given yet, types don't fit, what a load or a store
+/// claims isn't true, or a function of the C library is called by another signature than its own, touches bytes that
+/// aren't accessible, or copies between bytes that overlap though it must not. And where memory is refused, a value has
+/// more than 128 bits, or a stack slot has no place.
 pub fn run<'a, O: Outside>(
     alloc: Global,
     func: &'a Function,
@@ -459,7 +541,9 @@ fn begin<'a, O: Outside>(
         func,
         values,
         store,
+        pointer_width: world.pointer_width,
         outside: world.outside,
         events: Vec::new(alloc),
+        given: None,
     })
 }

@@ -124,7 +124,7 @@ pub fn branch_by_table(edges: usize, index: &Name) -> Instruction<'_> {
 /// The instruction that a call makes, by its format.
 pub fn plan_of(call: &Call) -> Option<Plan<'_>> {
     match call {
-        Call::Plain(instruction) => Some(instruction.plan()),
+        Call::Plain(instruction) | Call::Cursor(instruction) => Some(instruction.plan()),
         Call::Jump { destination } => Some(Plan::Jump { destination }),
         Call::Brif {
             condition,

@@ -59,6 +59,8 @@ pub(crate) enum Payload<'a> {
     Returned(&'a [AbiParam]),
     /// It threw.
     Thrown,
+    /// A function of the C library gave what the state keeps.
+    Gave,
 }
 
 impl Payload<'_> {
@@ -66,7 +68,7 @@ impl Payload<'_> {
     pub(crate) fn returned(self, place: usize) -> Option<Type> {
         match self {
             Payload::Returned(returns) => returns.get(place).map(|param| param.value_type),
-            Payload::None | Payload::Thrown => None,
+            Payload::None | Payload::Thrown | Payload::Gave => None,
         }
     }
 

@@ -132,6 +132,7 @@ impl Program {
             Call::UseVar { .. }
             | Call::TryUseVar { .. }
             | Call::Plain(_)
+            | Call::Cursor(_)
             | Call::F128const { .. }
             | Call::Vconst { .. } => {
                 self.put_into_layout();
@@ -152,6 +153,9 @@ impl Program {
             | Call::SealAllBlocks
             | Call::InsertBlockAfter { .. }
             | Call::SetColdBlock { .. }
+            | Call::SetSrcloc { .. }
+            | Call::CollectDebugInfo
+            | Call::SetValLabel { .. }
             | Call::Entry(_)
             | Call::BlockCall { .. } => Ok(()),
         }
@@ -233,7 +237,7 @@ fn answer_count(call: &Call, signature: &Signature) -> usize {
     match call {
         Call::AppendBlockParamsForFunctionParams { .. } => signature.params.len(),
         Call::AppendBlockParamsForFunctionReturns { .. } => signature.returns.len(),
-        Call::Plain(_) => result_count(call).saturating_add(1),
+        Call::Plain(_) | Call::Cursor(_) => result_count(call).saturating_add(1),
         Call::F128const { .. } | Call::Vconst { .. } => 2,
         Call::AppendBlockParam { .. } | Call::UseVar { .. } | Call::TryUseVar { .. } => 1,
         _ => 0,

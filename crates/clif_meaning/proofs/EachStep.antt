@@ -6,7 +6,7 @@ use Rattle.clif_types.specs.declared.types.«Type».{«Type»}
 use Rattle.clif_meaning.specs.Access.{touched_ranges, claims_of}
 use Rattle.clif_meaning.specs.Bits.{Bits}
 use Rattle.clif_meaning.specs.Event.{Answer, Results, Exception}
-use Rattle.clif_meaning.specs.Instruction.{Edge, Operation, Load, Store, Stack, StackStore}
+use Rattle.clif_meaning.specs.Instruction.{Edge, Operation, Load, Store, Stack, StackStore, Call, TryCall}
 use Rattle.clif_meaning.specs.Machine.{Control, At, HasReturned, HasTrapped, IsStuck, state_after}
 use Rattle.clif_meaning.specs.Name.{Name}
 use Rattle.clif_meaning.specs.Outcome.{Outcome, Gives, Goes, Returns, Traps, Calls, NoStep, outcome_of}
@@ -72,12 +72,15 @@ module _ (Q : Item → Type 0) (run : ScriptRun) (each : EachItem Q run.program)
 
 -- MEMORY ------------------------------------------------------------------------------------------------------------------
 
--- an operation, and an item, that leaves memory alone
+-- an operation, and an item, that leaves memory alone: it accesses none, and calls nothing by its name, which may be a
+-- function of the C library
 abbrev pub IsQuiet : Operation → Type 0
 IsQuiet (Load flags offset) = ⊥
 IsQuiet (Store flags offset) = ⊥
 IsQuiet (Stack opcode slot offset) = ⊥
 IsQuiet (StackStore slot offset) = ⊥
+IsQuiet (Call name signature) = ⊥
+IsQuiet (TryCall name call) = ⊥
 IsQuiet _ = Unit {0}
 
 abbrev pub IsQuietItem : Item → Type 0
@@ -90,11 +93,15 @@ none_touched world (Load flags offset) ty types bits quiet = absurd quiet
 none_touched world (Store flags offset) ty types bits quiet = absurd quiet
 none_touched world (Stack opcode slot offset) ty types bits quiet = absurd quiet
 none_touched world (StackStore slot offset) ty types bits quiet = absurd quiet
+none_touched world (Call name signature) ty types bits quiet = absurd quiet
+none_touched world (TryCall name call) ty types bits quiet = absurd quiet
 none_touched world _ ty types bits quiet = refl
 
 none_claimed : (world : World) (operation : Operation) (ty : «Type») (types : List «Type») (bits : List ℕ) → IsQuiet operation → claims_of world operation ty types bits ≡ []
 none_claimed world (Load flags offset) ty types bits quiet = absurd quiet
 none_claimed world (Store flags offset) ty types bits quiet = absurd quiet
+none_claimed world (Call name signature) ty types bits quiet = absurd quiet
+none_claimed world (TryCall name call) ty types bits quiet = absurd quiet
 none_claimed world _ ty types bits quiet = refl
 
 -- it holds of each element of no list

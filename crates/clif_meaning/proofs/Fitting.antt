@@ -12,7 +12,10 @@ use Rattle.clif_types.specs.declared.trapcode.TrapCode.{TrapCode}
 use Rattle.clif_types.specs.declared.trapcode.TrapCode.TheVariants.{HeapOutOfBounds}
 use Rattle.clif_types.specs.MemFlags.{MemFlagsShape}
 use Rattle.clif_types.specs.declared.extname.ExternalName.{ExternalName}
-use Rattle.clif_types.specs.declared.extname.ExternalName.TheVariants.{User, TestCase, LibCall}
+use Rattle.clif_types.specs.declared.extname.ExternalName.TheVariants as name
+use Rattle.clif_types.specs.declared.libcall.LibCall.{LibCall}
+use Rattle.clif_types.specs.Signature.{SignatureShape}
+use Rattle.clif_tables.specs.Callees.{types_of}
 use Rattle.clif_opcodes.specs.declared.opcodes.FloatConstOpcode.TheVariants.{F16const, F32const, F64const}
 use Rattle.clif_opcodes.specs.declared.opcodes.PooledConstOpcode.TheVariants.{F128const, Vconst}
 use Rattle.clif_opcodes.specs.declared.kinds.OperandKind.{OperandKind}
@@ -23,12 +26,15 @@ use Rattle.clif_meaning.specs.Bits.{Bits, HasWidth, IsValue, AreValues, value_by
 use Rattle.clif_opcodes.specs.declared.opcodes.StackOpcode.TheVariants.{StackAddr, StackLoad}
 use Rattle.clif_meaning.specs.Instruction.{Iconst, FloatConst, PooledConst, Unary, Binary, Compare, Concat, Split, Convert, Select, Operation, Compute, Load, Store, Stack, StackStore, Trap, CondTrap, Jump, Brif, BrTable, Return, Call, CallIndirect, TryCall, TryCallIndirect}
 use Rattle.clif_meaning.specs.Memory.{Memory, Range, address_in, bytes_in, written}
-use Rattle.clif_meaning.specs.Access.{Accessible, Aligned, Holds, LibraryCall, access_claims, claims_if, claims_of, library_named}
-use Rattle.clif_meaning.specs.Outcome.{Outcome, Gives, NoStep, Traps, access_outcome, accessed, are_accessible, compares, converted_number, low_bits_at, no_claim, slot_accessed, slot_address, traps_on, unary_number, binary_fault, binary_number, call_outcome, outcome_of, outcome_of_computed, unless_fault}
+use Rattle.clif_meaning.specs.Access.{Accessible, Aligned, Holds, access_claims, call_claims, claims_if, claims_of, library_named}
+use Rattle.clif_meaning.specs.Outcome.{Outcome, Gives, Goes, NoStep, Traps, access_outcome, accessed, are_accessible, compares, converted_number, low_bits_at, no_claim, slot_accessed, slot_address, traps_on, unary_number, binary_fault, binary_number, call_outcome, library_outcome, outcome_of, outcome_of_computed, unless_fault}
 use Rattle.clif_meaning.specs.Laws.{FitsTypes, OutcomesFit}
 use Rattle.clif_meaning.specs.Program.{result_types}
+use Rattle.clif_meaning.specs.Library.{library_answer, library_memory, pointer_of}
+use Rattle.clif_meaning.specs.Premises.{HasLibrarySignature, IfLibraryCall}
 use Rattle.clif_meaning.specs.Event.{CallShape, plain_call}
 use Rattle.clif_meaning.specs.World.{World}
+use Rattle.clif_meaning.proofs.LibraryCalls.{answer_fits, claimed_runs, each_accessible, three_arguments}
 use Rattle.clif_meaning.proofs.SampleWorld.{pow_pos}
 
 low_fits : (ty : «Type») (number : ℕ) → IsValue ty (low_bits_at ty number)
@@ -105,24 +111,38 @@ module _ (P : List «Type» → List Bits → Type 0) (ty : «Type») where
 
 -- CALLS -----------------------------------------------------------------------------------------------------------------
 
--- the call of a function that is none of the C library
-named_fits : (results returns : List «Type») (name : ExternalName) (call : CallShape) (arguments : List Bits) → library_named name call.signature ≡ None
-    → FitsTypes results returns (call_outcome name call arguments)
-named_fits results returns (User reference) call arguments outside = tt
-named_fits results returns (TestCase text) call arguments outside = tt
-named_fits results returns (LibCall callee) call arguments outside = absurd (is_none (record { callee = callee; signature = call.signature }) outside)
-  where
-    is_none : (called : LibraryCall) → Some called ≡ None → ⊥
-    is_none called same = cc
+-- The call of a function of the C library, if what it claims is true. How it goes on is that of a call or of a try call.
+library_fits : (world : World) (goes_on : List Bits → Memory → Outcome) (results returns : List «Type») (callee : LibCall) (signature : SignatureShape)
+    (types : List «Type») (operands : List Bits) (memory : Memory)
+    → HasLibrarySignature (pointer_of world.pointer_width) (record { callee = callee; signature = signature })
+    → types ≡ types_of signature.params → AreValues types operands → AllByRecursion (Holds world) (call_claims world (name.LibCall callee) operands)
+    → ((bits : List Bits) (after : Memory) → AreValues (types_of signature.returns) bits → FitsTypes results returns (goes_on bits after))
+    → FitsTypes results returns (library_outcome world goes_on callee signature operands memory)
+library_fits world goes_on results returns callee signature types operands memory has takes values claims fit =
+    three_arguments (λ (xs : List Bits). AllByRecursion (Holds world) (call_claims world (name.LibCall callee) xs)
+    → FitsTypes results returns (library_outcome world goes_on callee signature xs memory)) (pointer_of world.pointer_width) callee operands
+    (subst (λ (ts : List «Type»). AreValues ts operands) (takes ∙ has.parameters) values)
+    (λ first second size is_pointer true_claims.
+    let runs = claimed_runs world callee signature first second size has true_claims in
+    let answer : List Bits = library_answer world callee first second size memory ∷ [] in
+    let after : Memory = library_memory world.pointer_width callee first second size memory in
+    subst (λ (b : Bool). FitsTypes results returns (if b then goes_on answer after else NoStep)) (sym runs)
+    (fit answer after (subst (λ (ts : List «Type»). AreValues ts answer) (sym has.returns)
+    (answer_fits world (pointer_of world.pointer_width) callee first second size memory is_pointer)))) claims
+
+-- the call of a function by its name
+named_fits : (world : World) (goes_on : List Bits → Memory → Outcome) (results returns : List «Type») (called : ExternalName) (call : CallShape)
+    (types : List «Type») (operands : List Bits) (memory : Memory)
+    → IfLibraryCall (pointer_of world.pointer_width) (library_named called call.signature)
+    → types ≡ types_of call.signature.params → AreValues types operands → AllByRecursion (Holds world) (call_claims world called operands)
+    → ((bits : List Bits) (after : Memory) → AreValues (types_of call.signature.returns) bits → FitsTypes results returns (goes_on bits after))
+    → FitsTypes results returns (call_outcome world goes_on called call operands memory)
+named_fits world goes_on results returns (name.User reference) call types operands memory has takes values claims fit = tt
+named_fits world goes_on results returns (name.TestCase text) call types operands memory has takes values claims fit = tt
+named_fits world goes_on results returns (name.LibCall callee) call types operands memory has takes values claims fit =
+    library_fits world goes_on results returns callee call.signature types operands memory has takes values claims fit
 
 -- ACCESSES --------------------------------------------------------------------------------------------------------------
-
--- bytes of which each may be touched are accessible
-all_accessible : (world : World) (range : Range) (count : ℕ) → ((k : ℕ) → k < count → IsTrue (world.is_accessible (address_in range k))) → are_accessible world range count ≡ true
-all_accessible world range zero each = refl
-all_accessible world range (suc count) each =
-    ap (λ (b : Bool). b && are_accessible world range count) (each count (omega arith))
-    ∙ all_accessible world range count (λ k below. each k (omega (arith, below)))
 
 -- the parts of what an access claims
 claimed_inside : (world : World) (aligned : Bool) (inside multiple : _) → AllByRecursion (Holds world) (claims_if true inside ++ claims_if aligned multiple) → Holds world inside
@@ -147,11 +167,11 @@ access_by world range outcome results returns false true true false multiple ins
 access_by world range outcome results returns false false is_multiple false multiple inside claims fits = tt
 access_by world range outcome results returns true true true false multiple inside claims fits =
     let each : Holds world (Accessible range) = claimed_inside world true (Accessible range) (Aligned range.start range.size) claims in
-    let same : true ≡ false = sym (all_accessible world range range.size each) ∙ inside in
+    let same : true ≡ false = sym (each_accessible world range range.size each) ∙ inside in
     let no_way : ⊥ = cc in absurd no_way
 access_by world range outcome results returns true false is_multiple false multiple inside claims fits =
     let each : Holds world (Accessible range) = claimed_inside world false (Accessible range) (Aligned range.start range.size) claims in
-    let same : true ≡ false = sym (all_accessible world range range.size each) ∙ inside in
+    let same : true ≡ false = sym (each_accessible world range range.size each) ∙ inside in
     let no_way : ⊥ = cc in absurd no_way
 
 -- an access whose claims are true fits if what it does fits
@@ -241,9 +261,11 @@ outcomes_fit world (BrTable entries) ty returns types operands memory outside at
 outcomes_fit world Return ty returns types operands memory outside at fits values =
     λ claims. subst (λ (ts : List «Type»). AreValues ts operands) fits values
 outcomes_fit world (Call name signature) ty returns types operands memory outside at fits values =
-    λ claims. named_fits (result_types (Call name signature) ty) returns name (plain_call signature) operands outside
+    λ claims. named_fits world Gives (types_of signature.returns) returns name (plain_call signature) types operands memory outside fits.1 values claims
+    (λ bits after fit. fit)
 outcomes_fit world (CallIndirect signature) ty returns types operands memory outside at fits values =
     with_address (Fits world (CallIndirect signature) ty returns memory) ty types operands fits.0 values (λ t x more bits claims. tt)
-outcomes_fit world (TryCall name call) ty returns types operands memory outside at fits values = λ claims. named_fits [] returns name call operands outside
+outcomes_fit world (TryCall name call) ty returns types operands memory outside at fits values =
+    λ claims. named_fits world (Goes 0) [] returns name call types operands memory outside fits.1 values claims (λ bits after fit. tt)
 outcomes_fit world (TryCallIndirect call) ty returns types operands memory outside at fits values =
     with_address (Fits world (TryCallIndirect call) ty returns memory) ty types operands fits.0 values (λ t x more bits claims. tt)

@@ -12,6 +12,8 @@ pub mod FirstPremises
 pub mod LoopPaths
 pub mod ViewRow
 pub mod Ranges
+pub mod SameTypes
+pub mod LibraryCalls
 pub mod CallLists
 pub mod BranchRow
 pub mod EachStep

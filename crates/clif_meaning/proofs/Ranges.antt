@@ -1,6 +1,6 @@
 -- Reading what was written to a range.
 use Rattle.std.proofs.Common.{◌≡◌, ◌+◌, ◌-◌, ◌%◌, ◌^◌, ◌<◌, ℕ, zero, suc, List, [], ◌∷◌, length, replicate, true, false, refl, sym, ◌∙◌, ap, arith}
-use Rattle.std.proofs.Math.Nat.{mod-lt, mod-add-mod, add-mod_right, mod-eq_of_lt}
+use Rattle.std.proofs.Math.Nat.{mod-lt, mod-add-mod, add-mod_right, mod-eq_of_lt, mod-le}
 use Rattle.std.proofs.lemmas.Bool.{lt-ltb}
 use Rattle.std.specs.List.{slice_index}
 use Rattle.clif_meaning.specs.Memory.{Memory, Range, address_in, index_in, lies_in, bytes_from, bytes_in, written, copied, filled, IsProper}
@@ -15,14 +15,23 @@ index_of range k starts below =
     ap (λ (n : ℕ). n % whole) back ∙ mod-add-mod (range.start + k) whole (whole - range.start) ∙ ap (λ (n : ℕ). n % whole) round
     ∙ add-mod_right k whole ∙ mod-eq_of_lt below
 
+-- each byte of a range that begins at an address lies in it, however long it is
+pub lies_there : (range : Range) (k : ℕ) → range.start < 2 ^ range.width → k < range.size → lies_in range (address_in range k) ≡ true
+lies_there range k starts below =
+    let whole : ℕ = 2 ^ range.width in
+    let back : (range.start + k) % whole + whole - range.start ≡ (range.start + k) % whole + (whole - range.start) = omega arith in
+    let round : range.start + k + (whole - range.start) ≡ k + whole = omega arith in
+    let index : index_in range (address_in range k) ≡ k % whole =
+    ap (λ (n : ℕ). n % whole) back ∙ mod-add-mod (range.start + k) whole (whole - range.start) ∙ ap (λ (n : ℕ). n % whole) round
+    ∙ add-mod_right k whole in
+    let inside = lt-ltb (address_in range k) (2 ^ range.width) (mod-lt (range.start + k) (pow_pos range.width)) in
+    let little : k % whole < range.size = omega (arith, mod-le k whole, below) in
+    let early = lt-ltb (k % whole) range.size little in
+    rw (inside, index, early) refl
+
 -- each byte of a range lies in it
 lies : (range : Range) (k : ℕ) → IsProper range → k < range.size → lies_in range (address_in range k) ≡ true
-lies range k proper below =
-    let inside = lt-ltb (address_in range k) (2 ^ range.width) (mod-lt (range.start + k) (pow_pos range.width)) in
-    let small : k < 2 ^ range.width = omega (arith, proper.size) in
-    let index = index_of range k proper.start small in
-    let early = lt-ltb k range.size below in
-    rw (inside, index, early) refl
+lies range k proper below = lies_there range k proper.start below
 
 -- two memories read alike from two places on
 alike : (left right : Memory) (width s t size : ℕ) → ((k : ℕ) → k < size → left ((s + k) % 2 ^ width) ≡ right ((t + k) % 2 ^ width))

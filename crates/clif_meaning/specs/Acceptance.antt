@@ -26,8 +26,8 @@ use Rattle.clif_tables.specs.Lists.{TableLists}
 use Rattle.clif_meaning.specs.SameType.{same_type}
 use Rattle.clif_meaning.specs.Instruction.{Iconst, FloatConst, PooledConst, Unary, Binary, Compare, Concat, Split, Convert, Select, Operation, operation_entries, Instruction, Compute, Load, Store, Stack, StackStore, Trap, CondTrap, Jump, Brif, BrTable, Return, Call, CallIndirect, TryCall, TryCallIndirect, Argument, Known, CallResult, CallPayload, Edge}
 use Rattle.clif_meaning.specs.Name.{Name}
-use Rattle.clif_meaning.specs.Request.{Request, CreateBlock, SwitchToBlock, SealBlock, SealAllBlocks, InsertBlockAfter, SetColdBlock, EnsureInsertedBlock, AppendBlockParams, AppendFunctionParams, DeclareVar, DefVar, UseVar, MakeEntry, MakeEdge, MakeJumpTable, Build, Finalize, Script, Attempt, outright}
-use Rattle.clif_meaning.specs.Ledger.{BlockState, Ledger, empty_ledger, type_of, or_invalid, has_value, has_block, edge_named, unserved_edges, is_filled, is_sealed, is_inserted, is_pristine, has_predecessors, is_unreachable, variable_type, ledger_with}
+use Rattle.clif_meaning.specs.Request.{Request, CreateBlock, SwitchToBlock, SealBlock, SealAllBlocks, InsertBlockAfter, SetColdBlock, EnsureInsertedBlock, AppendBlockParams, AppendFunctionParams, DeclareVar, DefVar, UseVar, MakeEntry, MakeEdge, MakeJumpTable, Annotate, Build, ChangeJumpDestination, Finalize, Script, Attempt, outright}
+use Rattle.clif_meaning.specs.Ledger.{BlockState, Ledger, empty_ledger, type_of, or_invalid, has_value, has_block, has_instruction, leads_to, edge_named, unserved_edges, is_filled, is_sealed, is_inserted, is_pristine, has_predecessors, is_unreachable, variable_type, ledger_with}
 
 -- there is a current block, and it isn't filled
 abbrev pub is_open : Ledger → Option Name → Bool
@@ -110,9 +110,12 @@ allows ledger (UseVar variable) = is_open ledger ledger.current && is_some (vari
 allows ledger (MakeEntry entry) = can_make ledger.tables entry
 allows ledger (MakeEdge edge) = has_block ledger edge.target && list_all (has_argument ledger) edge.arguments
 allows ledger (MakeJumpTable default entries) = list_all (λ name. is_some (edge_named ledger name)) (default ∷ entries)
+allows ledger (Annotate values) = list_all (has_value ledger) values
 allows ledger (Build table instruction) =
     may_serve ledger table && is_open ledger ledger.current && list_all (has_value ledger) instruction.operands && list_all (can_lead ledger) instruction.edges
     && can_operate instruction.operation instruction.controlling && list_all (has_entry ledger.tables) (operation_entries instruction.operation)
+allows ledger (ChangeJumpDestination branch from to) =
+    has_instruction ledger branch && leads_to ledger branch from && not (is_sealed ledger from) && has_block ledger to && not (is_sealed ledger to)
 allows ledger Finalize = true
 
 -- why a call that may be made is refused

@@ -1,17 +1,19 @@
 -- What an item of a script does to memory by itself, and what it claims: the ranges that it may touch, and what its
 -- flags, alignments and overlap promise. After the documentation of Cranelift's memory flags and memory helpers.
-use Rattle.std.specs.Prelude.{◌≡◌, ℕ, ◌%◌, ◌^◌, ◌<◌, ◌++◌, Bool, false, if◌then◌else◌, List, [], ◌∷◌, IsTrue, ◌&&◌, Option, Some, None}
+use Rattle.std.specs.Prelude.{◌≡◌, ℕ, ◌%◌, ◌^◌, ◌<◌, ◌++◌, Bool, false, if◌then◌else◌, List, [], ◌∷◌, IsTrue, ◌&&◌, Option, Some, None, map}
 use Rattle.clif_opcodes.specs.declared.opcodes.StackOpcode.TheVariants.{StackLoad}
 use Rattle.clif_types.specs.declared.types.«Type».{«Type»}
 use Rattle.clif_types.specs.MemFlags.{MemFlagsShape}
 use Rattle.clif_types.specs.Signature.{SignatureShape}
 use Rattle.clif_types.specs.declared.libcall.LibCall.{LibCall}
+use Rattle.clif_types.specs.declared.libcall.LibCall.TheVariants.{Memcpy}
 use Rattle.clif_types.specs.declared.extname.ExternalName.{ExternalName}
 use Rattle.clif_types.specs.declared.extname.ExternalName.TheVariants as name
 use Rattle.clif_meaning.specs.Bits.{Bits}
 use Rattle.clif_meaning.specs.Memory.{Range, address_in, lies_in}
 use Rattle.clif_meaning.specs.Instruction.{Operation, Load, Store, Stack, StackStore, Call, TryCall}
 use Rattle.clif_meaning.specs.Outcome.{accessed, slot_accessed, operand_type}
+use Rattle.clif_meaning.specs.Library.{bytes_at, library_ranges}
 use Rattle.clif_meaning.specs.World.{World}
 
 -- a claim: each byte of the range may be read and written; the address is a multiple of the alignment, which is a
@@ -26,6 +28,11 @@ Holds world (Accessible range) = (k : ℕ) → k < range.size → IsTrue (world.
 Holds world (Aligned address alignment) = (shift : ℕ) × (alignment ≡ 2 ^ shift) × (address % 2 ^ shift ≡ 0)
 Holds world (Apart left right) = (address : ℕ) → (lies_in left address && lies_in right address) ≡ false
 
+-- the ranges that a function touches that is called by its name: what an outside one does isn't known
+abbrev pub call_ranges : World → ExternalName → List Bits → List Range
+call_ranges world (name.LibCall callee) (first ∷ second ∷ size ∷ []) = library_ranges world.pointer_width callee first second size
+call_ranges world _ arguments = []
+
 -- The table of operations, from the world, which places stack slots, and the operands' types and bits: the ranges that the
 -- instruction touches.
 abbrev pub touched_ranges : World → Operation → «Type» → List «Type» → List Bits → List Range
@@ -33,6 +40,8 @@ touched_ranges world (Load flags offset) ty types (address ∷ []) = accessed ty
 touched_ranges world (Store flags offset) ty types (stored ∷ address ∷ []) = accessed ty (operand_type types 1) address offset ∷ []
 touched_ranges world (Stack StackLoad slot offset) ty types [] = slot_accessed world ty slot offset ∷ []
 touched_ranges world (StackStore slot offset) ty types (stored ∷ []) = slot_accessed world ty slot offset ∷ []
+touched_ranges world (Call name signature) ty types arguments = call_ranges world name arguments
+touched_ranges world (TryCall name call) ty types arguments = call_ranges world name arguments
 touched_ranges world _ ty types operands = []
 
 -- what the flags of an access claim: that no byte is out of bounds, and that the address is a multiple of the size
@@ -42,10 +51,24 @@ claims_if claimed claim = if claimed then claim ∷ [] else []
 abbrev pub access_claims : MemFlagsShape → Range → List Claim
 access_claims flags range = claims_if flags.notrap (Accessible range) ++ claims_if flags.aligned (Aligned range.start range.size)
 
+-- What a call of a function by its name claims: that what a function of the C library touches is accessible, and that what
+-- `Memcpy` copies doesn't overlap.
+abbrev pub overlap_claims : (width : ℕ) → LibCall → (first second size : Bits) → List Claim
+overlap_claims width Memcpy first second size = Apart (bytes_at width first size) (bytes_at width second size) ∷ []
+overlap_claims width _ first second size = []
+
+abbrev pub call_claims : World → ExternalName → List Bits → List Claim
+call_claims world (name.LibCall callee) (first ∷ second ∷ size ∷ []) =
+    map Accessible (library_ranges world.pointer_width callee first second size)
+    ++ overlap_claims world.pointer_width callee first second size
+call_claims world _ arguments = []
+
 -- The table of operations: what the instruction claims.
 abbrev pub claims_of : World → Operation → «Type» → List «Type» → List Bits → List Claim
 claims_of world (Load flags offset) ty types (address ∷ []) = access_claims flags (accessed ty (operand_type types 0) address offset)
 claims_of world (Store flags offset) ty types (stored ∷ address ∷ []) = access_claims flags (accessed ty (operand_type types 1) address offset)
+claims_of world (Call name signature) ty types arguments = call_claims world name arguments
+claims_of world (TryCall name call) ty types arguments = call_claims world name arguments
 claims_of world _ ty types operands = []
 
 -- a call of a function of the C library, by the signature that it gives

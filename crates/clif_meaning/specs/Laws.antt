@@ -6,8 +6,10 @@ use Rattle.std.specs.List.{AllByRecursion}
 use Rattle.clif_meaning.specs.Access.{Holds, claims_of, library_call}
 use Rattle.clif_meaning.specs.Bits.{Bits, AreValues}
 use Rattle.clif_meaning.specs.Instruction.{Operation, operation_typing}
+use Rattle.clif_meaning.specs.Library.{pointer_of}
 use Rattle.clif_meaning.specs.Memory.{Memory}
 use Rattle.clif_meaning.specs.Outcome.{Outcome, Gives, Goes, Returns, Traps, Calls, NoStep, outcome_of}
+use Rattle.clif_meaning.specs.Premises.{IfLibraryCall}
 use Rattle.clif_meaning.specs.Typing.{TakesOperands}
 use Rattle.clif_meaning.specs.World.{World}
 use Rattle.clif_meaning.specs.Machine.{observed, EndStays}
@@ -50,10 +52,10 @@ FitsTypes results returns NoStep = ⊥
 
 -- Outcomes fit the typing table: an instruction that is made at a type at which it is there, on values of the types that
 -- the table asks for, and whose claims are true, has a meaning, and gives values of the types of its results. Only accesses
--- to memory claim anything. Calls of library functions, which have no meaning so far, are aside.
+-- to memory and calls of functions of the C library claim anything; those calls are by their functions' signatures.
 abbrev pub OutcomesFit : Type 0
 OutcomesFit =
     (world : World) (operation : Operation) (ty : «Type») (returns types : List «Type») (operands : List Bits) (memory : Memory)
-    → library_call operation ≡ None → IsTrue (is_met (operation_typing operation).demand ty) → TakesOperands returns operation ty types
+    → IfLibraryCall (pointer_of world.pointer_width) (library_call operation) → IsTrue (is_met (operation_typing operation).demand ty) → TakesOperands returns operation ty types
     → AreValues types operands → AllByRecursion (Holds world) (claims_of world operation ty types operands)
     → FitsTypes (result_types operation ty) returns (outcome_of world operation ty types operands memory)

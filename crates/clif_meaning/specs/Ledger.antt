@@ -1,7 +1,7 @@
 -- The ledger of a script: what its calls alone tell. Which answers there are and of which kind and type, the state of
 -- each block, the layout, variables with their types, and which tables serve. The conditions on calls speak of it.
 -- After the documentation of Cranelift's `FunctionBuilder`.
-use Rattle.std.specs.Prelude.{ℕ, zero, suc, not, ◌&&◌, if◌then◌else◌, Bool, true, false, List, [], ◌∷◌, ◌++◌, length, map, fold, find, slice_get, slice_set, filter_map, Option, Some, None, option_and_then, option_map, is_some}
+use Rattle.std.specs.Prelude.{ℕ, zero, suc, not, ◌&&◌, if◌then◌else◌, Bool, true, false, List, [], ◌∷◌, ◌++◌, length, map, fold, find, slice_get, slice_set, filter, filter_map, Option, Some, None, option_and_then, option_map, is_some}
 use Rattle.std.specs.List.{list_any}
 use Rattle.clif_types.specs.declared.types.«Type».{«Type»}
 use Rattle.clif_types.specs.declared.types.«Type».TheVariants as type
@@ -9,7 +9,7 @@ use Rattle.clif_tables.specs.Entries.{TableEntry, count_for, with_entry}
 use Rattle.clif_tables.specs.Lists.{TableLists, no_entries}
 use Rattle.clif_meaning.specs.Instruction.{Operation, operation_typing, Edge, Instruction}
 use Rattle.clif_meaning.specs.Name.{Name, answer_of, same_name}
-use Rattle.clif_meaning.specs.Request.{Request, CreateBlock, SwitchToBlock, SealBlock, SealAllBlocks, InsertBlockAfter, SetColdBlock, EnsureInsertedBlock, AppendBlockParams, AppendFunctionParams, DeclareVar, DefVar, UseVar, MakeEntry, MakeEdge, MakeJumpTable, Build, Finalize, Script}
+use Rattle.clif_meaning.specs.Request.{Request, CreateBlock, SwitchToBlock, SealBlock, SealAllBlocks, InsertBlockAfter, SetColdBlock, EnsureInsertedBlock, AppendBlockParams, AppendFunctionParams, DeclareVar, DefVar, UseVar, MakeEntry, MakeEdge, MakeJumpTable, Annotate, Build, ChangeJumpDestination, Finalize, Script}
 use Rattle.clif_meaning.specs.Program.{result_types}
 
 -- what an answer is
@@ -132,6 +132,18 @@ is_empty (x ∷ xs) = false
 abbrev pub has_predecessors : Ledger → Name → Bool
 has_predecessors ledger block = state_has (λ state. not (is_empty state.predecessors)) (block_state ledger block)
 
+-- the answer is an instruction
+abbrev pub is_instruction_answer : Option Answered → Bool
+is_instruction_answer (Some AnInstruction) = true
+is_instruction_answer _ = false
+
+abbrev pub has_instruction : Ledger → Name → Bool
+has_instruction ledger name = is_instruction_answer (answer_at ledger name)
+
+-- the branch was declared as a predecessor of the block
+abbrev pub leads_to : Ledger → Name → Name → Bool
+leads_to ledger branch block = state_has (λ state. list_any (same_name branch) state.predecessors) (block_state ledger block)
+
 -- the first block of the layout is this one
 abbrev pub begins_with : List Name → Name → Bool
 begins_with [] block = false
@@ -189,10 +201,14 @@ is_terminator operation = (operation_typing operation).ends
 abbrev pub with_terminator : Ledger → Operation → Ledger
 with_terminator ledger operation = if is_terminator operation then with_filled_at ledger ledger.current else ledger
 
+-- a branch behind those that lead to a block, unless it is one of them
+abbrev pub led_by : Name → BlockState → BlockState
+led_by branch state =
+    if list_any (same_name branch) state.predecessors then state else record state { predecessors = state.predecessors ++ branch ∷ [] }
+
 -- a branch is a predecessor of each block that one of its edges leads to, once
 abbrev pub with_predecessor : Name → Ledger → Edge Name Name → Ledger
-with_predecessor branch ledger edge = with_state ledger edge.target (λ state.
-    if list_any (same_name branch) state.predecessors then state else record state { predecessors = state.predecessors ++ branch ∷ [] })
+with_predecessor branch ledger edge = with_state ledger edge.target (led_by branch)
 
 -- the variable with this number was used or assigned
 abbrev pub touched_at : ℕ → List VariableState → List VariableState
@@ -220,7 +236,9 @@ answers_to ledger (UseVar variable) = AValue (or_invalid (variable_type ledger v
 answers_to ledger (MakeEntry entry) = AnEntry entry (count_for ledger.tables entry) ∷ []
 answers_to ledger (MakeEdge edge) = AnEdge edge ∷ []
 answers_to ledger (MakeJumpTable default entries) = AJumpTable (length ledger.jump_tables) ∷ []
+answers_to ledger (Annotate values) = []
 answers_to ledger (Build table instruction) = AnInstruction ∷ map AValue (result_types instruction.operation instruction.controlling)
+answers_to ledger (ChangeJumpDestination branch from to) = []
 answers_to ledger Finalize = []
 
 -- the name of the first answer to the next call
@@ -256,6 +274,17 @@ abbrev pub with_instruction : Ledger → Instruction Name Name → Ledger
 with_instruction ledger instruction =
     fold (with_predecessor (next_answer ledger)) (with_terminator (with_begun ledger) instruction.operation) instruction.edges
 
+-- it leads no longer to the block; the others keep their order
+abbrev pub left_by : Name → BlockState → BlockState
+left_by branch state = record state { predecessors = filter (λ other. not (same_name branch other)) state.predecessors }
+
+-- a branch leads to one block in place of another one; where both are one block nothing changes
+abbrev pub redirected_state : (branch from to : Name) → BlockState → BlockState
+redirected_state branch from to state =
+    if same_name from to then state
+    else (if same_name state.block from then left_by branch state
+    else (if same_name state.block to then led_by branch state else state))
+
 -- a jump table serves an instruction, if one does
 abbrev pub with_served : List (Option (List (Edge Name Name))) → Option ℕ → List (Option (List (Edge Name Name)))
 with_served tables None = tables
@@ -279,8 +308,11 @@ changed_by ledger (MakeEntry entry) = record ledger { tables = with_entry ledger
 changed_by ledger (MakeEdge edge) = ledger
 changed_by ledger (MakeJumpTable default entries) =
     record ledger { jump_tables = ledger.jump_tables ++ Some (edges_named ledger (default ∷ entries)) ∷ [] }
+changed_by ledger (Annotate values) = ledger
 changed_by ledger (Build table instruction) =
     record (with_instruction ledger instruction) { jump_tables = with_served ledger.jump_tables table }
+changed_by ledger (ChangeJumpDestination branch from to) =
+    record ledger { blocks = map (redirected_state branch from to) ledger.blocks }
 changed_by ledger Finalize = ledger
 
 -- the ledger with one more call

@@ -4,6 +4,7 @@ pub mod Switch
 pub mod Instruction
 pub mod Event
 pub mod World
+pub mod Library
 pub mod Outcome
 pub mod Machine
 pub mod SameMeaning
@@ -30,6 +31,7 @@ pub mod Examples
 pub mod CallExamples
 pub mod ScriptExamples
 pub mod BranchExamples
+pub mod ChangeExamples
 pub mod ViewExamples
 pub mod ParameterExamples
 pub mod SampleExamples

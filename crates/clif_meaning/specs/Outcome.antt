@@ -21,6 +21,7 @@ use Rattle.clif_types.specs.declared.types.«Type».TheVariants as type
 use Rattle.clif_types.specs.MemFlags.{MemFlagsShape}
 use Rattle.clif_types.specs.declared.extname.ExternalName.{ExternalName}
 use Rattle.clif_types.specs.declared.extname.ExternalName.TheVariants.{LibCall}
+use Rattle.clif_types.specs.Signature.{SignatureShape}
 use Rattle.clif_types.specs.declared.trapcode.TrapCode.{TrapCode}
 use Rattle.clif_types.specs.declared.trapcode.TrapCode.TheVariants.{DivisionByZero, HeapOutOfBounds, IntegerOverflow}
 use Rattle.clif_opcodes.specs.declared.opcodes.StackOpcode.TheVariants.{StackAddr, StackLoad}
@@ -32,6 +33,8 @@ use Rattle.clif_meaning.specs.Memory.{Memory, Range, address_in, bytes_in, writt
 use Rattle.clif_meaning.specs.Instruction.{Arithmetic, Iconst, FloatConst, PooledConst, Unary, Binary, Compare, Concat, Split, Convert, Select, Operation, Compute, Load, Store, Stack, StackStore, Trap, CondTrap, Jump, Brif, BrTable, Return, Call, CallIndirect, TryCall, TryCallIndirect}
 use Rattle.clif_meaning.specs.Event.{Callee, Named, AtAddress, CallShape, plain_call}
 use Rattle.clif_meaning.specs.World.{World}
+use Rattle.clif_meaning.specs.Library.{has_library_types, library_answer, library_apart, library_memory, library_ranges, pointer_of}
+use Rattle.clif_types.specs.declared.libcall.LibCall.{LibCall as LibraryFunction}
 
 pub data Outcome : Type 0 where
   -- the results get these bits, memory is this, and control goes to the next place
@@ -231,11 +234,32 @@ edge_by condition = if condition == 0 then 1 else 0
 abbrev pub edge_in_table : ℕ → Bits → ℕ
 edge_in_table entries index = if nat_lt index entries then suc index else 0
 
--- The call of a function by its name: an outside call, except of a function of the C library. What such a function does isn't
--- defined so far, and its call has no step.
-abbrev pub call_outcome : ExternalName → CallShape → List Bits → Outcome
-call_outcome (LibCall callee) call arguments = NoStep
-call_outcome name call arguments = Calls (Named name) call arguments
+-- each byte of each range is accessible
+abbrev pub ranges_accessible : World → List Range → Bool
+ranges_accessible world [] = true
+ranges_accessible world (range ∷ ranges) = are_accessible world range range.size && ranges_accessible world ranges
+
+-- A function of the C library may run: the call's signature is its own, and what it takes for granted is true: that it may
+-- touch the bytes that it touches, and that what mustn't overlap doesn't.
+abbrev pub library_runs : World → LibraryFunction → SignatureShape → (first second size : Bits) → Bool
+library_runs world callee signature first second size =
+    has_library_types (pointer_of world.pointer_width) callee signature
+    && ranges_accessible world (library_ranges world.pointer_width callee first second size)
+    && library_apart world.pointer_width callee first second size
+
+-- What the call of such a function does: it goes on with what the function answers and with memory after it. Where it may
+-- not run, there is no meaning.
+abbrev pub library_outcome : World → (List Bits → Memory → Outcome) → LibraryFunction → SignatureShape → List Bits → Memory → Outcome
+library_outcome world goes_on callee signature (first ∷ second ∷ size ∷ []) memory =
+    if library_runs world callee signature first second size
+    then goes_on (library_answer world callee first second size memory ∷ []) (library_memory world.pointer_width callee first second size memory)
+    else NoStep
+library_outcome world goes_on callee signature _ memory = NoStep
+
+-- The call of a function by its name: an outside call, except of a function of the C library, behind which it goes on so.
+abbrev pub call_outcome : World → (List Bits → Memory → Outcome) → ExternalName → CallShape → List Bits → Memory → Outcome
+call_outcome world goes_on (LibCall callee) call arguments memory = library_outcome world goes_on callee call.signature arguments memory
+call_outcome world goes_on name call arguments memory = Calls (Named name) call arguments
 
 -- the table of operations: world, controlling type, the operands' types and bits, memory
 abbrev pub outcome_of : World → Operation → «Type» → List «Type» → List Bits → Memory → Outcome
@@ -260,8 +284,8 @@ outcome_of world Jump ty types [] memory = Goes 0 [] memory
 outcome_of world Brif ty types (condition ∷ []) memory = Goes (edge_by condition) [] memory
 outcome_of world (BrTable entries) ty types (index ∷ []) memory = Goes (edge_in_table entries index) [] memory
 outcome_of world Return ty types operands memory = Returns operands
-outcome_of world (Call name signature) ty types arguments memory = call_outcome name (plain_call signature) arguments
+outcome_of world (Call name signature) ty types arguments memory = call_outcome world Gives name (plain_call signature) arguments memory
 outcome_of world (CallIndirect signature) ty types (address ∷ arguments) memory = Calls (AtAddress address signature) (plain_call signature) arguments
-outcome_of world (TryCall name call) ty types arguments memory = call_outcome name call arguments
+outcome_of world (TryCall name call) ty types arguments memory = call_outcome world (Goes 0) name call arguments memory
 outcome_of world (TryCallIndirect call) ty types (address ∷ arguments) memory = Calls (AtAddress address call.signature) call arguments
 outcome_of world _ ty types _ memory = NoStep

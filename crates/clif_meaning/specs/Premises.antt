@@ -4,10 +4,6 @@ use Rattle.std.specs.Prelude.{◌≡◌, ℕ, false, Bool, List, [], ◌∷◌, 
 use Rattle.std.specs.List.{AllByRecursion}
 use Rattle.clif_types.specs.declared.types.«Type».{«Type»}
 use Rattle.clif_types.specs.Signature.{SignatureShape}
-use Rattle.clif_types.specs.declared.libcall.LibCall.{LibCall}
-use Rattle.clif_types.specs.declared.libcall.LibCall.TheVariants.{Memcpy, Memmove, Memset, Memcmp}
-use Rattle.clif_types.specs.declared.types.«Type».TheVariants as type
-use Rattle.clif_types.specs.declared.types.LaneType.TheVariants as lane
 use Rattle.clif_meaning.specs.Memory.{Range, lies_in}
 use Rattle.clif_meaning.specs.Instruction.{Edge}
 use Rattle.clif_tables.specs.Callees.{types_of}
@@ -20,6 +16,7 @@ use Rattle.clif_meaning.specs.Tracked.{is_tracked}
 use Rattle.clif_meaning.specs.ScriptMachine.{ScriptRun, ScriptState, script_machine}
 use Rattle.clif_meaning.specs.WellPlaced.{program_code, IsWellPlaced}
 use Rattle.clif_meaning.specs.Typing.{call_shape, EachEdgeMatches, IsWellTyped}
+use Rattle.clif_meaning.specs.Library.{library_parameters, library_returns}
 use Rattle.clif_meaning.specs.Access.{Holds, touched_ranges, claims_of, LibraryCall, library_call}
 
 -- it holds of each item of each block
@@ -92,19 +89,7 @@ ClaimsAreTrue run state (Assign variable name) = Unit {0}
 abbrev pub InEachStep : (ScriptState → Item → Type 0) → ScriptRun → Type 0
 InEachStep P run = (n : ℕ) → OfNextItem (P (state_after (script_machine run) n)) (state_after (script_machine run) n).control
 
--- what the functions of the C library take and give, with pointers of this type
-abbrev pub library_parameters : «Type» → LibCall → List «Type»
-library_parameters pointer Memcpy = pointer ∷ pointer ∷ pointer ∷ []
-library_parameters pointer Memmove = pointer ∷ pointer ∷ pointer ∷ []
-library_parameters pointer Memset = pointer ∷ type.Lane lane.I32 ∷ pointer ∷ []
-library_parameters pointer Memcmp = pointer ∷ pointer ∷ pointer ∷ []
-
-abbrev pub library_returns : «Type» → LibCall → List «Type»
-library_returns pointer Memcpy = pointer ∷ []
-library_returns pointer Memmove = pointer ∷ []
-library_returns pointer Memset = pointer ∷ []
-library_returns pointer Memcmp = type.Lane lane.I32 ∷ []
-
+-- a call of a function of the C library has that function's signature, with pointers of this type
 pub record HasLibrarySignature (pointer : «Type») (call : LibraryCall) : Type 0 where
   pub parameters : types_of call.signature.params ≡ library_parameters pointer call.callee
   pub returns : types_of call.signature.returns ≡ library_returns pointer call.callee

@@ -5,9 +5,9 @@ use Rattle.std.specs.Prelude.{ℕ, suc, if◌then◌else◌, List, [], ◌∷◌
 use Rattle.clif_types.specs.declared.types.«Type».{«Type»}
 use Rattle.clif_opcodes.specs.Kinds.{result_type}
 use Rattle.clif_tables.specs.Callees.{types_of}
-use Rattle.clif_meaning.specs.Instruction.{Operation, operation_returns, operation_typing, Instruction}
+use Rattle.clif_meaning.specs.Instruction.{Edge, Operation, operation_returns, operation_typing, Instruction}
 use Rattle.clif_meaning.specs.Name.{Name, answer_of, same_name}
-use Rattle.clif_meaning.specs.Request.{Request, CreateBlock, SwitchToBlock, SealBlock, SealAllBlocks, InsertBlockAfter, SetColdBlock, EnsureInsertedBlock, AppendBlockParams, AppendFunctionParams, DeclareVar, DefVar, UseVar, MakeEntry, MakeEdge, MakeJumpTable, Build, Finalize, Script}
+use Rattle.clif_meaning.specs.Request.{Request, CreateBlock, SwitchToBlock, SealBlock, SealAllBlocks, InsertBlockAfter, SetColdBlock, EnsureInsertedBlock, AppendBlockParams, AppendFunctionParams, DeclareVar, DefVar, UseVar, MakeEntry, MakeEdge, MakeJumpTable, Annotate, Build, ChangeJumpDestination, Finalize, Script}
 
 -- the types of an instruction's results, at the controlling type: by its row of the typing table, and those of what a plain
 -- call gives
@@ -69,7 +69,25 @@ first_block (Some entry) block = Some entry
 abbrev pub with_inserted : Program → Program
 with_inserted program = record program { entry = first_block program.entry program.current }
 
--- what a call adds, its place aside
+-- an edge that leads to one block leads to another one, and passes what it passed
+abbrev pub redirected_edge : (from to : Name) → Edge Name Name → Edge Name Name
+redirected_edge from to edge = if same_name edge.target from then record edge { target = to } else edge
+
+abbrev pub redirected_instruction : (from to : Name) → Instruction Name Name → Instruction Name Name
+redirected_instruction from to instruction = record instruction { edges = map (redirected_edge from to) instruction.edges }
+
+-- each edge of one branch does, wherever it stands
+abbrev pub redirected_item : (branch from to : Name) → Item → Item
+redirected_item branch from to (Instruct place instruction results) =
+    Instruct place (if same_name (answer_of place 0) branch then redirected_instruction from to instruction else instruction) results
+redirected_item branch from to (Use variable name) = Use variable name
+redirected_item branch from to (Assign variable name) = Assign variable name
+
+abbrev pub with_redirected : Program → (branch from to : Name) → Program
+with_redirected program branch from to =
+    record program { items = λ block. map (redirected_item branch from to) (program.items block) }
+
+-- what a call adds, its place aside; a change of a branch's edges adds nothing, and changes an item
 abbrev pub extended : Program → Request → Program
 extended program CreateBlock = program
 extended program (SwitchToBlock block) = record program { current = Some block }
@@ -86,8 +104,10 @@ extended program (UseVar variable) = with_item (with_inserted program) (Use vari
 extended program (MakeEntry entry) = program
 extended program (MakeEdge edge) = program
 extended program (MakeJumpTable default entries) = program
+extended program (Annotate values) = program
 extended program (Build table instruction) =
     with_item (with_inserted program) (Instruct program.place instruction (result_names program.place instruction))
+extended program (ChangeJumpDestination branch from to) = with_redirected program branch from to
 extended program Finalize = program
 
 -- the program with one more call

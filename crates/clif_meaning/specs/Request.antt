@@ -28,9 +28,13 @@ pub data Request : Type 0 where
   MakeEdge : Edge Name Name → Request
   -- a jump table of edges that were made. It is known by its number among the jump tables.
   MakeJumpTable : (default : Name) (entries : List Name) → Request
+  -- a note on these values, or on none, for a debugger: a place in the source, or a label. The function means the same with it.
+  Annotate : (values : List Name) → Request
   -- an instruction at the end of the current block, and the jump table that serves it, if one does. It answers its number,
   -- and then its results.
   Build : (table : Option ℕ) → Instruction Name Name → Request
+  -- the edges of a branch that lead to one block lead to another one
+  ChangeJumpDestination : (branch from to : Name) → Request
   -- the end of every script
   Finalize : Request
 

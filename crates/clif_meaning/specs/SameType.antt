@@ -1,5 +1,5 @@
 -- A test whether two types are one; that it tells so is a law. Own.
-use Rattle.std.specs.Prelude.{◌≡◌, ℕ, ◌==◌, ◌&&◌, Bool, true, false, IsTrue, ◌↔◌}
+use Rattle.std.specs.Prelude.{◌≡◌, ℕ, ◌==◌, ◌&&◌, Bool, true, false, IsTrue, ◌↔◌, List, [], ◌∷◌}
 use Rattle.clif_types.specs.declared.types.LaneType.{LaneType}
 use Rattle.clif_types.specs.declared.types.LaneType.TheVariants as lane
 use Rattle.clif_types.specs.declared.types.«Type».{«Type»}
@@ -26,6 +26,12 @@ same_type type.Invalid type.Invalid = true
 same_type (type.Lane a) (type.Lane b) = same_lane a b
 same_type (type.Vector a m) (type.Vector b n) = same_lane a b && (lanes_of m == lanes_of n)
 same_type _ _ = false
+
+-- the same of lists of types
+abbrev pub same_types : List «Type» → List «Type» → Bool
+same_types [] [] = true
+same_types (a ∷ types) (b ∷ others) = same_type a b && same_types types others
+same_types _ _ = false
 
 -- the test says whether the types are one
 abbrev pub SameTypeDecides : Type 0

@@ -1,10 +1,10 @@
 -- Worked examples of ledgers, names and paths.
 use Rattle.std.specs.Prelude.{◌≡◌, ℕ, zero, suc, true, false, List, [], ◌∷◌, Some, None, pos}
 use Rattle.clif_meaning.specs.Name.{answer_of}
-use Rattle.clif_meaning.specs.Request.{CreateBlock, SwitchToBlock, DeclareVar, UseVar, AnsweredCall, number_of}
+use Rattle.clif_meaning.specs.Request.{Annotate, CreateBlock, SwitchToBlock, DeclareVar, UseVar, AnsweredCall, number_of}
 use Rattle.clif_meaning.specs.Program.{program_of}
 use Rattle.clif_meaning.specs.Ledger.{ledger_after, type_of, is_filled, is_sealed, is_pristine, is_inserted, variable_type}
-use Rattle.clif_meaning.specs.Acceptance.{iconst}
+use Rattle.clif_meaning.specs.Acceptance.{allows, iconst}
 use Rattle.clif_meaning.specs.Tracked.{tracked_names}
 use Rattle.clif_meaning.specs.Path.{Place, Flow, IsReachable, StrictlyBefore}
 use Rattle.clif_meaning.specs.WellPlaced.{WellPlaced}
@@ -40,6 +40,9 @@ pub record LedgerExamples : Type 0 where
   pub entry : (program_of first_script).entry ≡ Some block0
   pub no_entry : (program_of (CreateBlock ∷ SwitchToBlock block0 ∷ [])).entry ≡ None
   pub untracked : tracked_names first_script ≡ []
+  -- a note on a value may be made, and one on a block may not
+  pub noted : allows (ledger_after first_calls) (Annotate (answer_of 3 0 ∷ [])) ≡ true
+  pub unnoted : allows (ledger_after first_calls) (Annotate (block0 ∷ [])) ≡ false
   -- the constant is value 1, and instruction 0
   pub constant : number_of answered_calls (answer_of 4 1) ≡ Some 1
   pub instruction : number_of answered_calls (answer_of 4 0) ≡ Some 0

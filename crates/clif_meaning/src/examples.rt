@@ -2,6 +2,7 @@
 #![tactic(auto)]
 
 ghost use Rattle.clif_meaning.specs.BranchExamples.{BranchExamples};
+ghost use Rattle.clif_meaning.specs.ChangeExamples.{ChangeExamples};
 ghost use Rattle.clif_meaning.specs.CallExamples.{CallExamples, EdgeExamples};
 ghost use Rattle.clif_meaning.specs.Examples.{ArithmeticExamples, ByteExamples, SwitchExamples, FirstAnswersSeven, FirstMeansTheSame, WrongFunctionsAreRefused, EightIsNotSeven, EmptyIsStuck, VerdictExamples, RefusalExamples};
 ghost use Rattle.clif_meaning.specs.ParameterExamples.{ParameterExamples};
@@ -17,6 +18,11 @@ pub fn arithmetic_examples()
 /// Differences, branches, and the row `both_arms`, which answers 0 on both machines in every world.
 pub fn branch_examples()
     ensures { BranchExamples }
+{}
+
+/// Branches that are changed, and the rows `change_both` and `change_one`, which answer 1 on both machines in every world.
+pub fn change_examples()
+    ensures { ChangeExamples }
 {}
 
 /// Bytes of values, copies over themselves, fills and comparisons.

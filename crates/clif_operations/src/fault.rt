@@ -23,6 +23,12 @@ pub enum Fault {
     NotAccessible,
     /// An instruction doesn't give as many results as it has.
     Results,
+    /// A function of the C library touches a byte that isn't accessible.
+    LibraryBytes,
+    /// `Memcpy` copies between bytes that overlap.
+    Overlap,
+    /// A function of the C library is called by another signature than its own.
+    LibrarySignature,
 }
 
 impl Fault {
@@ -39,6 +45,12 @@ impl Fault {
             Fault::Returned => "the returned values don't fit the signature",
             Fault::NotAligned => "the address isn't aligned, as the flag aligned claims",
             Fault::NotAccessible => "a byte isn't accessible, as the flag notrap claims",
+            Fault::LibraryBytes =>
+                "a function of the C library touches a byte that isn't accessible",
+            Fault::Overlap => "Memcpy copies between bytes that overlap",
+            Fault::LibrarySignature => {
+                "a function of the C library is called by another signature than its own"
+            }
             _ => "the instruction doesn't give its results",
         }
     }

@@ -5,9 +5,11 @@
 
 pub mod arithmetic;
 pub mod fault;
+pub mod library;
 pub mod memory;
 pub mod operation;
 
 pub use fault::Fault;
+pub use library::{LibraryCall, is_library_signature, library_result};
 pub use memory::{Memory, Slots};
 pub use operation::{Operation, Outcome, Store, Typed, bits_of, carry_out, kept};

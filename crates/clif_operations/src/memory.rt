@@ -1,7 +1,8 @@
 //! Memory of a run: accessible bytes that lie one after another, and the stack slots in it.
 use crate::arithmetic::{constant, greatest};
 use crate::fault::{Fault, Stop};
-use clif_types::{EntityRef, MemFlagsData, PointerWidth, StackSlot, TrapCode, Type, types};
+use crate::library::pointer_type;
+use clif_types::{EntityRef, MemFlagsData, PointerWidth, StackSlot, TrapCode, Type};
 use std::alloc::{AllocError, Global};
 
 /// The accessible bytes, which lie one after another from an address on. No other byte is accessible.
@@ -72,11 +73,19 @@ impl Memory {
         }
     }
 
+    // A byte at a place among the accessible ones; zero where there are fewer.
+    pub(crate) fn get(&self, place: usize) -> u8 {
+        self.bytes.get(place).copied().unwrap_or(0)
+    }
+
     // Where a byte of what is accessed lies among the accessible ones, if it is one of them.
     fn place(&self, access: &Access, byte: u32) -> Option<usize> {
-        let distance = access
-            .byte_address(byte)
-            .checked_sub(u128::from(self.start))?;
+        self.place_of(access.byte_address(byte))
+    }
+
+    // Where the byte at an address lies among the accessible ones, if it is one of them.
+    pub(crate) fn place_of(&self, address: u128) -> Option<usize> {
+        let distance = address.checked_sub(u128::from(self.start))?;
         let place = usize::try_from(distance).ok()?;
         if place < self.bytes.len() {
             Some(place)
@@ -90,7 +99,7 @@ impl Memory {
         let Some(place) = self.place(access, byte) else {
             return 0;
         };
-        self.bytes.get(place).copied().unwrap_or(0)
+        self.get(place)
     }
 
     // What becomes of an access before it is made. What is claimed is asked first.
@@ -143,13 +152,8 @@ pub struct Slots {
 impl Slots {
     /// No slot so far; the first one comes to this address, or behind it.
     pub fn new(alloc: Global, pointer: PointerWidth, start: u64) -> Slots {
-        let pointer = match pointer {
-            PointerWidth::U16 => types::I16,
-            PointerWidth::U32 => types::I32,
-            PointerWidth::U64 => types::I64,
-        };
         Slots {
-            pointer,
+            pointer: pointer_type(pointer),
             places: Vec::new(alloc),
             next: start,
         }

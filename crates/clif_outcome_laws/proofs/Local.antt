@@ -1,40 +1,31 @@
 -- What an instruction does depends on the ranges that it may touch alone, and changes those alone.
-use Rattle.std.proofs.Common.{◌≡◌, ◌+◌, ◌-◌, ◌%◌, ◌^◌, ◌<◌, ◌==◌, ◌&&◌, ◌||◌, ℕ, zero, suc, List, [], ◌∷◌, Bool, true, false, not, if◌then◌else◌, refl, sym, ◌∙◌, ap, arith}
-use Rattle.std.specs.Prelude.{ℤ}
-use Rattle.std.proofs.Math.Nat.{mod-lt, mod-add-mod, add-mod_right, mod-le}
-use Rattle.std.proofs.lemmas.Bool.{lt-ltb}
+use Rattle.std.proofs.Common.{◌≡◌, ◌+◌, ◌-◌, ◌%◌, ◌^◌, ◌<◌, ◌==◌, ◌&&◌, ◌||◌, ℕ, zero, suc, List, [], ◌∷◌, Bool, true, false, not, if◌then◌else◌, refl, sym, ◌∙◌, ap, ap₂, subst, arith}
+use Rattle.std.specs.Prelude.{ℤ, nat_lt}
+use Rattle.std.proofs.Math.Nat.{mod-lt, mod-add-mod}
+use Rattle.std.proofs.lemmas.Bool.{and_parts, ltb-true}
 use Rattle.std.proofs.lemmas.Nat.{pow_pos}
 use Rattle.clif_types.specs.declared.types.«Type».{«Type»}
 use Rattle.clif_types.specs.MemFlags.{MemFlagsShape}
 use Rattle.clif_types.specs.declared.trapcode.TrapCode.TheVariants.{HeapOutOfBounds}
 use Rattle.clif_types.specs.declared.extname.ExternalName.{ExternalName}
-use Rattle.clif_types.specs.declared.extname.ExternalName.TheVariants.{LibCall}
+use Rattle.clif_types.specs.declared.extname.ExternalName.TheVariants.{LibCall, TestCase, User}
+use Rattle.clif_types.specs.declared.libcall.LibCall.{LibCall as LibraryFunction}
+use Rattle.clif_types.specs.declared.libcall.LibCall.TheVariants.{Memcpy, Memmove, Memset, Memcmp}
 use Rattle.clif_meaning.specs.Bits.{Bits, value_bytes, value_of_bytes}
-use Rattle.clif_meaning.specs.Memory.{Memory, Range, address_in, index_in, lies_in, bytes_from, bytes_in, written}
+use Rattle.clif_meaning.specs.Memory.{Memory, Range, address_in, index_in, lies_in, bytes_from, bytes_in, copied, filled, written}
+use Rattle.clif_meaning.specs.Access.{call_ranges}
+use Rattle.clif_meaning.specs.Library.{bytes_at, library_answer, library_memory, library_ranges}
 use Rattle.clif_opcodes.specs.declared.opcodes.StackOpcode.TheVariants.{StackAddr, StackLoad}
 use Rattle.clif_meaning.specs.Instruction.{Compute, Load, Store, Stack, StackStore, Trap, CondTrap, Jump, Brif, BrTable, Return, Call, CallIndirect, TryCall, TryCallIndirect}
 use Rattle.clif_meaning.specs.Event.{CallShape, plain_call}
-use Rattle.clif_meaning.specs.Outcome.{Outcome, Computed, Values, Fault, Undefined, Gives, Traps, NoStep, access_outcome, accessed, call_outcome, no_claim, slot_accessed, are_accessible, computed, outcome_of_computed, low_bits_at, operand_type}
+use Rattle.clif_meaning.specs.Outcome.{Outcome, Computed, Values, Fault, Undefined, Gives, Goes, Traps, NoStep, access_outcome, accessed, call_outcome, library_runs, no_claim, slot_accessed, are_accessible, computed, outcome_of_computed, low_bits_at, operand_type}
 use Rattle.clif_meaning.specs.World.{World}
+use Rattle.clif_meaning.proofs.Ranges.{lies_there}
 use Rattle.clif_outcome_laws.specs.Locality.{ChangeAlike, SameInside, Agree, OutcomesAreLocal, lies_in_one}
 
 -- memory that stays changes nothing
 stays : (ranges : List Range) (left right : Memory) → SameInside ranges left right → ChangeAlike ranges left right left right
 stays ranges left right same = record { left_outside = λ address outside. refl; right_outside = λ address outside. refl; inside = same }
-
--- each byte of a range that begins at an address lies in it, however long it is
-lies : (range : Range) (k : ℕ) → range.start < 2 ^ range.width → k < range.size → lies_in range (address_in range k) ≡ true
-lies range k starts below =
-    let whole : ℕ = 2 ^ range.width in
-    let back : (range.start + k) % whole + whole - range.start ≡ (range.start + k) % whole + (whole - range.start) = omega arith in
-    let round : range.start + k + (whole - range.start) ≡ k + whole = omega arith in
-    let index : index_in range (address_in range k) ≡ k % whole =
-    ap (λ (n : ℕ). n % whole) back ∙ mod-add-mod (range.start + k) whole (whole - range.start) ∙ ap (λ (n : ℕ). n % whole) round
-    ∙ add-mod_right k whole in
-    let inside = lt-ltb (address_in range k) (2 ^ range.width) (mod-lt (range.start + k) (pow_pos range.width)) in
-    let little : k % whole < range.size = omega (arith, mod-le k whole, below) in
-    let early = lt-ltb (k % whole) range.size little in
-    rw (inside, index, early) refl
 
 -- two memories read alike from a place on
 alike : (left right : Memory) (width start size : ℕ) → ((k : ℕ) → k < size → left ((start + k) % 2 ^ width) ≡ right ((start + k) % 2 ^ width))
@@ -56,7 +47,7 @@ alike left right width start (suc size) same =
 -- the bytes of a range are those of any memory with the same bytes there
 same_bytes : (left right : Memory) (range : Range) → range.start < 2 ^ range.width → SameInside (range ∷ []) left right → bytes_in left range ≡ bytes_in right range
 same_bytes left right range starts same = alike left right range.width range.start range.size (λ k below.
-    let there : lies_in_one (range ∷ []) (address_in range k) ≡ true = rw (lies range k starts below) refl in
+    let there : lies_in_one (range ∷ []) (address_in range k) ≡ true = rw (lies_there range k starts below) refl in
     same (address_in range k) there)
 
 -- memory that is written to a range
@@ -98,11 +89,118 @@ trap_agrees : (left right : Memory) (reason : _) (b : Bool) → Agree [] left ri
 trap_agrees left right reason true = refl
 trap_agrees left right reason false = (refl, stays [] left right (λ address inside. cc))
 
--- a call asks nothing of memory
-call_agrees : (left right : Memory) (name : ExternalName) (call : CallShape) (arguments : List Bits)
-    → Agree [] left right (call_outcome name call arguments) (call_outcome name call arguments)
-call_agrees left right (LibCall callee) call arguments = tt
-call_agrees left right _ call arguments = (refl, refl, refl)
+-- what is the same in two ranges is the same in each
+first_same : (one two : Range) (left right : Memory) → SameInside (one ∷ two ∷ []) left right → SameInside (one ∷ []) left right
+first_same one two left right same address inside = same address (either (lies_in one address) (lies_in two address) inside)
+  where
+    either : (a b : Bool) → (a || false) ≡ true → (a || (b || false)) ≡ true
+    either true b inside = refl
+    either false b inside = let no_way : ⊥ = cc in absurd no_way
+
+second_same : (one two : Range) (left right : Memory) → SameInside (one ∷ two ∷ []) left right → SameInside (two ∷ []) left right
+second_same one two left right same address inside = same address (either (lies_in one address) (lies_in two address) inside)
+  where
+    either : (a b : Bool) → (b || false) ≡ true → (a || (b || false)) ≡ true
+    either true b inside = refl
+    either false b inside = inside
+
+-- where an address is of no range, it isn't of the first
+not_first : (one : Range) (ranges : List Range) (address : ℕ) → lies_in_one (one ∷ ranges) address ≡ false → lies_in one address ≡ false
+not_first one ranges address outside = neither (lies_in one address) (lies_in_one ranges address) outside
+  where
+    neither : (a b : Bool) → (a || b) ≡ false → a ≡ false
+    neither false b none = refl
+    neither true b none = none
+
+-- memory to which bytes are copied that are the same in both
+module _ (left right : Memory) (width first second size : ℕ) where
+  abbrev target : Range
+  target = bytes_at width first size
+
+  abbrev source : Range
+  source = bytes_at width second size
+
+  from : SameInside (target ∷ source ∷ []) left right → (address : ℕ) → lies_in target address ≡ true
+      → left ((second + index_in target address) % 2 ^ width) ≡ right ((second + index_in target address) % 2 ^ width)
+  from same address there =
+      let index : ℕ = index_in target address in
+      let below : index < size = ltb-true index size (and_parts (nat_lt address (2 ^ width)) (nat_lt index size) there).1 in
+      let is : address_in source index ≡ (second + index) % 2 ^ width = mod-add-mod second (2 ^ width) index in
+      let inside : lies_in_one (source ∷ []) (address_in source index) ≡ true = rw (lies_there source index (mod-lt second (pow_pos width)) below) refl in
+      subst (λ (a : ℕ). left a ≡ right a) is (second_same target source left right same (address_in source index) inside)
+
+  copied_to : SameInside (target ∷ source ∷ []) left right → (address : ℕ) → lies_in_one (target ∷ source ∷ []) address ≡ true
+      → (there : Bool) → lies_in target address ≡ there → copied left target second address ≡ copied right target second address
+  copied_to same address inside true there = let equal = from same address there in rw there equal
+  copied_to same address inside false elsewhere = let equal = same address inside in rw elsewhere equal
+
+  copies : SameInside (target ∷ source ∷ []) left right → ChangeAlike (target ∷ source ∷ []) left right (copied left target second) (copied right target second)
+  copies same = record {
+    left_outside = λ address outside. rw (not_first target (source ∷ []) address outside) refl;
+    right_outside = λ address outside. rw (not_first target (source ∷ []) address outside) refl;
+    inside = λ address inside. copied_to same address inside (lies_in target address) refl;
+  }
+
+-- memory that is filled
+fills : (left right : Memory) (range : Range) (byte : ℕ) → ChangeAlike (range ∷ []) left right (filled left range byte) (filled right range byte)
+fills left right range byte = record {
+  left_outside = λ address outside. rw (not_first range [] address outside) refl;
+  right_outside = λ address outside. rw (not_first range [] address outside) refl;
+  inside = λ address inside. rw (only (lies_in range address) inside) refl;
+}
+  where
+    only : (b : Bool) → (b || false) ≡ true → b ≡ true
+    only true is = refl
+    only false is = is
+
+-- What a function of the C library does depends on the bytes of its ranges alone.
+answered_alike : (world : World) (callee : LibraryFunction) (first second size : Bits) (left right : Memory)
+    → SameInside (library_ranges world.pointer_width callee first second size) left right
+    → library_answer world callee first second size left ≡ library_answer world callee first second size right
+answered_alike world Memcpy first second size left right same = refl
+answered_alike world Memmove first second size left right same = refl
+answered_alike world Memset first second size left right same = refl
+answered_alike world Memcmp first second size left right same =
+    let one : Range = bytes_at world.pointer_width first size in
+    let two : Range = bytes_at world.pointer_width second size in
+    ap₂ world.memcmp_number
+    (same_bytes left right one (mod-lt first (pow_pos world.pointer_width)) (first_same one two left right same))
+    (same_bytes left right two (mod-lt second (pow_pos world.pointer_width)) (second_same one two left right same))
+
+changed_alike : (width : ℕ) (callee : LibraryFunction) (first second size : Bits) (left right : Memory) → SameInside (library_ranges width callee first second size) left right
+    → ChangeAlike (library_ranges width callee first second size) left right
+    (library_memory width callee first second size left) (library_memory width callee first second size right)
+changed_alike width Memcpy first second size left right same = copies left right width first second size same
+changed_alike width Memmove first second size left right same = copies left right width first second size same
+changed_alike width Memset first second size left right same = fills left right (bytes_at width first size) (second % 256)
+changed_alike width Memcmp first second size left right same = stays (library_ranges width Memcmp first second size) left right same
+
+-- an outcome that goes on with answers and memory agrees with one that goes on with the same answers, and changed memory alike
+abbrev GoesOnAlike : (List Bits → Memory → Outcome) → Type 0
+GoesOnAlike goes_on =
+    (ranges : List Range) (left right after other : Memory) (bits others : List Bits) → bits ≡ others → ChangeAlike ranges left right after other
+    → Agree ranges left right (goes_on bits after) (goes_on others other)
+
+-- a call asks nothing of memory, except of a function of the C library
+call_agrees : (world : World) (goes_on : List Bits → Memory → Outcome) → GoesOnAlike goes_on → (name : ExternalName) (call : CallShape) (arguments : List Bits)
+    (left right : Memory) → SameInside (call_ranges world name arguments) left right
+    → Agree (call_ranges world name arguments) left right (call_outcome world goes_on name call arguments left) (call_outcome world goes_on name call arguments right)
+call_agrees world goes_on alike (LibCall callee) call [] left right same = tt
+call_agrees world goes_on alike (LibCall callee) call (x ∷ []) left right same = tt
+call_agrees world goes_on alike (LibCall callee) call (x ∷ y ∷ []) left right same = tt
+call_agrees world goes_on alike (LibCall callee) call (first ∷ second ∷ size ∷ []) left right same = by (library_runs world callee call.signature first second size)
+  where
+    by : (runs : Bool) → Agree (library_ranges world.pointer_width callee first second size) left right
+        (if runs then goes_on (library_answer world callee first second size left ∷ []) (library_memory world.pointer_width callee first second size left) else NoStep)
+        (if runs then goes_on (library_answer world callee first second size right ∷ []) (library_memory world.pointer_width callee first second size right) else NoStep)
+    by true =
+        alike (library_ranges world.pointer_width callee first second size) left right _ _ _ _
+        (ap (λ (bits : Bits). bits ∷ []) (answered_alike world callee first second size left right same))
+        (changed_alike world.pointer_width callee first second size left right same)
+    by false = tt
+call_agrees world goes_on alike (LibCall callee) call (x ∷ y ∷ z ∷ w ∷ arguments) left right same = tt
+call_agrees world goes_on alike (User reference) call arguments left right same = (refl, refl, refl)
+call_agrees world goes_on alike (TestCase text) call arguments left right same = (refl, refl, refl)
 
 -- an access begins at an address
 begins : (access address_type : «Type») (address : Bits) (offset : ℤ) → (accessed access address_type address offset).start < 2 ^ (accessed access address_type address offset).width
@@ -152,9 +250,11 @@ outcomes_are_local world (BrTable entries) ty types [] left right same = tt
 outcomes_are_local world (BrTable entries) ty types (index ∷ []) left right same = (refl, refl, stays [] left right same)
 outcomes_are_local world (BrTable entries) ty types (index ∷ x ∷ operands) left right same = tt
 outcomes_are_local world Return ty types operands left right same = refl
-outcomes_are_local world (Call name signature) ty types operands left right same = call_agrees left right name (plain_call signature) operands
+outcomes_are_local world (Call name signature) ty types operands left right same =
+    call_agrees world Gives (λ ranges one two after other bits others equal changed. (equal, changed)) name (plain_call signature) operands left right same
 outcomes_are_local world (CallIndirect signature) ty types [] left right same = tt
 outcomes_are_local world (CallIndirect signature) ty types (address ∷ operands) left right same = (refl, refl, refl)
-outcomes_are_local world (TryCall name call) ty types operands left right same = call_agrees left right name call operands
+outcomes_are_local world (TryCall name call) ty types operands left right same =
+    call_agrees world (Goes 0) (λ ranges one two after other bits others equal changed. (refl, equal, changed)) name call operands left right same
 outcomes_are_local world (TryCallIndirect call) ty types [] left right same = tt
 outcomes_are_local world (TryCallIndirect call) ty types (address ∷ operands) left right same = (refl, refl, refl)

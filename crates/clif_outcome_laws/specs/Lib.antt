@@ -1,4 +1,5 @@
 pub mod MemoryExamples
+pub mod LibraryExamples
 pub mod Locality
 pub mod Integers
 pub mod Orders

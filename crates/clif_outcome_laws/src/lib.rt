@@ -5,6 +5,7 @@
 ghost use Rattle.clif_outcome_laws.specs.Divisions.{SignedDivisionIsMathematical};
 ghost use Rattle.clif_outcome_laws.specs.Integers.{ConversionsKeepNumbers, HalvesAreParts, PartsMakeWhole};
 ghost use Rattle.clif_outcome_laws.specs.Lanes.{LaneExamples, VectorsAreLanes};
+ghost use Rattle.clif_outcome_laws.specs.LibraryExamples.{LibraryExamples};
 ghost use Rattle.clif_outcome_laws.specs.Locality.{OutcomesAreLocal};
 ghost use Rattle.clif_outcome_laws.specs.MemoryExamples.{MemoryExamples};
 ghost use Rattle.clif_outcome_laws.specs.Orders.{SignedOrderIsMathematical};
@@ -12,6 +13,11 @@ ghost use Rattle.clif_outcome_laws.specs.Orders.{SignedOrderIsMathematical};
 /// Loads, stores and traps, worked out.
 pub fn memory_examples()
     ensures { MemoryExamples }
+{}
+
+/// Calls of functions of the C library, worked out.
+pub fn library_examples()
+    ensures { LibraryExamples }
 {}
 
 /// An instruction depends on the bytes that it may touch alone, and changes those alone.

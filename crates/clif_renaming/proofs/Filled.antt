@@ -4,9 +4,9 @@ use Rattle.std.specs.Prelude.{find, fold, if◌then◌else◌, option_map}
 use Rattle.std.specs.List.{list_any}
 use Rattle.std.proofs.lemmas.List.{length_push, map-append}
 use Rattle.clif_meaning.specs.Instruction.{Edge, Operation}
-use Rattle.clif_meaning.specs.Ledger.{BlockState, Ledger, answers_to, changed_by, empty_ledger, is_filled, is_inserted, is_terminator, ledger_after, ledger_with, new_block, next_answer, sealed, state_has, with_begun, with_begun_at, with_cold_mark, with_filled_at, with_parameter_types, with_predecessor, with_state, with_terminator}
+use Rattle.clif_meaning.specs.Ledger.{BlockState, Ledger, answers_to, changed_by, empty_ledger, is_filled, is_inserted, is_terminator, ledger_after, ledger_with, left_by, new_block, next_answer, redirected_state, sealed, state_has, with_begun, with_begun_at, with_cold_mark, with_filled_at, with_parameter_types, with_predecessor, with_state, with_terminator}
 use Rattle.clif_meaning.specs.Name.{Name, answer_of, same_name}
-use Rattle.clif_meaning.specs.Request.{Request, CreateBlock, SwitchToBlock, SealBlock, SealAllBlocks, InsertBlockAfter, SetColdBlock, EnsureInsertedBlock, AppendBlockParams, AppendFunctionParams, DeclareVar, DefVar, UseVar, MakeEntry, MakeEdge, MakeJumpTable, Build, Finalize, Script}
+use Rattle.clif_meaning.specs.Request.{Request, CreateBlock, SwitchToBlock, SealBlock, SealAllBlocks, InsertBlockAfter, SetColdBlock, EnsureInsertedBlock, AppendBlockParams, AppendFunctionParams, DeclareVar, DefVar, UseVar, MakeEntry, MakeEdge, MakeJumpTable, Annotate, Build, ChangeJumpDestination, Finalize, Script}
 use Rattle.clif_renaming.specs.Renaming.{KeepsApart, renamed_edge}
 use Rattle.clif_renaming.specs.Sealing.{is_sealing, name_left, renamed_request, unsealed, without_seals}
 use Rattle.clif_renaming.proofs.Places.{Follows, follows_at_first, follows_call, follows_here, follows_seal, names_apart}
@@ -81,6 +81,22 @@ led_kept branch ledger (edge ∷ edges) =
     by state true = refl
     by state false = refl
 
+redirected_kept : (ledger : Ledger) (branch from to : Name) → Keeps ledger (changed_by ledger (ChangeJumpDestination branch from to))
+redirected_kept ledger branch from to = record {
+  marks = marks_kept (redirected_state branch from to)
+      (λ state. by state (same_name from to) (same_name state.block from) (same_name state.block to) (list_any (same_name branch) state.predecessors)) ledger.blocks;
+  current = refl;
+}
+  where
+    by : (state : BlockState) (same at_from at_to there : Bool)
+        → mark_of (if same then state else (if at_from then left_by branch state
+        else (if at_to then (if there then state else record state { predecessors = state.predecessors ++ branch ∷ [] }) else state))) ≡ mark_of state
+    by state true at_from at_to there = refl
+    by state false true at_to there = refl
+    by state false false true true = refl
+    by state false false true false = refl
+    by state false false false there = refl
+
 sealing_kept : (ledger : Ledger) (request : Request) → is_sealing request ≡ true → Keeps ledger (changed_by ledger request)
 sealing_kept ledger (SealBlock block) is = state_kept ledger block sealed (λ state. refl)
 sealing_kept ledger SealAllBlocks is = record { marks = marks_kept sealed (λ state. refl) ledger.blocks; current = refl }
@@ -97,7 +113,9 @@ sealing_kept ledger (UseVar variable) is = let none : ⊥ = cc in absurd none
 sealing_kept ledger (MakeEntry entry) is = let none : ⊥ = cc in absurd none
 sealing_kept ledger (MakeEdge edge) is = let none : ⊥ = cc in absurd none
 sealing_kept ledger (MakeJumpTable default entries) is = let none : ⊥ = cc in absurd none
+sealing_kept ledger (Annotate values) is = let none : ⊥ = cc in absurd none
 sealing_kept ledger (Build table instruction) is = let none : ⊥ = cc in absurd none
+sealing_kept ledger (ChangeJumpDestination branch from to) is = let none : ⊥ = cc in absurd none
 sealing_kept ledger Finalize is = let none : ⊥ = cc in absurd none
 
 marks_filled : (states : List BlockState) (block : Name)
@@ -194,9 +212,12 @@ module _ (rename : Name → Name) (apart : KeepsApart rename) where
   both_changed l l' (MakeEntry entry) same at = record { marks = same.marks; current = same.current }
   both_changed l l' (MakeEdge edge) same at = same
   both_changed l l' (MakeJumpTable default entries) same at = record { marks = same.marks; current = same.current }
+  both_changed l l' (Annotate values) same at = same
   both_changed l l' (Build table instruction) same at =
       let both = built_both l l' (next_answer l) (next_answer l') instruction.operation instruction.edges (map (renamed_edge rename) instruction.edges) same in
       record { marks = both.marks; current = both.current }
+  both_changed l l' (ChangeJumpDestination branch from to) same at =
+      both_keep l l' _ _ same (redirected_kept l branch from to) (redirected_kept l' (rename branch) (rename from) (rename to))
   both_changed l l' Finalize same at = same
 
   -- a ledger with so many answers

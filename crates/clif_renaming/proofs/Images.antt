@@ -2,8 +2,8 @@
 use Rattle.std.proofs.Common.{◌≡◌, zero, suc, Bool, true, false, List, [], ◌∷◌, ◌++◌, map, refl, sym, ◌∙◌, ap, subst, arith, ◌⊎◌, inl, inr, Option, Some, None}
 use Rattle.std.specs.Prelude.{Contains, fold, if◌then◌else◌, option_map}
 use Rattle.clif_meaning.specs.Name.{Name, same_name}
-use Rattle.clif_meaning.specs.Program.{Program, Item, empty_program, extended, program_of, with_call, with_inserted, with_item, with_item_at, with_parameters}
-use Rattle.clif_meaning.specs.Request.{Request, CreateBlock, SwitchToBlock, SealBlock, SealAllBlocks, InsertBlockAfter, SetColdBlock, EnsureInsertedBlock, AppendBlockParams, AppendFunctionParams, DeclareVar, DefVar, UseVar, MakeEntry, MakeEdge, MakeJumpTable, Build, Finalize, Script}
+use Rattle.clif_meaning.specs.Program.{Program, Item, empty_program, extended, program_of, redirected_item, with_call, with_inserted, with_item, with_item_at, with_parameters, with_redirected}
+use Rattle.clif_meaning.specs.Request.{Request, CreateBlock, SwitchToBlock, SealBlock, SealAllBlocks, InsertBlockAfter, SetColdBlock, EnsureInsertedBlock, AppendBlockParams, AppendFunctionParams, DeclareVar, DefVar, UseVar, MakeEntry, MakeEdge, MakeJumpTable, Annotate, Build, ChangeJumpDestination, Finalize, Script}
 use Rattle.clif_renaming.specs.Sealing.{renamed_request}
 use Rattle.clif_renaming.proofs.RenamedNames.{names_equal}
 
@@ -88,6 +88,13 @@ module _ (rename : Name → Name) where
       by other false is (inl bare) = inl (bare.0, ap (λ (test : Bool). if test then p.parameters other ++ names else p.parameters other) is ∙ bare.1)
       by other false is (inr image) = inr image
 
+  redirected_images : (p : Program) (branch from to : Name) → HasImages rename p → HasImages rename (with_redirected p branch from to)
+  redirected_images p branch from to has = record { current = has.current; blocks = λ other. by other (has.blocks other) }
+    where
+      by : (other : Name) → IsBare p other ⊎ IsImage rename other → IsBare (with_redirected p branch from to) other ⊎ IsImage rename other
+      by other (inl bare) = inl (ap (map (redirected_item branch from to)) bare.0, bare.1)
+      by other (inr image) = inr image
+
   inserted_images : (p : Program) → HasImages rename p → HasImages rename (with_inserted p)
   inserted_images p has = record { current = has.current; blocks = has.blocks }
 
@@ -107,7 +114,9 @@ module _ (rename : Name → Name) where
   extended_images p (MakeEntry entry) has = has
   extended_images p (MakeEdge edge) has = has
   extended_images p (MakeJumpTable default entries) has = has
+  extended_images p (Annotate values) has = has
   extended_images p (Build table instruction) has = item_images (with_inserted p) _ (inserted_images p has)
+  extended_images p (ChangeJumpDestination branch from to) has = redirected_images p (rename branch) (rename from) (rename to) has
   extended_images p Finalize has = has
 
   images_along : (script : Script) (p : Program) → HasImages rename p → HasImages rename (fold with_call p (map (renamed_request rename) script))

@@ -4,54 +4,131 @@ use Rattle.std.specs.Prelude.{fold, if◌then◌else◌, option_map}
 use Rattle.std.proofs.lemmas.List.{map-append}
 use Rattle.clif_types.specs.declared.types.«Type».{«Type»}
 use Rattle.clif_meaning.specs.Name.{Name, answer_of, same_name}
-use Rattle.clif_meaning.specs.Program.{Program, Item, answers_from, empty_program, extended, first_block, program_of, result_types, with_call, with_inserted, with_item, with_item_at, with_parameters}
-use Rattle.clif_meaning.specs.Request.{Request, CreateBlock, SwitchToBlock, SealBlock, SealAllBlocks, InsertBlockAfter, SetColdBlock, EnsureInsertedBlock, AppendBlockParams, AppendFunctionParams, DeclareVar, DefVar, UseVar, MakeEntry, MakeEdge, MakeJumpTable, Build, Finalize, Script}
-use Rattle.clif_renaming.specs.Renaming.{AreRenamedItems, IsRenamedItem, IsRenamedProgram, KeepsApart}
+use Rattle.clif_meaning.specs.Instruction.{Edge, Instruction}
+use Rattle.clif_meaning.specs.Program.{Program, Item, Instruct, Use, Assign, answers_from, empty_program, extended, first_block, program_of, redirected_edge, redirected_instruction, redirected_item, result_types, with_call, with_inserted, with_item, with_item_at, with_parameters, with_redirected}
+use Rattle.clif_meaning.specs.Request.{Request, CreateBlock, SwitchToBlock, SealBlock, SealAllBlocks, InsertBlockAfter, SetColdBlock, EnsureInsertedBlock, AppendBlockParams, AppendFunctionParams, DeclareVar, DefVar, UseVar, MakeEntry, MakeEdge, MakeJumpTable, Annotate, Build, ChangeJumpDestination, Finalize, Script}
+use Rattle.std.specs.List.{AllZip}
+use Rattle.clif_renaming.specs.Renaming.{AreRenamedItems, IsRenamedItem, IsRenamedProgram, KeepsApart, renamed_edge, renamed_instruction}
 use Rattle.clif_renaming.specs.Sealing.{is_sealing, name_left, renamed_request, unsealed, without_seals}
 use Rattle.clif_renaming.proofs.Places.{Follows, follows_at_first, follows_call, follows_here, follows_seal, names_apart}
 use Rattle.clif_renaming.proofs.RenamedNames.{same_renamed}
 
--- the second program is the first one renamed, also its current block
+-- the place at which an instruction was built is renamed too
+abbrev GoesAlong : (Name → Name) → Item → Item → Type 0
+GoesAlong rename (Instruct place instruction results) (Instruct other renamed names) = rename (answer_of place 0) ≡ answer_of other 0
+GoesAlong rename _ _ = Unit {0}
+
+-- the second program is the first one renamed, also its current block and the places of its items
 pub record IsRenamedSoFar (rename : Name → Name) (p p' : Program) : Type 0 where
   pub current : p'.current ≡ option_map rename p.current
   pub program : IsRenamedProgram rename p p'
+  pub places : (block : Name) → AllZip (GoesAlong rename) (p.items block) (p'.items (rename block))
 
 -- one more item on both sides
-one_more : (rename : Name → Name) (items items' : List Item) (item item' : Item) → AreRenamedItems rename items items' → IsRenamedItem rename item item'
-    → AreRenamedItems rename (items ++ item ∷ []) (items' ++ item' ∷ [])
-one_more rename [] [] item item' are is = (is, tt)
-one_more rename [] (x' ∷ items') item item' are is = absurd are
-one_more rename (x ∷ items) [] item item' are is = absurd are
-one_more rename (x ∷ items) (x' ∷ items') item item' are is = (are.0, one_more rename items items' item item' are.1 is)
+one_more : (R : Item → Item → Type 0) (items items' : List Item) (item item' : Item) → AllZip R items items' → R item item' → AllZip R (items ++ item ∷ []) (items' ++ item' ∷ [])
+one_more R [] [] item item' are is = (is, tt)
+one_more R [] (x' ∷ items') item item' are is = absurd are
+one_more R (x ∷ items) [] item item' are is = absurd are
+one_more R (x ∷ items) (x' ∷ items') item item' are is = (are.0, one_more R items items' item item' are.1 is)
 
 module _ (rename : Name → Name) (apart : KeepsApart rename) where
   -- a block's items with one more in some block
-  item_there : (block other : Name) (items items' : List Item) (item item' : Item) → AreRenamedItems rename items items' → IsRenamedItem rename item item'
-      → AreRenamedItems rename (if same_name other block then items ++ item ∷ [] else items) (if same_name (rename other) (rename block) then items' ++ item' ∷ [] else items')
-  item_there block other items items' item item' are is =
-      subst (λ (test : Bool). AreRenamedItems rename (if same_name other block then items ++ item ∷ [] else items) (if test then items' ++ item' ∷ [] else items'))
+  item_there : (R : Item → Item → Type 0) (block other : Name) (items items' : List Item) (item item' : Item) → AllZip R items items' → R item item'
+      → AllZip R (if same_name other block then items ++ item ∷ [] else items) (if same_name (rename other) (rename block) then items' ++ item' ∷ [] else items')
+  item_there R block other items items' item item' are is =
+      subst (λ (test : Bool). AllZip R (if same_name other block then items ++ item ∷ [] else items) (if test then items' ++ item' ∷ [] else items'))
       (sym (same_renamed rename apart other block)) (by (same_name other block))
     where
-      by : (c : Bool) → AreRenamedItems rename (if c then items ++ item ∷ [] else items) (if c then items' ++ item' ∷ [] else items')
-      by true = one_more rename items items' item item' are is
+      by : (c : Bool) → AllZip R (if c then items ++ item ∷ [] else items) (if c then items' ++ item' ∷ [] else items')
+      by true = one_more R items items' item item' are is
       by false = are
 
-  item_at : (p p' : Program) (current : Option Name) (item item' : Item) → IsRenamedSoFar rename p p' → IsRenamedItem rename item item'
+  item_at : (p p' : Program) (current : Option Name) (item item' : Item) → IsRenamedSoFar rename p p' → IsRenamedItem rename item item' → GoesAlong rename item item'
       → IsRenamedSoFar rename (with_item_at p current item) (with_item_at p' (option_map rename current) item')
-  item_at p p' None item item' is same = is
-  item_at p p' (Some block) item item' is same = record {
+  item_at p p' None item item' is same along = is
+  item_at p p' (Some block) item item' is same along = record {
     current = is.current;
     program = record {
       entry = is.program.entry;
       parameters = is.program.parameters;
-      items = λ other. item_there block other (p.items other) (p'.items (rename other)) item item' (is.program.items other) same;
+      items = λ other. item_there (IsRenamedItem rename) block other (p.items other) (p'.items (rename other)) item item' (is.program.items other) same;
     };
+    places = λ other. item_there (GoesAlong rename) block other (p.items other) (p'.items (rename other)) item item' (is.places other) along;
   }
 
-  item_more : (p p' : Program) (item item' : Item) → IsRenamedSoFar rename p p' → IsRenamedItem rename item item' → IsRenamedSoFar rename (with_item p item) (with_item p' item')
-  item_more p p' item item' is same =
+  item_more : (p p' : Program) (item item' : Item) → IsRenamedSoFar rename p p' → IsRenamedItem rename item item' → GoesAlong rename item item'
+      → IsRenamedSoFar rename (with_item p item) (with_item p' item')
+  item_more p p' item item' is same along =
       subst (λ (current : Option Name). IsRenamedSoFar rename (with_item p item) (with_item_at p' current item')) (sym is.current)
-      (item_at p p' p.current item item' is same)
+      (item_at p p' p.current item item' is same along)
+
+  -- EDGES THAT LEAD ELSEWHERE -------------------------------------------------------------------------------------------
+
+  edge_both : (from to : Name) (edge : Edge Name Name) → redirected_edge (rename from) (rename to) (renamed_edge rename edge) ≡ renamed_edge rename (redirected_edge from to edge)
+  edge_both from to edge =
+      ap (λ (test : Bool). if test then record (renamed_edge rename edge) { target = rename to } else renamed_edge rename edge) (same_renamed rename apart edge.target from)
+      ∙ by (same_name edge.target from)
+    where
+      by : (test : Bool) → (if test then record (renamed_edge rename edge) { target = rename to } else renamed_edge rename edge)
+          ≡ renamed_edge rename (if test then record edge { target = to } else edge)
+      by true = refl
+      by false = refl
+
+  edges_both : (from to : Name) (edges : List (Edge Name Name))
+      → map (redirected_edge (rename from) (rename to)) (map (renamed_edge rename) edges) ≡ map (renamed_edge rename) (map (redirected_edge from to) edges)
+  edges_both from to [] = refl
+  edges_both from to (edge ∷ edges) =
+      ap₂ (λ (first : Edge Name Name) (rest : List (Edge Name Name)). first ∷ rest) (edge_both from to edge) (edges_both from to edges)
+
+  redirected_both : (branch from to : Name) (items items' : List Item) → AreRenamedItems rename items items' → AllZip (GoesAlong rename) items items'
+      → AreRenamedItems rename (map (redirected_item branch from to) items) (map (redirected_item (rename branch) (rename from) (rename to)) items')
+      × AllZip (GoesAlong rename) (map (redirected_item branch from to) items) (map (redirected_item (rename branch) (rename from) (rename to)) items')
+  redirected_both branch from to [] [] are along = (tt, tt)
+  redirected_both branch from to [] (x' ∷ items') are along = absurd are
+  redirected_both branch from to (x ∷ items) [] are along = absurd are
+  redirected_both branch from to (x ∷ items) (x' ∷ items') are along =
+      let first = one x x' are.0 along.0 in
+      let rest = redirected_both branch from to items items' are.1 along.1 in
+      ((first.0, rest.0), (first.1, rest.1))
+    where
+      one : (item item' : Item) → IsRenamedItem rename item item' → GoesAlong rename item item'
+          → IsRenamedItem rename (redirected_item branch from to item) (redirected_item (rename branch) (rename from) (rename to) item')
+          × GoesAlong rename (redirected_item branch from to item) (redirected_item (rename branch) (rename from) (rename to) item')
+      one (Instruct place instruction results) (Instruct other renamed names) is places = (
+        (
+          ap₂ (λ (test : Bool) (old : Instruction Name Name). if test then redirected_instruction (rename from) (rename to) old else old)
+              (ap (λ (name : Name). same_name name (rename branch)) (sym places) ∙ same_renamed rename apart (answer_of place 0) branch) is.0
+              ∙ by (same_name (answer_of place 0) branch),
+          is.1,
+        ),
+        places,
+      )
+        where
+          by : (test : Bool)
+              → (if test then redirected_instruction (rename from) (rename to) (renamed_instruction rename instruction) else renamed_instruction rename instruction)
+              ≡ renamed_instruction rename (if test then redirected_instruction from to instruction else instruction)
+          by true = ap (λ (edges : List (Edge Name Name)). record (renamed_instruction rename instruction) { edges = edges }) (edges_both from to instruction.edges)
+          by false = refl
+      one (Use variable name) (Use other renamed) is places = (is, tt)
+      one (Assign variable name) (Assign other renamed) is places = (is, tt)
+      one (Instruct place instruction results) (Use other renamed) is places = absurd is
+      one (Instruct place instruction results) (Assign other renamed) is places = absurd is
+      one (Use variable name) (Instruct place instruction results) is places = absurd is
+      one (Use variable name) (Assign other renamed) is places = absurd is
+      one (Assign variable name) (Instruct place instruction results) is places = absurd is
+      one (Assign variable name) (Use other renamed) is places = absurd is
+
+  redirected_programs : (p p' : Program) (branch from to : Name) → IsRenamedSoFar rename p p'
+      → IsRenamedSoFar rename (with_redirected p branch from to) (with_redirected p' (rename branch) (rename from) (rename to))
+  redirected_programs p p' branch from to is = record {
+    current = is.current;
+    program = record {
+      entry = is.program.entry;
+      parameters = is.program.parameters;
+      items = λ block. (redirected_both branch from to (p.items block) (p'.items (rename block)) (is.program.items block) (is.places block)).0;
+    };
+    places = λ block. (redirected_both branch from to (p.items block) (p'.items (rename block)) (is.program.items block) (is.places block)).1;
+  }
 
   inserted : (p p' : Program) → IsRenamedSoFar rename p p' → IsRenamedSoFar rename (with_inserted p) (with_inserted p')
   inserted p p' is = record {
@@ -61,6 +138,7 @@ module _ (rename : Name → Name) (apart : KeepsApart rename) where
       parameters = is.program.parameters;
       items = is.program.items;
     };
+    places = is.places;
   }
     where
       first : (entry current : Option Name) → first_block (option_map rename entry) (option_map rename current) ≡ option_map rename (first_block entry current)
@@ -78,6 +156,7 @@ module _ (rename : Name → Name) (apart : KeepsApart rename) where
           ∙ by other (same_name other block);
       items = is.program.items;
     };
+    places = is.places;
   }
     where
       by : (other : Name) (c : Bool) → (if c then p'.parameters (rename other) ++ names' else p'.parameters (rename other)) ≡ map rename (if c then p.parameters other ++ names else p.parameters other)
@@ -98,6 +177,7 @@ module _ (rename : Name → Name) (apart : KeepsApart rename) where
   extended_both p p' (SwitchToBlock block) is at = record {
     current = refl;
     program = record { entry = is.program.entry; parameters = is.program.parameters; items = is.program.items };
+    places = is.places;
   }
   extended_both p p' (SealBlock block) is at = is
   extended_both p p' SealAllBlocks is at = is
@@ -107,14 +187,16 @@ module _ (rename : Name → Name) (apart : KeepsApart rename) where
   extended_both p p' (AppendBlockParams block types) is at = parameters_more p p' block _ _ is (answers_renamed p.place p'.place at 0 types)
   extended_both p p' (AppendFunctionParams block types) is at = parameters_more p p' block _ _ is (answers_renamed p.place p'.place at 0 types)
   extended_both p p' (DeclareVar ty) is at = is
-  extended_both p p' (DefVar variable value) is at = item_more p p' _ _ is (refl, refl)
-  extended_both p p' (UseVar variable) is at = item_more (with_inserted p) (with_inserted p') _ _ (inserted p p' is) (refl, sym (at 0))
+  extended_both p p' (DefVar variable value) is at = item_more p p' _ _ is (refl, refl) tt
+  extended_both p p' (UseVar variable) is at = item_more (with_inserted p) (with_inserted p') _ _ (inserted p p' is) (refl, sym (at 0)) tt
   extended_both p p' (MakeEntry entry) is at = is
   extended_both p p' (MakeEdge edge) is at = is
   extended_both p p' (MakeJumpTable default entries) is at = is
+  extended_both p p' (Annotate values) is at = is
   extended_both p p' (Build table instruction) is at =
       item_more (with_inserted p) (with_inserted p') _ _ (inserted p p' is)
-      (refl, answers_renamed p.place p'.place at 1 (result_types instruction.operation instruction.controlling))
+      (refl, answers_renamed p.place p'.place at 1 (result_types instruction.operation instruction.controlling)) (at 0)
+  extended_both p p' (ChangeJumpDestination branch from to) is at = redirected_programs p p' branch from to is
   extended_both p p' Finalize is at = is
 
   -- a call that seals adds nothing
@@ -134,15 +216,17 @@ module _ (rename : Name → Name) (apart : KeepsApart rename) where
   sealing_adds_nothing p (MakeEntry entry) is = let none : ⊥ = cc in absurd none
   sealing_adds_nothing p (MakeEdge edge) is = let none : ⊥ = cc in absurd none
   sealing_adds_nothing p (MakeJumpTable default entries) is = let none : ⊥ = cc in absurd none
+  sealing_adds_nothing p (Annotate values) is = let none : ⊥ = cc in absurd none
   sealing_adds_nothing p (Build table instruction) is = let none : ⊥ = cc in absurd none
+  sealing_adds_nothing p (ChangeJumpDestination branch from to) is = let none : ⊥ = cc in absurd none
   sealing_adds_nothing p Finalize is = let none : ⊥ = cc in absurd none
 
   -- the place aside
   placed : (p p' : Program) (n n' : ℕ) → IsRenamedSoFar rename p p' → IsRenamedSoFar rename (record p { place = n }) (record p' { place = n' })
-  placed p p' n n' is = record { current = is.current; program = record { entry = is.program.entry; parameters = is.program.parameters; items = is.program.items } }
+  placed p p' n n' is = record { current = is.current; program = record { entry = is.program.entry; parameters = is.program.parameters; items = is.program.items }; places = is.places }
 
-  abbrev GoesAlong : Script → Type 0
-  GoesAlong script = (p p' : Program) → IsRenamedSoFar rename p p' → Follows rename script p.place p'.place
+  abbrev KeepsRenamed : Script → Type 0
+  KeepsRenamed script = (p p' : Program) → IsRenamedSoFar rename p p' → Follows rename script p.place p'.place
       → IsRenamedSoFar rename (fold with_call p script) (fold with_call p' (map (renamed_request rename) (without_seals script)))
 
   -- the same after one more call, of which is told whether it seals
@@ -150,7 +234,7 @@ module _ (rename : Name → Name) (apart : KeepsApart rename) where
   BothAfter request script p p' seals = IsRenamedSoFar rename (fold with_call (with_call p request) script)
       (fold with_call p' (map (renamed_request rename) (cond (not seals) (request ∷ without_seals script) (without_seals script))))
 
-  along_one : (request : Request) (script : Script) → GoesAlong script → GoesAlong (request ∷ script)
+  along_one : (request : Request) (script : Script) → KeepsRenamed script → KeepsRenamed (request ∷ script)
   along_one request script later p p' is follows =
       by (is_sealing request) refl
     where
@@ -167,12 +251,12 @@ module _ (rename : Name → Name) (apart : KeepsApart rename) where
           (extended_both p p' request is (follows_here rename request script p.place p'.place follows stays)))
           (follows_call rename request script p.place p'.place follows stays))
 
-  along : (script : Script) → GoesAlong script
+  along : (script : Script) → KeepsRenamed script
   along [] p p' is follows = is
   along (request ∷ script) p p' is follows = along_one request script (along script) p p' is follows
 
 pub unsealed_program : (script : Script) → IsRenamedProgram (name_left script) (program_of script) (program_of (unsealed script))
 unsealed_program script =
     (along (name_left script) (names_apart script) script empty_program empty_program
-    (record { current = refl; program = record { entry = refl; parameters = λ block. refl; items = λ block. tt } })
+    (record { current = refl; program = record { entry = refl; parameters = λ block. refl; items = λ block. tt }; places = λ block. tt })
     (follows_at_first script)).program

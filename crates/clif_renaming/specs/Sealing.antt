@@ -3,7 +3,7 @@
 -- Cranelift's `FunctionBuilder`; the definition is own.
 use Rattle.std.specs.Prelude.{◌≡◌, ◌+◌, ℕ, Bool, true, false, not, if◌then◌else◌, length, map, filter, take, Option, Some, None, slice_get}
 use Rattle.clif_meaning.specs.Name.{Name, answer_of}
-use Rattle.clif_meaning.specs.Request.{Request, CreateBlock, SwitchToBlock, SealBlock, SealAllBlocks, InsertBlockAfter, SetColdBlock, EnsureInsertedBlock, AppendBlockParams, AppendFunctionParams, DeclareVar, DefVar, UseVar, MakeEntry, MakeEdge, MakeJumpTable, Build, Finalize, Script}
+use Rattle.clif_meaning.specs.Request.{Request, CreateBlock, SwitchToBlock, SealBlock, SealAllBlocks, InsertBlockAfter, SetColdBlock, EnsureInsertedBlock, AppendBlockParams, AppendFunctionParams, DeclareVar, DefVar, UseVar, MakeEntry, MakeEdge, MakeJumpTable, Annotate, Build, ChangeJumpDestination, Finalize, Script}
 use Rattle.clif_renaming.specs.Renaming.{renamed_edge, renamed_instruction}
 
 -- the call says that no more branches to blocks come, and nothing else
@@ -48,7 +48,9 @@ renamed_request rename (UseVar variable) = UseVar variable
 renamed_request rename (MakeEntry entry) = MakeEntry entry
 renamed_request rename (MakeEdge edge) = MakeEdge (renamed_edge rename edge)
 renamed_request rename (MakeJumpTable default entries) = MakeJumpTable (rename default) (map rename entries)
+renamed_request rename (Annotate values) = Annotate (map rename values)
 renamed_request rename (Build table instruction) = Build table (renamed_instruction rename instruction)
+renamed_request rename (ChangeJumpDestination branch from to) = ChangeJumpDestination (rename branch) (rename from) (rename to)
 renamed_request rename Finalize = Finalize
 
 -- the script without its calls that seal

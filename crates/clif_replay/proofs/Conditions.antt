@@ -1,19 +1,13 @@
 -- The tests before a call are the condition of its request in the ledger.
 use Rattle.std.proofs.Common.{◌≡◌, ◌≢◌, ℕ, zero, suc, ◌<◌, List, [], ◌∷◌, length, refl, ap, arith, sym, ◌∙◌, subst}
-use Rattle.std.specs.Prelude.{map, slice_get, Option, Some, None, option_map, is_some, Bool, true, false, not, ◌&&◌, ◌||◌, if◌then◌else◌, ◌==◌, slice_index, ◌↔◌, IsTrue}
+use Rattle.std.specs.Prelude.{map, slice_get, Option, Some, None, option_map, is_some, Bool, true, false, not, ◌&&◌, ◌||◌, ◌==◌, slice_index, ◌↔◌, IsTrue}
 use Rattle.std.specs.List.{All, list_all}
 use Rattle.std.proofs.Math.Bool.{not-not}
 use Rattle.std.proofs.lemmas.Option.{slice_get_within, get_or_from_slice_get}
-use Rattle.std.proofs.lemmas.Bool.{and_from, and_parts, and_right, not-true, eq-eqb, eqb-true, false_from_ne_true, false≢true}
-use Rattle.clif_types.specs.declared.types.LaneType.{LaneType}
-use Rattle.clif_types.specs.declared.types.LaneType.TheVariants as lane
-use Rattle.clif_types.specs.declared.types.LaneCount.{LaneCount}
-use Rattle.clif_types.specs.declared.types.LaneCount.TheVariants as count
+use Rattle.std.proofs.lemmas.Bool.{and_from, and_parts, and_right, not-true, false_from_ne_true, false≢true}
 use Rattle.clif_opcodes.specs.declared.opcodes.PooledConstOpcode.{PooledConstOpcode}
 use Rattle.clif_types.specs.declared.types.«Type».{«Type»}
 use Rattle.clif_types.specs.Signature.{SignatureShape}
-use Rattle.clif_types.specs.declared.types.«Type».TheVariants as type
-use Rattle.clif_types.specs.Types.{lanes_of}
 use Rattle.clif_nodes.specs.declared.nodes.ValueNode.{ValueNode}
 use Rattle.clif_ir.specs.Consistent.{PassedExists}
 use Rattle.clif_instructions.specs.declared.block_call.BlockArg.{BlockArg}
@@ -23,7 +17,8 @@ use Rattle.clif_ir.specs.Body.{Body, value_at}
 use Rattle.clif_nodes.specs.Nodes.{no_value}
 use Rattle.clif_meaning.specs.Name as meaning
 use Rattle.clif_meaning.specs.Instruction.{Known}
-use Rattle.clif_meaning.specs.SameType.{lane_number, same_lane, same_type}
+use Rattle.clif_meaning.specs.SameType.{same_type}
+use Rattle.clif_meaning.proofs.SameTypes.{same_type_refl, type_is}
 use Rattle.clif_meaning.specs.Request.{AnsweredCall, number_of, AppendBlockParams, AppendFunctionParams, SwitchToBlock, SealBlock, DefVar, UseVar}
 use Rattle.clif_meaning.specs.Ledger.{BlockState, Ledger, begins_with, block_state, has_block, has_predecessors, has_value, is_empty, is_filled, is_pristine, is_sealed, state_has, type_of, variable_type}
 use Rattle.clif_meaning.specs.Acceptance.{allows, blames_variable, can_assign, can_lead, can_leave, has_argument, has_bytes, pooled_const}
@@ -314,66 +309,6 @@ has-current calls b answers ready opens = by b.position refl opens
         let current = name-of-some (block_name (ledger_of calls)) (ledger_of calls).current block (ready.stands.ledger.current ∙ ap (option_map (block_name (ledger_of calls))) at) in
         (block, at, (read calls b answers ready).exists block current.0 current.2, not_filled (status_of b.ctx.now block) is)
 
--- equal by the test is equal
-lane_of : ℕ → LaneType
-lane_of n =
-    if n == 0 then lane.I8
-    else if n == 1 then lane.I16
-    else if n == 2 then lane.I32
-    else if n == 3 then lane.I64
-    else if n == 4 then lane.I128
-    else if n == 5 then lane.F16
-    else if n == 6 then lane.F32
-    else if n == 7 then lane.F64
-    else lane.F128
-
-lane-back : (l : LaneType) → lane_of (lane_number l) ≡ l
-unfolding lane_of
-lane-back lane.I8 = refl
-lane-back lane.I16 = refl
-lane-back lane.I32 = refl
-lane-back lane.I64 = refl
-lane-back lane.I128 = refl
-lane-back lane.F16 = refl
-lane-back lane.F32 = refl
-lane-back lane.F64 = refl
-lane-back lane.F128 = refl
-
-count_of : ℕ → LaneCount
-count_of n =
-    if n == 2 then count.Two
-    else if n == 4 then count.Four
-    else if n == 8 then count.Eight
-    else if n == 16 then count.Sixteen
-    else if n == 32 then count.ThirtyTwo
-    else count.SixtyFour
-
-count-back : (n : LaneCount) → count_of (lanes_of n) ≡ n
-unfolding count_of
-count-back count.Two = refl
-count-back count.Four = refl
-count-back count.Eight = refl
-count-back count.Sixteen = refl
-count-back count.ThirtyTwo = refl
-count-back count.SixtyFour = refl
-
-same-lane : (a b : LaneType) → same_lane a b ≡ true → a ≡ b
-same-lane a b same = sym (lane-back a) ∙ ap lane_of (eqb-true (lane_number a) (lane_number b) same) ∙ lane-back b
-
-pub same-type : (a b : «Type») → same_type a b ≡ true → a ≡ b
-same-type type.Invalid type.Invalid same = refl
-same-type type.Invalid (type.Lane l) same = let no_way : ⊥ = cc in absurd no_way
-same-type type.Invalid (type.Vector l n) same = let no_way : ⊥ = cc in absurd no_way
-same-type (type.Lane k) type.Invalid same = let no_way : ⊥ = cc in absurd no_way
-same-type (type.Lane k) (type.Lane l) same = ap type.Lane (same-lane k l same)
-same-type (type.Lane k) (type.Vector l n) same = let no_way : ⊥ = cc in absurd no_way
-same-type (type.Vector k m) type.Invalid same = let no_way : ⊥ = cc in absurd no_way
-same-type (type.Vector k m) (type.Lane l) same = let no_way : ⊥ = cc in absurd no_way
-same-type (type.Vector k m) (type.Vector l n) same =
-    let parts = and_parts (same_lane k l) (lanes_of m == lanes_of n) same in
-    let counts : m ≡ n = sym (count-back m) ∙ ap count_of (eqb-true (lanes_of m) (lanes_of n) parts.1) ∙ count-back n in
-    ap (λ (x : LaneType). type.Vector x m) (same-lane k l parts.0) ∙ ap (λ (x : LaneCount). type.Vector l x) counts
-
 -- the values that names lead to exist, and have the names' numbers
 pub all-exist : {declared : SignatureShape} (calls : List AnsweredCall) (b : FunctionBuilder) (answers : List Answer) → IsReady declared calls b answers
     → (names : List Name) (values : List ℕ) → map (value_of b.func.now answers) names ≡ map Some values
@@ -405,15 +340,10 @@ declared-there b types variables variable same holds =
     let entry = some-is (slice_get types variable) parts.1 in
     subst (λ (xs : List «Type»). variable < length xs) same (slice_get_within types variable entry.0 entry.1)
 
-same-type-refl : (a : «Type») → same_type a a ≡ true
-same-type-refl type.Invalid = refl
-same-type-refl (type.Lane l) = eq-eqb (lane_number l) (lane_number l) refl
-same-type-refl (type.Vector l n) = and_from (same_lane l l) (lanes_of n == lanes_of n) (eq-eqb (lane_number l) (lane_number l) refl) (eq-eqb (lanes_of n) (lanes_of n) refl)
-
 -- a test that tells whether types are equal is that test
 pub same_from_iff : (r : Bool) (a b : «Type») → ((r ≡ true) ↔ (a ≡ b)) → r ≡ same_type a b
-same_from_iff true a b tells = sym (subst (λ (x : «Type»). same_type a x ≡ true) (tells.0 refl) (same-type-refl a))
-same_from_iff false a b tells = sym (false_from_ne_true (same_type a b) (λ same. false≢true (tells.1 (same-type a b same))))
+same_from_iff true a b tells = sym (subst (λ (x : «Type»). same_type a x ≡ true) (tells.0 refl) (same_type_refl a))
+same_from_iff false a b tells = sym (false_from_ne_true (same_type a b) (λ same. false≢true (tells.1 (type_is a b same))))
 
 -- TRYING ----------------------------------------------------------------------------------------------------------
 
@@ -467,7 +397,7 @@ try-define-closed calls b answers ready variable name closed =
 -- a value of another type can't be assigned
 mistyped-assigned : (o : Option «Type») (ty : «Type») → o ≢ Some ty → can_assign o (Some ty) ≡ false
 mistyped-assigned None ty other = refl
-mistyped-assigned (Some own) ty other = false_from_ne_true (same_type own ty) (λ same. other (ap Some (same-type own ty same)))
+mistyped-assigned (Some own) ty other = false_from_ne_true (same_type own ty) (λ same. other (ap Some (type_is own ty same)))
 
 pub try-define-mistyped : {declared : SignatureShape} (calls : List AnsweredCall) (b : FunctionBuilder) (answers : List Answer) → IsReady declared calls b answers
     → (variable : ℕ) (name : Name) (value : ℕ) → is_open b ≡ true → value_of b.func.now answers name ≡ Some value → slice_get b.ctx.now.variables variable ≢ Some (value_at b.func.now value).ty
@@ -491,7 +421,7 @@ pub define-typed : {declared : SignatureShape} (calls : List AnsweredCall) (b : 
     → allows (ledger_of calls) (DefVar variable (name_of name)) ≡ true
 define-typed calls b answers ready variable name value here found typed =
     let ty : «Type» = (value_at b.func.now value).ty in
-    define-some calls b answers ready variable name value ty found typed ∙ and_from (is_open b) (same_type ty ty) here (same-type-refl ty)
+    define-some calls b answers ready variable name value ty found typed ∙ and_from (is_open b) (same_type ty ty) here (same_type_refl ty)
 
 -- EDGES -----------------------------------------------------------------------------------------------------------
 

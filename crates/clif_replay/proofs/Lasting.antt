@@ -11,7 +11,7 @@ use Rattle.clif_instructions.specs.declared.block_call.BlockArg.TheVariants as a
 use Rattle.clif_instructions.specs.declared.block_call.BlockCall.{BlockCall}
 use Rattle.clif_meaning.specs.Instruction.{Argument, CallPayload, CallResult, Edge, Known}
 use Rattle.clif_meaning.specs.Name.{Name}
-use Rattle.clif_meaning.specs.Request.{AnsweredCall, AppendBlockParams, AppendFunctionParams, Build, CreateBlock, DeclareVar, DefVar, EnsureInsertedBlock, Finalize, InsertBlockAfter, MakeEdge, MakeEntry, MakeJumpTable, Request, SealAllBlocks, SealBlock, SetColdBlock, SwitchToBlock, UseVar, number_of, script_of}
+use Rattle.clif_meaning.specs.Request.{AnsweredCall, Annotate, AppendBlockParams, AppendFunctionParams, Build, ChangeJumpDestination, CreateBlock, DeclareVar, DefVar, EnsureInsertedBlock, Finalize, InsertBlockAfter, MakeEdge, MakeEntry, MakeJumpTable, Request, SealAllBlocks, SealBlock, SetColdBlock, SwitchToBlock, UseVar, number_of, script_of}
 use Rattle.clif_meaning.specs.Ledger.{ABlock, AnEdge, AValue, Answered, Ledger, answer_at, answers_to, empty_ledger, is_inserted, ledger_with, with_begun_at, with_layout, with_state}
 use Rattle.clif_meaning.proofs.CallLists as earlier
 use Rattle.clif_simulation.proofs.LedgerValues.{value_stays}
@@ -61,8 +61,10 @@ tables-kept ledger (UseVar variable) leaves = begun-tables ledger ledger.current
 tables-kept ledger (MakeEntry entry) leaves = refl
 tables-kept ledger (MakeEdge edge) leaves = absurd leaves
 tables-kept ledger (MakeJumpTable default entries) leaves = absurd leaves
+tables-kept ledger (Annotate values) leaves = refl
 tables-kept ledger (Build None instruction) leaves = refl
 tables-kept ledger (Build (Some table) instruction) leaves = absurd leaves
+tables-kept ledger (ChangeJumpDestination branch from to) leaves = refl
 tables-kept ledger Finalize leaves = refl
 
 values-no-edge : (types : List «Type») (edge : Edge Name Name) → map AValue types ≡ AnEdge edge ∷ [] → ⊥
@@ -86,8 +88,10 @@ no-edge ledger (UseVar variable) leaves edge is = cc
 no-edge ledger (MakeEntry entry) leaves edge is = cc
 no-edge ledger (MakeEdge other) leaves edge is = leaves
 no-edge ledger (MakeJumpTable default entries) leaves edge is = leaves
+no-edge ledger (Annotate values) leaves edge is = cc
 no-edge ledger (Build None instruction) leaves edge is = cc
 no-edge ledger (Build (Some table) instruction) leaves edge is = leaves
+no-edge ledger (ChangeJumpDestination branch from to) leaves edge is = cc
 no-edge ledger Finalize leaves edge is = cc
 
 -- NAMES -------------------------------------------------------------------------------------------------------------------

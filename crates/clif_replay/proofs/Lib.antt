@@ -11,3 +11,4 @@ pub mod Constants
 pub mod Making
 pub mod JumpTables
 pub mod Replays
+pub mod Notes

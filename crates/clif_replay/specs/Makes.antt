@@ -5,6 +5,7 @@ use Rattle.clif_types.specs.Signature.{SignatureShape}
 use Rattle.clif_types.specs.declared.types.«Type».{«Type»}
 use Rattle.clif_types.specs.declared.types.«Type».TheVariants.{Invalid}
 use Rattle.clif_ir.specs.Body.{Body, value_at}
+use Rattle.clif_ir.specs.Changes.{with_tables}
 use Rattle.clif_opcodes.specs.declared.opcodes.PooledConstOpcode.{PooledConstOpcode}
 use Rattle.clif_instructions.specs.Instruction.{destinations, operands, result_types}
 use Rattle.clif_instructions.specs.declared.block_call.BlockCall.{BlockCall}
@@ -16,6 +17,7 @@ use Rattle.clif_meaning.specs.Request.{AnsweredCall, MakeJumpTable, Request}
 use Rattle.clif_meaning.specs.View.{made_at, operation_of}
 use Rattle.cranelift_frontend.specs.declared.builder.FunctionBuilder.{FunctionBuilder}
 use Rattle.cranelift_frontend.specs.Builder.{SameLoans}
+use Rattle.cranelift_frontend.specs.Labels.{labelled}
 use Rattle.cranelift_frontend.specs.Ledger.{ledger_of}
 use Rattle.clif_calls.specs.Plan.{edges_in, operands_in}
 use Rattle.clif_calls.specs.declared.call.Call.{Call}
@@ -64,6 +66,11 @@ abbrev pub MakesTable : Name → List Name → FunctionBuilder → FunctionBuild
 MakesTable default entries old new answers result =
     Makes (λ declared ledger. MakeJumpTable (name_of default) (map name_of entries)) false (length old.func.now.tables.jump_tables ≡ 2 ^ 32 - 1)
     old.ctx.now.variables old new answers result
+
+-- the value that a name leads to has one label more in the function
+abbrev pub LabelsValue : FunctionBuilder → FunctionBuilder → List Answer → Name → ℕ → Type 0
+LabelsValue old new answers name label =
+    (value : ℕ) × (value_of old.func.now answers name ≡ Some value) × (new.func.now ≡ with_tables old.func.now (labelled old value label))
 
 -- What is asked is found, where it is there; or memory is refused.
 pub record Finds {X : Type 0} (Found : X → Type 0) (there : Bool) (result : Result X CallError) : Type 0 where

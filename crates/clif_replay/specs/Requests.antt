@@ -4,7 +4,7 @@ use Rattle.clif_ir.specs.Body.{Body}
 use Rattle.clif_tables.specs.Callees.{types_of}
 use Rattle.clif_meaning.specs.Name.{Name}
 use Rattle.clif_meaning.specs.Instruction.{Binary, Brif, Compare, Compute, Concat, CondTrap, Convert, Edge, FloatConst, Iconst, Jump, Known, Load, Operation, Return, Select, Split, Stack, StackStore, Store, Trap, Unary}
-use Rattle.clif_meaning.specs.Request.{Request, CreateBlock, SwitchToBlock, SealBlock, SealAllBlocks, InsertBlockAfter, SetColdBlock, EnsureInsertedBlock, AppendBlockParams, AppendFunctionParams, DeclareVar, DefVar, UseVar, MakeEntry, MakeEdge, MakeJumpTable, Build, Finalize, Script, AnsweredCall, script_of, Attempt, outright}
+use Rattle.clif_meaning.specs.Request.{Request, CreateBlock, SwitchToBlock, SealBlock, SealAllBlocks, InsertBlockAfter, SetColdBlock, EnsureInsertedBlock, AppendBlockParams, AppendFunctionParams, DeclareVar, DefVar, UseVar, MakeEntry, MakeEdge, MakeJumpTable, Annotate, Build, Finalize, Script, AnsweredCall, script_of, Attempt, outright}
 use Rattle.clif_meaning.specs.Ledger.{Ledger, empty_ledger, ledger_after, ledger_with, or_invalid, type_of}
 use Rattle.clif_meaning.specs.Acceptance.{Verdict, Accepted, Misuse, Refused, pooled_const, jump, brif, br_table, return_, trap, allows, verdict_from, verdict_on_attempts}
 use Rattle.clif_opcodes.specs.declared.opcodes.PooledConstOpcode.TheVariants.{F128const, Vconst}
@@ -105,6 +105,10 @@ request_of signature ledger (call.UseVar variable) = UseVar variable
 request_of signature ledger (call.TryDefVar variable value) = DefVar variable (name_of value)
 request_of signature ledger (call.TryUseVar variable) = UseVar variable
 request_of signature ledger (call.Plain instruction) = request_in ledger (plan_of instruction)
+request_of signature ledger (call.Cursor instruction) = request_in ledger (plan_of instruction)
+request_of signature ledger (call.SetSrcloc srcloc) = Annotate []
+request_of signature ledger call.CollectDebugInfo = Annotate []
+request_of signature ledger (call.SetValLabel value label) = Annotate (name_of value ∷ [])
 request_of signature ledger (call.F128const bytes) = pooled_const F128const Invalid bytes.items
 request_of signature ledger (call.Vconst ty bytes) = pooled_const Vconst ty bytes.items
 request_of signature ledger (call.Jump destination) = jump (edge_of destination)

@@ -6,6 +6,7 @@ mod make_blocks;
 mod make_constants;
 mod make_entities;
 mod make_instructions;
+mod make_notes;
 mod make_parameters;
 mod make_tables;
 mod names;

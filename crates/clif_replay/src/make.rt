@@ -9,7 +9,8 @@ use crate::make_blocks::{
 };
 use crate::make_constants::make_constant;
 use crate::make_entities::make_entry;
-use crate::make_instructions::make_instruction;
+use crate::make_instructions::{Lender, make_instruction};
+use crate::make_notes::{collect_debug_info, set_srcloc, set_val_label};
 use crate::make_parameters::{
     append_block_param, append_block_params_for_function_params,
     append_block_params_for_function_returns,
@@ -61,7 +62,15 @@ pub(crate) fn make_call(
         Call::UseVar { variable } => use_var(builder, answers, types, *variable),
         Call::TryDefVar { variable, value } => try_def_var(builder, answers, *variable, *value),
         Call::TryUseVar { variable } => try_use_var(builder, answers, *variable),
-        Call::Plain(instruction) => make_instruction(builder, answers, &instruction.plan()),
+        Call::Plain(instruction) => {
+            make_instruction(builder, answers, Lender::Ins, &instruction.plan())
+        }
+        Call::Cursor(instruction) => {
+            make_instruction(builder, answers, Lender::Cursor, &instruction.plan())
+        }
+        Call::SetSrcloc { srcloc } => set_srcloc(builder, answers, *srcloc),
+        Call::CollectDebugInfo => collect_debug_info(builder, answers),
+        Call::SetValLabel { value, label } => set_val_label(builder, answers, *value, *label),
         Call::F128const { bytes } => {
             let opcode = PooledConstOpcode::F128const;
             make_constant(builder, answers, opcode, Type::Invalid, bytes.as_slice())
@@ -71,7 +80,7 @@ pub(crate) fn make_call(
             make_constant(builder, answers, opcode, *ty, bytes.as_slice())
         }
         Call::Jump { destination } => {
-            make_instruction(builder, answers, &Plan::Jump { destination })
+            make_instruction(builder, answers, Lender::Ins, &Plan::Jump { destination })
         }
         Call::Brif {
             condition,
@@ -84,14 +93,19 @@ pub(crate) fn make_call(
                 block_then,
                 block_else,
             };
-            make_instruction(builder, answers, &plan)
+            make_instruction(builder, answers, Lender::Ins, &plan)
         }
         Call::BrTable { index, table } => br_table(builder, answers, *index, *table),
         Call::Return { values } => {
             let args = values.as_slice();
-            make_instruction(builder, answers, &Plan::MultiAry { args })
+            make_instruction(builder, answers, Lender::Ins, &Plan::MultiAry { args })
         }
-        Call::Trap { code } => make_instruction(builder, answers, &Plan::Trap { code: *code }),
+        Call::Trap { code } => make_instruction(
+            builder,
+            answers,
+            Lender::Ins,
+            &Plan::Trap { code: *code },
+        ),
     }
 }
 

@@ -8,7 +8,7 @@ ghost use Rattle.clif_replay.specs.Makes.{MakesConstant};
 ghost use Rattle.clif_replay.specs.Ready.{IsSound};
 
 use crate::make::has_current;
-use crate::make_instructions::append;
+use crate::make_instructions::{Lender, append};
 use crate::script::{Answer, CallError};
 use clif_ir::InstructionData;
 use clif_opcodes::{Demand, PooledConstOpcode};
@@ -36,7 +36,7 @@ pub(crate) fn make_constant(
     }
     let constant = pool(builder, bytes)?;
     let shape = InstructionData::UnaryConst { opcode, constant };
-    let inst = append(builder, shape, ty)?;
+    let inst = append(builder, Lender::Ins, shape, ty)?;
     Ok(Answer::Inst(inst))
 }
 

@@ -29,23 +29,32 @@ struct Planned {
     ty: Type,
 }
 
+// The method that lends the builder for an instruction.
+#[derive(Clone, Copy)]
+pub(crate) enum Lender {
+    Ins,
+    Cursor,
+}
+
 // An instruction of this plan, in a current unfilled block.
 pub(crate) fn make_instruction(
     builder: &mut FunctionBuilder<'_>,
     answers: &[Answer],
+    lender: Lender,
     plan: &Plan<'_>,
 ) -> Result<Answer, CallError>
     requires { IsSound builder.old answers.now }
     ensures { MakesPlan plan.now builder.old builder.new answers.now result }
 {
     let planned = checked(builder, answers, plan)?;
-    let inst = append(builder, planned.shape, planned.ty)?;
+    let inst = append(builder, lender, planned.shape, planned.ty)?;
     Ok(Answer::Inst(inst))
 }
 
 // The one call that makes an instruction.
 pub(crate) fn append(
     builder: &mut FunctionBuilder<'_>,
+    lender: Lender,
     shape: InstructionData,
     ty: Type,
 ) -> Result<Inst, BuildError>
@@ -56,7 +65,10 @@ pub(crate) fn append(
     requires entries_exist { All (EntryExists builder.old.func.now.tables) (entries_of shape) }
     ensures { Builds builder.old builder.new shape ty result }
 {
-    builder.ins().build(shape, ty)
+    match lender {
+        Lender::Ins => builder.ins().build(shape, ty),
+        Lender::Cursor => builder.cursor().build(shape, ty),
+    }
 }
 
 // The instruction of this plan, where it may be made.

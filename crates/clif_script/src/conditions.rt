@@ -347,7 +347,10 @@ impl<'a> Ledger<'a> {
     // The conditions of a call: a row for each.
     fn test(&self, call: &Call) -> Result<(), Condition> {
         match call {
-            Call::CreateBlock | Call::SealAllBlocks => Ok(()),
+            Call::CreateBlock
+            | Call::SealAllBlocks
+            | Call::SetSrcloc { .. }
+            | Call::CollectDebugInfo => Ok(()),
             Call::SwitchToBlock { block } => {
                 let number = self.block(*block)?;
                 if self.state(number).is_filled {
@@ -364,6 +367,7 @@ impl<'a> Ledger<'a> {
             }
             Call::InsertBlockAfter { block, after } => self.can_insert(*block, *after),
             Call::SetColdBlock { block } => self.block(*block).map(|_| ()),
+            Call::SetValLabel { value, .. } => self.value(*value).map(|_| ()),
             Call::EnsureInsertedBlock => self.is_open(),
             Call::AppendBlockParam { block, .. }
             | Call::AppendBlockParamsForFunctionReturns { block } => {
@@ -648,6 +652,9 @@ impl<'a> Ledger<'a> {
             | Call::SealAllBlocks
             | Call::InsertBlockAfter { .. }
             | Call::SetColdBlock { .. }
+            | Call::SetSrcloc { .. }
+            | Call::CollectDebugInfo
+            | Call::SetValLabel { .. }
             | Call::EnsureInsertedBlock
             | Call::DefVar { .. }
             | Call::TryDefVar { .. } => {

@@ -169,9 +169,8 @@ fn of_header_lines(rt: HostRuntime) -> Result<(), Fail> {
     gives(&rt, rt.alloc(), twice.as_bytes(), 2, "", err)
 }
 
-const CALLS_TO_COME: [(&str, &str); 3] = [
+const CALLS_TO_COME: [(&str, &str); 2] = [
     ("switch x b 1:c", "not supported yet: switch"),
-    ("cursor iconst.i8 0", "not supported yet: cursor"),
     ("call f (x)", "not supported yet: call"),
 ];
 

@@ -9,6 +9,8 @@ mod entries;
 #[cfg(test)]
 mod errors;
 #[cfg(test)]
+mod notes;
+#[cfg(test)]
 mod parameters;
 #[cfg(test)]
 mod placements;

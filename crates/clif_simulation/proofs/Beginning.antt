@@ -18,7 +18,7 @@ use Rattle.clif_meaning.specs.Program.{Program, Item, extended, first_block, wit
 use Rattle.clif_simulation.specs.Tables.{program_so_far, IsProgramOf}
 use Rattle.clif_simulation.proofs.Numbering.{apart_first}
 use Rattle.clif_simulation.specs.Carries.{Carries}
-use Rattle.clif_simulation.proofs.Effects.{switch_of, ProgramEffect, program_effect, Leaves, Inserts, Takes, Switches, Assigns, Uses, Builds, LedgerEffect, ledger_effect, Keeps, Lays, Changes, Begins, Creates, Enters, Seals, Declares, Touches, Reads, Appends}
+use Rattle.clif_simulation.proofs.Effects.{switch_of, ProgramEffect, program_effect, Leaves, Inserts, Takes, Switches, Assigns, Uses, Builds, Redirects, LedgerEffect, ledger_effect, Keeps, Lays, Changes, Begins, Creates, Enters, ChangesEach, Declares, Touches, Reads, Appends}
 use Rattle.clif_simulation.proofs.Values.{false_is}
 
 some_none : {X : Type 0} (x : X) → None ≡ Some x → ⊥
@@ -76,6 +76,7 @@ current_of_program program request = by (program_effect request)
     by (Assigns variable value is) = of_request _ is (current-item program program.current _)
     by (Uses variable is) = of_request _ is (current-item (with_inserted program) program.current _)
     by (Builds table instruction is) = of_request _ is (current-item (with_inserted program) program.current _)
+    by (Redirects branch from to stays is) = of_program _ (is program) refl stays
 
 current_of_ledger : (ledger : Ledger) (request : Request) → (ledger_with ledger request).current ≡ first_block (switch_of request) ledger.current
 current_of_ledger ledger request = by (ledger_effect request)
@@ -96,7 +97,7 @@ current_of_ledger ledger request = by (ledger_effect request)
     by (Begins stays is) = of_ledger _ (is ledger) (current-begun ledger ledger.current) stays
     by (Creates is) = of_request _ is refl
     by (Enters block is) = of_request _ is refl
-    by (Seals is) = of_request _ is refl
+    by (ChangesEach change keeps stays is) = of_ledger _ (is ledger) refl stays
     by (Declares ty is) = of_request _ is refl
     by (Touches variable value is) = of_request _ is refl
     by (Reads variable is) = of_request _ is (current-begun ledger ledger.current)

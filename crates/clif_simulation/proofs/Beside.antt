@@ -37,6 +37,8 @@ use Rattle.clif_simulation.specs.Carries.{carried, own_placed}
 use Rattle.clif_simulation.proofs.Whole.{Whole}
 use Rattle.clif_simulation.proofs.OpenArms
 use Rattle.clif_simulation.proofs.OpenArms.{open_arms}
+use Rattle.clif_simulation.proofs.OpenFlow.{more_coming}
+use Rattle.clif_simulation.proofs.ComingCode.{nothing_comes}
 use Rattle.clif_simulation.proofs.IntoBlock
 use Rattle.clif_simulation.proofs.Giving.{in_contained}
 use Rattle.clif_simulation.proofs.ItemsAt
@@ -75,7 +77,7 @@ module _ (calls : List AnsweredCall) (f : Body) (s : SsaState) (consistent : IsC
   items = (program_so_far calls).items
 
   abbrev pub edges : Edges
-  edges = open_arms f s carries.tables
+  edges = open_arms (more_coming calls carries.tables nothing_comes) f s carries.tables
 
   abbrev pub function : ℕ → Definition
   function = carries.tables.function.definition
@@ -472,7 +474,7 @@ module _ (calls : List AnsweredCall) (f : Body) (s : SsaState) (consistent : IsC
       }
 
       pub known : edges arm ≡ true
-      known = OpenArms.edge_open carries.own f s carries.tables carries.describes d arm refl into
+      known = OpenArms.edge_open (more_coming calls carries.tables nothing_comes) carries.own f s carries.tables carries.describes d arm refl into
 
       -- the instruction is the last one of its block
       pub is_last : suc a.j ≡ carries.tables.count p.block
@@ -542,7 +544,7 @@ module _ (calls : List AnsweredCall) (f : Body) (s : SsaState) (consistent : IsC
               named = ap (block_name calls) (sym same) ∙ found.2;
               inserted = there;
               along = first_arm q.block ∷ [];
-              follows = (OpenArms.start_open carries.own f s carries.tables carries.describes q.block entry, refl, tt);
+              follows = (OpenArms.start_open (more_coming calls carries.tables nothing_comes) carries.own f s carries.tables carries.describes q.block entry, refl, tt);
               ends = refl;
               counted = omega arith;
               first = inr refl;

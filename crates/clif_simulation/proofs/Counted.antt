@@ -8,7 +8,12 @@ use Rattle.clif_types.specs.declared.trapcode.TrapCode.TheVariants.{HeapOutOfBou
 use Rattle.clif_types.specs.Types.{bits_of}
 use Rattle.clif_types.specs.declared.extname.ExternalName.{ExternalName}
 use Rattle.clif_types.specs.declared.extname.ExternalName.TheVariants.{LibCall}
+use Rattle.clif_types.specs.Signature.{SignatureShape}
+use Rattle.clif_types.specs.declared.libcall.LibCall.{LibCall as LibraryFunction}
+use Rattle.clif_types.specs.declared.libcall.LibCall.TheVariants.{Memcpy, Memmove, Memset, Memcmp}
 use Rattle.clif_tables.specs.Callees.{types_of}
+use Rattle.clif_meaning.specs.Library.{library_returns, pointer_of}
+use Rattle.clif_meaning.proofs.LibraryCalls.{library_cases, runs_as}
 use Rattle.clif_meaning.specs.Event.{CallShape, Callee, plain_call}
 use Rattle.clif_meaning.specs.Bits.{Bits, AreValues}
 use Rattle.clif_meaning.specs.Memory.{Memory, Range}
@@ -25,7 +30,8 @@ use Rattle.clif_meaning.specs.Typing.{call_shape}
 use Rattle.clif_meaning.specs.World.{World}
 use Rattle.clif_meaning.specs.Outcome.{Outcome, Gives, Goes, Returns, Traps, Calls, NoStep, access_outcome, no_claim, are_accessible, binary_fault, binary_number, call_outcome, computed, traps_on, low_bits_at, outcome_of_computed, outcome_of, unless_fault}
 use Rattle.clif_simulation.proofs.Matching.{IsPlain, outcome_plain}
-use Rattle.clif_simulation.proofs.Effects.{ProgramEffect, program_effect, Leaves, Inserts, Takes, Switches, Assigns, Uses, Builds}
+use Rattle.clif_simulation.proofs.EachRedirected.{all_redirected}
+use Rattle.clif_simulation.proofs.Effects.{ProgramEffect, program_effect, Leaves, Inserts, Takes, Switches, Assigns, Uses, Builds, Redirects}
 
 -- an instruction gives the names of its results
 abbrev pub GivesResults : Item → Type 0
@@ -64,6 +70,7 @@ with_request program request all = by (program_effect request)
     by (Builds table instruction is) =
         subst (λ (r : Request). AllGive (extended program r)) (sym is)
         (with_one (with_inserted program) program.current (Instruct program.place instruction (result_names program.place instruction)) all refl)
+    by (Redirects branch from to stays is) = subst AllGive (sym (is program)) (λ block. all_redirected GivesResults GivesResults branch from to (λ item gives. gives) (λ place instruction results gives. gives) (program.items block) (all block))
 
 all_from : (program : Program) (script : Script) → AllGive program → AllGive (fold with_call program script)
 all_from program [] all = all
@@ -164,10 +171,26 @@ counted_trap : (traps : Bool) (reason : TrapCode) (memory : Memory) → GivesCou
 counted_trap true reason memory = tt
 counted_trap false reason memory = refl
 
--- a call gives nothing by itself
-counted_call : (count : ℕ) (name : ExternalName) (call : CallShape) (arguments : List Bits) → GivesCount count (call_outcome name call arguments)
-counted_call count (LibCall callee) call arguments = tt
-counted_call count _ call arguments = tt
+-- An outside call gives nothing by itself. A function of the C library gives one value, and a try call passes it on.
+one_given : (pointer : «Type») (callee : LibraryFunction) → length (library_returns pointer callee) ≡ 1
+one_given pointer Memcpy = refl
+one_given pointer Memmove = refl
+one_given pointer Memset = refl
+one_given pointer Memcmp = refl
+
+counted_call : (world : World) (name : ExternalName) (signature : SignatureShape) (arguments : List Bits) (memory : Memory)
+    → GivesCount (length (types_of signature.returns)) (call_outcome world Gives name (plain_call signature) arguments memory)
+counted_call world (LibCall callee) signature arguments memory =
+    library_cases (λ (xs : List Bits) (o : Outcome). GivesCount (length (types_of signature.returns)) o) world Gives callee signature arguments memory (λ xs. tt)
+    (λ first second size runs.
+    sym (ap (λ (types : List «Type»). length types) (runs_as world callee signature first second size runs).returns ∙ one_given (pointer_of world.pointer_width) callee))
+counted_call world _ signature arguments memory = tt
+
+counted_try_call : (world : World) (name : ExternalName) (call : CallShape) (arguments : List Bits) (memory : Memory)
+    → GivesCount 0 (call_outcome world (Goes 0) name call arguments memory)
+counted_try_call world (LibCall callee) call arguments memory =
+    library_cases (λ (xs : List Bits) (o : Outcome). GivesCount 0 o) world (Goes 0) callee call.signature arguments memory (λ xs. tt) (λ first second size runs. tt)
+counted_try_call world _ call arguments memory = tt
 
 counted_outcome : (world : World) (operation : Operation) (ty : «Type») (types : List «Type») (operands : List Bits) (memory : Memory)
     → GivesCount (length (result_types operation ty)) (outcome_of world operation ty types operands memory)
@@ -202,10 +225,10 @@ counted_outcome world (BrTable entries) ty types [] memory = tt
 counted_outcome world (BrTable entries) ty types (x ∷ []) memory = tt
 counted_outcome world (BrTable entries) ty types (x ∷ y ∷ operands) memory = tt
 counted_outcome world Return ty types operands memory = tt
-counted_outcome world (Call name signature) ty types operands memory = counted_call (length (types_of signature.returns)) name (plain_call signature) operands
+counted_outcome world (Call name signature) ty types operands memory = counted_call world name signature operands memory
 counted_outcome world (CallIndirect signature) ty types [] memory = tt
 counted_outcome world (CallIndirect signature) ty types (address ∷ operands) memory = tt
-counted_outcome world (TryCall name call) ty types operands memory = counted_call 0 name call operands
+counted_outcome world (TryCall name call) ty types operands memory = counted_try_call world name call operands memory
 counted_outcome world (TryCallIndirect call) ty types [] memory = tt
 counted_outcome world (TryCallIndirect call) ty types (address ∷ operands) memory = tt
 
@@ -244,10 +267,13 @@ plain_count types (Traps reason) plain = tt
 plain_count types (Calls callee call arguments) plain = absurd plain
 plain_count types NoStep plain = tt
 
-named_count : (types : List «Type») (name : ExternalName) (call : CallShape) (arguments : List Bits)
-    → (length (types_of call.signature.returns) ≡ length types) ⊎ (types ≡ []) → CallsCount types (call_outcome name call arguments)
-named_count types (LibCall callee) call arguments count = tt
-named_count types _ call arguments count = count
+-- a function of the C library is no outside call, however its call goes on
+named_count : (world : World) (goes_on : List Bits → Memory → Outcome) (types : List «Type») (name : ExternalName) (call : CallShape) (arguments : List Bits) (memory : Memory)
+    → ((bits : List Bits) (after : Memory) → CallsCount types (goes_on bits after))
+    → (length (types_of call.signature.returns) ≡ length types) ⊎ (types ≡ []) → CallsCount types (call_outcome world goes_on name call arguments memory)
+named_count world goes_on types (LibCall callee) call arguments memory goes count =
+    library_cases (λ (xs : List Bits) (o : Outcome). CallsCount types o) world goes_on callee call.signature arguments memory (λ xs. tt) (λ first second size runs. goes _ _)
+named_count world goes_on types _ call arguments memory goes count = count
 
 no_call_counts : (world : World) (operation : Operation) → call_shape operation ≡ None → (ty : «Type») (types : List «Type») (operands : List Bits) (memory : Memory)
     → CallsCount (result_types operation ty) (outcome_of world operation ty types operands memory)
@@ -256,10 +282,11 @@ no_call_counts world operation no_call ty types operands memory =
 
 calls_count : (world : World) (operation : Operation) (ty : «Type») (types : List «Type») (operands : List Bits) (memory : Memory)
     → CallsCount (result_types operation ty) (outcome_of world operation ty types operands memory)
-calls_count world (Call name signature) ty types operands memory = named_count (types_of signature.returns) name (plain_call signature) operands (inl refl)
+calls_count world (Call name signature) ty types operands memory =
+    named_count world Gives (types_of signature.returns) name (plain_call signature) operands memory (λ bits after. tt) (inl refl)
 calls_count world (CallIndirect signature) ty types [] memory = tt
 calls_count world (CallIndirect signature) ty types (address ∷ operands) memory = inl refl
-calls_count world (TryCall name call) ty types operands memory = named_count [] name call operands (inr refl)
+calls_count world (TryCall name call) ty types operands memory = named_count world (Goes 0) [] name call operands memory (λ bits after. tt) (inr refl)
 calls_count world (TryCallIndirect call) ty types [] memory = tt
 calls_count world (TryCallIndirect call) ty types (address ∷ operands) memory = inr refl
 calls_count world (Compute arithmetic) ty types operands memory = no_call_counts world (Compute arithmetic) refl ty types operands memory

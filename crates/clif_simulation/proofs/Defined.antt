@@ -37,7 +37,7 @@ use Rattle.clif_simulation.specs.Carries.{answered_argument}
 use Rattle.clif_simulation.proofs.Whole.{Whole}
 use Rattle.clif_simulation.proofs.ZeroInsts.{IsFromBefore, zeros_in_turn}
 use Rattle.clif_simulation.proofs.Beside
-use Rattle.clif_simulation.proofs.OpenArms.{open_arms}
+use Rattle.clif_simulation.proofs.ComingCode.{given_none, nothing_comes, placed_none}
 use Rattle.clif_simulation.proofs.OpenFlow
 use Rattle.clif_simulation.proofs.IntoBlock
 use Rattle.clif_simulation.proofs.Entry.{resolved_twice}
@@ -137,10 +137,10 @@ module _ (calls : List AnsweredCall) (f : Body) (s : SsaState) (consistent : IsC
     IsFor = Beside.IsGivenFor calls f s consistent carries
 
     abbrev edges : Edges
-    edges = open_arms f s carries.tables
+    edges = OpenFlow.edges nothing_comes calls f s consistent carries
 
     pub under : SoundUnder edges (state_of carries.tables)
-    under = OpenFlow.under calls f s consistent carries placed
+    under = OpenFlow.under nothing_comes calls f s consistent carries (placed_none calls placed)
 
     -- What a path along the arms has come to ------------------------------------------------------------------------------------
 
@@ -173,7 +173,7 @@ module _ (calls : List AnsweredCall) (f : Body) (s : SsaState) (consistent : IsC
         let value = map_from (resolved f) (operands (inst_at f a.i).shape) there.0 x there.1 in
         let same : operands (inst_at f a.i).shape ≡ map (answered calls) a.item.instruction.operands = ap (λ (p : Placed). p.instruction.operands) a.is_item in
         let of_name = map_from (answered calls) a.item.instruction.operands there.0 value.0 (ap (λ (vs : List ℕ). slice_get vs there.0) (sym same) ∙ value.1) in
-        let on = OpenFlow.named_before calls f s consistent carries placed a.is.along q.block a.j name a.is.follows a.is.ends a.is.named
+        let on = OpenFlow.named_before nothing_comes calls f s consistent carries (placed_none calls placed) a.is.along q.block a.j name a.is.follows a.is.ends a.is.named
         (Instruct a.item.place a.item.instruction a.item.results) a.item.stands of_name.0 (contained a.item.instruction.operands there.0 of_name.0 of_name.1) in
         subst (IsFor q path) (ap (resolved f) of_name.2 ∙ value.2) (answer_given q path name a.j a.is of_name.0 on)
 
@@ -298,8 +298,8 @@ module _ (calls : List AnsweredCall) (f : Body) (s : SsaState) (consistent : IsC
               absurd (none_of a.item.results x (none_mapped (answered calls) a.item.results (sym results ∙ no_results))
               (subst (λ (o : Option Item). Contains (item_gives o) x) a.item.stands gives))
           by x (inr before) =
-              OpenFlow.given_before_item calls f s consistent carries a.is.along q.block a.j name a.is.follows a.is.ends a.is.named x
-              (place_within ((program_so_far calls).items name) a.j (Instruct a.item.place a.item.instruction a.item.results) a.item.stands) before
+              OpenFlow.given_before nothing_comes calls f s consistent carries a.is.along q.block a.j name a.is.follows a.is.ends a.is.named x
+              (given_none calls x (at_index name a.j) (place_within ((program_so_far calls).items name) a.j (Instruct a.item.place a.item.instruction a.item.results) a.item.stands) before)
 
       -- what belongs to a parameter of a variable
       of_variable : (m : ℕ) → is.j ≡ length (carries.own.passed a.i is.n) + m → IsFor q path (resolved f v)

@@ -1,15 +1,16 @@
 -- What a call does to the variable program and to the ledger: a few effects serve all calls. Laws of one more call are by
 -- these effects, so that a new call needs its two rows here, and none there.
 use Rattle.std.proofs.Common.{◌≡◌, ℕ, List, [], ◌∷◌, ◌++◌, refl, Some, None, IsTrue}
-use Rattle.std.specs.Prelude.{Option}
+use Rattle.std.specs.Prelude.{Option, Bool, true, false, map, if◌then◌else◌}
+use Rattle.std.specs.List.{list_any}
 use Rattle.clif_types.specs.declared.types.«Type».{«Type»}
 use Rattle.clif_tables.specs.Entries.{with_entry}
 use Rattle.clif_tables.specs.Lists.{TableLists}
-use Rattle.clif_meaning.specs.Name.{Name}
+use Rattle.clif_meaning.specs.Name.{Name, same_name}
 use Rattle.clif_meaning.specs.Instruction.{Edge, Instruction}
-use Rattle.clif_meaning.specs.Request.{Request, CreateBlock, SwitchToBlock, SealBlock, SealAllBlocks, InsertBlockAfter, SetColdBlock, EnsureInsertedBlock, AppendBlockParams, AppendFunctionParams, DeclareVar, DefVar, UseVar, MakeEntry, MakeEdge, MakeJumpTable, Build, Finalize}
-use Rattle.clif_meaning.specs.Program.{Program, answers_from, extended, with_inserted, with_parameters}
-use Rattle.clif_meaning.specs.Ledger.{BlockState, Ledger, changed_by, edges_named, put_after, sealed, with_begun, with_cold_mark, with_parameter_types, with_state}
+use Rattle.clif_meaning.specs.Request.{Request, CreateBlock, SwitchToBlock, SealBlock, SealAllBlocks, InsertBlockAfter, SetColdBlock, EnsureInsertedBlock, AppendBlockParams, AppendFunctionParams, DeclareVar, DefVar, UseVar, MakeEntry, MakeEdge, MakeJumpTable, Annotate, Build, ChangeJumpDestination, Finalize}
+use Rattle.clif_meaning.specs.Program.{Program, answers_from, extended, with_inserted, with_parameters, with_redirected}
+use Rattle.clif_meaning.specs.Ledger.{BlockState, Ledger, changed_by, edges_named, left_by, put_after, redirected_state, sealed, with_begun, with_cold_mark, with_parameter_types, with_state}
 
 -- the call makes no block
 abbrev pub MakesNoBlock : Request → Type 0
@@ -42,6 +43,9 @@ pub data ProgramEffect (request : Request) : Type 0 where
   Assigns : (variable : ℕ) (value : Name) → request ≡ DefVar variable value → ProgramEffect request
   Uses : (variable : ℕ) → request ≡ UseVar variable → ProgramEffect request
   Builds : (table : Option ℕ) (instruction : Instruction Name Name) → request ≡ Build table instruction → ProgramEffect request
+  -- edges of items lead elsewhere
+  Redirects : (branch from to : Name) → switch_of request ≡ None
+      → ((program : Program) → extended program request ≡ with_redirected program branch from to) → ProgramEffect request
 
 pub program_effect : (request : Request) → ProgramEffect request
 program_effect CreateBlock = Leaves refl (λ program. refl)
@@ -59,7 +63,9 @@ program_effect (UseVar variable) = Uses variable refl
 program_effect (MakeEntry entry) = Leaves refl (λ program. refl)
 program_effect (MakeEdge edge) = Leaves refl (λ program. refl)
 program_effect (MakeJumpTable default entries) = Leaves refl (λ program. refl)
+program_effect (Annotate values) = Leaves refl (λ program. refl)
 program_effect (Build table instruction) = Builds table instruction refl
+program_effect (ChangeJumpDestination branch from to) = Redirects branch from to refl (λ program. refl)
 program_effect Finalize = Leaves refl (λ program. refl)
 
 -- THE LEDGER --------------------------------------------------------------------------------------------------------------
@@ -84,7 +90,9 @@ pub data LedgerEffect (request : Request) : Type 0 where
   Begins : switch_of request ≡ None → ((ledger : Ledger) → changed_by ledger request ≡ with_begun ledger) → LedgerEffect request
   Creates : request ≡ CreateBlock → LedgerEffect request
   Enters : (block : Name) → request ≡ SwitchToBlock block → LedgerEffect request
-  Seals : request ≡ SealAllBlocks → LedgerEffect request
+  -- the state of each block
+  ChangesEach : (change : BlockState → BlockState) → KeepsFilled change → switch_of request ≡ None
+      → ((ledger : Ledger) → changed_by ledger request ≡ record ledger { blocks = map change ledger.blocks }) → LedgerEffect request
   Declares : (ty : «Type») → request ≡ DeclareVar ty → LedgerEffect request
   Touches : (variable : ℕ) (value : Name) → request ≡ DefVar variable value → LedgerEffect request
   Reads : (variable : ℕ) → request ≡ UseVar variable → LedgerEffect request
@@ -99,11 +107,37 @@ marks = record { name = λ state. refl; filled = λ state is. is }
 takes : (types : List «Type») → KeepsFilled (with_parameter_types types)
 takes types = record { name = λ state. refl; filled = λ state is. is }
 
+pub redirects : (branch from to : Name) → KeepsFilled (redirected_state branch from to)
+redirects branch from to = record {
+  name = λ state. of_name state (same_name from to) (same_name state.block from) (same_name state.block to) (list_any (same_name branch) state.predecessors);
+  filled = λ state is. of_filled state (same_name from to) (same_name state.block from) (same_name state.block to) (list_any (same_name branch) state.predecessors) is;
+}
+  where
+    by : BlockState → (same at_from at_to there : Bool) → BlockState
+    by state same at_from at_to there =
+        if same then state
+        else (if at_from then left_by branch state
+        else (if at_to then (if there then state else record state { predecessors = state.predecessors ++ branch ∷ [] }) else state))
+
+    of_name : (state : BlockState) (same at_from at_to there : Bool) → (by state same at_from at_to there).block ≡ state.block
+    of_name state true at_from at_to there = refl
+    of_name state false true at_to there = refl
+    of_name state false false true true = refl
+    of_name state false false true false = refl
+    of_name state false false false there = refl
+
+    of_filled : (state : BlockState) (same at_from at_to there : Bool) → IsTrue state.is_filled → IsTrue (by state same at_from at_to there).is_filled
+    of_filled state true at_from at_to there is = is
+    of_filled state false true at_to there is = is
+    of_filled state false false true true is = is
+    of_filled state false false true false is = is
+    of_filled state false false false there is = is
+
 pub ledger_effect : (request : Request) → LedgerEffect request
 ledger_effect CreateBlock = Creates refl
 ledger_effect (SwitchToBlock block) = Enters block refl
 ledger_effect (SealBlock block) = Changes block sealed seals refl (λ ledger. refl)
-ledger_effect SealAllBlocks = Seals refl
+ledger_effect SealAllBlocks = ChangesEach sealed seals refl (λ ledger. refl)
 ledger_effect (InsertBlockAfter block after) = Lays (λ ledger. put_after block after ledger.layout) (λ ledger. ledger.tables) (λ ledger. ledger.jump_tables) refl (λ ledger. refl)
 ledger_effect (SetColdBlock block) = Changes block with_cold_mark marks refl (λ ledger. refl)
 ledger_effect EnsureInsertedBlock = Begins refl (λ ledger. refl)
@@ -117,5 +151,7 @@ ledger_effect (MakeEdge edge) = Keeps refl (λ ledger. refl)
 ledger_effect (MakeJumpTable default entries) =
     Lays (λ ledger. ledger.layout) (λ ledger. ledger.tables) (λ ledger. ledger.jump_tables ++ Some (edges_named ledger (default ∷ entries)) ∷ []) refl
     (λ ledger. refl)
+ledger_effect (Annotate values) = Keeps refl (λ ledger. refl)
 ledger_effect (Build table instruction) = Appends table instruction refl
+ledger_effect (ChangeJumpDestination branch from to) = ChangesEach (redirected_state branch from to) (redirects branch from to) refl (λ ledger. refl)
 ledger_effect Finalize = Keeps refl (λ ledger. refl)

@@ -54,11 +54,11 @@ module _ (calls : List AnsweredCall) (f : Body) (s : SsaState) (consistent : IsC
   abbrev program : Program
   program = program_so_far calls
 
-  -- a place of the program was come to on the path
+  -- a place of the program was come to on the path, with the item that stands there
   pub record WasVisited (path : Path) (p : Place Name) : Type 0 where
     pub block : ℕ
     pub named : block_name calls block ≡ Some p.block
-    pub visits : Visits (inside block (suc p.index)) path
+    pub visits : (item : Item) → item_at calls p.block p.index ≡ Some item → Visits (inside block (suc p.index)) path
     -- and the front of its block, if it is the first one there
     pub front : p.index ≡ 0 → Visits (inside block 0) path
 
@@ -74,7 +74,7 @@ module _ (calls : List AnsweredCall) (f : Body) (s : SsaState) (consistent : IsC
     pub visited : (p : Place Name) → In p walk → WasVisited path p
 
   pub visited_later : (arm : Arm) (path : Path) (p : Place Name) → WasVisited path p → WasVisited (arm ∷ path) p
-  visited_later arm path p was = record { block = was.block; named = was.named; visits = inr was.visits; front = λ first. inr (was.front first) }
+  visited_later arm path p was = record { block = was.block; named = was.named; visits = λ item stands. inr (was.visits item stands); front = λ first. inr (was.front first) }
 
   -- From one item to the next ---------------------------------------------------------------------------------------------
 
@@ -95,7 +95,7 @@ module _ (calls : List AnsweredCall) (f : Body) (s : SsaState) (consistent : IsC
       visited p (inl is) = record {
         block = b;
         named = before.named ∙ ap (λ (q : Place Name). Some q.block) (sym is);
-        visits = inl (ap (λ (q : Place Name). inside b (suc q.index)) is ∙ sym target);
+        visits = λ item stands. inl (ap (λ (q : Place Name). inside b (suc q.index)) is ∙ sym target);
         front = λ first.
             inr (ends_visits path b 0 (ends ∙ ap (inside b) (sym (ap (λ (q : Place Name). q.index) is) ∙ first)));
       }
@@ -210,7 +210,7 @@ module _ (calls : List AnsweredCall) (f : Body) (s : SsaState) (consistent : IsC
       record {
         given = not_start (carries.tables.naming (code x)).home was.block (suc p.index) home;
         answer = there.1;
-        visits = subst (λ (q : paths.Place). Visits q path) (sym home) was.visits;
+        visits = subst (λ (q : paths.Place). Visits q path) (sym home) (was.visits item stands);
       }
 
   -- a parameter of the caller's is given as its block is entered
@@ -273,7 +273,7 @@ module _ (calls : List AnsweredCall) (f : Body) (s : SsaState) (consistent : IsC
       was = record {
         block = b;
         named = named;
-        visits = inl (sym target);
+        visits = λ item' stands'. inl (sym target);
         front = λ first. inr (ends_visits path b 0 (ends ∙ ap (inside b) first));
       }
 

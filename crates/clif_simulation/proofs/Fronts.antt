@@ -1,11 +1,12 @@
 -- The zeros at the front of a block: they come first, and change nothing where their values have no bits.
+use Rattle.clif_simulation.specs.Coming.{Arrival, arrival_at}
 use Rattle.clif_simulation.specs.Interrupted.{function_answer, function_edge, taken_of}
 use Rattle.clif_simulation.proofs.Agreement.{IsBlank}
 use Rattle.clif_simulation.proofs.Placing.{at_first, at_second, in_two}
 use Rattle.clif_simulation.proofs.ZeroInsts.{InTurn, IsFromBefore, IsZeroInst, IsZeroValue, zero_insts, zeros_in_turn}
 use Rattle.clif_ssa.proofs.ZeroTable.{none_some, same_some}
 use Rattle.clif_ssa.specs.Zeros.{insts_of_zeros}
-use Rattle.std.proofs.Common.{◌≡◌, ℕ, zero, suc, ◌+◌, if◌then◌else◌, Bool, true, false, List, [], ◌∷◌, ◌++◌, length, map, slice_get, Some, None, ◌-◌, ◌<◌, ◌⊎◌, inl, inr, append_assoc, refl, sym, ◌∙◌, ap, ap₂, subst, arith}
+use Rattle.std.proofs.Common.{◌≡◌, ℕ, zero, suc, ◌+◌, if◌then◌else◌, Bool, true, false, List, [], ◌∷◌, ◌++◌, length, map, slice_get, Some, None, ◌-◌, ◌<◌, ◌⊎◌, inl, inr, append_assoc, refl, sym, ◌∙◌, ap, ap₂, subst, arith, Option}
 use Rattle.std.proofs.lemmas.Bool.Decides.{nat_tests}
 use Rattle.std.proofs.lemmas.List.{map-append}
 use Rattle.std.specs.List.{AllByRecursion}
@@ -74,6 +75,11 @@ steps_behind machine (suc n) state = ap machine.next (steps_behind machine n sta
 all_zero : (bits : ℕ → ℕ) (xs : List ℕ) → ((k v : ℕ) → slice_get xs k ≡ Some v → bits v ≡ 0) → map bits xs ≡ map (λ v. 0) xs
 all_zero bits [] each = refl
 all_zero bits (x ∷ xs) each = ap₂ (λ (y : ℕ) (ys : List ℕ). y ∷ ys) (each 0 x refl) (all_zero bits xs (λ k v there. each (suc k) v there))
+
+-- where something stands, control comes along no edge that isn't made yet
+pub not_at_thing : {Thing : Type 0} (o : Option Arrival) (x : Thing) (xs : List Thing) → arrival_at o (At (x ∷ xs)) ≡ None
+not_at_thing None x xs = refl
+not_at_thing (Some arrival) x xs = refl
 
 module _ (run : FunctionRun) (f : Body) (resolves : (v : ℕ) → run.function.resolved v ≡ resolved f v) (blocks : Blocks) (b : ℕ) (zeros : List ℕ)
     (in_turn : InTurn f zeros) (rest : List Placed) (q : FunctionState)
@@ -218,6 +224,15 @@ module _ (run : FunctionRun) (f : Body) (resolves : (v : ℕ) → run.function.r
         by (inl same) = same
         by (inr (none, inl put)) = none ∙ sym (blank w (subst IsBlank (sym (ap (λ (d : Definition). d.kind) put.1)) tt))
         by (inr (none, inr inner)) = none ∙ sym (blank w (subst IsBlank (sym (ap (λ (d : Definition). d.kind) inner)) tt))
+
+    -- something stands there, so control comes along no edge that isn't made yet
+    pub no_arrival : (n : ℕ) (state : FunctionState) (o : Option Arrival) → ZerosLeft (suc n) state → arrival_at o state.control ≡ None
+    no_arrival n state o z = by z.left refl
+      where
+        by : (left : List ℕ) → z.left ≡ left → arrival_at o state.control ≡ None
+        by [] is = let some : length z.left ≡ 0 = ap length is in absurd (omega (arith, z.count, some))
+        by (inst ∷ left) is =
+            ap (arrival_at o) (z.at ∙ ap (λ xs. At (map (placed_inst f) xs ++ rest)) is) ∙ not_at_thing o (placed_inst f inst) (map (placed_inst f) left ++ rest)
 
     -- no edge is taken
     pub no_edge : (n : ℕ) (state : FunctionState) → ZerosLeft (suc n) state → function_edge run state state.control ≡ None

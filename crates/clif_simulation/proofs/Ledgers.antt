@@ -7,12 +7,12 @@ use Rattle.clif_types.specs.declared.types.«Type».{«Type»}
 use Rattle.clif_meaning.specs.Name.{Name, answer_of, same_name}
 use Rattle.clif_meaning.specs.Instruction.{Operation, Edge, Instruction}
 use Rattle.clif_meaning.specs.Request.{Request, Build, AnsweredCall, script_of}
-use Rattle.clif_meaning.specs.Ledger.{BlockState, Ledger, VariableState, changed_by, ledger_after, ledger_with, with_state, with_layout, with_begun_at, with_begun, with_filled_at, with_terminator, with_predecessor, touched_at, new_variable, is_inserted, is_filled, is_terminator, state_has, variable_type, sealed}
+use Rattle.clif_meaning.specs.Ledger.{BlockState, Ledger, VariableState, changed_by, ledger_after, ledger_with, with_state, with_layout, with_begun_at, with_begun, with_filled_at, with_terminator, with_predecessor, touched_at, new_variable, is_inserted, is_filled, is_terminator, state_has, variable_type}
 use Rattle.clif_simulation.specs.Carries.{AreTypes}
 use Rattle.clif_simulation.specs.Carries as carries
 use Rattle.clif_ssa.specs.Structured.{VariableTypes}
 use Rattle.clif_simulation.proofs.Beginning.{current-begun, one_current}
-use Rattle.clif_simulation.proofs.Effects.{KeepsFilled, LedgerEffect, ledger_effect, Keeps, Lays, Changes, Begins, Creates, Enters, Seals, Declares, Touches, Reads, Appends}
+use Rattle.clif_simulation.proofs.Effects.{KeepsFilled, LedgerEffect, ledger_effect, Keeps, Lays, Changes, Begins, Creates, Enters, ChangesEach, Declares, Touches, Reads, Appends}
 use Rattle.clif_simulation.proofs.NameLists.{same_name-equal, names-with_begun_at}
 use Rattle.clif_simulation.proofs.Numbers.{ledger_longer}
 use Rattle.clif_simulation.proofs.Values.{false_is}
@@ -107,18 +107,6 @@ module _ (name : Name) where
       filled_of state true is = is
       filled_of state false is = is
 
-  filled_sealed : (states : List BlockState) → IsTrue (state_has (λ (state : BlockState). state.is_filled) (find (λ (state : BlockState). same_name state.block name) states))
-      → IsTrue (state_has (λ (state : BlockState). state.is_filled) (find (λ (state : BlockState). same_name state.block name) (map sealed states)))
-  filled_sealed [] filled = filled
-  filled_sealed (state ∷ states) filled = by (same_name state.block name) (filled_sealed states) filled
-    where
-      by : (test : Bool) → (IsTrue (state_has (λ (s : BlockState). s.is_filled) (find (λ (s : BlockState). same_name s.block name) states))
-          → IsTrue (state_has (λ (s : BlockState). s.is_filled) (find (λ (s : BlockState). same_name s.block name) (map sealed states))))
-          → IsTrue (state_has (λ (s : BlockState). s.is_filled) (if test then Some state else find (λ (s : BlockState). same_name s.block name) states))
-          → IsTrue (state_has (λ (s : BlockState). s.is_filled) (if test then Some (sealed state) else find (λ (s : BlockState). same_name s.block name) (map sealed states)))
-      by true rest is = is
-      by false rest is = rest is
-
   filled_with : (ledger : Ledger) (request : Request) → IsTrue (is_filled ledger name) → IsTrue (is_filled (ledger_with ledger request) name)
   filled_with ledger request filled = by (ledger_effect request)
     where
@@ -135,7 +123,7 @@ module _ (name : Name) where
       by (Begins stays is) = of_ledger _ (is ledger) (filled-with_begun_at ledger ledger.current filled)
       by (Creates is) = of_request _ is (filled_longer ledger.blocks _ name filled)
       by (Enters block is) = of_request _ is filled
-      by (Seals is) = of_request _ is (filled_sealed ledger.blocks filled)
+      by (ChangesEach change keeps stays is) = of_ledger _ (is ledger) (filled_changed change keeps ledger.blocks name filled)
       by (Declares ty is) = of_request _ is filled
       by (Touches variable value is) = of_request _ is filled
       by (Reads variable is) = of_request _ is (filled-with_begun_at ledger ledger.current filled)
@@ -257,7 +245,7 @@ type_with ledger request x ty typed = by (ledger_effect request)
     by (Begins stays is) = of_ledger _ (is ledger) begun
     by (Creates is) = of_request _ is typed
     by (Enters block is) = of_request _ is typed
-    by (Seals is) = of_request _ is typed
+    by (ChangesEach change keeps stays is) = of_ledger _ (is ledger) typed
     by (Declares declared is) = of_request _ is (type_longer ledger.variables (new_variable declared ∷ []) x ty typed)
     by (Touches variable value is) = of_request _ is (type_touched ledger.variables variable x ∙ typed)
     by (Reads variable is) = of_request _ is (type_touched (with_begun ledger).variables variable x ∙ begun)

@@ -20,6 +20,7 @@ pub mod GivenNames
 mod OperandTypes
 mod Straight
 mod Effects
+pub mod EachRedirected
 pub mod Listed
 mod Entry
 mod ItemsAt
@@ -48,9 +49,11 @@ mod Interrupting
 mod OpenWith
 mod OpenArms
 mod OpenFlow
+mod ComingCode
 mod OpenFront
 mod OpenEdges
 mod OpenStanding
+mod ComingStep
 mod OpenStepping
 pub mod OpenReading
 -- The row `first`, half built.
@@ -87,6 +90,11 @@ pub mod CarriedStructure
 mod Beside
 pub mod Defined
 pub mod RecordsDefined
+-- A branch leads elsewhere.
+mod Redirected
+mod RedirectedEdges
+pub mod Redirecting
+pub mod Predecessors
 -- The row `both_arms` is carried.
 mod LoopTables
 mod LoopProgram
@@ -110,3 +118,5 @@ mod ParameterRow
 mod CallRow
 -- What is on record in the states of the worked examples.
 mod RecordsListed
+-- A block that only a coming edge reaches.
+mod SecondRow

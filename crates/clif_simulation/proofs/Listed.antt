@@ -8,7 +8,7 @@ use Rattle.clif_meaning.specs.Path.{Place, IsPath}
 use Rattle.clif_meaning.specs.WellPlaced.{item_gives, program_flow, program_code, IsGivenAlong, given_on_entry}
 use Rattle.clif_simulation.specs.Tables.{program_so_far}
 pub use Rattle.clif_simulation.proofs.Effects.{MakesNoParameter}
-use Rattle.clif_simulation.proofs.Effects.{ProgramEffect, program_effect, Leaves, Inserts, Takes, Switches, Assigns, Uses, Builds}
+use Rattle.clif_simulation.proofs.Effects.{ProgramEffect, program_effect, Leaves, Inserts, Takes, Switches, Assigns, Uses, Builds, Redirects}
 use Rattle.clif_simulation.proofs.Numbers.{program_longer}
 use Rattle.clif_meaning.proofs.StraightLine.{nothing_contained}
 
@@ -32,6 +32,7 @@ call_leaves program request none = by (program_effect request)
     by (Assigns variable value is) = of_request _ is (item_leaves program program.current _)
     by (Uses variable is) = of_request _ is (item_leaves (with_inserted program) program.current _)
     by (Builds table instruction is) = of_request _ is (item_leaves (with_inserted program) program.current _)
+    by (Redirects branch from to stays is) = ap (λ (p : Program). p.parameters) (is program)
 
 -- such a call leaves each block's
 pub parameters_stay : (calls : List AnsweredCall) (call : AnsweredCall) → MakesNoParameter call.request → (block : Name)

@@ -1,11 +1,11 @@
 -- The row `both_arms`: its tables are the program's.
-use Rattle.std.proofs.Common.{◌≡◌, ◌≢◌, ℕ, zero, suc, ◌<◌, false, Option, Some, None, List, [], ◌∷◌, ◌⊎◌, inl, inr, refl, sym, ◌∙◌, ap, subst, arith, Contains, slice_get, length, ◌==◌, if◌then◌else◌, fold}
+use Rattle.std.proofs.Common.{◌≡◌, ◌≢◌, ℕ, zero, suc, ◌<◌, false, Option, Some, None, List, [], ◌∷◌, ◌⊎◌, inl, inr, refl, sym, ◌∙◌, ap, subst, arith, Contains, slice_get, length, map, ◌==◌, if◌then◌else◌, fold}
 use Rattle.std.proofs.lemmas.Bool.Decides.{nat_tests}
 use Rattle.std.specs.List.{AllByRecursion}
 use Rattle.clif_paths.specs.Places.{Place, start, inside}
 use Rattle.clif_meaning.specs.Name.{Name, answer_of, same_name}
 use Rattle.clif_meaning.specs.Request.{Request, Script, script_of}
-use Rattle.clif_meaning.specs.Program.{Program, Item, first_block, with_call, with_item_at, with_inserted, empty_program}
+use Rattle.clif_meaning.specs.Program.{Program, Item, first_block, redirected_item, with_call, with_item_at, with_inserted, empty_program}
 use Rattle.clif_meaning.specs.BranchExamples.{block}
 use Rattle.clif_meaning.specs.WellPlaced.{item_gives}
 use Rattle.clif_meaning.proofs.FirstRow.{one_of, first_of_one}
@@ -14,7 +14,7 @@ use Rattle.clif_simulation.specs.Tables.{code, answered, program_so_far, block_n
 use Rattle.clif_simulation.specs.CarryingExamples.{loop_calls}
 use Rattle.clif_simulation.proofs.NameLists.{same_name_cases}
 use Rattle.clif_simulation.proofs.Beginning.{current_of_program}
-use Rattle.clif_simulation.proofs.Effects.{switch_of, ProgramEffect, program_effect, Leaves, Inserts, Takes, Switches, Assigns, Uses, Builds}
+use Rattle.clif_simulation.proofs.Effects.{switch_of, ProgramEffect, program_effect, Leaves, Inserts, Takes, Switches, Assigns, Uses, Builds, Redirects}
 use Rattle.clif_simulation.proofs.LoopTables.{loop_tables, computing_row, each_name_of_row, each_write_of_row}
 
 abbrev items_of_block : Name → List Item
@@ -92,6 +92,7 @@ nothing_there name (request ∷ rest) program never apart none =
     items (Assigns variable value is) = of_request _ is (no_new_item program program.current _ name apart ∙ none)
     items (Uses variable is) = of_request _ is (no_new_item (with_inserted program) program.current _ name apart ∙ none)
     items (Builds table instruction is) = of_request _ is (no_new_item (with_inserted program) program.current _ name apart ∙ none)
+    items (Redirects branch from to stays is) = ap (λ (p : Program). p.items name) (is program) ∙ ap (map (redirected_item branch from to)) none
 
 data FourCases (name : Name) : Type 0 where
   is_first : block 0 ≡ name → FourCases name

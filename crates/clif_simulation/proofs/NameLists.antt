@@ -1,5 +1,5 @@
 -- Names, and the names of blocks after one more call.
-use Rattle.std.proofs.Common.{◌≡◌, ◌≢◌, ℕ, zero, suc, ◌==◌, Bool, true, false, List, [], ◌∷◌, ◌++◌, length, map, refl, ◌∙◌, ap, subst, arith, Some, None, ◌⊎◌, inl, inr}
+use Rattle.std.proofs.Common.{◌≡◌, ◌≢◌, ℕ, zero, suc, ◌==◌, Bool, true, false, List, [], ◌∷◌, ◌++◌, length, map, refl, ◌∙◌, ap, ap₂, subst, arith, Some, None, ◌⊎◌, inl, inr}
 use Rattle.std.specs.Prelude.{slice_get, Option, fold, Contains, if◌then◌else◌, slice_index_or, ◌<◌}
 use Rattle.std.specs.List.{list_any}
 use Rattle.std.proofs.lemmas.Bool.Decides.{nat_tests}
@@ -7,10 +7,10 @@ use Rattle.clif_paths.proofs.Tables.{number_equal}
 use Rattle.clif_meaning.specs.Name.{Name, answer_of, same_name}
 use Rattle.clif_meaning.specs.Instruction.{Operation, Edge}
 use Rattle.clif_meaning.specs.Request.{Request, AnsweredCall, script_of}
-use Rattle.clif_meaning.specs.Ledger.{BlockState, Ledger, ledger_after, ledger_with, with_state, with_layout, with_begun_at, with_begun, with_filled_at, with_terminator, with_predecessor, is_inserted, is_terminator, sealed}
+use Rattle.clif_meaning.specs.Ledger.{BlockState, Ledger, ledger_after, ledger_with, with_state, with_layout, with_begun_at, with_begun, with_filled_at, with_terminator, with_predecessor, is_inserted, is_terminator}
 use Rattle.clif_simulation.specs.Tables.{block_name}
 pub use Rattle.clif_simulation.proofs.Effects.{MakesNoBlock}
-use Rattle.clif_simulation.proofs.Effects.{LedgerEffect, ledger_effect, Keeps, Lays, Changes, Begins, Creates, Enters, Seals, Declares, Touches, Reads, Appends}
+use Rattle.clif_simulation.proofs.Effects.{LedgerEffect, ledger_effect, Keeps, Lays, Changes, Begins, Creates, Enters, ChangesEach, Declares, Touches, Reads, Appends}
 use Rattle.clif_simulation.proofs.Numbers.{ledger_longer}
 
 pub same_name-equal : (a b : Name) → a ≡ b → same_name a b ≡ true
@@ -99,9 +99,9 @@ names-with_edges branch ledger (edge ∷ edges) =
     name_of state true = refl
     name_of state false = refl
 
-names-sealed : (states : List BlockState) → names_of (map sealed states) ≡ names_of states
-names-sealed [] = refl
-names-sealed (state ∷ states) = ap (λ (names : List Name). state.block ∷ names) (names-sealed states)
+names-each : (change : BlockState → BlockState) → ((state : BlockState) → (change state).block ≡ state.block) → (states : List BlockState) → names_of (map change states) ≡ names_of states
+names-each change keeps [] = refl
+names-each change keeps (state ∷ states) = ap₂ (λ (name : Name) (names : List Name). name ∷ names) (keeps state) (names-each change keeps states)
 
 names_after : (ledger : Ledger) (request : Request) → MakesNoBlock request → names_of (ledger_with ledger request).blocks ≡ names_of ledger.blocks
 names_after ledger request made = by (ledger_effect request)
@@ -117,7 +117,7 @@ names_after ledger request made = by (ledger_effect request)
     by (Begins stays is) = ap (λ (l : Ledger). names_of l.blocks) (is ledger) ∙ names-with_begun_at ledger ledger.current
     by (Creates is) = absurd (subst MakesNoBlock is made)
     by (Enters block is) = of_request _ is refl
-    by (Seals is) = of_request _ is (names-sealed ledger.blocks)
+    by (ChangesEach change keeps stays is) = ap (λ (l : Ledger). names_of l.blocks) (is ledger) ∙ names-each change keeps.name ledger.blocks
     by (Declares ty is) = of_request _ is refl
     by (Touches variable value is) = of_request _ is refl
     by (Reads variable is) = of_request _ is (names-with_begun_at ledger ledger.current)

@@ -10,7 +10,8 @@ use Rattle.clif_meaning.specs.Program.{Program, Item, Instruct, Use, Assign, emp
 use Rattle.clif_meaning.specs.Typing.{call_shape}
 use Rattle.clif_simulation.specs.Carries.{CallsNothing}
 use Rattle.clif_simulation.proofs.Carrying.{all_append}
-use Rattle.clif_simulation.proofs.Effects.{ProgramEffect, program_effect, Leaves, Inserts, Takes, Switches, Assigns, Uses, Builds}
+use Rattle.clif_simulation.proofs.EachRedirected.{all_redirected}
+use Rattle.clif_simulation.proofs.Effects.{ProgramEffect, program_effect, Leaves, Inserts, Takes, Switches, Assigns, Uses, Builds, Redirects}
 
 -- the request builds no outside call
 abbrev builds_no_call : Request → Bool
@@ -54,6 +55,7 @@ with_request program request none all = by (program_effect request)
         subst (λ (r : Request). EachItem CallsNothing (extended program r)) (sym is)
         (with_one (with_inserted program) program.current (Instruct program.place instruction (result_names program.place instruction)) all
         (none_is (call_shape instruction.operation) (sym (ap builds_no_call is) ∙ none)))
+    by (Redirects branch from to stays is) = subst (EachItem CallsNothing) (sym (is program)) (λ block. all_redirected CallsNothing CallsNothing branch from to (λ item calls. calls) (λ place instruction results calls. calls) (program.items block) (all block))
 
 from_program : (program : Program) (script : Script) → build_no_calls script ≡ true → EachItem CallsNothing program → EachItem CallsNothing (fold with_call program script)
 from_program program [] none all = all

@@ -1,33 +1,39 @@
 -- Each path along the edges of an unfinished function is one of the code so far: what is given before a place is given on
 -- each path that comes to it. So the theory holds of these edges.
-use Rattle.std.proofs.Common.{◌≡◌, ◌≢◌, ℕ, zero, suc, ◌<◌, ◌==◌, ◌&&◌, nat_lt, if◌then◌else◌, Bool, true, false, List, [], ◌∷◌, length, slice_get, Option, Some, None, Contains, ◌⊎◌, inl, inr, refl, sym, ◌∙◌, ap, subst, arith}
+use Rattle.std.proofs.Common.{◌≡◌, ◌≢◌, ℕ, zero, suc, ◌<◌, ◌==◌, ◌&&◌, ◌||◌, nat_lt, if◌then◌else◌, Bool, true, false, List, [], ◌∷◌, length, slice_get, Option, Some, None, Contains, ◌⊎◌, inl, inr, refl, sym, ◌∙◌, ap, subst, arith}
 use Rattle.std.proofs.lemmas.Bool.Decides.{nat_tests}
 use Rattle.clif_ir.specs.Body.{Body}
 use Rattle.clif_ir.specs.Consistent.{IsConsistent}
 use Rattle.clif_paths.specs.Places as paths
 use Rattle.clif_paths.specs.Places.{start, inside, same_place, Arm, Edges, Path, Follows, Visits, VisitsBefore, end_of, StrictlyBefore}
 use Rattle.clif_paths.specs.Denotation as paths_denotation
-use Rattle.clif_paths.specs.Blocks.{state_of}
+use Rattle.clif_paths.specs.Blocks.{Blocks, state_of}
 use Rattle.clif_paths.specs.Sound.{Allowed, Holds, SoundUnder}
 use Rattle.clif_paths.proofs.PathLemmas.{same_place-true}
 use Rattle.clif_paths.proofs.Concluding.{answer_holds}
 use Rattle.clif_ssa.specs.LookUp.{branch_block}
 use Rattle.clif_ssa.specs.Ssa.{SsaState}
 use Rattle.clif_ssa.specs.Sound.{IsEdgeInto, entry_of}
-use Rattle.clif_meaning.specs.Name.{Name}
+use Rattle.std.specs.List.{list_any}
+use Rattle.std.proofs.lemmas.Bool.{eqb-true}
+use Rattle.std.specs.Prelude.{slice_index_or}
+use Rattle.std.proofs.lemmas.Option.{slice_get_past}
+use Rattle.clif_meaning.specs.Name.{Name, same_name}
+use Rattle.clif_meaning.proofs.StraightLine.{none_of}
 use Rattle.clif_meaning.specs.Request.{AnsweredCall}
 use Rattle.clif_meaning.specs.Program.{Program, Item, Instruct, Use, Assign}
 use Rattle.clif_meaning.specs.Path.{Place, IsPath}
-use Rattle.clif_meaning.specs.WellPlaced.{item_gives, item_names, item_passes, program_code, program_flow, IsWellPlaced, IsGivenAlong, IsGivenBefore, given_on_entry}
+use Rattle.clif_meaning.specs.WellPlaced.{Code, item_gives, item_names, item_passes, item_targets, program_code, IsWellPlaced, IsGivenAlong, IsGivenBefore, given_on_entry}
 use Rattle.clif_simulation.specs.Tables.{code, program_so_far, block_name, item_at, assigned_by}
-use Rattle.clif_simulation.specs.Reading.{code_so_far, behind}
+use Rattle.clif_simulation.specs.Reading.{behind}
+use Rattle.clif_simulation.specs.Coming.{Coming, code_coming, targets_with}
+use Rattle.clif_simulation.proofs.ComingCode.{leads_with, entering_here, along_program}
 use Rattle.clif_simulation.proofs.Whole.{Whole}
 use Rattle.clif_simulation.proofs.Flow
 use Rattle.clif_simulation.proofs.Giving.{In}
-use Rattle.clif_simulation.proofs.Listed.{place_within}
+use Rattle.clif_simulation.proofs.NameLists.{same_name-equal, same_name_cases}
 use Rattle.clif_simulation.proofs.OpenArms
-use Rattle.clif_simulation.proofs.OpenArms.{open_arms, open_into}
-use Rattle.clif_simulation.proofs.Reaching.{along_same, given_on_entry-same}
+use Rattle.clif_simulation.proofs.OpenArms.{More, open_arms, open_into}
 use Rattle.clif_simulation.proofs.Straight.{both_left, both_right}
 
 none_some : {X : Type 0} (x : X) → None ≡ Some x → ⊥
@@ -36,12 +42,54 @@ none_some x e = cc
 some_is : {X : Type 0} (x y : X) → Some x ≡ Some y → x ≡ y
 some_is x y e = cc
 
-module _ (calls : List AnsweredCall) (f : Body) (s : SsaState) (consistent : IsConsistent f) (carries : Whole calls f s) where
+-- The arms of edges that may still come: from the end so far of a block.
+abbrev pub comes_to : Coming → Name → Option Name → Bool
+comes_to coming target None = false
+comes_to coming target (Some from) = list_any (same_name target) (coming from)
+
+abbrev pub comes_from : List AnsweredCall → Blocks → Coming → Name → paths.Place → Bool
+comes_from calls tables coming target start = false
+comes_from calls tables coming target (inside c k) = (k == tables.count c) && comes_to coming target (block_name calls c)
+
+abbrev pub comes_into : List AnsweredCall → Blocks → Coming → paths.Place → Option Name → Bool
+comes_into calls tables coming source None = false
+comes_into calls tables coming source (Some target) = comes_from calls tables coming target source
+
+abbrev pub more_coming : List AnsweredCall → Blocks → Coming → More
+more_coming calls tables coming b arm = comes_into calls tables coming arm.source (block_name calls b)
+
+-- what the test finds stands in the list, and the other way round
+pub listed_name : (x : Name) (xs : List Name) → list_any (same_name x) xs ≡ true → Contains xs x
+listed_name x [] is = cc
+listed_name x (y ∷ ys) is = by (same_name_cases x y) (λ there. listed_name x ys there)
+  where
+    by : (x ≡ y) ⊎ ((x ≢ y) × (same_name x y ≡ false)) → (list_any (same_name x) ys ≡ true → Contains ys x) → Contains (y ∷ ys) x
+    by (inl same) later = (0, omega arith, sym same)
+    by (inr other) later =
+        let there : Contains ys x = later (sym (ap (λ (test : Bool). test || list_any (same_name x) ys) other.1) ∙ is) in
+        (suc there.0, omega (arith, there.1), there.2)
+
+second_of : (a b : Bool) → b ≡ true → (a || b) ≡ true
+second_of true b is = refl
+second_of false b is = is
+
+pub name_listed : (x : Name) (xs : List Name) → Contains xs x → list_any (same_name x) xs ≡ true
+name_listed x [] there = absurd (omega (arith, there.1))
+name_listed x (y ∷ ys) there = by (λ later. name_listed x ys later) there.0 there.1 there.2
+  where
+    by : (Contains ys x → list_any (same_name x) ys ≡ true) → (k : ℕ) → k < length (y ∷ ys) → slice_index_or (y ∷ ys) k x ≡ x → list_any (same_name x) (y ∷ ys) ≡ true
+    by later zero below here = let same : same_name x y ≡ true = same_name-equal x y (sym here) in rw same refl
+    by later (suc k) below here = second_of (same_name x y) (list_any (same_name x) ys) (later (k, omega (arith, below), here))
+
+module _ (coming : Coming) (calls : List AnsweredCall) (f : Body) (s : SsaState) (consistent : IsConsistent f) (carries : Whole calls f s) where
   abbrev program : Program
   program = program_so_far calls
 
   abbrev pub edges : Edges
-  edges = open_arms f s carries.tables
+  edges = open_arms (more_coming calls carries.tables coming) f s carries.tables
+
+  abbrev so_far : Code Name Name
+  so_far = code_coming coming calls
 
   abbrev WasVisited : Path → Place Name → Type 0
   WasVisited = Flow.WasVisited calls f s consistent carries
@@ -54,11 +102,9 @@ module _ (calls : List AnsweredCall) (f : Body) (s : SsaState) (consistent : IsC
     pub name : Name
     pub named : block_name calls b ≡ Some name
     pub walk : List (Place Name)
-    -- it comes to the next item, if there is one, or to the block's end so far; and the last one of the block was come to
-    pub comes : k < length (program.items name) → IsPath (program_flow program) (behind name k ∷ walk)
-    pub comes_end : IsPath (code_so_far calls).flow (behind name k ∷ walk)
-    pub last : (j : ℕ) → k ≡ suc j
-        → (rest : List (Place Name)) × (walk ≡ behind name j ∷ rest) × IsPath (program_flow program) walk × IsPath (code_so_far calls).flow walk
+    -- it comes to the next item, or to the block's end so far; and the last one of the block was come to
+    pub comes : IsPath so_far.flow (behind name k ∷ walk)
+    pub last : (j : ℕ) → k ≡ suc j → (rest : List (Place Name)) × (walk ≡ behind name j ∷ rest) × IsPath so_far.flow walk
     pub visited : (p : Place Name) → In p walk → WasVisited path p
 
   -- From one item to the next ---------------------------------------------------------------------------------------------
@@ -68,25 +114,21 @@ module _ (calls : List AnsweredCall) (f : Body) (s : SsaState) (consistent : IsC
     name = before.name;
     named = before.named;
     walk = behind before.name k ∷ before.walk;
-    comes = λ within. (inl (refl, omega arith, within), here);
-    comes_end = (inl (refl, omega arith, omega (arith, inside_block)), before.comes_end);
+    comes = (inl (refl, omega arith, omega (arith, inside_block)), before.comes);
     last = λ j is.
         let same : k ≡ j = omega (arith, is) in
-        (before.walk, ap (λ (i : ℕ). behind before.name i ∷ before.walk) same, here, before.comes_end);
+        (before.walk, ap (λ (i : ℕ). behind before.name i ∷ before.walk) same, before.comes);
     visited = visited;
   }
     where
       inside_block : k < length (program.items before.name)
       inside_block = let count = carries.program.counts b before.name before.named in omega (arith, below, count)
 
-      here : IsPath (program_flow program) (behind before.name k ∷ before.walk)
-      here = before.comes inside_block
-
       visited : (p : Place Name) → In p (behind before.name k ∷ before.walk) → WasVisited (arm ∷ path) p
       visited p (inl is) = record {
         block = b;
         named = before.named ∙ ap (λ (q : Place Name). Some q.block) (sym is);
-        visits = inl (ap (λ (q : Place Name). inside b (suc q.index)) is ∙ sym target);
+        visits = λ item stands. inl (ap (λ (q : Place Name). inside b (suc q.index)) is ∙ sym target);
         front = λ first. inr (Flow.ends_visits path b 0 (ends ∙ ap (inside b) (sym (ap (λ (q : Place Name). q.index) is) ∙ first)));
       }
       visited p (inr there) = Flow.visited_later calls f s consistent carries arm path p (before.visited p there)
@@ -100,8 +142,7 @@ module _ (calls : List AnsweredCall) (f : Body) (s : SsaState) (consistent : IsC
         name = entry.0;
         named = entry.2;
         walk = [];
-        comes = λ within. (entry.1, (refl, within));
-        comes_end = (entry.1, (refl, omega arith));
+        comes = (entry.1, (refl, omega arith));
         last = λ j none. absurd (omega (arith, none));
         visited = λ p there. absurd there;
       }
@@ -117,13 +158,79 @@ module _ (calls : List AnsweredCall) (f : Body) (s : SsaState) (consistent : IsC
         name = ends.target;
         named = ends.named;
         walk = before.walk;
-        comes = λ within. subst (λ (walk : List (Place Name)). IsPath (program_flow program) (behind ends.target 0 ∷ walk)) (sym last.1)
-            (inr (ends.leads, (refl, within)), subst (IsPath (program_flow program)) last.1 last.2);
-        comes_end = subst (λ (walk : List (Place Name)). IsPath (code_so_far calls).flow (behind ends.target 0 ∷ walk)) (sym last.1)
-            (inr (ends.leads, (refl, omega arith)), subst (IsPath (code_so_far calls).flow) last.1 last.3);
+        comes = subst (λ (walk : List (Place Name)). IsPath so_far.flow (behind ends.target 0 ∷ walk)) (sym last.1)
+            (inr (leads_with (coming before.name) (item_at calls before.name ends.j) ends.target ends.leads, (refl, omega arith)), subst (IsPath so_far.flow) last.1 last.2);
         last = λ j none. absurd (omega (arith, none));
         visited = λ p there. Flow.visited_later calls f s consistent carries arm path p (before.visited p there);
       }
+
+  -- Along an edge that may still come -------------------------------------------------------------------------------------
+
+  -- the block that an arm comes from, at its end so far
+  pub record ComesFrom (arm : Arm) (b : ℕ) : Type 0 where
+    pub block : ℕ
+    pub from : Name
+    pub target : Name
+    pub source : arm.source ≡ inside block (carries.tables.count block)
+    pub from_named : block_name calls block ≡ Some from
+    pub named : block_name calls b ≡ Some target
+    pub listed : Contains (coming from) target
+
+  listed_from : (target : Name) (place : paths.Place) → comes_from calls carries.tables coming target place ≡ true
+      → (c : ℕ) × (from : Name) × (place ≡ inside c (carries.tables.count c)) × (block_name calls c ≡ Some from) × Contains (coming from) target
+  listed_from target start is = cc
+  listed_from target (inside c k) is = by (block_name calls c) refl (both_right (k == carries.tables.count c) (comes_to coming target (block_name calls c)) is)
+    where
+      at_end : k ≡ carries.tables.count c
+      at_end = eqb-true k (carries.tables.count c) (both_left (k == carries.tables.count c) (comes_to coming target (block_name calls c)) is)
+
+      by : (o : Option Name) → block_name calls c ≡ o → comes_to coming target o ≡ true
+          → (d : ℕ) × (from : Name) × (inside c k ≡ inside d (carries.tables.count d)) × (block_name calls d ≡ Some from) × Contains (coming from) target
+      by None named none = cc
+      by (Some from) named listed = (c, from, ap (inside c) at_end, named, listed_name target (coming from) listed)
+
+  comes_along : (arm : Arm) (b : ℕ) → more_coming calls carries.tables coming b arm ≡ true → ComesFrom arm b
+  comes_along arm b is = by (block_name calls b) refl is
+    where
+      by : (o : Option Name) → block_name calls b ≡ o → comes_into calls carries.tables coming arm.source o ≡ true → ComesFrom arm b
+      by None named none = cc
+      by (Some target) named one =
+          let found = listed_from target arm.source one in
+          record { block = found.0; from = found.1; target = target; source = found.2; from_named = found.3; named = named; listed = found.4 }
+
+  arrives_coming : (arm : Arm) (path : Path) (b : ℕ) (c : ComesFrom arm b) → end_of path ≡ inside c.block (carries.tables.count c.block)
+      → Walk path c.block (carries.tables.count c.block) → Walk (arm ∷ path) b 0
+  arrives_coming arm path b c ends before = record {
+    name = c.target;
+    named = c.named;
+    walk = end_place ∷ before.walk;
+    comes = (inr (subst (λ (o : Option Item). Contains (targets_with (coming before.name) o) c.target) (sym nothing_there) listed, (refl, omega arith)), before.comes);
+    last = λ j none. absurd (omega (arith, none));
+    visited = visited;
+  }
+    where
+      end_place : Place Name
+      end_place = behind before.name (carries.tables.count c.block)
+
+      same : before.name ≡ c.from
+      same = some_is before.name c.from (sym before.named ∙ c.from_named)
+
+      listed : Contains (coming before.name) c.target
+      listed = subst (λ (name : Name). Contains (coming name) c.target) (sym same) c.listed
+
+      nothing_there : item_at calls before.name (carries.tables.count c.block) ≡ None
+      nothing_there =
+          let count = carries.program.counts c.block before.name before.named in
+          slice_get_past (program.items before.name) (carries.tables.count c.block) (omega (arith, count))
+
+      visited : (p : Place Name) → In p (end_place ∷ before.walk) → WasVisited (arm ∷ path) p
+      visited p (inl is) = record {
+        block = c.block;
+        named = before.named ∙ ap (λ (q : Place Name). Some q.block) (sym is);
+        visits = λ item stands. absurd (none_some item (sym nothing_there ∙ ap (λ (q : Place Name). item_at calls q.block q.index) (sym is) ∙ stands));
+        front = λ first. inr (Flow.ends_visits path c.block 0 (ends ∙ ap (inside c.block) (sym (ap (λ (q : Place Name). q.index) is) ∙ first)));
+      }
+      visited p (inr there) = Flow.visited_later calls f s consistent carries arm path p (before.visited p there)
 
   -- Each path -------------------------------------------------------------------------------------------------------------
 
@@ -135,7 +242,7 @@ module _ (calls : List AnsweredCall) (f : Body) (s : SsaState) (consistent : IsC
   pub to_item : (arm : Arm) (b k : ℕ) → edges arm ≡ true → arm.target ≡ inside b (suc k) → ToItem arm b k
   to_item arm b k is ends =
       let known : (nat_lt k (carries.tables.count b) && (same_place arm.source (inside b k) && (arm.edge == 0))) ≡ true =
-      subst (λ (p : paths.Place). open_into f s carries.tables arm p ≡ true) ends is in
+      subst (λ (p : paths.Place). open_into (more_coming calls carries.tables coming) f s carries.tables arm p ≡ true) ends is in
       let test : nat_lt k (carries.tables.count b) ≡ true = both_left (nat_lt k (carries.tables.count b)) (same_place arm.source (inside b k) && (arm.edge == 0)) known in
       record {
         below = grind (arith, nat_tests);
@@ -146,14 +253,18 @@ module _ (calls : List AnsweredCall) (f : Body) (s : SsaState) (consistent : IsC
   pub walk_of : (path : Path) (b k : ℕ) → Follows edges path → end_of path ≡ inside b k → Walk path b k
   walk_of [] b k follows ends = cc
   walk_of (arm ∷ path) b zero follows ends =
-      by (OpenArms.comes_from carries.own f s carries.tables carries.describes b arm ends follows.0) (λ c k at. walk_of path c k follows.2 at)
+      by (OpenArms.comes_from (more_coming calls carries.tables coming) carries.own f s carries.tables carries.describes b arm ends follows.0) (λ c k at. walk_of path c k follows.2 at)
     where
-      by : ((arm.source ≡ start) × (entry_of f ≡ Some b)) ⊎ IsEdgeInto f s carries.tables b arm
+      by : ((arm.source ≡ start) × (entry_of f ≡ Some b)) ⊎ (IsEdgeInto f s carries.tables b arm ⊎ (more_coming calls carries.tables coming b arm ≡ true))
           → ((c k : ℕ) → end_of path ≡ inside c k → Walk path c k) → Walk (arm ∷ path) b 0
       by (inl from_start) earlier = enters (arm ∷ path) b from_start.1
-      by (inr edge) earlier =
+      by (inr (inl edge)) earlier =
           arrives arm path b edge
           (earlier (branch_block f edge.branch) (carries.tables.count (branch_block f edge.branch)) (sym follows.1 ∙ edge.from))
+      by (inr (inr one_more)) earlier =
+          let c = comes_along arm b one_more in
+          let ends_there : end_of path ≡ inside c.block (carries.tables.count c.block) = sym follows.1 ∙ c.source in
+          arrives_coming arm path b c ends_there (earlier c.block (carries.tables.count c.block) ends_there)
   walk_of (arm ∷ path) b (suc k) follows ends =
       let item : ToItem arm b k = to_item arm b k follows.0 ends in
       next arm path b k ends (sym follows.1 ∙ item.source) item.below (walk_of path b k follows.2 (sym follows.1 ∙ item.source))
@@ -167,35 +278,25 @@ module _ (calls : List AnsweredCall) (f : Body) (s : SsaState) (consistent : IsC
     same : w.name ≡ B
     same = some_is w.name B (sym w.named ∙ named)
 
-    on_walk : Contains (given_on_entry (program_code program) B k) x ⊎ IsGivenAlong (program_code program) x w.walk → IsGivenOn path x
+    on_walk : Contains (given_on_entry so_far B k) x ⊎ IsGivenAlong so_far x w.walk → IsGivenOn path x
     on_walk (inl entering) =
-        Flow.given_entering calls f s consistent carries path b B k x named (λ first. Flow.ends_visits path b 0 (ends ∙ ap (inside b) first)) entering
-    on_walk (inr along) = Flow.given_along_walk calls f s consistent carries path x w.walk w.visited along
+        Flow.given_entering calls f s consistent carries path b B k x named (λ first. Flow.ends_visits path b 0 (ends ∙ ap (inside b) first))
+        (subst (λ (things : List Name). Contains things x) (entering_here coming calls B k) entering)
+    on_walk (inr along) = Flow.given_along_walk calls f s consistent carries path x w.walk w.visited (along_program coming calls x w.walk along)
 
-    -- what is given before an item of the program, or before a place of the code so far, is given on each path to it
-    pub given_before_item : k < length (program.items B) → IsGivenBefore (program_code program) x (behind B k) → IsGivenOn path x
-    given_before_item within before =
-        on_walk (before w.walk (subst (λ (name : Name). IsPath (program_flow program) (behind name k ∷ w.walk)) same
-        (w.comes (subst (λ (name : Name). k < length (program.items name)) (sym same) within))))
-
-    pub given_before : IsGivenBefore (code_so_far calls) x (behind B k) → IsGivenOn path x
-    given_before before =
-        on_walk (so_far (before w.walk (subst (λ (name : Name). IsPath (code_so_far calls).flow (behind name k ∷ w.walk)) same w.comes_end)))
-      where
-        so_far : Contains (given_on_entry (code_so_far calls) B k) x ⊎ IsGivenAlong (code_so_far calls) x w.walk
-            → Contains (given_on_entry (program_code program) B k) x ⊎ IsGivenAlong (program_code program) x w.walk
-        so_far (inl entering) = inl (subst (λ (things : List Name). Contains things x) (given_on_entry-same (program_code program) B k) entering)
-        so_far (inr along) = inr (along_same (program_code program) x w.walk along)
+    -- what is given before a place of the code so far is given on each path to it, whichever edges come
+    pub given_before : IsGivenBefore so_far x (behind B k) → IsGivenOn path x
+    given_before before = on_walk (before w.walk (subst (λ (name : Name). IsPath so_far.flow (behind name k ∷ w.walk)) same w.comes))
 
   -- what the item at this place names is given on each path to it
-  pub named_before : IsWellPlaced (program_code program) → (path : Path) (b k : ℕ) (B : Name) → Follows edges path → end_of path ≡ inside b k
+  pub named_before : IsWellPlaced so_far → (path : Path) (b k : ℕ) (B : Name) → Follows edges path → end_of path ≡ inside b k
       → block_name calls b ≡ Some B → (item : Item) → slice_get (program.items B) k ≡ Some item → (x : Name) → Contains (item_names (Some item)) x → IsGivenOn path x
   named_before placed path b k B follows ends named item stands x names =
-      given_before_item path b k B follows ends named x (place_within (program.items B) k item stands)
+      given_before path b k B follows ends named x
       (placed.named (behind B k) x (subst (λ (o : Option Item). Contains (item_names o) x) (sym stands) names))
 
   -- what the edges of the item at this place pass is given on each path through it
-  pub passed_before : IsWellPlaced (program_code program) → (path : Path) (b k : ℕ) (B : Name) → Follows edges path → end_of path ≡ inside b (suc k)
+  pub passed_before : IsWellPlaced so_far → (path : Path) (b k : ℕ) (B : Name) → Follows edges path → end_of path ≡ inside b (suc k)
       → block_name calls b ≡ Some B → (item : Item) → slice_get (program.items B) k ≡ Some item → (x : Name) → Contains (item_passes (Some item)) x → IsGivenOn path x
   passed_before placed [] b k B follows ends named item stands x passes = cc
   passed_before placed (arm ∷ path) b k B follows ends named item stands x passes =
@@ -208,19 +309,19 @@ module _ (calls : List AnsweredCall) (f : Body) (s : SsaState) (consistent : IsC
       was = record {
         block = b;
         named = named;
-        visits = inl (sym ends);
+        visits = λ item' stands'. inl (sym ends);
         front = λ first. inr (Flow.ends_visits path b 0 (ends_before ∙ ap (inside b) first));
       }
 
-      by : Contains (item_gives (item_at calls B k)) x ⊎ IsGivenBefore (program_code program) x (behind B k) → IsGivenOn (arm ∷ path) x
+      by : Contains (item_gives (item_at calls B k)) x ⊎ IsGivenBefore so_far x (behind B k) → IsGivenOn (arm ∷ path) x
       by (inl gives) = Flow.given_at_place calls f s consistent carries (arm ∷ path) (behind B k) x was (item_at calls B k) refl gives
       by (inr before) =
           Flow.given_longer calls f s consistent carries arm path x
-          (given_before_item path b k B follows.2 ends_before named x (place_within (program.items B) k item stands) before)
+          (given_before path b k B follows.2 ends_before named x before)
 
   -- The edges are allowed ---------------------------------------------------------------------------------------------------
 
-  module _ (placed : IsWellPlaced (program_code program)) where
+  module _ (placed : IsWellPlaced so_far) where
     by_item : (b k x n : ℕ) (B : Name) → block_name calls b ≡ Some B → (o : Option Item) → item_at calls B k ≡ o → assigned_by o x ≡ Some n
         → (path : Path) → Follows edges path → end_of path ≡ inside b (suc k) → VisitsBefore (carries.tables.naming n).home path
     by_item b k x n B named None stands assigned path follows ends = cc
@@ -249,8 +350,8 @@ module _ (calls : List AnsweredCall) (f : Body) (s : SsaState) (consistent : IsC
 
     pub allowed : Allowed (state_of carries.tables).program edges
     allowed = record {
-      known = λ arm sealed. OpenArms.known_open carries.own f s carries.tables carries.describes arm sealed;
-      rooted = λ arm at. ap (open_into f s carries.tables arm) at;
+      known = λ arm sealed. OpenArms.known_open (more_coming calls carries.tables coming) carries.own f s carries.tables carries.describes arm sealed;
+      rooted = λ arm at. ap (open_into (more_coming calls carries.tables coming) f s carries.tables arm) at;
       given_before = at_place;
     }
 

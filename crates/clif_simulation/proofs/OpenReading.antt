@@ -1,5 +1,5 @@
 -- An unfinished function that carries a list of calls reads right beside interrupted runs, with any branches.
-use Rattle.std.proofs.Common.{◌≡◌, ℕ, zero, suc, ◌+◌, ◌≤◌, inl, Bool, List, [], ◌∷◌, ◌++◌, map, length, drop, flat_map, slice_get, Some, None, refl, sym, ◌∙◌, ap, ap₂, subst, subst₂, append_assoc, arith}
+use Rattle.std.proofs.Common.{◌≡◌, ℕ, zero, suc, ◌+◌, ◌≤◌, inl, Bool, List, [], ◌∷◌, ◌++◌, map, length, drop, flat_map, slice_get, Option, Some, None, refl, sym, ◌∙◌, ap, ap₂, subst, subst₂, append_assoc, arith}
 use Rattle.std.proofs.lemmas.List.{map-append}
 use Rattle.clif_types.specs.Signature.{SignatureShape}
 use Rattle.clif_types.specs.declared.target.PointerWidth.{PointerWidth}
@@ -17,6 +17,8 @@ use Rattle.clif_ssa.specs.Ssa.{SsaState, record_of, sealed_of}
 use Rattle.clif_records.specs.Tables.{is_yes, pending_of}
 use Rattle.clif_ssa.specs.Sound.{entry_of}
 use Rattle.clif_tables.specs.Callees.{types_of}
+use Rattle.clif_types.specs.declared.trapcode.TrapCode.{TrapCode}
+use Rattle.clif_meaning.specs.Bits.{Bits}
 use Rattle.clif_meaning.specs.Name.{Name, same_name}
 use Rattle.clif_meaning.specs.Request.{AnsweredCall, script_of}
 use Rattle.clif_meaning.specs.Instruction.{Edge, Instruction}
@@ -31,13 +33,17 @@ use Rattle.clif_meaning.specs.FunctionMachine.{Collector, FunctionRun, FunctionS
 use Rattle.clif_meaning.specs.FunctionView.{Placed}
 use Rattle.clif_meaning.specs.View.{items_of, view_of}
 use Rattle.clif_meaning.specs.Path.{Place}
-use Rattle.clif_meaning.specs.WellPlaced.{IsGivenBefore}
+use Rattle.clif_meaning.specs.WellPlaced.{IsGivenBefore, IsWellPlaced, program_code}
 use Rattle.clif_meaning.specs.Headline.{IsWorldOf}
 use Rattle.clif_meaning.proofs.Stuttering.{steps_from, state_after-+}
 use Rattle.clif_simulation.specs.Tables.{code, answered, program_so_far, block_name}
 use Rattle.clif_simulation.specs.Carries.{as_passed, carried, own_placed, Carries}
-use Rattle.clif_simulation.specs.Reading.{behind, code_so_far, IsAtEnd, MovesAlike, PremisesSoFar}
-use Rattle.clif_simulation.specs.Interrupted.{Unknowns, ScriptStanding, FunctionStanding, script_edge, script_goes, script_enters, function_enters, variables_entering, values_entering, without_arguments, StandsBefore, StandsBeside, HasBeside, AreOpen, ReadsRightWhere}
+use Rattle.clif_simulation.specs.Reading.{behind, IsAtEnd, MovesAlike, WellTypedSoFar}
+use Rattle.clif_simulation.specs.Interrupted.{Unknowns, ScriptStanding, FunctionStanding, script_edge, script_goes, script_enters, function_enters, variables_entering, values_entering, without_arguments, StandsBefore, StandsBesideIn, HasBesideIn, AreOpen, ReadsRightWhere}
+use Rattle.clif_simulation.specs.Coming.{Arrival, Arrivals, Coming, MayCome, ReadsRightComing, arrival_at, code_coming, script_comes}
+use Rattle.clif_simulation.proofs.ComingCode.{given_so_far, nothing_comes, placed_none}
+use Rattle.clif_meaning.proofs.StraightLine.{none_of}
+use Rattle.clif_meaning.specs.Ledger.{ledger_after}
 use Rattle.clif_simulation.proofs.Agreement.{Agrees, ZerosAreZero, given_agrees, zeros_agree}
 use Rattle.clif_simulation.proofs.Counted.{gives_results, terminator_gives_none}
 use Rattle.clif_simulation.proofs.Entry.{begins as starts_first, resolved_twice}
@@ -55,6 +61,15 @@ use Rattle.clif_simulation.proofs.Starting.{arguments_count}
 use Rattle.clif_simulation.proofs.Straight.{first_arm, next_arm}
 use Rattle.clif_simulation.proofs.TwoParts.{nothing_assigned}
 use Rattle.clif_simulation.proofs.Whole.{Whole, whole}
+
+abbrev returned : List Bits → Control Item
+returned bits = HasReturned bits
+
+abbrev trapped : TrapCode → Control Item
+trapped reason = HasTrapped reason
+
+abbrev stuck : Control Item
+stuck = IsStuck
 
 -- Instructions, but for what their edges pass ---------------------------------------------------------------------------
 
@@ -103,32 +118,32 @@ module _ (calls : List AnsweredCall) (f : Body) (ssa : SsaState) (consistent : I
       instructions = ap (map without_arguments) behind_is ∙ all_without left ∙ ap (map without_arguments) left_is;
     }
 
-module _ (calls : List AnsweredCall) (signature : SignatureShape) (f : Body) (ssa : SsaState) (consistent : IsConsistent f) (carries : Whole calls f ssa)
+module _ (coming : Coming) (arrivals : Arrivals) (calls : List AnsweredCall) (signature : SignatureShape) (f : Body) (ssa : SsaState) (consistent : IsConsistent f) (carries : Whole calls f ssa)
     (width : PointerWidth) (world : World) (tracked : Name → Bool) (collector : Collector)
-    (growing : Name → Bool) (are_open : AreOpen calls f ssa growing) (fits : IsWorldOf signature (view_of f) width world) (premises : PremisesSoFar growing calls signature) (moves : MovesAlike calls tracked collector)
+    (growing : Name → Bool) (are_open : AreOpen calls f ssa growing) (fits : IsWorldOf signature (view_of f) width world) (typed : WellTypedSoFar growing (ledger_after (script_of calls)) (program_so_far calls) signature) (may : MayCome coming calls ssa) (moves : MovesAlike calls tracked collector)
     (entry : ℕ) (entry_name : Name) (entry_named : block_name calls entry ≡ Some entry_name) (is_entry : (program_so_far calls).entry ≡ Some entry_name)
     (unknowns : Unknowns)
   where
     abbrev left_run : ScriptRun
-    left_run = OpenStanding.left_run calls f ssa consistent carries width world tracked collector unknowns entry entry_name
+    left_run = OpenStanding.left_run coming arrivals calls f ssa consistent carries width world tracked collector unknowns entry entry_name
 
     abbrev right_run : FunctionRun
-    right_run = OpenStanding.right_run calls f ssa consistent carries width world tracked collector unknowns entry entry_name
+    right_run = OpenStanding.right_run coming arrivals calls f ssa consistent carries width world tracked collector unknowns entry entry_name
 
     abbrev left_machine : Machine ScriptStanding Observation
-    left_machine = OpenStanding.left_machine calls f ssa consistent carries width world tracked collector unknowns entry entry_name
+    left_machine = OpenStanding.left_machine coming arrivals calls f ssa consistent carries width world tracked collector unknowns entry entry_name
 
     abbrev right_machine : Machine FunctionStanding Observation
-    right_machine = OpenStanding.right_machine calls f ssa consistent carries width world tracked collector unknowns entry entry_name
+    right_machine = OpenStanding.right_machine coming arrivals calls f ssa consistent carries width world tracked collector unknowns entry entry_name
 
     abbrev Stands : ℕ → Name → ℕ → List Item → List ℕ → Path → ScriptState → FunctionState → Type 0
-    Stands = IsAt calls f ssa consistent carries width world tracked collector unknowns entry entry_name
+    Stands = IsAt coming arrivals calls f ssa consistent carries width world tracked collector unknowns entry entry_name
 
     abbrev Runs : ScriptStanding → FunctionStanding → Type 0
-    Runs = Running calls f ssa consistent carries width world tracked collector unknowns entry entry_name
+    Runs = Running coming arrivals calls f ssa consistent carries width world tracked collector unknowns entry entry_name
 
     abbrev Comes : ScriptStanding → FunctionStanding → Type 0
-    Comes = Gets calls f ssa consistent carries width world tracked collector unknowns entry entry_name
+    Comes = Gets coming arrivals calls f ssa consistent carries width world tracked collector unknowns entry entry_name
 
     abbrev tables : Blocks
     tables = carries.tables
@@ -154,24 +169,24 @@ module _ (calls : List AnsweredCall) (signature : SignatureShape) (f : Body) (ss
 
     module _ (b : ℕ) (B : Name) (k : ℕ) (rest : List Item) (left : List ℕ) (path : Path) (p : ScriptState) (q : FunctionState) (r : Stands b B k rest left path p q) where
       -- a name that was given has its value's bits
-      given_bits : (x : Name) → IsGivenBefore (code_so_far calls) x (behind B k) → p.names x ≡ q.values (resolved f (answered calls x))
+      given_bits : (x : Name) → IsGivenBefore (code_coming coming calls) x (behind B k) → p.names x ≡ q.values (resolved f (answered calls x))
       given_bits x given =
-          let on = OpenFlow.given_before calls f ssa consistent carries path b k B r.follows r.ends r.named x given in
-          let holds = OpenFlow.name_holds calls f ssa consistent carries premises.given_before x (inside b k) on.given
-          (λ way follows ends. OpenFlow.given_before calls f ssa consistent carries way b k B follows ends r.named x given) in
+          let on = OpenFlow.given_before coming calls f ssa consistent carries path b k B r.follows r.ends r.named x given in
+          let holds = OpenFlow.name_holds coming calls f ssa consistent carries may.given_before x (inside b k) on.given
+          (λ way follows ends. OpenFlow.given_before coming calls f ssa consistent carries way b k B follows ends r.named x given) in
           let v : ℕ = tables.answer (code x) in
           r.agrees.of_name x (function.resolve v) (is_live v) (sym (holds.agrees path r.follows r.ends))
           ∙ ap q.values (carries.describes.resolves v ∙ ap (resolved f) on.answer)
 
       -- where a path stands at the block's end so far, each record has its variable's bits
-      recorded_bits : (way : Path) (j : ℕ) → Follows (OpenFlow.edges calls f ssa consistent carries) way → paths.end_of way ≡ inside b j → j ≡ length (items B)
+      recorded_bits : (way : Path) (j : ℕ) → Follows (OpenFlow.edges coming calls f ssa consistent carries) way → paths.end_of way ≡ inside b j → j ≡ length (items B)
           → Agrees live program function way p.variables p.names q.values
           → (x v : ℕ) → record_of ssa x b ≡ Some v → p.variables x ≡ q.values (resolved f v)
       recorded_bits way j follows ends at_end agrees x v is =
           let last : tables.count b ≡ j = carries.program.counts b B r.named ∙ sym at_end in
-          let holds : Holds (OpenFlow.edges calls f ssa consistent carries) program function v (variable x) (inside b j) =
-          subst (λ (c : ℕ). Holds (OpenFlow.edges calls f ssa consistent carries) program function v (variable x) (inside b c)) last
-          ((OpenFlow.under calls f ssa consistent carries premises.given_before).records (inside b (tables.count b)) x v
+          let holds : Holds (OpenFlow.edges coming calls f ssa consistent carries) program function v (variable x) (inside b j) =
+          subst (λ (c : ℕ). Holds (OpenFlow.edges coming calls f ssa consistent carries) program function v (variable x) (inside b c)) last
+          ((OpenFlow.under coming calls f ssa consistent carries may.given_before).records (inside b (tables.count b)) x v
           (recorded_at-last tables.count tables.recorded b x ∙ carries.describes.recorded b x ∙ is)) in
           agrees.of_variable x (function.resolve v) (is_live v) (sym (holds.agrees way follows ends)) ∙ ap q.values (carries.describes.resolves v)
 
@@ -182,7 +197,7 @@ module _ (calls : List AnsweredCall) (signature : SignatureShape) (f : Body) (ss
           subst₂ (λ (names : Name → ℕ) (values : ℕ → ℕ). Agrees live program function (next_arm b k ∷ path) p.variables names values)
           (nothing_assigned same_name results p.names) (nothing_assigned same_value (map (answered calls) results) q.values)
           (given_agrees live program function (next_arm b k) path results (answered calls)
-          (OpenStepping.gives_there calls f ssa consistent carries width world tracked collector unknowns entry entry_name growing are_open signature premises.given_before premises.well_typed moves
+          (OpenStepping.gives_there coming arrivals calls f ssa consistent carries width world tracked collector unknowns entry entry_name growing are_open signature may typed moves
           b B r.named k place instruction results stands path)
           p.variables p.names q.values r.agrees [])
 
@@ -196,13 +211,13 @@ module _ (calls : List AnsweredCall) (signature : SignatureShape) (f : Body) (ss
           let last : length (items B) ≤ suc k = nothing_behind (items B) (suc k) (rest_behind (items B) k (Instruct place instruction results) ahead here ∙ at_end.1) in
           let none : results ≡ [] = gives_results (script_of calls) B k (Instruct place instruction results) stands ∙ terminator_gives_none place instruction at_end.0 in
           recorded_bits (next_arm b k ∷ path) (suc k)
-          (OpenStepping.goes_on calls f ssa consistent carries width world tracked collector unknowns entry entry_name growing are_open signature premises.given_before premises.well_typed moves
+          (OpenStepping.goes_on coming arrivals calls f ssa consistent carries width world tracked collector unknowns entry entry_name growing are_open signature may typed moves
           b B r.named k path (Instruct place instruction results) stands r.follows r.ends)
           refl (omega (arith, last, place_within (items B) k (Instruct place instruction results) stands)) (before_end place instruction results stands none)
       records_alike (Use y used ∷ ahead) here at_end = absurd at_end
       records_alike (Assign y from ∷ ahead) here at_end = absurd at_end
 
-      pub stand_beside : StandsBeside calls f ssa b B k p q
+      pub stand_beside : StandsBesideIn (code_coming coming calls) calls f ssa b B k p q
       stand_beside = record {
         script_at = r.script_at ∙ ap (λ (ahead : List Item). At ahead) (sym r.rest_is);
         function_at = stands_before calls f ssa consistent carries b r.front left r.own_is (drop k (items B)) q.control
@@ -213,13 +228,13 @@ module _ (calls : List AnsweredCall) (signature : SignatureShape) (f : Body) (ss
         records = records_alike (drop k (items B)) refl;
       }
 
-    has_beside : (a : ScriptStanding) (steps : ℕ) → Runs a (state_after right_machine steps) → HasBeside calls f ssa a right_machine
+    has_beside : (a : ScriptStanding) (steps : ℕ) → Runs a (state_after right_machine steps) → HasBesideIn (code_coming coming calls) calls f ssa a right_machine
     has_beside a steps r = record {
       block = r.block;
       named = r.is_at.named ∙ ap (λ (place : Place Name). Some place.block) (sym r.place);
       steps = steps;
       entries = r.entries;
-      beside = subst (λ (place : Place Name). StandsBeside calls f ssa r.block place.block place.index a.state (state_after right_machine steps).state) (sym r.place)
+      beside = subst (λ (place : Place Name). StandsBesideIn (code_coming coming calls) calls f ssa r.block place.block place.index a.state (state_after right_machine steps).state) (sym r.place)
           (stand_beside r.block r.name r.index r.rest r.left r.path a.state (state_after right_machine steps).state r.is_at);
     }
 
@@ -231,7 +246,7 @@ module _ (calls : List AnsweredCall) (signature : SignatureShape) (f : Body) (ss
         there.1 ∙ ap (λ (c : ℕ). Some c) (carries.program.distinct there.0 entry entry_name there.2 entry_named)
 
     as_many : length world.arguments ≡ length ((program_so_far calls).parameters entry_name)
-    as_many = arguments_count calls entry_name (types_of signature.params) world is_entry premises.well_typed.entry fits.arguments
+    as_many = arguments_count calls entry_name (types_of signature.params) world is_entry typed.entry fits.arguments
 
     abbrev p0 : ScriptState
     p0 = script.enter_block left_run (script.blank_state left_run) entry_name world.arguments
@@ -272,35 +287,47 @@ module _ (calls : List AnsweredCall) (signature : SignatureShape) (f : Body) (ss
         subst₂ (λ (p : ScriptState) (q : FunctionState).
         Comes (script_enters ssa unknowns entry entry_name 0 p) (function_enters ssa unknowns entry 0 q))
         (sym (ap (script.start_at left_run) is_entry)) (sym (ap (function_machine_of.start_at right_run) found))
-        (OpenStanding.arrives calls f ssa consistent carries width world tracked collector unknowns entry entry_name entry entry_name entry_named first
-        (OpenArms.start_open carries.own f ssa tables carries.describes entry found, refl, tt) refl 0 p0 q0 refl refl refl refl begins.0 begins.1)
+        (OpenStanding.arrives coming arrivals calls f ssa consistent carries width world tracked collector unknowns entry entry_name entry entry_name entry_named first
+        (OpenArms.start_open (OpenFlow.more_coming calls tables coming) carries.own f ssa tables carries.describes entry found, refl, tt) refl 0 p0 q0 refl refl refl refl begins.0 begins.1)
 
     -- After each step -----------------------------------------------------------------------------------------------------
+
+    -- where a run has ended, it stays
+    stays : (a : ScriptStanding) (c : Control Item) → a.state.control ≡ c → ((o : Option Arrival) → arrival_at o c ≡ None)
+        → left_machine.next a ≡ script_goes calls ssa unknowns a (script_edge left_run a.state c) (script.step_at left_run a.state c)
+    stays a c is none =
+        ap (λ (here : Control Item). script_comes coming calls ssa unknowns a (arrival_at (arrivals a.entries) here)
+        (script_goes calls ssa unknowns a (script_edge left_run a.state here) (script.step_at left_run a.state here))) is
+        ∙ ap (λ (o : Option Arrival). script_comes coming calls ssa unknowns a o
+        (script_goes calls ssa unknowns a (script_edge left_run a.state c) (script.step_at left_run a.state c))) (none (arrivals a.entries))
 
     -- a run that goes on went on before
     went_on : (a : ScriptStanding) (c : Control Item) → a.state.control ≡ c → (rest : List Item) → (left_machine.next a).state.control ≡ At rest
         → (before : List Item) × (c ≡ At before)
     went_on a (At before) is rest on = (before, refl)
-    went_on a (HasReturned bits) is rest on = absurd (other (sym (ap (λ (x : ScriptStanding). x.state.control) (stays is)) ∙ on))
+    went_on a (HasReturned bits) is rest on = absurd (other (sym is ∙ sym (ap (λ (x : ScriptStanding). x.state.control) (stays a (HasReturned bits) is none)) ∙ on))
       where
-        stays : a.state.control ≡ HasReturned bits → left_machine.next a ≡ script_goes calls ssa unknowns a None a.state
-        stays at = ap (λ (c : Control Item). script_goes calls ssa unknowns a (script_edge left_run a.state c) (script.step_at left_run a.state c)) at
+        none : (o : Option Arrival) → arrival_at o (returned bits) ≡ None
+        none None = refl
+        none (Some arrival) = refl
 
-        other : a.state.control ≡ At rest → ⊥
+        other : returned bits ≡ At rest → ⊥
         other at = cc
-    went_on a (HasTrapped reason) is rest on = absurd (other (sym (ap (λ (x : ScriptStanding). x.state.control) (stays is)) ∙ on))
+    went_on a (HasTrapped reason) is rest on = absurd (other (sym is ∙ sym (ap (λ (x : ScriptStanding). x.state.control) (stays a (HasTrapped reason) is none)) ∙ on))
       where
-        stays : a.state.control ≡ HasTrapped reason → left_machine.next a ≡ script_goes calls ssa unknowns a None a.state
-        stays at = ap (λ (c : Control Item). script_goes calls ssa unknowns a (script_edge left_run a.state c) (script.step_at left_run a.state c)) at
+        none : (o : Option Arrival) → arrival_at o (trapped reason) ≡ None
+        none None = refl
+        none (Some arrival) = refl
 
-        other : a.state.control ≡ At rest → ⊥
+        other : trapped reason ≡ At rest → ⊥
         other at = cc
-    went_on a IsStuck is rest on = absurd (other (sym (ap (λ (x : ScriptStanding). x.state.control) (stays is)) ∙ on))
+    went_on a IsStuck is rest on = absurd (other (sym is ∙ sym (ap (λ (x : ScriptStanding). x.state.control) (stays a IsStuck is none)) ∙ on))
       where
-        stays : a.state.control ≡ IsStuck → left_machine.next a ≡ script_goes calls ssa unknowns a None a.state
-        stays at = ap (λ (c : Control Item). script_goes calls ssa unknowns a (script_edge left_run a.state c) (script.step_at left_run a.state c)) at
+        none : (o : Option Arrival) → arrival_at o stuck ≡ None
+        none None = refl
+        none (Some arrival) = refl
 
-        other : a.state.control ≡ At rest → ⊥
+        other : stuck ≡ At rest → ⊥
         other at = cc
 
     abbrev IsMet : ℕ → Type 0
@@ -314,14 +341,42 @@ module _ (calls : List AnsweredCall) (signature : SignatureShape) (f : Body) (ss
     met (suc n) rest on =
         let before = went_on (state_after left_machine n) (state_after left_machine n).state.control refl rest on in
         let now : IsMet n = met n before.0 before.1 in
-        let more = OpenStepping.step calls f ssa consistent carries width world tracked collector unknowns entry entry_name growing are_open signature premises.given_before premises.well_typed moves
+        let more = OpenStepping.step coming arrivals calls f ssa consistent carries width world tracked collector unknowns entry entry_name growing are_open signature may typed moves
         (state_after left_machine n) (state_after right_machine now.0) now.1 rest on in
         later (state_after left_machine (suc n)) now.0 more.0 more.1
 
-    pub beside : (n : ℕ) (rest : List Item) → (state_after left_machine n).state.control ≡ At rest → HasBeside calls f ssa (state_after left_machine n) right_machine
+    pub beside : (n : ℕ) (rest : List Item) → (state_after left_machine n).state.control ≡ At rest → HasBesideIn (code_coming coming calls) calls f ssa (state_after left_machine n) right_machine
     beside n rest on = let now : IsMet n = met n rest on in has_beside (state_after left_machine n) now.0 now.1
+
+pub reads_right_coming : (calls : List AnsweredCall) (signature : SignatureShape) (f : Body) (ssa : SsaState) (growing : Name → Bool)
+    → IsConsistent f → Carries calls f ssa → AreOpen calls f ssa growing → ReadsRightComing growing calls signature f ssa
+reads_right_coming calls signature f ssa growing consistent carries are_open width world tracked collector coming fits typed may free moves block name named is_entry unknowns arrivals =
+    beside coming arrivals calls signature f ssa consistent (whole calls f ssa consistent carries free) width world tracked collector growing are_open fits typed may moves block name named is_entry unknowns
+
+-- where no edge may come
+may_nothing : (calls : List AnsweredCall) (ssa : SsaState) → IsWellPlaced (program_code (program_so_far calls)) → MayCome nothing_comes calls ssa
+may_nothing calls ssa placed = record {
+  blocks = λ from target none. absurd (none_of [] target refl none);
+  unsealed = λ from target none. absurd (none_of [] target refl none);
+  given_before = placed_none calls placed;
+}
 
 pub reads_right : (calls : List AnsweredCall) (signature : SignatureShape) (f : Body) (ssa : SsaState) (growing : Name → Bool)
     → IsConsistent f → Carries calls f ssa → AreOpen calls f ssa growing → ReadsRightWhere growing calls signature f ssa
-reads_right calls signature f ssa growing consistent carries are_open width world tracked collector fits premises free moves block name named is_entry unknowns =
-    beside calls signature f ssa consistent (whole calls f ssa consistent carries free) width world tracked collector growing are_open fits premises moves block name named is_entry unknowns
+reads_right calls signature f ssa growing consistent carries are_open width world tracked collector fits premises free moves block name named is_entry unknowns n rest on =
+    let found = reads_right_coming calls signature f ssa growing consistent carries are_open width world tracked collector nothing_comes fits premises.well_typed
+    (may_nothing calls ssa premises.given_before) free moves block name named is_entry unknowns (λ entries. None) n rest on in
+    record {
+      block = found.block;
+      named = found.named;
+      steps = found.steps;
+      entries = found.entries;
+      beside = record {
+        script_at = found.beside.script_at;
+        function_at = found.beside.function_at;
+        same_memory = found.beside.same_memory;
+        same_events = found.beside.same_events;
+        names = λ x given. found.beside.names x (given_so_far calls x _ given);
+        records = found.beside.records;
+      };
+    }

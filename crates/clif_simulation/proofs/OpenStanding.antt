@@ -22,7 +22,8 @@ use Rattle.clif_meaning.proofs.Stuttering.{steps_from}
 use Rattle.clif_simulation.specs.Tables.{program_so_far, block_name}
 use Rattle.clif_simulation.specs.Carries.{carried, own_placed}
 use Rattle.clif_simulation.specs.Reading.{behind, script_run_so_far, function_run_so_far}
-use Rattle.clif_simulation.specs.Interrupted.{Unknowns, ScriptStanding, FunctionStanding, function_goes, script_enters, function_enters, variables_entering, values_entering, interrupted_script, interrupted_function}
+use Rattle.clif_simulation.specs.Interrupted.{Unknowns, ScriptStanding, FunctionStanding, function_goes, script_enters, function_enters, variables_entering, values_entering, function_edge}
+use Rattle.clif_simulation.specs.Coming.{Arrival, Arrivals, Coming, coming_script, coming_function, function_comes}
 use Rattle.clif_simulation.proofs.Agreement.{Agrees, ZerosAreZero, agrees_still, zeros_still}
 use Rattle.clif_simulation.proofs.Fronts
 use Rattle.clif_simulation.proofs.Fronts.{HasFront, has_front, placed_inst}
@@ -32,7 +33,7 @@ use Rattle.clif_simulation.proofs.Whole.{Whole}
 
 -- The zeros at a block's front are passed without an edge --------------------------------------------------------------
 
-module _ (s : SsaState) (unknowns : Unknowns) (entry : ℕ) (run : FunctionRun) (f : Body) (resolves : (v : ℕ) → run.function.resolved v ≡ resolved f v) (blocks : Blocks)
+module _ (arrivals : Arrivals) (calls : List AnsweredCall) (s : SsaState) (unknowns : Unknowns) (entry : ℕ) (run : FunctionRun) (f : Body) (resolves : (v : ℕ) → run.function.resolved v ≡ resolved f v) (blocks : Blocks)
     (b : ℕ) (zeros : List ℕ) (in_turn : InTurn f zeros) (rest : List Placed) (c : FunctionStanding)
   where
     abbrev machine : Machine FunctionState Observation
@@ -44,15 +45,18 @@ module _ (s : SsaState) (unknowns : Unknowns) (entry : ℕ) (run : FunctionRun) 
     abbrev Left : ℕ → FunctionState → Type 0
     Left = Fronts.ZerosLeft run f resolves blocks b zeros in_turn rest c.state
 
-    pub zeros_pass : (j n m : ℕ) → j + n ≡ m → Left m c.state → steps_from (interrupted_function s unknowns entry run) j c ≡ standing (steps_from machine j c.state)
+    pub zeros_pass : (j n m : ℕ) → j + n ≡ m → Left m c.state → steps_from (coming_function arrivals calls s unknowns entry run) j c ≡ standing (steps_from machine j c.state)
     zeros_pass zero n m is z = refl
     zeros_pass (suc j) n m is z =
-        ap (interrupted_function s unknowns entry run).next (zeros_pass j (suc n) m (omega (arith, is)) z)
+        let left : Left (suc n) (steps_from machine j c.state) = Fronts.zeros_left run f resolves blocks b zeros in_turn rest c.state j (suc n) m (omega (arith, is)) z in
+        ap (coming_function arrivals calls s unknowns entry run).next (zeros_pass j (suc n) m (omega (arith, is)) z)
+        ∙ ap (λ (o : Option Arrival). function_comes calls run s unknowns (standing (steps_from machine j c.state)) o
+        (function_goes s unknowns (standing (steps_from machine j c.state)) (function_edge run (steps_from machine j c.state) (steps_from machine j c.state).control) (machine.next (steps_from machine j c.state))))
+        (Fronts.no_arrival run f resolves blocks b zeros in_turn rest c.state n (steps_from machine j c.state) (arrivals c.entries) left)
         ∙ ap (λ (o : Option (Edge ℕ ℕ)). function_goes s unknowns (standing (steps_from machine j c.state)) o (machine.next (steps_from machine j c.state)))
-        (Fronts.no_edge run f resolves blocks b zeros in_turn rest c.state n (steps_from machine j c.state)
-        (Fronts.zeros_left run f resolves blocks b zeros in_turn rest c.state j (suc n) m (omega (arith, is)) z))
+        (Fronts.no_edge run f resolves blocks b zeros in_turn rest c.state n (steps_from machine j c.state) left)
 
-module _ (calls : List AnsweredCall) (f : Body) (ssa : SsaState) (consistent : IsConsistent f) (carries : Whole calls f ssa)
+module _ (coming : Coming) (arrivals : Arrivals) (calls : List AnsweredCall) (f : Body) (ssa : SsaState) (consistent : IsConsistent f) (carries : Whole calls f ssa)
     (width : PointerWidth) (world : World) (tracked : Name → Bool) (collector : Collector) (unknowns : Unknowns) (entry : ℕ) (entry_name : Name)
   where
     abbrev pub left_run : ScriptRun
@@ -62,10 +66,10 @@ module _ (calls : List AnsweredCall) (f : Body) (ssa : SsaState) (consistent : I
     right_run = function_run_so_far calls f world collector
 
     abbrev pub left_machine : Machine ScriptStanding Observation
-    left_machine = interrupted_script calls ssa unknowns entry entry_name left_run
+    left_machine = coming_script coming arrivals calls ssa unknowns entry entry_name left_run
 
     abbrev pub right_machine : Machine FunctionStanding Observation
-    right_machine = interrupted_function ssa unknowns entry right_run
+    right_machine = coming_function arrivals calls ssa unknowns entry right_run
 
     abbrev pub items : Name → List Item
     items = (program_so_far calls).items
@@ -74,7 +78,7 @@ module _ (calls : List AnsweredCall) (f : Body) (ssa : SsaState) (consistent : I
     -- left.
     pub record IsAt (b : ℕ) (B : Name) (k : ℕ) (rest : List Item) (left : List ℕ) (path : Path) (p : ScriptState) (q : FunctionState) : Type 0 where
       pub named : block_name calls b ≡ Some B
-      pub follows : Follows (OpenFlow.edges calls f ssa consistent carries) path
+      pub follows : Follows (OpenFlow.edges coming calls f ssa consistent carries) path
       pub ends : end_of path ≡ inside b k
       pub rest_is : drop k (items B) ≡ rest
       pub within : k ≤ length (items B)
@@ -106,7 +110,7 @@ module _ (calls : List AnsweredCall) (f : Body) (ssa : SsaState) (consistent : I
 
     -- To a block's first item ---------------------------------------------------------------------------------------------
 
-    module _ (b : ℕ) (B : Name) (named : block_name calls b ≡ Some B) (path : Path) (follows : Follows (OpenFlow.edges calls f ssa consistent carries) path)
+    module _ (b : ℕ) (B : Name) (named : block_name calls b ≡ Some B) (path : Path) (follows : Follows (OpenFlow.edges coming calls f ssa consistent carries) path)
         (ends : end_of path ≡ front b) (entries : ℕ) (p : ScriptState) (q : FunctionState) (script_at : p.control ≡ At (items B)) (function_at : q.control ≡ At (items_of f b))
         (same_memory : p.memory ≡ q.memory) (same_events : p.events ≡ q.events)
       where
@@ -186,6 +190,6 @@ module _ (calls : List AnsweredCall) (f : Body) (ssa : SsaState) (consistent : I
             arrives = (
               length has.zeros,
               subst (Running a)
-                  (sym (zeros_pass ssa unknowns entry right_run f (λ v. refl) carries.tables b has.zeros has.in_turn behind_zeros c (length has.zeros) 0 (length has.zeros) (omega arith) all_left))
+                  (sym (zeros_pass arrivals calls ssa unknowns entry right_run f (λ v. refl) carries.tables b has.zeros has.in_turn behind_zeros c (length has.zeros) 0 (length has.zeros) (omega arith) all_left))
                   running,
             )

@@ -35,17 +35,18 @@ use Rattle.clif_meaning.specs.FunctionMachine.{Collector, FunctionRun, FunctionS
 use Rattle.clif_meaning.specs.FunctionView.{Placed}
 use Rattle.clif_meaning.specs.View.{edge_of, edges_of, argument_of}
 use Rattle.clif_meaning.specs.Path.{Place}
-use Rattle.clif_meaning.specs.WellPlaced.{item_names, passed_operands, program_code, IsWellPlaced}
+use Rattle.clif_meaning.specs.WellPlaced.{item_names, passed_operands}
 use Rattle.clif_meaning.proofs.Stuttering.{steps_from}
 use Rattle.clif_simulation.specs.Tables.{code, answered, program_so_far, block_name}
 use Rattle.clif_simulation.specs.Carries.{CallsNothing, answered_edge, as_passed, carried, own_placed}
 use Rattle.clif_simulation.specs.Reading.{MovesAlike, MovesNothing, behind, WellTypedSoFar}
-use Rattle.clif_simulation.specs.Interrupted.{AreOpen, taken_of, Unknowns, taken_by, ScriptStanding, FunctionStanding, function_answer, script_answer, script_edge, script_goes, script_enters, function_edge, function_goes, function_enters, variables_entering, values_entering}
+use Rattle.clif_simulation.specs.Coming.{Arrival, Arrivals, Coming, MayCome, arrival_at, script_comes, function_comes}
+use Rattle.clif_simulation.specs.Interrupted.{AreOpen, taken_of, Unknowns, taken_by, ScriptStanding, FunctionStanding, function_answer, script_answer, item_edge, script_edge, script_goes, script_enters, function_edge, function_goes, function_enters, variables_entering, values_entering}
 use Rattle.clif_simulation.proofs.Whole.{Whole}
 use Rattle.clif_simulation.proofs.Giving.{in_contained}
 use Rattle.clif_simulation.proofs.Agreement.{Agrees, GivesThere, UsesThere, AssignsThere, ZerosAreZero, given_agrees, used_agrees, assigned_agrees, given_zeros, used_zeros, assigned_zeros}
 use Rattle.clif_simulation.proofs.Entry.{resolved_twice}
-use Rattle.clif_simulation.proofs.Fronts.{placed_inst, steps_behind}
+use Rattle.clif_simulation.proofs.Fronts.{not_at_thing, placed_inst, steps_behind}
 use Rattle.clif_simulation.proofs.ItemsAt
 use Rattle.clif_simulation.proofs.ItemsAt.{same_instance}
 use Rattle.clif_simulation.proofs.Listed.{place_within}
@@ -53,6 +54,7 @@ use Rattle.clif_simulation.proofs.Matching.{first_is, rest_is, item_here, rest_b
 use Rattle.clif_simulation.proofs.OpenArms
 use Rattle.clif_simulation.proofs.OpenEdges
 use Rattle.clif_simulation.proofs.OpenFlow
+use Rattle.clif_simulation.proofs.ComingStep
 use Rattle.clif_simulation.proofs.OpenStanding
 use Rattle.clif_simulation.proofs.OpenStanding.{IsAt, Running, Gets}
 use Rattle.clif_simulation.proofs.OwnEdges
@@ -79,22 +81,22 @@ function_before s unknowns before was (Some edge) state = refl
 stuck_not_on : (rest : List Item) → ◌≡◌ {A = Control Item} IsStuck (At rest) → ⊥
 stuck_not_on rest h = cc
 
-module _ (calls : List AnsweredCall) (f : Body) (ssa : SsaState) (consistent : IsConsistent f) (carries : Whole calls f ssa)
+module _ (coming : Coming) (arrivals : Arrivals) (calls : List AnsweredCall) (f : Body) (ssa : SsaState) (consistent : IsConsistent f) (carries : Whole calls f ssa)
     (width : PointerWidth) (world : World) (tracked : Name → Bool) (collector : Collector) (unknowns : Unknowns) (entry : ℕ) (entry_name : Name)
-    (growing : Name → Bool) (are_open : AreOpen calls f ssa growing) (signature : SignatureShape) (placed : IsWellPlaced (program_code (program_so_far calls)))
+    (growing : Name → Bool) (are_open : AreOpen calls f ssa growing) (signature : SignatureShape) (may : MayCome coming calls ssa)
     (typed : WellTypedSoFar growing (ledger_after (script_of calls)) (program_so_far calls) signature) (moves : MovesAlike calls tracked collector)
   where
     abbrev left_run : ScriptRun
-    left_run = OpenStanding.left_run calls f ssa consistent carries width world tracked collector unknowns entry entry_name
+    left_run = OpenStanding.left_run coming arrivals calls f ssa consistent carries width world tracked collector unknowns entry entry_name
 
     abbrev right_run : FunctionRun
-    right_run = OpenStanding.right_run calls f ssa consistent carries width world tracked collector unknowns entry entry_name
+    right_run = OpenStanding.right_run coming arrivals calls f ssa consistent carries width world tracked collector unknowns entry entry_name
 
     abbrev pub left_machine : Machine ScriptStanding Observation
-    left_machine = OpenStanding.left_machine calls f ssa consistent carries width world tracked collector unknowns entry entry_name
+    left_machine = OpenStanding.left_machine coming arrivals calls f ssa consistent carries width world tracked collector unknowns entry entry_name
 
     abbrev pub right_machine : Machine FunctionStanding Observation
-    right_machine = OpenStanding.right_machine calls f ssa consistent carries width world tracked collector unknowns entry entry_name
+    right_machine = OpenStanding.right_machine coming arrivals calls f ssa consistent carries width world tracked collector unknowns entry entry_name
 
     abbrev tables : Blocks
     tables = carries.tables
@@ -112,13 +114,33 @@ module _ (calls : List AnsweredCall) (f : Body) (ssa : SsaState) (consistent : I
     items = (program_so_far calls).items
 
     abbrev pub Stands : ℕ → Name → ℕ → List Item → List ℕ → Path → ScriptState → FunctionState → Type 0
-    Stands = IsAt calls f ssa consistent carries width world tracked collector unknowns entry entry_name
+    Stands = IsAt coming arrivals calls f ssa consistent carries width world tracked collector unknowns entry entry_name
 
     abbrev pub Runs : ScriptStanding → FunctionStanding → Type 0
-    Runs = Running calls f ssa consistent carries width world tracked collector unknowns entry entry_name
+    Runs = Running coming arrivals calls f ssa consistent carries width world tracked collector unknowns entry entry_name
 
     abbrev pub Comes : ScriptStanding → FunctionStanding → Type 0
-    Comes = Gets calls f ssa consistent carries width world tracked collector unknowns entry entry_name
+    Comes = Gets coming arrivals calls f ssa consistent carries width world tracked collector unknowns entry entry_name
+
+    -- Where something stands, a run goes on as the machines go -------------------------------------------------------------
+
+    left_next : (a : ScriptStanding) (item : Item) (rest : List Item) → a.state.control ≡ At (item ∷ rest)
+        → left_machine.next a ≡ script_goes calls ssa unknowns a (item_edge left_run a.state item) (script.run_item left_run a.state item rest)
+    left_next a item rest at =
+        ap (λ (here : Control Item). script_comes coming calls ssa unknowns a (arrival_at (arrivals a.entries) here)
+        (script_goes calls ssa unknowns a (script_edge left_run a.state here) (script.step_at left_run a.state here))) at
+        ∙ ap (λ (o : Option Arrival). script_comes coming calls ssa unknowns a o
+        (script_goes calls ssa unknowns a (item_edge left_run a.state item) (script.run_item left_run a.state item rest))) (not_at_thing (arrivals a.entries) item rest)
+
+    right_next : (c : FunctionStanding) (thing : Placed) (rest : List Placed) → c.state.control ≡ At (thing ∷ rest)
+        → right_machine.next c
+        ≡ function_goes ssa unknowns c (function_edge right_run c.state (At (thing ∷ rest))) (function_machine_of.step_at right_run c.state (At (thing ∷ rest)))
+    right_next c thing rest at =
+        ap (λ (here : Control Placed). function_comes calls right_run ssa unknowns c (arrival_at (arrivals c.entries) here)
+        (function_goes ssa unknowns c (function_edge right_run c.state here) (function_machine_of.step_at right_run c.state here))) at
+        ∙ ap (λ (o : Option Arrival). function_comes calls right_run ssa unknowns c o
+        (function_goes ssa unknowns c (function_edge right_run c.state (At (thing ∷ rest))) (function_machine_of.step_at right_run c.state (At (thing ∷ rest)))))
+        (not_at_thing (arrivals c.entries) thing rest)
 
     -- What stands at the place of an item ---------------------------------------------------------------------------------
 
@@ -131,8 +153,8 @@ module _ (calls : List AnsweredCall) (f : Body) (ssa : SsaState) (consistent : I
           there
 
       -- the path goes on to the next place of the block
-      pub goes_on : (path : Path) → (item : Item) → slice_get (items B) k ≡ Some item → Follows (OpenFlow.edges calls f ssa consistent carries) path → end_of path ≡ inside b k
-          → Follows (OpenFlow.edges calls f ssa consistent carries) (next_arm b k ∷ path)
+      pub goes_on : (path : Path) → (item : Item) → slice_get (items B) k ≡ Some item → Follows (OpenFlow.edges coming calls f ssa consistent carries) path → end_of path ≡ inside b k
+          → Follows (OpenFlow.edges coming calls f ssa consistent carries) (next_arm b k ∷ path)
       goes_on path item stands follows ends =
           let there : nat_lt k (tables.count b) ≡ true = known item stands in
           (rw (there, same_place-refl (inside b k)) refl, sym ends, follows)
@@ -188,7 +210,7 @@ module _ (calls : List AnsweredCall) (f : Body) (ssa : SsaState) (consistent : I
           let stands : slice_get (items B) k ≡ Some (Use x used) = item_here (items B) k (Use x used) rest r.rest_is in
           let uses = uses_there b B r.named k x used stands in
           let is : left_machine.next a ≡ script_goes calls ssa unknowns a None (script.run_item left_run a.state (Use x used) rest) =
-          ap (λ (at : Control Item). script_goes calls ssa unknowns a (script_edge left_run a.state at) (script.step_at left_run a.state at)) r.script_at in
+          left_next a (Use x used) rest r.script_at in
           subst (λ (after : ScriptStanding). Comes after c) (sym is) (
             0,
             record {
@@ -224,7 +246,7 @@ module _ (calls : List AnsweredCall) (f : Body) (ssa : SsaState) (consistent : I
           let stands : slice_get (items B) k ≡ Some (Assign x from) = item_here (items B) k (Assign x from) rest r.rest_is in
           let assigns = assigns_there b B r.named k x from stands in
           let is : left_machine.next a ≡ script_goes calls ssa unknowns a None (script.run_item left_run a.state (Assign x from) rest) =
-          ap (λ (at : Control Item). script_goes calls ssa unknowns a (script_edge left_run a.state at) (script.step_at left_run a.state at)) r.script_at in
+          left_next a (Assign x from) rest r.script_at in
           subst (λ (after : ScriptStanding). Comes after c) (sym is) (
             0,
             record {
@@ -280,9 +302,9 @@ module _ (calls : List AnsweredCall) (f : Body) (ssa : SsaState) (consistent : I
           -- a name that it names has the bits that its answer has
           operand_agrees : (x : Name) → Contains (item_names (Some (Instruct place instruction results))) x → a.state.names x ≡ c.state.values (resolved f (answered calls x))
           operand_agrees x names_it =
-              let on = OpenFlow.named_before calls f ssa consistent carries placed path b k B r.follows r.ends r.named (Instruct place instruction results) stands x names_it in
-              let holds = OpenFlow.name_holds calls f ssa consistent carries placed x (inside b k) on.given
-              (λ way follows ends. OpenFlow.named_before calls f ssa consistent carries placed way b k B follows ends r.named (Instruct place instruction results) stands x names_it) in
+              let on = OpenFlow.named_before coming calls f ssa consistent carries may.given_before path b k B r.follows r.ends r.named (Instruct place instruction results) stands x names_it in
+              let holds = OpenFlow.name_holds coming calls f ssa consistent carries may.given_before x (inside b k) on.given
+              (λ way follows ends. OpenFlow.named_before coming calls f ssa consistent carries may.given_before way b k B follows ends r.named (Instruct place instruction results) stands x names_it) in
               let same : function.resolve (tables.answer (code x)) ≡ resolved f (answered calls x) =
               carries.describes.resolves (tables.answer (code x)) ∙ ap (resolved f) on.answer in
               r.agrees.of_name x (resolved f (answered calls x))
@@ -305,14 +327,13 @@ module _ (calls : List AnsweredCall) (f : Body) (ssa : SsaState) (consistent : I
 
           left_goes : left_machine.next a ≡ script_goes calls ssa unknowns a (taken_of (script_answer left_run a.state) instruction.edges outcome) (script.carry_out left_run a.state instruction.edges results rest outcome)
           unfolding outcome
-          left_goes =
-              ap (λ (at : Control Item). script_goes calls ssa unknowns a (script_edge left_run a.state at) (script.step_at left_run a.state at)) r.script_at
+          left_goes = left_next a (Instruct place instruction results) rest r.script_at
 
           right_goes :
               right_machine.next c
               ≡ function_goes ssa unknowns c (taken_of (function_answer right_run c.state (placed_inst f i)) (placed_inst f i).instruction.edges outcome) (function_machine_of.carry_out right_run c.state (placed_inst f i) (map (placed_inst f) left) outcome)
           right_goes =
-              ap (λ (at : Control Placed). function_goes ssa unknowns c (function_edge right_run c.state at) (function_machine_of.step_at right_run c.state at)) r.function_at
+              right_next c (placed_inst f i) (map (placed_inst f) left) r.function_at
               ∙ ap (λ (o : Outcome).
               function_goes ssa unknowns c (taken_of (function_answer right_run c.state (placed_inst f i)) (placed_inst f i).instruction.edges o) (function_machine_of.carry_out right_run c.state (placed_inst f i) (map (placed_inst f) left) o)) same_outcome
 
@@ -429,17 +450,17 @@ module _ (calls : List AnsweredCall) (f : Body) (ssa : SsaState) (consistent : I
                 (nothing_assigned same_name results a.state.names) (nothing_assigned same_value (map (answered calls) results) c.state.values)
                 (given_zeros live program function (next_arm b k) path results (answered calls) (gives path) a.state.variables a.state.names c.state.values r.agrees [] r.zeros)
 
-            follows_along : Follows (OpenFlow.edges calls f ssa consistent carries) along
+            follows_along : Follows (OpenFlow.edges coming calls f ssa consistent carries) along
             follows_along = goes_on b B r.named k path (Instruct place instruction results) stands r.follows r.ends
 
             -- a name that the edge passes has the bits that its answer has
             passed_agrees : (x : Name) → Contains (passed_operands instruction) x → a.state.names x ≡ value_bits right_run c.state (answered calls x)
             passed_agrees x passes =
-                let given_on : (way : Path) → Follows (OpenFlow.edges calls f ssa consistent carries) way → end_of way ≡ inside b (suc k)
-                → OpenFlow.IsGivenOn calls f ssa consistent carries way x = λ way follows ends.
-                OpenFlow.passed_before calls f ssa consistent carries placed way b k B follows ends r.named (Instruct place instruction results) stands x passes in
+                let given_on : (way : Path) → Follows (OpenFlow.edges coming calls f ssa consistent carries) way → end_of way ≡ inside b (suc k)
+                → OpenFlow.IsGivenOn coming calls f ssa consistent carries way x = λ way follows ends.
+                OpenFlow.passed_before coming calls f ssa consistent carries may.given_before way b k B follows ends r.named (Instruct place instruction results) stands x passes in
                 let on = given_on along follows_along refl in
-                let holds = OpenFlow.name_holds calls f ssa consistent carries placed x (inside b (suc k)) on.given given_on in
+                let holds = OpenFlow.name_holds coming calls f ssa consistent carries may.given_before x (inside b (suc k)) on.given given_on in
                 let same : function.resolve (tables.answer (code x)) ≡ resolved f (answered calls x) =
                 carries.describes.resolves (tables.answer (code x)) ∙ ap (resolved f) on.answer in
                 agrees_behind.of_name x (resolved f (answered calls x))
@@ -468,17 +489,17 @@ module _ (calls : List AnsweredCall) (f : Body) (ssa : SsaState) (consistent : I
                 c.state.values (unknowns a.entries) a.state.variables a.state.names agrees_behind zeros_behind bits_passed same_passed
                 (may_pass (growing edge.target) refl)
 
-            follows_there : Follows (OpenFlow.edges calls f ssa consistent carries) (arm ∷ along)
+            follows_there : Follows (OpenFlow.edges coming calls f ssa consistent carries) (arm ∷ along)
             follows_there =
                 let last : suc k ≡ length (items B) = last_item (items B) k place instruction results n edge (carries.edges_end B) stands is_edge in (
-                  OpenArms.edge_open carries.own f ssa tables carries.describes d arm refl into,
+                  OpenArms.edge_open (OpenFlow.more_coming calls tables coming) carries.own f ssa tables carries.describes d arm refl into,
                   ap (inside b) (carries.program.counts b B r.named ∙ sym last),
                   follows_along,
                 )
 
             arrived : Comes (script_enters ssa unknowns d edge.target a.entries p1) (function_enters ssa unknowns d a.entries q1)
             arrived =
-                OpenStanding.arrives calls f ssa consistent carries width world tracked collector unknowns entry entry_name d edge.target target_named (arm ∷ along) follows_there refl
+                OpenStanding.arrives coming arrivals calls f ssa consistent carries width world tracked collector unknowns entry entry_name d edge.target target_named (arm ∷ along) follows_there refl
                 a.entries p1 q1 refl refl refl r.same_events crossed.0 crossed.1
 
             pub goes_along : (a0 : ScriptStanding) (c0 : FunctionStanding) → left_machine.next a0 ≡ script_goes calls ssa unknowns a (Some edge) p1
@@ -695,11 +716,12 @@ module _ (calls : List AnsweredCall) (f : Body) (ssa : SsaState) (consistent : I
 
       running_step : (rest : List Item) (left : List ℕ) → Stands b B k rest left path a.state c.state
           → (ahead : List Item) → (left_machine.next a).state.control ≡ At ahead → Comes (left_machine.next a) c
-      running_step [] left r ahead on =
-          absurd (stuck_not_on ahead (sym (ap (λ (x : ScriptStanding). x.state.control) is) ∙ on))
+      running_step [] [] r ahead on =
+          ComingStep.arrives coming arrivals calls f ssa consistent carries width world tracked collector unknowns entry entry_name may a c b B k path place_is entries r ahead (arrivals a.entries) refl on
+      running_step [] (i ∷ left) r ahead on = absurd (none (own_placed carries.own f i) (map (own_placed carries.own f) left) (sym r.left_is))
         where
-          is : left_machine.next a ≡ script_goes calls ssa unknowns a None (record a.state { control = IsStuck })
-          is = ap (λ (at : Control Item). script_goes calls ssa unknowns a (script_edge left_run a.state at) (script.step_at left_run a.state at)) r.script_at
+          none : (x : Placed) (xs : List Placed) → [] ≡ (x ∷ xs) → ⊥
+          none x xs h = cc
       running_step (Use x used ∷ rest) left r ahead on = use_step a c b B k path place_is entries x used rest left r
       running_step (Assign x from ∷ rest) left r ahead on = assign_step a c b B k path place_is entries x from rest left r
       running_step (Instruct place instruction results ∷ rest) (i ∷ left) r ahead on = instruct_step place instruction results rest i left r ahead on

@@ -26,7 +26,7 @@ use Rattle.clif_simulation.proofs.ItemsAt.{not_start}
 use Rattle.clif_simulation.proofs.Listed.{place_within}
 use Rattle.clif_simulation.proofs.Placing.{counted_twice, fewer, map_length, so_many}
 use Rattle.clif_simulation.proofs.Matching.{nothing_behind}
-use Rattle.clif_simulation.proofs.OpenArms.{open_arms}
+use Rattle.clif_simulation.proofs.ComingCode.{nothing_comes}
 use Rattle.clif_simulation.proofs.OpenFlow
 
 some_is : {X : Type 0} (x y : X) → Some x ≡ Some y → x ≡ y
@@ -45,7 +45,7 @@ module _ (calls : List AnsweredCall) (f : Body) (s : SsaState) (consistent : IsC
     Ahead = Beside.Forward calls f s consistent carries
 
     abbrev edges : Edges
-    edges = open_arms f s carries.tables
+    edges = OpenFlow.edges nothing_comes calls f s consistent carries
 
     -- Paths along the edges -----------------------------------------------------------------------------------------------------
 
@@ -53,7 +53,7 @@ module _ (calls : List AnsweredCall) (f : Body) (s : SsaState) (consistent : IsC
     step_to : (arm : Arm) (path : Path) (b k : ℕ) → Follows edges (arm ∷ path) → arm.target ≡ inside b (suc k)
         → (k < carries.tables.count b) × (end_of path ≡ inside b k)
     step_to arm path b k follows ends =
-        let item = OpenFlow.to_item calls f s consistent carries arm b k follows.0 ends in
+        let item = OpenFlow.to_item nothing_comes calls f s consistent carries arm b k follows.0 ends in
         (item.below, sym follows.1 ∙ item.source)
 
     -- no path goes behind the last item

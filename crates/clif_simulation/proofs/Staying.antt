@@ -20,7 +20,7 @@ use Rattle.clif_simulation.proofs.Numbers.{answered_stays, ledger_longer, slice_
 use Rattle.clif_simulation.proofs.NameLists.{MakesNoBlock, names_of, names_stay}
 use Rattle.std.proofs.lemmas.Option.{slice_get_within}
 
-inside≢start : (b k : ℕ) → inside b k ≢ start
+pub inside≢start : (b k : ℕ) → inside b k ≢ start
 inside≢start b k same = cc
 
 -- Blocks may be added which have no items; nothing else changes.

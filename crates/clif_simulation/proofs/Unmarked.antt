@@ -7,7 +7,7 @@ use Rattle.clif_meaning.specs.Name.{Name, answer_of, same_name}
 use Rattle.clif_meaning.specs.Request.{Request, DefVar, UseVar, Script}
 use Rattle.clif_meaning.specs.Ledger.{Ledger, VariableState, changed_by, empty_ledger, is_marked, ledger_after, ledger_with, marked, new_variable, touched_at, with_begun, with_terminator}
 use Rattle.clif_meaning.specs.Tracked.{is_tracked, tracked_from}
-use Rattle.clif_simulation.proofs.Effects.{LedgerEffect, ledger_effect, Keeps, Lays, Changes, Begins, Creates, Enters, Seals, Declares, Touches, Reads, Appends}
+use Rattle.clif_simulation.proofs.Effects.{LedgerEffect, ledger_effect, Keeps, Lays, Changes, Begins, Creates, Enters, ChangesEach, Declares, Touches, Reads, Appends}
 use Rattle.clif_simulation.proofs.Ledgers.{variables-begun, variables-edges, variables-terminator}
 
 abbrev IsUnmarked : VariableState → Type 0
@@ -44,7 +44,7 @@ unmarked_with ledger request all = by (ledger_effect request)
     by (Begins stays is) = of_ledger _ (is ledger) begun
     by (Creates is) = of_request _ is all
     by (Enters block is) = of_request _ is all
-    by (Seals is) = of_request _ is all
+    by (ChangesEach change keeps stays is) = of_ledger _ (is ledger) all
     by (Declares ty is) = of_request _ is (unmarked_longer ledger.variables ty all)
     by (Touches variable value is) = of_request _ is (unmarked_touched ledger.variables variable all)
     by (Reads variable is) = of_request _ is (unmarked_touched (with_begun ledger).variables variable begun)

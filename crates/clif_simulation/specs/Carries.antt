@@ -19,7 +19,7 @@ use Rattle.clif_paths.specs.Blocks.{Blocks}
 use Rattle.clif_paths.specs.BlockLaws.{BlocksSound}
 use Rattle.clif_meaning.specs.Name.{Name, answer_of}
 use Rattle.clif_meaning.specs.Request.{AnsweredCall, script_of}
-use Rattle.clif_meaning.specs.Ledger.{AnInstruction, answer_at, ledger_after, has_value, is_filled, type_of, variable_type}
+use Rattle.clif_meaning.specs.Ledger.{AnInstruction, BlockState, answer_at, ledger_after, has_value, is_filled, type_of, variable_type}
 use Rattle.clif_meaning.specs.Instruction.{Instruction, Argument, Known, CallResult, CallPayload, Edge}
 use Rattle.clif_meaning.specs.Program.{Item, Instruct, Use, Assign}
 use Rattle.clif_meaning.specs.FunctionView.{Placed}
@@ -87,6 +87,11 @@ IsValue calls name = IsTrue (has_value (ledger_after (script_of calls)) name)
 -- a name was answered by an instruction
 abbrev pub IsInstruction : List AnsweredCall → Name → Type 0
 IsInstruction calls name = answer_at (ledger_after (script_of calls)) name ≡ Some AnInstruction
+
+-- each branch that the ledger has as a predecessor of a block was answered by an instruction
+abbrev pub LeadsBuilt : List AnsweredCall → Type 0
+LeadsBuilt calls =
+    AllByRecursion (λ (state : BlockState). AllByRecursion (IsInstruction calls) state.predecessors) (ledger_after (script_of calls)).blocks
 
 -- Instructions that were answered are among so many, and no two names were answered by one.
 pub record InstructionsApart (calls : List AnsweredCall) (count : ℕ) : Type 0 where

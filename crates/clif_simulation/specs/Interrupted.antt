@@ -26,7 +26,7 @@ use Rattle.clif_meaning.specs.FunctionMachine.{Collector, FunctionRun, FunctionS
 use Rattle.clif_meaning.specs.FunctionView.{Placed}
 use Rattle.clif_meaning.specs.View.{view_of, block_of}
 use Rattle.clif_meaning.specs.Path.{Place}
-use Rattle.clif_meaning.specs.WellPlaced.{IsGivenBefore}
+use Rattle.clif_meaning.specs.WellPlaced.{Code, IsGivenBefore}
 use Rattle.clif_meaning.specs.Headline.{IsWorldOf}
 use Rattle.clif_simulation.specs.Tables.{answered, block_name, program_so_far}
 use Rattle.clif_simulation.specs.Carries.{carried}
@@ -157,25 +157,32 @@ pub record StandsBefore (calls : List AnsweredCall) (f : Body) (block : ℕ) (it
   pub at : control ≡ At (drop index (block_of f block).items)
   pub instructions : map without_arguments (drop index (block_of f block).items) ≡ map without_arguments (flat_map (carried calls) items)
 
--- Both stand behind so many items of the block: a name that is given before that place has its value's bits, and at the
--- block's end so far each variable has its record's.
-pub record StandsBeside (calls : List AnsweredCall) (f : Body) (s : SsaState) (block : ℕ) (name : Name) (count : ℕ) (p : ScriptState) (q : FunctionState) : Type 0 where
+-- Both stand behind so many items of the block: a name that is given before that place of this code has its value's bits, and at
+-- the block's end so far each variable has its record's.
+pub record StandsBesideIn (code : Code Name Name) (calls : List AnsweredCall) (f : Body) (s : SsaState) (block : ℕ) (name : Name) (count : ℕ) (p : ScriptState) (q : FunctionState) : Type 0 where
   pub script_at : p.control ≡ At (drop count ((program_so_far calls).items name))
   pub function_at : StandsBefore calls f block (drop count ((program_so_far calls).items name)) q.control
   pub same_memory : p.memory ≡ q.memory
   pub same_events : p.events ≡ q.events
-  pub names : (x : Name) → IsGivenBefore (code_so_far calls) x (behind name count) → p.names x ≡ q.values (resolved f (answered calls x))
+  pub names : (x : Name) → IsGivenBefore code x (behind name count) → p.names x ≡ q.values (resolved f (answered calls x))
   pub records : IsAtEnd (drop count ((program_so_far calls).items name))
       → (variable value : ℕ) → record_of s variable block ≡ Some value → p.variables variable ≡ q.values (resolved f value)
 
+-- in the code so far
+abbrev pub StandsBeside : List AnsweredCall → Body → SsaState → ℕ → Name → ℕ → ScriptState → FunctionState → Type 0
+StandsBeside calls = StandsBesideIn (code_so_far calls) calls
+
 -- Beside an interrupted run of the script that goes on, the function's with the same bits at unsealed blocks comes to a
 -- state in which both stand alike, and entered as many blocks.
-pub record HasBeside (calls : List AnsweredCall) (f : Body) (s : SsaState) (a : ScriptStanding) (right : Machine FunctionStanding Observation) : Type 0 where
+pub record HasBesideIn (code : Code Name Name) (calls : List AnsweredCall) (f : Body) (s : SsaState) (a : ScriptStanding) (right : Machine FunctionStanding Observation) : Type 0 where
   pub block : ℕ
   pub named : block_name calls block ≡ Some a.place.block
   pub steps : ℕ
   pub entries : a.entries ≡ (state_after right steps).entries
-  pub beside : StandsBeside calls f s block a.place.block a.place.index a.state (state_after right steps).state
+  pub beside : StandsBesideIn code calls f s block a.place.block a.place.index a.state (state_after right steps).state
+
+abbrev pub HasBeside : List AnsweredCall → Body → SsaState → ScriptStanding → Machine FunctionStanding Observation → Type 0
+HasBeside calls = HasBesideIn (code_so_far calls) calls
 
 abbrev pub RunsBeside : List AnsweredCall → Body → SsaState → ScriptRun → FunctionRun → ℕ → Name → Type 0
 RunsBeside calls f s left right block name =

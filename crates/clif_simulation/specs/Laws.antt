@@ -16,6 +16,7 @@ use Rattle.clif_simulation.specs.Tables.{code, block_name}
 use Rattle.clif_simulation.specs.Carries.{Carries, NothingLeads}
 use Rattle.clif_simulation.specs.Reading.{ReadsRightFromAnywhere}
 use Rattle.clif_simulation.specs.Interrupted.{AreOpen, ReadsRightWhere}
+use Rattle.clif_simulation.specs.Coming.{ReadsRightComing}
 
 -- Different names have different numbers.
 abbrev pub CodesDiffer : Type 0
@@ -43,6 +44,13 @@ abbrev pub CarryingReadsRight : Type 0
 CarryingReadsRight =
     (calls : List AnsweredCall) (signature : SignatureShape) (f : Body) (s : SsaState) (growing : Name → Bool)
     → IsConsistent f → Carries calls f s → AreOpen calls f s growing → ReadsRightWhere growing calls signature f s
+
+-- It does so along edges that may still come, too: those of a set into unsealed blocks, whichever of them come, with any memory,
+-- any events and any bits of the caller's parameters.
+abbrev pub CarryingReadsRightComing : Type 0
+CarryingReadsRightComing =
+    (calls : List AnsweredCall) (signature : SignatureShape) (f : Body) (s : SsaState) (growing : Name → Bool)
+    → IsConsistent f → Carries calls f s → AreOpen calls f s growing → ReadsRightComing growing calls signature f s
 
 -- Where no branch was made, it does so from every pair of states at the front of an unsealed entry.
 abbrev pub CarryingReadsRightFromAnywhere : Type 0

@@ -2,6 +2,7 @@ pub mod Tables
 pub mod Carries
 pub mod Reading
 pub mod Interrupted
+pub mod Coming
 pub mod ReadingExamples
 pub mod Laws
 pub mod CarryingExamples
@@ -9,3 +10,4 @@ pub mod InterruptedExamples
 pub mod Structure
 pub mod ParameterCarryingExamples
 pub mod CallCarryingExamples
+pub mod ComingExamples

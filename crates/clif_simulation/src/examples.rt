@@ -2,6 +2,7 @@
 
 ghost use Rattle.clif_simulation.specs.CallCarryingExamples.{CallCarryingExamples};
 ghost use Rattle.clif_simulation.specs.CarryingExamples.{CarryingExamples, LoopMeetsPremises, SampleMeetsPremises};
+ghost use Rattle.clif_simulation.specs.ComingExamples.{ComingExamples};
 ghost use Rattle.clif_simulation.specs.InterruptedExamples.{InterruptedExamples};
 ghost use Rattle.clif_simulation.specs.ParameterCarryingExamples.{ParameterCarryingExamples};
 ghost use Rattle.clif_simulation.specs.ReadingExamples.{ReadingExamples};
@@ -17,6 +18,11 @@ pub fn half_built_reads_right()
 /// that doesn't wait, or another argument, they don't. So does a jump that comes before its target's parameter.
 pub fn interrupted_reads_right()
     ensures { InterruptedExamples }
+{}
+
+/// A block that only an edge that may still come reaches is read along that edge; with another constant there it doesn't read right.
+pub fn coming_reads_right()
+    ensures { ComingExamples }
 {}
 
 /// The row `both_arms`, a loop with both arms of one branch, is consistent, carried and finished; with another argument

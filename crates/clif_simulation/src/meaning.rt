@@ -1,6 +1,6 @@
 //! What a function that carries a list of calls means.
 
-ghost use Rattle.clif_simulation.specs.Laws.{CarryingMeansTheSame, CarryingReadsRight, CarryingReadsRightFromAnywhere};
+ghost use Rattle.clif_simulation.specs.Laws.{CarryingMeansTheSame, CarryingReadsRight, CarryingReadsRightComing, CarryingReadsRightFromAnywhere};
 
 /// A finished function that carries a list of calls, with any branches, joins and loops, means what the list's variable
 /// program means.
@@ -13,6 +13,11 @@ pub fn carrying_means_the_same()
 /// into blocks that are unsealed or have the caller's parameters alone.
 pub fn carrying_reads_right()
     ensures { CarryingReadsRight }
+{}
+
+/// It has them beside runs that also go along edges that may still come, from a block's end so far into unsealed blocks.
+pub fn carrying_reads_right_coming()
+    ensures { CarryingReadsRightComing }
 {}
 
 /// Where no branch was made, it has them from every pair of states at the front of an unsealed entry.

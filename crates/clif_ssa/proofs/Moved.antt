@@ -73,7 +73,7 @@ module _ (from to : ℕ) where
       ]
   moved_arrives (edge ∷ edges) (suc k) leads = moved_arrives edges k leads
 
-  moved_destinations : (shape : InstructionData) → destinations (with_targets_changed from to shape) ≡ with_target_changed from to (destinations shape)
+  pub moved_destinations : (shape : InstructionData) → destinations (with_targets_changed from to shape) ≡ with_target_changed from to (destinations shape)
   moved_destinations (Jump destination) = refl
   moved_destinations (Brif arg blocks) = refl
   moved_destinations (BranchTable arg table) = refl

@@ -53,7 +53,7 @@ leads_moved s t i a b apart moved = record {
   others = λ c not_a not_b. moved c ∙ if_false c a _ _ not_a ∙ if_false c b _ _ not_b;
 }
 
-in_once : (i : ℕ) (xs : List ℕ) (j : ℕ) → Contains (with_once i xs) j → Contains xs j ⊎ (j ≡ i)
+pub in_once : (i : ℕ) (xs : List ℕ) (j : ℕ) → Contains (with_once i xs) j → Contains xs j ⊎ (j ≡ i)
 in_once i xs j here = by (stands_in i xs) here
   where
     by : (test : Bool) → Contains (if test then xs else xs ++ i ∷ []) j → Contains xs j ⊎ (j ≡ i)
@@ -63,6 +63,38 @@ in_once i xs j here = by (stands_in i xs) here
           | inl old ↦ inl old
           | inr is ↦ inr (sym is)
         ]
+
+-- what leads to a block led there before, or is the branch
+pub led_before : (s t : SsaState) (i a b : ℕ) → MovedLeads s t i a b → (c j : ℕ) → Contains (predecessors_of t c) j → Contains (predecessors_of s c) j ⊎ ((c ≡ b) × (j ≡ i))
+led_before s t i a b leads c j there =
+    elim (cases_eq c b) [
+      | inl at ↦
+          elim (in_once i (predecessors_of s b) j (subst (λ xs. Contains xs j) (ap (predecessors_of t) at ∙ leads.reached) there)) [
+            | inl old ↦ inl (subst (λ d. Contains (predecessors_of s d) j) (sym at) old)
+            | inr is ↦ inr (at, is)
+          ]
+      | inr other ↦
+          elim (cases_eq c a) [
+            | inl at ↦
+                inl (subst (λ d. Contains (predecessors_of s d) j) (sym at)
+                (contains_without i (predecessors_of s a) j (subst (λ xs. Contains xs j) (ap (predecessors_of t) at ∙ leads.left) there)))
+            | inr apart ↦ inl (subst (λ xs. Contains xs j) (leads.others c apart other) there)
+          ]
+    ]
+
+nothing_for : (f : Body) (values complete : List ℕ) → complete ≡ [] → AreFor f values complete → values ≡ []
+nothing_for f [] complete none are = refl
+nothing_for f (v ∷ values) [] none are = absurd are
+nothing_for f (v ∷ values) (p ∷ complete) none are = let no_way : ⊥ = cc in absurd no_way
+
+-- an edge into an unsealed block passes what the caller passed
+pub open_passes : (types : VariableTypes) (own : Own) (f : Body) (s : SsaState) → Structured types own f s [] → (a i k : ℕ) → is_yes (sealed_of s a) ≡ false
+    → Contains (predecessors_of s a) i → edge_target f i k ≡ Some a → args_of (slice_get (edges_at f i) k) ≡ own.passed i k
+open_passes types own f s before a i k open_a here to_a =
+    let has : HasParameters own f s [] a = before.parameters a in
+    let passes : EdgePasses f (own.passed i k) has.complete (args_of (slice_get (edges_at f i) k)) = has.edges i k here to_a in
+    let nothing : passes.values ≡ [] = nothing_for f passes.values has.complete (none_complete own f s [] a has open_a) passes.are_for in
+    passes.in_order ∙ ap (λ vs. own.passed i k ++ map Value vs) nothing ∙ append_none (own.passed i k)
 
 not_there : (i : ℕ) (xs : List ℕ) → stands_in i xs ≡ false → Contains xs i → ⊥
 not_there i xs out here = true_false (sym (test-from_Stands i xs (here.0, here.1, entry_any xs here.0 0 i here.1 ∙ here.2)) ∙ out)
@@ -102,21 +134,7 @@ module _ (own : Own) (f : Body) (insts : List InstNode) (s t : SsaState) (i a b 
   sealed_leads c sealed = leads.others c (not_a c sealed) (not_b c sealed)
 
   old_or_moved : (c j : ℕ) → Contains (predecessors_of t c) j → Contains (predecessors_of s c) j ⊎ ((c ≡ b) × (j ≡ i))
-  old_or_moved c j there =
-      elim (cases_eq c b) [
-        | inl at ↦
-            elim (in_once i (predecessors_of s b) j (subst (λ xs. Contains xs j) (ap (predecessors_of t) at ∙ leads.reached) there)) [
-              | inl old ↦ inl (subst (λ d. Contains (predecessors_of s d) j) (sym at) old)
-              | inr is ↦ inr (at, is)
-            ]
-        | inr other ↦
-            elim (cases_eq c a) [
-              | inl at ↦
-                  inl (subst (λ d. Contains (predecessors_of s d) j) (sym at)
-                  (contains_without i (predecessors_of s a) j (subst (λ xs. Contains xs j) (ap (predecessors_of t) at ∙ leads.left) there)))
-              | inr apart ↦ inl (subst (λ xs. Contains xs j) (leads.others c apart other) there)
-            ]
-      ]
+  old_or_moved = led_before s t i a b leads
 
   -- an edge that leads to a block leads there from before, or is one of the branch, to `b`
   edge_cases : (P : ℕ → ℕ → Type 0) → ((k : ℕ) → edge_target f i k ≡ Some a → P i k) → ((k : ℕ) → edge_target f i k ≡ Some b → P i k)
@@ -292,11 +310,6 @@ module _ (own : Own) (f : Body) (insts : List InstNode) (s t : SsaState) (i a b 
 
   -- THE STRUCTURE -------------------------------------------------------------------------------------------------
 
-  nothing_for : (values complete : List ℕ) → complete ≡ [] → AreFor f values complete → values ≡ []
-  nothing_for [] complete none are = refl
-  nothing_for (v ∷ values) [] none are = absurd are
-  nothing_for (v ∷ values) (p ∷ complete) none are = let no_way : ⊥ = cc in absurd no_way
-
   needed_still : (zeros : List ZeroAt) → AllByRecursion (IsNeededZero f) zeros → AllByRecursion (IsNeededZero g) zeros
   needed_still [] all = tt
   needed_still (z ∷ zeros) all =
@@ -353,16 +366,12 @@ module _ (own : Own) (f : Body) (insts : List InstNode) (s t : SsaState) (i a b 
       waiting_still c = waiting_homes f g (sealed_of t c) [] c (λ q there. refl) ∙ ap (λ entry. waiting_of f entry [] c) (same c)
 
       passes_a : (k : ℕ) → edge_target f i k ≡ Some a → args_of (slice_get (edges_at f i) k) ≡ own.passed i k
-      passes_a k to_a =
-          let has : HasParameters own f s [] a = before.parameters a in
-          let passes : EdgePasses f (own.passed i k) has.complete (args_of (slice_get (edges_at f i) k)) = has.edges i k here to_a in
-          let nothing : passes.values ≡ [] = nothing_for passes.values has.complete (none_complete own f s [] a has open_a) passes.are_for in
-          passes.in_order ∙ ap (λ vs. own.passed i k ++ map Value vs) nothing ∙ append_none (own.passed i k)
+      passes_a k to_a = open_passes types own f s before a i k open_a here to_a
 
 -- THE CALL --------------------------------------------------------------------------------------------------------
 
 -- the branch stands among those that lead to the first block
-contained : (i : ℕ) (xs : List ℕ) → Stands i xs → Contains xs i
+pub contained : (i : ℕ) (xs : List ℕ) → Stands i xs → Contains xs i
 contained i xs stands = (stands.0, stands.1, entry_any xs stands.0 i 0 stands.1 ∙ stands.2)
 
 module _ (f g : Body) (s t : SsaState) (i a b : ℕ) (moved : MovesBranch f s g t i a b) (records : t.records ≡ s.records) (within : i < length f.insts)

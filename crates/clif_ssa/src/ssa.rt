@@ -204,6 +204,13 @@ impl SSABuilder {
         self.tables.has_any_predecessors(block)
     }
 
+    /// Whether this branch leads to a block.
+    pub fn leads_to(&self, inst: Inst, block: Block) -> bool
+        ensures { IsTrue result ↔ Stands inst (predecessors_of self.now block) }
+    {
+        self.tables.predecessors(block).contains(&inst)
+    }
+
     /// Whether this branch is the one that was declared last at a block.
     ///
     /// A new branch with several edges to one block is declared there once, and so is known by this at each

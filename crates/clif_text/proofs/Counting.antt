@@ -5,13 +5,14 @@ use Rattle.std.specs.Cmp.Lexicographic.{slice_cmp}
 use Rattle.std.specs.Ordering.{nat_cmp}
 use Rattle.clif_calls.specs.declared.call.Call.{Call}
 use Rattle.clif_text.specs.declared.reader.Reader.{Reader}
-use Rattle.clif_text.specs.declared.scope.Kind.{Kind}
-use Rattle.clif_text.specs.declared.scope.Scope.{Scope}
-use Rattle.clif_text.specs.declared.scope.Totals.{Totals}
+use Rattle.clif_arguments.specs.declared.scope.Kind.{Kind}
+use Rattle.clif_arguments.specs.declared.scope.Scope.{Scope}
+use Rattle.clif_arguments.specs.declared.scope.Totals.{Totals}
 use Rattle.clif_text.specs.Grammar.{IsCall}
-use Rattle.clif_text.specs.Given.{numbered_kind, next_of, no_totals, totals_behind, totals_from, numbered_from, names_behind, names_with, is_instruction, first_answer, GiveNames}
-use Rattle.clif_text.specs.Scope.{given_in, names_of, Counts, KeepsNumbered}
-use Rattle.clif_text.specs.Reader.{IsCounted, WordsSay, NamesAnswers, header_said}
+use Rattle.clif_arguments.specs.Given.{numbered_kind, next_of, no_totals, totals_behind, totals_from, numbered_from, names_behind, names_with, is_instruction, first_answer, GiveNames}
+use Rattle.clif_arguments.specs.Scope.{given_in, names_of, Counts, KeepsNumbered}
+use Rattle.clif_arguments.specs.Header.{header_said}
+use Rattle.clif_text.specs.Reader.{IsCounted, WordsSay, NamesAnswers}
 
 totals_push : (totals : Totals) (calls : List Call) (call : Call) → totals_from totals (calls ++ call ∷ []) ≡ totals_behind (numbered_kind call) (totals_from totals calls)
 totals_push totals [] call = refl

@@ -5,9 +5,9 @@ use Rattle.std.specs.Prelude.{codes}
 use Rattle.std.proofs.lemmas.List.{append_assoc, append-nil, take_all}
 use Rattle.clif_calls.specs.declared.call.Name.{Name}
 use Rattle.clif_words.specs.Cursor.{texts}
-use Rattle.clif_text.specs.Given.{GiveNames, GivesName, first_answer}
-use Rattle.clif_text.specs.declared.scope.Scope.{Scope}
-use Rattle.clif_text.specs.Scope.{given_in, KeepsNumbered, Gives}
+use Rattle.clif_arguments.specs.Given.{GiveNames, GivesName, first_answer}
+use Rattle.clif_arguments.specs.declared.scope.Scope.{Scope}
+use Rattle.clif_arguments.specs.Scope.{given_in, KeepsNumbered, Gives}
 use Rattle.clif_text.specs.Reader.{NamesAnswers}
 use Rattle.clif_words.proofs.Texts.{texts_more}
 

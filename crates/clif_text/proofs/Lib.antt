@@ -1,7 +1,3 @@
-mod Taking
 mod Reading
-mod Scopes
 mod Giving
 mod Counting
-mod Headers
-mod Offsets

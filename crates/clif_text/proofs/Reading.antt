@@ -11,7 +11,7 @@ use Rattle.clif_words.specs.declared.error.LineError.{LineError}
 use Rattle.clif_words.specs.declared.error.LineError.TheVariants as fault
 use Rattle.clif_words.specs.Errors.{error_at}
 use Rattle.clif_text.specs.Reader.{RefusesWords, WordsSay, LineAdds}
-use Rattle.clif_text.specs.Header.{HeaderSaid, IsHeader}
+use Rattle.clif_arguments.specs.Header.{HeaderSaid, IsHeader}
 use Rattle.clif_text.specs.Script.{lines_of, line_at, IsLineNumber, Said, nothing_said, LineSays, LinesSay, TellsLine}
 use Rattle.clif_words.proofs.Left.{length-texts}
 use Rattle.clif_words.proofs.Texts.{get_or-texts}

@@ -21,4 +21,6 @@ operands_text (operands.TypedBytes ty bytes) = codes "." ++ (type_text ty ++ (co
 operands_text (operands.Edge edge) = codes " " ++ edge_text edge.now
 operands_text (operands.Table default entries) = codes " " ++ (answer_text default ++ answers_text entries.now)
 operands_text (operands.Branch index table) = codes " " ++ (answer_text index ++ (codes " jt" ++ decimal table))
+operands_text (operands.Number number) = codes " " ++ decimal number
+operands_text (operands.Label x label) = codes " " ++ (answer_text x ++ (codes " " ++ decimal label))
 operands_text (operands.Instruction plan) = plan_text plan

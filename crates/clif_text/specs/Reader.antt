@@ -2,19 +2,15 @@
 use Rattle.std.specs.Prelude.{◌≡◌, ℕ, Bool, List}
 use Rattle.clif_words.specs.declared.error.LineError.{LineError}
 use Rattle.clif_words.specs.declared.error.LineError.TheVariants as error
-use Rattle.clif_text.specs.declared.header.Header.{Header}
+use Rattle.clif_arguments.specs.declared.header.Header.{Header}
 use Rattle.clif_text.specs.declared.reader.Reader.{Reader}
-use Rattle.clif_text.specs.Header.{HeaderSaid}
-use Rattle.clif_text.specs.Given.{no_totals, numbered_from, totals_from, first_answer, GiveNames}
+use Rattle.clif_arguments.specs.Header.{header_said}
+use Rattle.clif_arguments.specs.Given.{no_totals, numbered_from, totals_from, first_answer, GiveNames}
 use Rattle.clif_text.specs.Grammar.{IsCall}
-use Rattle.clif_text.specs.declared.scope.Scope.{Scope}
-use Rattle.clif_text.specs.Scope.{given_in, KeepsNumbered}
+use Rattle.clif_arguments.specs.declared.scope.Scope.{Scope}
+use Rattle.clif_arguments.specs.Scope.{given_in, KeepsNumbered}
 use Rattle.clif_text.specs.Script.{Said, SaysCall, LineSays}
 use Rattle.clif_words.specs.Words.{HasWord}
-
--- what the header lines so far said
-abbrev pub header_said : Header → HeaderSaid
-header_said header = record { function = header.function; pointer_width = header.pointer_width; call_conv = header.call_conv }
 
 -- what the lines so far said
 abbrev pub said_to : Reader → Said

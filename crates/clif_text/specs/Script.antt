@@ -5,9 +5,10 @@ use Rattle.clif_calls.specs.declared.call.Call.{Call}
 use Rattle.clif_calls.specs.declared.call.Name.{Name}
 use Rattle.clif_words.specs.declared.error.ReadError.{ReadError}
 use Rattle.clif_words.specs.declared.error.ReadError.TheVariants as read
-use Rattle.clif_text.specs.Given.{names_behind, is_instruction, first_answer, GiveNames}
-use Rattle.clif_text.specs.Grammar.{Names, IsCall}
-use Rattle.clif_text.specs.Header.{HeaderSaid, IsHeader, name_in, signature_in, pointer_width_in, call_conv_in}
+use Rattle.clif_arguments.specs.Given.{names_behind, is_instruction, first_answer, GiveNames}
+use Rattle.clif_arguments.specs.Arguments.{Names}
+use Rattle.clif_text.specs.Grammar.{IsCall}
+use Rattle.clif_arguments.specs.Header.{HeaderSaid, IsHeader, name_in, signature_in, pointer_width_in, call_conv_in, no_header}
 use Rattle.clif_words.specs.Words.{AreWords, HasWord}
 use Rattle.clif_text.specs.declared.reader.Script.{Script}
 
@@ -40,7 +41,7 @@ pub record Said : Type 0 where
 -- no header line, no call, and no name
 abbrev pub nothing_said : Said
 nothing_said = record {
-  header = record { function = None; pointer_width = None; call_conv = None };
+  header = no_header;
   calls = [];
   numbers = [];
   given = λ word. None;

@@ -1,12 +1,11 @@
 //! The calls that are understood: one arm each.
 ghost use Rattle.std.specs.Prelude.{◌≡◌, ◌++◌, IfOk, IfSome, codes};
 ghost use Rattle.clif_words.specs.Cursor.{texts};
-ghost use Rattle.clif_text.specs.Given.{is_instruction};
+ghost use Rattle.clif_arguments.specs.Given.{is_instruction};
 ghost use Rattle.clif_text.specs.Grammar.{IsCall};
 ghost use Rattle.clif_text.specs.Reading.{ReadsCall};
-ghost use Rattle.clif_text.specs.Scope.{names_of};
+ghost use Rattle.clif_arguments.specs.Scope.{names_of};
 
-use crate::args::Args;
 use crate::entries::read_entry_call;
 use crate::instructions::{
     binary_named, cond_trap_named, convert_named, float_const_named, read_binary_call,
@@ -15,21 +14,20 @@ use crate::instructions::{
     read_stack_call, read_stack_store_call, read_store_call, read_unary_call, read_vconst_call,
     stack_named, unary_named,
 };
-use crate::scope::Scope;
+use clif_arguments::args::Args;
+use clif_arguments::scope::Scope;
 use clif_calls::{Call, PlainInstruction};
+use clif_types::SourceLoc;
 use clif_words::error::{Expected, Fault, LineError};
 use clif_words::types::type_named;
 use std::alloc::Global;
 
 // The calls of the format that aren't understood so far, without the type that may follow their name.
-const NOT_SUPPORTED: [&str; 22] = [
+const NOT_SUPPORTED: [&str; 18] = [
     "declare_var_needs_stack_map",
     "declare_value_needs_stack_map",
     "create_exception_table",
     "change_jump_destination",
-    "set_srcloc",
-    "collect_debug_info",
-    "set_val_label",
     "switch",
     "call_memcpy",
     "call_memmove",
@@ -40,7 +38,6 @@ const NOT_SUPPORTED: [&str; 22] = [
     "emit_small_memory_compare",
     "iadd_imm_s",
     "icmp_imm_s",
-    "cursor",
     "call",
     "call_indirect",
     "try_call",
@@ -101,7 +98,57 @@ fn read_call<'a>(
         "trap" => Ok(Call::Trap {
             code: args.trap_code()?,
         }),
+        "set_srcloc" | "collect_debug_info" | "set_val_label" => read_note_call(head, args),
+        "cursor" => read_cursor_call(alloc, head, args),
         _ => read_instruction(alloc, head, args),
+    }
+}
+
+// The same for a note: a place in the source, or a label.
+fn read_note_call<'a>(head: &'a str, args: &mut Args<'_, 'a>) -> Result<Call, LineError<'a>>
+    ensures { IfOk result (ReadsCall args.old args.new head.now) }
+{
+    match head {
+        "set_srcloc" => {
+            let bits = args.short_magnitude(Expected::SourceLoc)?;
+            let srcloc = SourceLoc::new(bits);
+            Ok(Call::SetSrcloc { srcloc })
+        }
+        "collect_debug_info" => Ok(Call::CollectDebugInfo),
+        "set_val_label" => {
+            let value = args.value()?;
+            let label = args.label()?;
+            Ok(Call::SetValLabel { value, label })
+        }
+        _ => Err(LineError::Fault(Fault::UnknownCall(head))),
+    }
+}
+
+// The same for `cursor`, which has an instruction behind it that neither branches nor ends its block.
+fn read_cursor_call<'a>(
+    alloc: Global,
+    head: &'a str,
+    args: &mut Args<'_, 'a>,
+) -> Result<Call, LineError<'a>>
+    requires { head.now ≡ codes "cursor" }
+    ensures { IfOk result (ReadsCall args.old args.new head.now) }
+{
+    let name = args.head()?;
+    let call = match read_instruction(alloc, name, args) {
+        Ok(call) => call,
+        Err(error) => return Err(behind_cursor(error)),
+    };
+    match &call {
+        Call::Plain(instruction) => Ok(Call::Cursor(*instruction)),
+        _ => Err(LineError::wanted(Expected::CursorInstruction)),
+    }
+}
+
+// What is told behind `cursor`, where no instruction is read: another call isn't expected there.
+fn behind_cursor(error: LineError<'_>) -> LineError<'_> {
+    match error {
+        LineError::Fault(Fault::UnknownCall(_)) => LineError::wanted(Expected::CursorInstruction),
+        other => other,
     }
 }
 
@@ -299,20 +346,29 @@ pub(crate) fn answers_of(call: &Call) -> Answers
         | Call::SetColdBlock { .. }
         | Call::EnsureInsertedBlock
         | Call::DefVar { .. }
-        | Call::TryDefVar { .. } => (false, 0),
-        Call::Plain(
-            PlainInstruction::Store { .. }
-            | PlainInstruction::StackStore { .. }
-            | PlainInstruction::Trapz { .. }
-            | PlainInstruction::Trapnz { .. },
-        )
-        | Call::Jump { .. }
+        | Call::TryDefVar { .. }
+        | Call::SetSrcloc { .. }
+        | Call::CollectDebugInfo
+        | Call::SetValLabel { .. } => (false, 0),
+        Call::Plain(instruction) | Call::Cursor(instruction) => (true, result_count(instruction)),
+        Call::Jump { .. }
         | Call::Brif { .. }
         | Call::BrTable { .. }
         | Call::Return { .. }
         | Call::Trap { .. } => (true, 0),
-        Call::Plain(PlainInstruction::Isplit { .. }) => (true, 2),
-        Call::Plain(_) | Call::F128const { .. } | Call::Vconst { .. } => (true, 1),
+        Call::F128const { .. } | Call::Vconst { .. } => (true, 1),
     };
     Answers { instruction, names }
+}
+
+// How many results an instruction has.
+fn result_count(instruction: &PlainInstruction) -> usize {
+    match instruction {
+        PlainInstruction::Store { .. }
+        | PlainInstruction::StackStore { .. }
+        | PlainInstruction::Trapz { .. }
+        | PlainInstruction::Trapnz { .. } => 0,
+        PlainInstruction::Isplit { .. } => 2,
+        _ => 1,
+    }
 }

@@ -1,9 +1,10 @@
 //! Calls that make entries of the function's tables.
 ghost use Rattle.std.specs.Prelude.{◌≡◌, IfOk};
 ghost use Rattle.clif_text.specs.Grammar.{IsGlobalValue, IsImported};
-ghost use Rattle.clif_text.specs.Reading.{ReadsCall, TakesWords, names_in};
+ghost use Rattle.clif_arguments.specs.Taking.{TakesWords, names_in};
+ghost use Rattle.clif_text.specs.Reading.{ReadsCall};
 
-use crate::args::Args;
+use clif_arguments::args::Args;
 use clif_calls::{Call, EntryCall};
 use clif_types::{DynamicStackSlotData, ExtFuncData, GlobalValueData};
 use clif_words::error::{Expected, Fault, LineError};

@@ -3,7 +3,7 @@ ghost use Rattle.std.specs.Prelude.{◌≡◌, ◌++◌, IfOk, IfSome, codes};
 ghost use Rattle.clif_opcodes.specs.Names.{binary_name, cond_trap_name, convert_name, float_const_name, stack_name, unary_name};
 ghost use Rattle.clif_text.specs.Reading.{ReadsCall};
 
-use crate::args::Args;
+use clif_arguments::args::Args;
 use clif_calls::{Call, PlainInstruction};
 use clif_opcodes::{
     BinaryOpcode, CondTrapOpcode, ConvertOpcode, FloatConstOpcode, StackOpcode, UnaryOpcode,

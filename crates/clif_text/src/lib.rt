@@ -1,13 +1,10 @@
 //! Scripts as text: `read` makes calls of a text, and `write` a text of calls.
 #![tactic(auto)]
 
-mod args;
 mod calls;
 mod entries;
-mod header;
 mod instructions;
 mod reader;
-mod scope;
 mod writer;
 
 pub use clif_words::error::{Expected, Fault, ReadError};

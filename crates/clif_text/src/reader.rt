@@ -2,13 +2,13 @@
 ghost use Rattle.std.specs.Prelude.{◌≡◌, ◌≢◌, ◌++◌, ◌∷◌, [], ℕ, List, IfOk, IfErr, IfNone, IfSome, OnOk, codes, true};
 ghost use Rattle.std.specs.List.{All};
 ghost use Rattle.clif_words.specs.Cursor.{texts};
-ghost use Rattle.clif_text.specs.Given.{numbered_kind};
+ghost use Rattle.clif_arguments.specs.Given.{numbered_kind};
 ghost use Rattle.clif_text.specs.Reader.{NamesAnswers};
 ghost use Rattle.clif_text.specs.Script as script;
 
 use crate::calls::{Answers, answers_of, call_of};
-use crate::header::{Header, is_header};
-use crate::scope::{Kind, Scope, is_name};
+use clif_arguments::header::{Header, is_header};
+use clif_arguments::scope::{Kind, Scope, is_name};
 use clif_calls::{Call, EntryCall, Name};
 use clif_types::{Signature, TargetFrontendConfig, UserFuncName};
 use clif_words::error::{Expected, Fault, LineError, ReadError};

@@ -234,6 +234,8 @@ enum Operands<'a> {
     Edge(&'a Edge),
     Table(Name, &'a [Name]),
     Branch(Name, JumpTable),
+    Number(u32),
+    Label(Name, u32),
     Instruction(Plan<'a>),
 }
 
@@ -257,6 +259,8 @@ impl fmt::Display for Operands<'_> {
                 write!(f, " {}{}", AnswerText(*default), AnswersText(entries))
             }
             Operands::Branch(index, table) => write!(f, " {} {table}", AnswerText(*index)),
+            Operands::Number(number) => write!(f, " {number}"),
+            Operands::Label(x, label) => write!(f, " {} {label}", AnswerText(*x)),
             Operands::Instruction(plan) => write!(f, "{}", PlanText(plan)),
         }
     }
@@ -303,6 +307,13 @@ fn parts(call: &Call) -> (&'static str, Operands<'_>)
         ),
         Call::TryUseVar { variable } => ("try_use_var", Operands::Variable(*variable)),
         Call::Plain(instruction) => ("", Operands::Instruction(instruction.plan())),
+        Call::Cursor(instruction) => ("cursor ", Operands::Instruction(instruction.plan())),
+        Call::SetSrcloc { srcloc } => ("set_srcloc", Operands::Number(srcloc.bits())),
+        Call::CollectDebugInfo => ("collect_debug_info", Operands::None),
+        Call::SetValLabel { value, label } => (
+            "set_val_label",
+            Operands::Label(*value, label.as_u32()),
+        ),
         Call::F128const { bytes } => ("f128const", Operands::Bytes(bytes.as_slice())),
         Call::Vconst { ty, bytes } => ("vconst", Operands::TypedBytes(*ty, bytes.as_slice())),
         Call::Jump { destination } => ("", Operands::Instruction(Plan::Jump { destination })),

@@ -18,13 +18,14 @@ use Rattle.clif_meaning.specs.Name.{Name, answer_of}
 use Rattle.clif_meaning.specs.Premises.{EachItem, EntryTakes, IsItemWellTyped, WellTyped, parameter_types}
 use Rattle.clif_meaning.specs.Program.{Item, Instruct, Use, Assign, Program, answers_from, extended, program_of, result_names, result_types, with_inserted, with_item_at}
 use Rattle.clif_meaning.specs.Name.{same_name}
-use Rattle.clif_meaning.specs.Request.{AnsweredCall, Build, DefVar, Finalize, Request, Script, UseVar, outright, script_of}
+use Rattle.clif_meaning.specs.Request.{AnsweredCall, Build, ChangeJumpDestination, DefVar, Finalize, Request, Script, UseVar, outright, script_of}
 use Rattle.clif_meaning.specs.World.{World}
 use Rattle.clif_simulation.specs.Carries.{AreTypes, IsValue}
 use Rattle.clif_simulation.specs.Tables.{program_so_far}
 use Rattle.clif_simulation.proofs.Carrying.{all_append, all_mapped}
 use Rattle.clif_simulation.proofs.LedgerValues.{type_new, type_stays, typed_earlier, value_stays}
 use Rattle.clif_simulation.proofs.Ledgers.{types_before}
+use Rattle.clif_simulation.proofs.EachRedirected.{all_redirected}
 use Rattle.clif_simulation.proofs.Numbers.{ledger_longer, place_so_far, program_longer}
 use Rattle.clif_simulation.proofs.Values.{false_is}
 use Rattle.clif_simulation.proofs.Whole.{are_declared, declared_types}
@@ -206,6 +207,7 @@ module _ (calls : List AnsweredCall) (call : AnsweredCall) where
                 (sym here) (results_typed table instruction is),
             operands_there table instruction is,
           )
+      by (ChangeJumpDestination branch from to) is = λ other. all_redirected P P branch from to (λ item given. given) (λ p instruction results given. given) (before.items other) (all other)
       by _ is = all
 
 -- ALL CALLS ---------------------------------------------------------------------------------------------------------------

@@ -1,5 +1,5 @@
 -- The function's machine keeps values of their types in its values.
-use Rattle.std.proofs.Common.{◌≡◌, ℕ, zero, suc, List, [], ◌∷◌, ◌++◌, map, slice_get, refl, sym, subst, true, false, Bool, Some, None, Option, inl, inr}
+use Rattle.std.proofs.Common.{◌≡◌, ℕ, zero, suc, List, [], ◌∷◌, ◌++◌, map, slice_get, refl, sym, subst, true, false, Bool, Some, None, Option, inl, inr, arith}
 use Rattle.std.specs.Prelude.{◌⊎◌, ◌==◌, ◌&&◌, if◌then◌else◌}
 use Rattle.std.proofs.lemmas.Bool.{eqb-true}
 use Rattle.std.proofs.lemmas.List.{append-nil}
@@ -19,7 +19,7 @@ use Rattle.clif_meaning.specs.Typing.{EachEdgeMatches, EdgeMatches, call_shape, 
 use Rattle.clif_meaning.specs.World.{World}
 use Rattle.clif_value_laws.specs.ValuesFit.{AliasesTyped, EntryHas, FunctionFits, HoldValues, IsPlacedTyped}
 use Rattle.clif_value_laws.specs.Laws.{FunctionRunsFit, FunctionStepsFit, OfNextPlaced}
-use Rattle.clif_value_laws.proofs.Outcomes.{GivesValues, typed_gives}
+use Rattle.clif_value_laws.proofs.Outcomes.{GivesValues, PassesValues, typed_gives}
 use Rattle.clif_value_laws.proofs.Holding.{FitAt, all_fit, none_fit, zeros_hold, assigned_front, assigned_hold, edge_fits}
 
 values_equal : (a b : ℕ) → same_value a b ≡ true → a ≡ b
@@ -126,6 +126,16 @@ module _ (run : FunctionRun) where
     answered state call (normal ∷ edges) results rest (Exception edge payload) answers are match fits =
         followed state [] payload_types payload edges edge (none_fit payload) (all_fit payload_types payload answers.1) match.1 fits
 
+    -- along an edge, where that passes values
+    passed : (state : FunctionState) (edges : List (Edge ℕ ℕ)) (made : Option CallShape) (k : ℕ) (given : List Bits) → PassesValues made k given
+        → EachEdgeMatches run.function.value_type (value_types_at run.function) made edges → FunctionFits run state
+        → FunctionFits run (follow_edge run state given (slice_get edges k))
+    passed state edges None k given passes match fits = followed state [] [] given edges k (none_fit given) (none_fit given) match fits
+    passed state edges (Some call) (suc k) given passes match fits = let no_way : ⊥ = omega (arith, passes.0) in absurd no_way
+    passed state [] (Some call) zero given passes match fits = stuck state fits
+    passed state (normal ∷ items) (Some call) zero given passes match fits =
+        followed state (types_of call.signature.returns) [] given (normal ∷ []) 0 (all_fit (types_of call.signature.returns) given passes.1) (none_fit given) (match.0, tt) fits
+
     carried : (state : FunctionState) (placed : Placed) (rest : List Placed) (outcome : Outcome) → WorksFitting run.function placed
         → GivesValues (map run.function.value_type placed.results) returns (call_shape placed.instruction.operation) outcome
         → FunctionFits run state → FunctionFits run (carry_out run state placed rest outcome)
@@ -134,9 +144,7 @@ module _ (run : FunctionRun) where
       returned = tt;
     }
     carried state placed rest (Goes edge given memory) works gives fits =
-        let plain : AllByRecursion (EdgeMatches run.function.value_type (value_types_at run.function) [] []) placed.instruction.edges =
-        subst (λ (made : Option CallShape). EachEdgeMatches run.function.value_type (value_types_at run.function) made placed.instruction.edges) gives works.edges in
-        followed (record state { memory = memory }) [] [] given placed.instruction.edges edge (none_fit given) (none_fit given) plain (with_memory state memory fits)
+        passed (record state { memory = memory }) placed.instruction.edges (call_shape placed.instruction.operation) edge given gives works.edges (with_memory state memory fits)
     carried state placed rest (Returns values) works gives fits = record { values = fits.values; returned = gives }
     carried state placed rest (Traps reason) works gives fits = record { values = fits.values; returned = tt }
     carried state placed rest (Calls callee call arguments) works gives fits =

@@ -1,5 +1,5 @@
 -- The script's machine keeps values of their types in its variables and names.
-use Rattle.std.proofs.Common.{◌≡◌, ℕ, zero, suc, List, [], ◌∷◌, ◌++◌, map, slice_get, sym, subst, true, false, Bool, ap₂, Some, None, Option, inl, inr}
+use Rattle.std.proofs.Common.{◌≡◌, ℕ, zero, suc, List, [], ◌∷◌, ◌++◌, map, slice_get, sym, subst, true, false, Bool, ap₂, Some, None, Option, inl, inr, arith}
 use Rattle.std.specs.Prelude.{◌==◌, ◌⊎◌, if◌then◌else◌}
 use Rattle.std.proofs.lemmas.Bool.{eqb-true, and_parts}
 use Rattle.std.proofs.lemmas.List.{append-nil}
@@ -21,7 +21,7 @@ use Rattle.clif_meaning.specs.Typing.{EachEdgeMatches, EdgeMatches, call_shape}
 use Rattle.clif_meaning.proofs.EachStep.{each_step}
 use Rattle.clif_value_laws.specs.ValuesFit.{EntryHas, HoldValues, IsItemTyped, ScriptFits, name_types_at}
 use Rattle.clif_value_laws.specs.Laws.{ScriptRunsFit, ScriptStepsFit}
-use Rattle.clif_value_laws.proofs.Outcomes.{GivesValues, typed_gives}
+use Rattle.clif_value_laws.proofs.Outcomes.{GivesValues, PassesValues, typed_gives}
 use Rattle.clif_value_laws.proofs.Holding.{FitAt, all_fit, none_fit, zeros_hold, assigned_front, assigned_hold, edge_fits}
 
 -- the tests for equal names and for equal variables
@@ -101,6 +101,15 @@ module _ (run : ScriptRun) (returns : List «Type») where
   answered state call (normal ∷ edges) results rest (Exception edge payload) answers are match fits =
       followed state [] payload_types payload edges edge (none_fit payload) (all_fit payload_types payload answers.1) match.1 fits
 
+  -- along an edge, where that passes values
+  passed : (state : ScriptState) (edges : List (Edge Name Name)) (made : Option CallShape) (k : ℕ) (given : List Bits) → PassesValues made k given
+      → EachEdgeMatches run.name_type (name_types_at run) made edges → ScriptFits run returns state → ScriptFits run returns (follow_edge run state given (slice_get edges k))
+  passed state edges None k given passes match fits = followed state [] [] given edges k (none_fit given) (none_fit given) match fits
+  passed state edges (Some call) (suc k) given passes match fits = let no_way : ⊥ = omega (arith, passes.0) in absurd no_way
+  passed state [] (Some call) zero given passes match fits = stuck state fits
+  passed state (normal ∷ items) (Some call) zero given passes match fits =
+      followed state (types_of call.signature.returns) [] given (normal ∷ []) 0 (all_fit (types_of call.signature.returns) given passes.1) (none_fit given) (match.0, tt) fits
+
   carried : (state : ScriptState) (edges : List (Edge Name Name)) (results : List Name) (rest : List Item) (made : Option CallShape) (outcome : Outcome)
       → GivesValues (map run.name_type results) returns made outcome → EachEdgeMatches run.name_type (name_types_at run) made edges
       → ScriptFits run returns state → ScriptFits run returns (carry_out run state edges results rest outcome)
@@ -110,9 +119,7 @@ module _ (run : ScriptRun) (returns : List «Type») where
     returned = tt;
   }
   carried state edges results rest made (Goes edge given memory) gives match fits =
-      let plain : AllByRecursion (EdgeMatches run.name_type (name_types_at run) [] []) edges =
-      subst (λ (call : Option CallShape). EachEdgeMatches run.name_type (name_types_at run) call edges) gives match in
-      followed (record state { memory = memory }) [] [] given edges edge (none_fit given) (none_fit given) plain (with_memory state memory fits)
+      passed (record state { memory = memory }) edges made edge given gives match (with_memory state memory fits)
   carried state edges results rest made (Returns values) gives match fits = record { variables = fits.variables; names = fits.names; returned = gives }
   carried state edges results rest made (Traps reason) gives match fits = record { variables = fits.variables; names = fits.names; returned = tt }
   carried state edges results rest made (Calls callee call arguments) gives match fits =

@@ -36,6 +36,10 @@ pub enum Expected {
     AlignShift,
     /// The number of a dynamic type, in 32 bits.
     DynamicType,
+    /// A place in the source, in 32 bits.
+    SourceLoc,
+    /// A label of a value, which is below 2^32 - 1.
+    ValueLabel,
     /// What a global value is.
     GlobalValue,
     /// A type.
@@ -56,6 +60,8 @@ pub enum Expected {
     TrapCode,
     /// A distance from an address.
     Offset,
+    /// An instruction that is made through `cursor`.
+    CursorInstruction,
     /// The name of a function, as `%sample` or `u0:0`.
     FunctionName,
     /// The name of a symbol, as that of a function.
@@ -98,6 +104,8 @@ impl fmt::Display for Expected {
             Expected::SlotSize => "a size of 32 bits",
             Expected::AlignShift => "a shift of 8 bits",
             Expected::DynamicType => "a dynamic type of 32 bits",
+            Expected::SourceLoc => "a source place of 32 bits",
+            Expected::ValueLabel => "a label",
             Expected::GlobalValue => "vmctx or symbol",
             Expected::Type => "a type",
             Expected::Number => "a number of 64 bits",
@@ -108,6 +116,7 @@ impl fmt::Display for Expected {
             Expected::Condition => "a condition",
             Expected::TrapCode => "a trap code",
             Expected::Offset => "an offset",
+            Expected::CursorInstruction => "an instruction for cursor",
             Expected::FunctionName => "the name of a function",
             Expected::SymbolName => "the name of a symbol",
             Expected::LibCall => "Memcpy, Memmove, Memset or Memcmp",

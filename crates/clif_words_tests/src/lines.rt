@@ -104,6 +104,9 @@ fn expectations(rt: HostRuntime) -> Result<(), Fail> {
         (Expected::Condition, "a condition"),
         (Expected::TrapCode, "a trap code"),
         (Expected::Offset, "an offset"),
+        (Expected::SourceLoc, "a source place of 32 bits"),
+        (Expected::ValueLabel, "a label"),
+        (Expected::CursorInstruction, "an instruction for cursor"),
     ];
     for (expected, text) in rows.iter() {
         let told = format!(in rt.alloc(); "{expected}")?;

@@ -20,6 +20,7 @@ use Rattle.clif_simulation.proofs.Further.{carries_tables}
 use Rattle.clif_simulation.proofs.Growing.{entries_kept}
 use Rattle.clif_ir.proofs.KeepsTables.{entry_stays}
 use Rattle.clif_ir.specs.Consistent.{IsConsistent}
+use Rattle.clif_simulation.proofs.Predecessors.{leads_on}
 use Rattle.cranelift_frontend.specs.declared.builder.FunctionBuilder.{FunctionBuilder}
 use Rattle.cranelift_frontend.specs.declared.context.BlockStatus.TheVariants.{Filled}
 use Rattle.cranelift_frontend.specs.Builder.{HasCurrent, SameLoans}
@@ -129,6 +130,7 @@ entry_stands declared calls f c p entry number consistent stands ledger = record
   signature = stands.signature;
   ledger = ledger;
   carries = carries_tables calls f c.ssa stands.carries entry number (with_entry f.tables entry) consistent (entries_kept f.tables entry);
+  leads_built = leads_on calls (made entry number) tt stands.leads_built;
   begun = stands.begun;
   callers_alone = λ d.
       alone_after calls (made entry number) f (with_more f entry) c c stands.carries.own stands.carries.holds.parameters

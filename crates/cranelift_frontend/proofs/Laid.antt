@@ -14,6 +14,7 @@ use Rattle.clif_ssa.specs.LookUp.{branch_block}
 use Rattle.clif_ssa.specs.Ssa.{NamesExist, SsaState}
 use Rattle.clif_ssa.proofs.StructuredLaws.{blocks_structured}
 use Rattle.clif_simulation.proofs.Further.{carries_after, first_stays, out_before}
+use Rattle.clif_simulation.proofs.Predecessors.{leads_on}
 use Rattle.cranelift_frontend.specs.Context.{ContextState}
 use Rattle.cranelift_frontend.specs.Ledger.{LedgerAgrees, NamesBlock, block_name, ledger_of}
 use Rattle.cranelift_frontend.specs.StandsFor.{StandsIn}
@@ -110,6 +111,7 @@ laid_stands declared calls f c p block after b a stands ledger = record {
   signature = stands.signature;
   ledger = ledger;
   carries = carries_after calls f c.ssa stands.carries block after b a;
+  leads_built = leads_on calls (record { request = InsertBlockAfter block after; numbers = [] }) tt stands.leads_built;
   begun = λ entry is. stands.begun entry (sym (first_stays b a f.layout) ∙ is);
   callers_alone = λ d.
       let call : AnsweredCall = record { request = InsertBlockAfter block after; numbers = [] } in

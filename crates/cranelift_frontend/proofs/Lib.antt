@@ -26,6 +26,7 @@ pub mod Statuses
 pub mod StandingCallers
 mod StandingOpen
 pub mod Standing
+pub mod Redirected
 pub mod StandingResults
 pub mod Marking
 pub mod Entries

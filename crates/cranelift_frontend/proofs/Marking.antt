@@ -22,6 +22,7 @@ use Rattle.clif_ssa.proofs.Completing.{inserted_same}
 use Rattle.clif_ssa.proofs.StructuredLaws.{blocks_structured, inserted_structured}
 use Rattle.clif_simulation.specs.Carries.{Carries}
 use Rattle.clif_simulation.proofs.Further.{carries_cold, carries_ensured, cold_insts, cold_params}
+use Rattle.clif_simulation.proofs.Predecessors.{leads_on}
 use Rattle.cranelift_frontend.specs.declared.context.BlockStatus.TheVariants.{Empty}
 use Rattle.cranelift_frontend.specs.Context.{ContextState, begun, status_of, SetsStatus}
 use Rattle.cranelift_frontend.specs.Ledger.{AreTypesOf, BlockAgrees, IsEnded, LedgerAgrees, NamesBlock, block_name, ledger_of}
@@ -151,6 +152,7 @@ cold_stands declared calls f c p name b stands ledger =
       signature = stands.signature;
       ledger = ledger;
       carries = carries_cold calls f c.ssa stands.carries name b;
+      leads_built = leads_on calls (record { request = SetColdBlock name; numbers = [] }) tt stands.leads_built;
       begun = stands.begun;
       callers_alone = λ d.
           let call : AnsweredCall = record { request = SetColdBlock name; numbers = [] } in
@@ -230,6 +232,7 @@ ensured_stands declared calls f g c d p block (Ok u) stands at is sets ssa ledge
       ledger = ledger;
       carries = subst (λ (s : SsaState). Carries after g s) (sym ssa)
           (subst (λ (h : Body). Carries after h c.ssa) (sym is) (carries_ensured calls f c.ssa stands.carries block current.0 current.1));
+      leads_built = leads_on calls (record { request = EnsureInsertedBlock; numbers = [] }) tt stands.leads_built;
       begun = λ b there empty.
           still_begun c d block sets b
           (old_or_it b (first_cases f block b (ap (λ (h : Body). slice_get h.layout 0) (sym is) ∙ there))) empty;

@@ -15,6 +15,7 @@ use Rattle.clif_meaning.proofs.CallLists as earlier
 use Rattle.clif_records.specs.Tables.{is_yes}
 use Rattle.clif_ssa.specs.Ssa.{predecessors_of, sealed_of}
 use Rattle.clif_simulation.proofs.Further.{carries_sealed_all}
+use Rattle.clif_simulation.proofs.Predecessors.{leads_on}
 use Rattle.cranelift_frontend.specs.Context.{Begins, ContextState, SameStatus}
 use Rattle.cranelift_frontend.specs.Builder.{is_empty_status, is_filled_status}
 use Rattle.cranelift_frontend.specs.Construction.{IsSealingAll}
@@ -132,6 +133,7 @@ sealed_all_stands declared calls f g c d p (Ok u) stands consistent are after le
       signature = ap (λ (h : Body). h.signature) seals.constructs.same ∙ stands.signature;
       ledger = ledger;
       carries = carries_sealed_all calls f c.ssa stands.carries g d.ssa (λ b. ltb b (length f.blocks)) consistent seals.sealed seals.keeps seals.structured seals.constructs layout seals.predecessors;
+      leads_built = leads_on calls seals_all tt stands.leads_built;
       begun = λ b there. begins_not_empty c d are.0 are.2 b (inl (stands.begun b (ap (λ (blocks : List ℕ). slice_get blocks 0) (sym layout) ∙ there)));
       callers_alone = λ b.
           alone_after calls seals_all f g c d stands.carries.own stands.carries.holds.parameters (same_callers calls seals_all f c.ssa stands.carries tt tt) b

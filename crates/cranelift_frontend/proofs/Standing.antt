@@ -26,6 +26,7 @@ use Rattle.clif_simulation.proofs.Whole.{are_declared, declared_types}
 use Rattle.clif_simulation.proofs.CarriedStructure.{matching_edges}
 use Rattle.clif_simulation.proofs.Beginning.{carries_nothing, one_current}
 use Rattle.clif_simulation.proofs.Calls.{carries_created, carries_switched, carries_declared, carries_sealed, carries_assigned, carries_used, structured_so_far}
+use Rattle.clif_simulation.proofs.Predecessors.{leads_on}
 use Rattle.cranelift_frontend.specs.declared.context.BlockStatus.{BlockStatus}
 use Rattle.cranelift_frontend.specs.declared.context.BlockStatus.TheVariants.{Empty, Partial, Filled}
 use Rattle.cranelift_frontend.specs.Context.{ContextState, SameStatus, empty_context, status_of, begun, Begins}
@@ -101,6 +102,7 @@ module _ (declared : SignatureShape) (calls : List AnsweredCall) (f : Body) (c :
     ledger = ledger;
     carries = subst (λ (h : Body). Carries (calls ++ record { request = CreateBlock; numbers = numbers } ∷ []) h d.ssa) (sym is)
         (carries_created calls f c.ssa stands.carries d.ssa numbers stands.ledger.block_count (λ v b. ap (λ (m : RecordMap). record_at m v b) records) same leads);
+    leads_built = leads_on calls (record { request = CreateBlock; numbers = numbers }) tt stands.leads_built;
     begun = λ b there empty. stands.begun b (ap (λ (h : Body). slice_get h.layout 0) (sym is) ∙ there) (ap (λ (s : List BlockStatus). status_of (record c { status = s }) b) (sym status) ∙ empty);
     callers_alone = λ b.
         alone_after calls (record { request = CreateBlock; numbers = numbers }) f g c d stands.carries.own stands.carries.holds.parameters (created_callers calls numbers f c.ssa stands.carries) b
@@ -117,6 +119,7 @@ module _ (declared : SignatureShape) (calls : List AnsweredCall) (f : Body) (c :
     signature = stands.signature;
     ledger = ledger;
     carries = carries_switched calls f c.ssa stands.carries name [];
+    leads_built = leads_on calls (record { request = SwitchToBlock name; numbers = [] }) tt stands.leads_built;
     begun = stands.begun;
     callers_alone = λ b. unchanged_alone (record { request = SwitchToBlock name; numbers = [] }) c tt tt (λ e. refl) b;
   }
@@ -128,6 +131,7 @@ module _ (declared : SignatureShape) (calls : List AnsweredCall) (f : Body) (c :
     signature = stands.signature;
     ledger = ledger;
     carries = subst (Carries (calls ++ record { request = DeclareVar ty; numbers = numbers } ∷ []) f) (sym ssa) (carries_declared calls f c.ssa stands.carries ty numbers);
+    leads_built = leads_on calls (record { request = DeclareVar ty; numbers = numbers }) tt stands.leads_built;
     begun = λ b there empty. stands.begun b there (ap (λ (s : List BlockStatus). status_of (record c { status = s }) b) (sym status) ∙ empty);
     callers_alone = λ b. unchanged_alone (record { request = DeclareVar ty; numbers = numbers }) d tt tt (λ e. sym (same_status d status e)) b;
   }
@@ -139,6 +143,7 @@ module _ (declared : SignatureShape) (calls : List AnsweredCall) (f : Body) (c :
     signature = ap (λ (h : Body). h.signature) seals.constructs.same ∙ stands.signature;
     ledger = ledger;
     carries = carries_sealed calls f c.ssa stands.carries g d.ssa name [] (λ b. b == block) consistent seals.sealed seals.keeps seals.structured seals.constructs layout seals.predecessors;
+    leads_built = leads_on calls (record { request = SealBlock name; numbers = [] }) tt stands.leads_built;
     begun = λ b there. begins_not_empty c d told begins b (inl (stands.begun b (ap (λ (blocks : List ℕ). slice_get blocks 0) (sym layout) ∙ there)));
     callers_alone = λ b.
         let call : AnsweredCall = record { request = SealBlock name; numbers = [] } in
@@ -179,6 +184,7 @@ module _ (declared : SignatureShape) (calls : List AnsweredCall) (f : Body) (c :
             names.number names.is_value (ledger_type variable (value_at f value).ty typed) (exists, refl) records
             (λ b. ap (λ bs. sealed_of (record c.ssa { blocks = bs }) b) blocks) (λ b. ap (λ bs. predecessors_of (record c.ssa { blocks = bs }) b) blocks);
         begun = λ b there empty. stands.begun b there (ap (λ (s : List BlockStatus). status_of (record c { status = s }) b) (sym status) ∙ empty);
+        leads_built = leads_on calls (record { request = DefVar variable name; numbers = [] }) tt stands.leads_built;
         callers_alone = λ b. unchanged_alone (record { request = DefVar variable name; numbers = [] }) d tt tt (λ e. sym (same_status d status e)) b;
       }
 
@@ -198,6 +204,7 @@ module _ (declared : SignatureShape) (calls : List AnsweredCall) (f : Body) (c :
         ledger = ledger;
         carries = carries_used calls f c.ssa stands.carries consistent block current.0 current.1 (current_unfilled block current.0 current.1 open_block) g d.ssa variable value ty of_ledger
             is_use.keeps (λ types own same before. (is_use.structured types own (sym same) before).0) is_use.constructs layout is_use.predecessors is_use.flags answer.1;
+        leads_built = leads_on calls (record { request = UseVar variable; numbers = value ∷ [] }) tt stands.leads_built;
         begun = λ b there. begins_not_empty c d (block ∷ told) begins b (was b (first_cases f block b (ap (λ (blocks : List ℕ). slice_get blocks 0) (sym layout) ∙ there)));
         callers_alone = λ b.
             let call : AnsweredCall = record { request = UseVar variable; numbers = value ∷ [] } in
@@ -216,6 +223,7 @@ stands_begins f c p function context ledger = record {
   signature = refl;
   ledger = ledger;
   carries = subst (λ (g : Body). Carries [] g c.ssa) (sym function) (subst (λ (d : ContextState). Carries [] (empty_body f.name f.signature) d.ssa) (sym context) (carries_nothing f.name f.signature));
+  leads_built = tt;
   begun = λ b there empty. absurd (none-some b (sym (ap (λ (g : Body). slice_get g.layout 0) function) ∙ there));
   callers_alone = λ b. inl (ap (λ (g : Body). (block_at g b).params) function);
 }

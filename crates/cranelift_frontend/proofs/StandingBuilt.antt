@@ -29,6 +29,7 @@ use Rattle.clif_simulation.proofs.NameLists.{MakesNoBlock}
 use Rattle.clif_ssa.proofs.Completing.{inserted_same}
 use Rattle.clif_ssa.proofs.Constructed.{inserted_constructs}
 use Rattle.clif_ssa.proofs.Instructions.{inst_params}
+use Rattle.clif_simulation.proofs.Predecessors.{RedirectsBuilt, leads_on}
 use Rattle.cranelift_frontend.specs.declared.context.BlockStatus.{BlockStatus}
 use Rattle.cranelift_frontend.specs.declared.context.BlockStatus.TheVariants.{Empty, Filled}
 use Rattle.cranelift_frontend.specs.Context.{ContextState, status_of, begun, SetsStatus}
@@ -160,12 +161,13 @@ module _ (place : ℕ) (declared : SignatureShape) (calls : List AnsweredCall) (
   was b (inr same) = inr same
 
   -- an instruction was appended, and the function carries the call
-  pub stands_built : (call : AnsweredCall) → MakesNoBlock call.request → MakesNoParameter call.request → LedgerAgrees (calls ++ call ∷ []) (ledger_of (calls ++ call ∷ [])) g d p
+  pub stands_built : (call : AnsweredCall) → MakesNoBlock call.request → MakesNoParameter call.request → RedirectsBuilt calls call.request → LedgerAgrees (calls ++ call ∷ []) (ledger_of (calls ++ call ∷ [])) g d p
       → Carries (calls ++ call ∷ []) (with_appended f block shape ty place) d.ssa → StandsIn declared (calls ++ call ∷ []) g d p
-  stands_built call no_block no_parameter ledger carries = record {
+  stands_built call no_block no_parameter redirects ledger carries = record {
     signature = ap (λ (h : Body). h.signature) appends.function ∙ ap (λ (h : Body). h.signature) (inserted_constructs f block).same ∙ stands.signature;
     ledger = ledger;
     carries = subst (λ (h : Body). Carries (calls ++ call ∷ []) h d.ssa) (sym appends.function) carries;
+    leads_built = leads_on calls call redirects stands.leads_built;
     begun = λ b stays.
         not_empty c d block (status_after shape (status_of c block)) appends.status (appended_not_empty shape (status_of c block)) b
         (was b (first_cases f block b (ap (λ (h : Body). slice_get h.layout 0) (sym appends.function) ∙ stays)));

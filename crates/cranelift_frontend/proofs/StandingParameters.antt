@@ -24,6 +24,7 @@ use Rattle.clif_simulation.specs.Carries.{numbers_from, with_params}
 use Rattle.clif_simulation.specs.Structure.{HasCallersAlone}
 use Rattle.clif_simulation.proofs.Appending.{same_layout}
 use Rattle.clif_simulation.proofs.ParameterCalls.{Makes, alone_still, carries_params}
+use Rattle.clif_simulation.proofs.Predecessors.{RedirectsBuilt, leads_on}
 use Rattle.cranelift_frontend.specs.declared.context.BlockStatus.TheVariants.{Empty}
 use Rattle.cranelift_frontend.specs.Context.{ContextState, status_of}
 use Rattle.cranelift_frontend.specs.Ledger.{LedgerAgrees, NamesBlock, ledger_of}
@@ -59,6 +60,7 @@ params_stand declared calls f c p b B types request stands consistent names ther
   signature = same_signature f b types ∙ stands.signature;
   ledger = params_agree calls f c p b B types request stands.ledger consistent names empty makes;
   carries = carries_params calls f c.ssa stands.carries consistent b B named there alone types (record { request = request; numbers = numbers_from (length f.values) types }) makes refl;
+  leads_built = leads_on calls (record { request = request; numbers = numbers_from (length f.values) types }) (redirects_none makes) stands.leads_built;
   begun = λ entry first. stands.begun entry (ap (λ (layout : List ℕ). slice_get layout 0) (sym (same_layout f b types)) ∙ first);
   callers_alone = λ d. elim (stands.callers_alone d) [
     | inl old ↦ inl (alone_still calls f c.ssa stands.carries consistent b B named there alone types (record { request = request; numbers = numbers_from (length f.values) types }) makes refl d old)
@@ -66,6 +68,10 @@ params_stand declared calls f c p b B types request stands consistent names ther
   ];
 }
   where
+    redirects_none : Makes request B types → RedirectsBuilt calls request
+    redirects_none (inl is) = subst (RedirectsBuilt calls) (sym is) tt
+    redirects_none (inr is) = subst (RedirectsBuilt calls) (sym is) tt
+
     named : simulation.block_name calls b ≡ Some B
     named = slice_get-map (λ (state : BlockState). state.block) (ledger_of calls).blocks b ∙ named-block calls (name-number calls (ledger_of calls) f c p stands.ledger) B b names
 

@@ -113,7 +113,7 @@ module _ (place : ℕ) (declared : SignatureShape) (calls : List AnsweredCall) (
   finished : (types : List «Type») → types_of_results f.tables shape ty ≡ types → Carries (calls ++ call ∷ []) (with_inst (inserted_in f block) block Back shape types place) d.ssa
       → StandsIn declared (calls ++ call ∷ []) g d p
   finished types is carries =
-      stands_built place declared calls f g c d p stands block shape ty inst appends call tt tt kept
+      stands_built place declared calls f g c d p stands block shape ty inst appends call tt tt tt kept
       (subst (λ (ts : List «Type»). Carries (calls ++ call ∷ []) (with_inst (inserted_in f block) block Back shape ts place) d.ssa) (sym is) carries)
 
   -- the types of the program's results, and the type at which the instruction is made

@@ -63,6 +63,7 @@ module _ (f : Body) (lists : TableLists) (constants : KeepsConstants f (with_tab
     signature = stands.signature;
     ledger = agrees_aside calls (ledger_of calls) c p stands.ledger;
     carries = carries_pooled calls f c.ssa lists consistent entries stands.carries;
+    leads_built = stands.leads_built;
     begun = stands.begun;
     callers_alone = λ d. elim (stands.callers_alone d) [
       | inl alone ↦ inl alone

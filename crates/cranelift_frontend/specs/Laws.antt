@@ -12,8 +12,9 @@ use Rattle.clif_simulation.specs.Tables.{program_so_far}
 use Rattle.clif_simulation.specs.Carries.{NothingLeads}
 use Rattle.clif_ssa.specs.Sound.{EntryIsFree}
 use Rattle.clif_simulation.specs.Structure.{AreRecords, NoneWaits}
-use Rattle.clif_simulation.specs.Reading.{ReadsRightFromAnywhere}
+use Rattle.clif_simulation.specs.Reading.{may_grow, ReadsRightFromAnywhere}
 use Rattle.clif_simulation.specs.Interrupted.{ReadsRight}
+use Rattle.clif_simulation.specs.Coming.{ReadsRightComing}
 use Rattle.cranelift_frontend.specs.Context.{ContextState}
 use Rattle.cranelift_frontend.specs.StandsFor.{StandsIn}
 
@@ -25,6 +26,14 @@ abbrev pub StandingReadsRight : Type 0
 StandingReadsRight =
     (declared : SignatureShape) (calls : List AnsweredCall) (f : Body) (c : ContextState) (position : Option ℕ)
     → IsConsistent f → StandsIn declared calls f c position → ReadsRight calls declared f c.ssa
+
+-- They do so along edges that may still come, too: beside runs that go, from a block's end so far, along any edge of a set into
+-- unsealed blocks, with any memory, any events and any bits of the target's parameters, alike on both sides. What a name is given
+-- before is asked whichever of these edges come. So a block that only a coming branch will reach is read as well.
+abbrev pub StandingReadsRightComing : Type 0
+StandingReadsRightComing =
+    (declared : SignatureShape) (calls : List AnsweredCall) (f : Body) (c : ContextState) (position : Option ℕ)
+    → IsConsistent f → StandsIn declared calls f c position → ReadsRightComing (may_grow calls) calls declared f c.ssa
 
 -- Where no branch was made, they do so from every pair of states at the front of an unsealed entry.
 abbrev pub StandingReadsRightFromAnywhere : Type 0

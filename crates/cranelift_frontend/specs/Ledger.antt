@@ -15,7 +15,7 @@ use Rattle.clif_nodes.specs.declared.nodes.InstNode.{InstNode}
 use Rattle.clif_ir.specs.Body.{Body, block_at}
 use Rattle.clif_meaning.specs.Name.{Name, answer_of}
 use Rattle.clif_meaning.specs.Request.{AnsweredCall, script_of, number_of}
-use Rattle.clif_meaning.specs.Ledger.{Answered, ABlock, AVariable, AValue, AnInstruction, AnEntry, AnEdge, AJumpTable, BlockState, Ledger, ledger_after, answer_at, has_block, has_value}
+use Rattle.clif_meaning.specs.Ledger.{Answered, ABlock, AVariable, AValue, AnInstruction, AnEntry, AnEdge, AJumpTable, BlockState, Ledger, ledger_after, answer_at, has_block, has_instruction, has_value}
 use Rattle.clif_meaning.specs.Acceptance.{Refusal}
 use Rattle.clif_meaning.specs.Acceptance as refusal
 use Rattle.clif_records.specs.Tables.{is_yes}
@@ -51,6 +51,11 @@ pub record NamesBlock (calls : List AnsweredCall) (name : Name) (block : ℕ) : 
 pub record NamesValue (calls : List AnsweredCall) (name : Name) (value : ℕ) : Type 0 where
   pub number : number_of calls name ≡ Some value
   pub is_value : IsTrue (has_value (ledger_of calls) name)
+
+-- a name of the instruction with this number
+pub record NamesInstruction (calls : List AnsweredCall) (name : Name) (inst : ℕ) : Type 0 where
+  pub number : number_of calls name ≡ Some inst
+  pub is_instruction : IsTrue (has_instruction (ledger_of calls) name)
 
 -- names of what an edge passes, in order
 abbrev pub NamesArgument : List AnsweredCall → Argument Name → BlockArg → Type 0

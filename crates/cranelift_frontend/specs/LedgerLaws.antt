@@ -22,7 +22,7 @@ use Rattle.clif_types.specs.declared.types.«Type».{«Type»}
 use Rattle.clif_ir.specs.Body.{Body, value_at}
 use Rattle.clif_instructions.specs.Members.{stands_in}
 use Rattle.clif_meaning.specs.Name.{Name, same_name}
-use Rattle.clif_meaning.specs.Request.{AnsweredCall, Build, MakeEdge, MakeJumpTable, Request, number_of}
+use Rattle.clif_meaning.specs.Request.{AnsweredCall, Annotate, Build, MakeEdge, MakeJumpTable, Request, number_of}
 use Rattle.clif_meaning.specs.Ledger.{BlockState, block_state, has_block, is_inserted, type_of, unserved_edges, variable_type}
 use Rattle.clif_types.specs.Signature.{SignatureShape}
 use Rattle.cranelift_frontend.specs.declared.builder.FunctionBuilder.{FunctionBuilder}
@@ -95,6 +95,13 @@ pub record TableCallsAddNothing : Type 0 where
   pub table : (signature : SignatureShape) (calls : List AnsweredCall) (b : FunctionBuilder) (default : Name) (entries : List Name) (number : ℕ)
       → number ≡ length (ledger_of calls).jump_tables → StandsFor signature calls b
       → StandsFor signature (calls ++ answered (MakeJumpTable default entries) (number ∷ []) ∷ []) b
+
+-- Nor do the notes that a list makes.
+pub record NotesAddNothing : Type 0 where
+  pub ledger : (calls : List AnsweredCall) (b : FunctionBuilder) (values : List Name)
+      → AgreesWithLedger calls b → AgreesWithLedger (calls ++ answered (Annotate values) [] ∷ []) b
+  pub stands : (signature : SignatureShape) (calls : List AnsweredCall) (b : FunctionBuilder) (values : List Name)
+      → StandsFor signature calls b → StandsFor signature (calls ++ answered (Annotate values) [] ∷ []) b
 
 -- They do where the ledger agrees with a builder's parts.
 abbrev pub RequestsAskForTheirShapes : Type 0

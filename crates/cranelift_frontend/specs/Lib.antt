@@ -2,6 +2,7 @@ pub mod Errors
 pub mod Context
 pub mod Builder
 pub mod Construction
+pub mod Redirecting
 pub mod Order
 pub mod Labels
 pub mod Ledger

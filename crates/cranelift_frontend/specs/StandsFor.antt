@@ -4,7 +4,7 @@ use Rattle.std.specs.Prelude.{◌≡◌, ◌≢◌, ◌⊎◌, ℕ, List, Option
 use Rattle.clif_types.specs.Signature.{SignatureShape}
 use Rattle.clif_ir.specs.Body.{Body}
 use Rattle.clif_meaning.specs.Request.{AnsweredCall}
-use Rattle.clif_simulation.specs.Carries.{Carries}
+use Rattle.clif_simulation.specs.Carries.{Carries, LeadsBuilt}
 pub use Rattle.clif_simulation.specs.Carries.{NothingLeads}
 pub use Rattle.clif_simulation.specs.Structure.{LeavesNoParameter}
 use Rattle.clif_simulation.specs.Structure.{HasCallersAlone}
@@ -22,6 +22,8 @@ pub record StandsIn (declared : SignatureShape) (calls : List AnsweredCall) (f :
   -- each block's instructions are the program's, in order, operands being the answers of the names, with only zeros
   -- before them; and where the entry is free the state on paths is sound
   pub carries : Carries calls f c.ssa
+  -- each predecessor that the ledger has is an instruction
+  pub leads_built : LeadsBuilt calls
   -- in the entry, the first block of the layout, something was made
   pub begun : (entry : ℕ) → slice_get f.layout 0 ≡ Some entry → status_of c entry ≢ Empty
   -- a block has the parameters that the calls made alone, unless something was made in it

@@ -111,6 +111,8 @@ impl FunctionBuilderContext {
     ghost use Rattle.cranelift_frontend.specs.Construction.{IsUse, IsSealing, IsSealingAll, IsDeclared};
     ghost use Rattle.clif_ir.specs.Body.{Body};
     ghost use Rattle.clif_instructions.specs.Edges.{targets};
+    ghost use Rattle.clif_instructions.specs.Members.{Stands};
+    ghost use Rattle.clif_ssa.specs.Moving.{MovesBranch};
     ghost use Rattle.clif_records.specs.Stacks.{no_look_up};
     ghost use Rattle.clif_ssa.specs.LookUp.{UsesVariable};
     ghost use Rattle.clif_ssa.specs.Running.{stage, found};
@@ -317,6 +319,38 @@ impl FunctionBuilderContext {
         ensures { IsTrue result ↔ (predecessors_of self.now.ssa block ≢ []) }
     {
         self.ssa.has_any_predecessors(block)
+    }
+
+    /// Lets each edge of a branch to one block go to another one, both of which are unsealed.
+    pub(crate) fn move_branch(
+        &mut self,
+        inst: Inst,
+        from: Block,
+        to: Block,
+        func: &mut Function,
+    ) -> Result<(), BuildError>
+        requires inst_exists { inst < length func.old.insts }
+        requires target_exists { to < length func.old.blocks }
+        requires from_unsealed { is_yes (sealed_of self.old.ssa from) ≡ false }
+        requires to_unsealed { is_yes (sealed_of self.old.ssa to) ≡ false }
+        requires leads { Stands inst (predecessors_of self.old.ssa from) }
+        ensures moved { OnOk result (MovesBranch func.old self.old.ssa func.new self.new.ssa inst from to) }
+        ensures err { OnErr result ((func.new ≡ func.old) × SamePredecessors self.old.ssa self.new.ssa) }
+        ensures records { self.new.ssa.records ≡ self.old.ssa.records }
+        ensures blocks { SameBlocks self.old.ssa self.new.ssa }
+        ensures status { self.new.status ≡ self.old.status }
+        ensures variables { self.new.variables ≡ self.old.variables }
+        ensures looks_once { LooksOnce self.old.ssa → LooksOnce self.new.ssa }
+        ensures only_memory { OnErr result (result ≡ Err BuildError.Memory) }
+    {
+        self.ssa.move_branch(func, inst, from, to)
+    }
+
+    /// Whether this branch leads to a block.
+    pub(crate) fn leads_to(&self, inst: Inst, block: Block) -> bool
+        ensures { IsTrue result ↔ Stands inst (predecessors_of self.now.ssa block) }
+    {
+        self.ssa.leads_to(inst, block)
     }
 
     #[tactic(auto, using(crate::proofs::Declaring::declare_rules))]

@@ -2,8 +2,8 @@
 //! are the laws.
 
 ghost use Rattle.cranelift_frontend.specs.Growth.{BuilderUsesAgree};
-ghost use Rattle.cranelift_frontend.specs.Laws.{StandingIsWellPlaced, StandingMatchesEdges, StandingReadsRight, StandingReadsRightFromAnywhere, StandingRecordsAreWellPlaced};
-ghost use Rattle.cranelift_frontend.specs.LedgerLaws.{LedgerIsReadByNumber, RequestsAskForTheirShapes, TableCallsAddNothing};
+ghost use Rattle.cranelift_frontend.specs.Laws.{StandingIsWellPlaced, StandingMatchesEdges, StandingReadsRight, StandingReadsRightComing, StandingReadsRightFromAnywhere, StandingRecordsAreWellPlaced};
+ghost use Rattle.cranelift_frontend.specs.LedgerLaws.{LedgerIsReadByNumber, NotesAddNothing, RequestsAskForTheirShapes, TableCallsAddNothing};
 
 /// Two uses of a variable in a block stand for one value, where no call between them assigns it there.
 pub fn uses_agree()
@@ -15,6 +15,11 @@ pub fn uses_agree()
 /// edges into unsealed or pristine blocks need not match yet.
 pub fn standing_reads_right()
     ensures { StandingReadsRight }
+{}
+
+/// It has them beside runs that also go along edges that may still come, from a block's end so far into unsealed blocks.
+pub fn standing_reads_right_coming()
+    ensures { StandingReadsRightComing }
 {}
 
 /// Where no branch was made, it has them from every pair of states at the front of an unsealed entry.
@@ -55,4 +60,10 @@ pub fn requests_ask_for_their_shapes()
 /// nothing that a builder stands for, until its table serves an instruction.
 pub fn table_calls_add_nothing()
     ensures { TableCallsAddNothing }
+{}
+
+/// A builder stands for the same list with a note at its end, for a source place or a label: a note changes nothing that a
+/// builder stands for.
+pub fn notes_add_nothing()
+    ensures { NotesAddNothing }
 {}

@@ -3,6 +3,7 @@
 
 pub mod attempts;
 pub mod blocks;
+pub mod branches;
 pub mod builder;
 pub mod context;
 pub mod entities;

@@ -29,8 +29,8 @@ pub fn asserts_function(rt: &impl Abort, builder: &FunctionBuilder<'_>, function
     assert!(rt; function.index() < builder.func().tables().function_count());
 }
 
-// The only result of a call.
-fn result_of(rt: &impl Abort, builder: &FunctionBuilder<'_>, inst: Inst) -> Value
+/// The only result of a call.
+pub fn result_of(rt: &impl Abort, builder: &FunctionBuilder<'_>, inst: Inst) -> Value
     ensures { result < length builder.now.func.now.values }
 {
     assert!(rt; inst.index() < builder.func().inst_count());

@@ -14,6 +14,8 @@ mod front_end;
 #[cfg(test)]
 mod labels;
 #[cfg(test)]
+mod library_calls;
+#[cfg(test)]
 mod places;
 #[cfg(test)]
 mod runs;

@@ -23,8 +23,8 @@ use std::alloc::{AllocError, Global};
 use std::process::Abort;
 use std::test::Fail;
 
-// Asserts that a block exists and isn't sealed.
-fn asserts_target(rt: &impl Abort, builder: &FunctionBuilder<'_>, block: Block)
+/// Asserts that a block exists and isn't sealed.
+pub fn asserts_target(rt: &impl Abort, builder: &FunctionBuilder<'_>, block: Block)
     ensures exists { block < length builder.now.func.now.blocks }
     ensures unsealed { is_yes (sealed_of builder.now.ctx.now.ssa block) ≡ false }
 {
@@ -32,8 +32,8 @@ fn asserts_target(rt: &impl Abort, builder: &FunctionBuilder<'_>, block: Block)
     assert!(rt; !builder.is_sealed(block));
 }
 
-// A parameter of a block in which nothing was made.
-fn param(rt: &impl Abort, builder: &mut FunctionBuilder<'_>, block: Block, ty: Type) -> Value {
+/// A parameter of a block in which nothing was made.
+pub fn param(rt: &impl Abort, builder: &mut FunctionBuilder<'_>, block: Block, ty: Type) -> Value {
     assert!(rt; block.index() < builder.func().block_count());
     assert!(rt; builder.is_pristine(block));
     builder
@@ -41,8 +41,8 @@ fn param(rt: &impl Abort, builder: &mut FunctionBuilder<'_>, block: Block, ty: T
         .expect(rt, "a parameter")
 }
 
-// The edge to a block that passes these arguments.
-fn edge(
+/// The edge to a block that passes these arguments.
+pub fn edge(
     rt: &impl Abort,
     builder: &mut FunctionBuilder<'_>,
     block: Block,
@@ -65,13 +65,13 @@ fn function(alloc: Global, name: &str) -> Result<Function, AllocError>
     Ok(Function::with_name_signature(alloc, name, signature))
 }
 
-// A new block.
-fn new_block(rt: &impl Abort, builder: &mut FunctionBuilder<'_>) -> Block {
+/// A new block.
+pub fn new_block(rt: &impl Abort, builder: &mut FunctionBuilder<'_>) -> Block {
     builder.create_block().expect(rt, "a block")
 }
 
-// The builder's function is finished.
-fn finishes(rt: &impl Abort, builder: FunctionBuilder<'_>) {
+/// The builder's function is finished.
+pub fn finishes(rt: &impl Abort, builder: FunctionBuilder<'_>) {
     assert!(rt; builder.finalize(CONFIG).is_ok());
 }
 
@@ -135,8 +135,8 @@ fn tries(
         .expect(rt, "a try call");
 }
 
-// Returns a value from a block.
-fn returns(rt: &impl Abort, builder: &mut FunctionBuilder<'_>, block: Block, value: Value) {
+/// Returns a value from a block.
+pub fn returns(rt: &impl Abort, builder: &mut FunctionBuilder<'_>, block: Block, value: Value) {
     enter(rt, builder, block);
     seal(rt, builder, block);
     give_back(rt, builder, value);

@@ -8,6 +8,7 @@ use Rattle.std.proofs.lemmas.Option.{slice_get_within}
 use Rattle.clif_types.specs.declared.types.«Type».{«Type»}
 use Rattle.clif_ir.specs.Body.{Body, value_at}
 use Rattle.clif_meaning.specs.SameType.{same_type}
+use Rattle.clif_meaning.proofs.SameTypes.{type_is}
 use Rattle.clif_replay.specs.Requests.{name_of}
 use Rattle.clif_replay.specs.Ready.{AnswerExists, value_of, is_open}
 use Rattle.clif_replay.proofs.ReadyLaws.{ready-more, value-found, value-exists, answers-exist}
@@ -42,7 +43,7 @@ def_var-requires-clause-value_exists c = value-exists c.requires.sound.calls c.a
 pub def_var-requires-clause-same_type : goal.def_var-requires-clause-same_type
 def_var-requires-clause-same_type c =
     let same = (and_parts (is_open c.args.builder.now) (same_type c.in-Some-type_of.ty (value_at c.args.builder.now.func.now c.in-Some.value).ty) (sym c.may_define.ensures ∙ c.if-not-may_define.false)).1 in
-    (ap (λ (types : List «Type»). slice_get types c.args.variable) (sym c.requires.types) ∙ sym c.type_of.ensures ∙ c.in-Some-type_of.is) ∙ ap Some (Conditions.same-type c.in-Some-type_of.ty (value_at c.args.builder.now.func.now c.in-Some.value).ty same)
+    (ap (λ (types : List «Type»). slice_get types c.args.variable) (sym c.requires.types) ∙ sym c.type_of.ensures ∙ c.in-Some-type_of.is) ∙ ap Some (type_is c.in-Some-type_of.ty (value_at c.args.builder.now.func.now c.in-Some.value).ty same)
 
 pub returns-in_err-def_var : goal.returns-in_err-def_var
 returns-in_err-def_var c =

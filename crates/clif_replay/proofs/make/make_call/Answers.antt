@@ -72,6 +72,21 @@ returns-in-Plain c =
     subst (λ (x : Call). MakesCall x c.args.builder.now new c.args.answers.now c.make_instruction.result) (sym c.in-Plain.is)
     (subst (λ (p : Plan). MakesPlan p c.args.builder.now new c.args.answers.now c.make_instruction.result) c.plan.ensures c.make_instruction.ensures)
 
+pub returns-in-Cursor : goal.returns-in-Cursor
+returns-in-Cursor c =
+    let new = c.make_instruction-in-Cursor.new.builder in
+    subst (λ (x : Call). MakesCall x c.args.builder.now new c.args.answers.now c.make_instruction-in-Cursor.result) (sym c.in-Cursor.is)
+    (subst (λ (p : Plan). MakesPlan p c.args.builder.now new c.args.answers.now c.make_instruction-in-Cursor.result) c.plan-in-Cursor.ensures c.make_instruction-in-Cursor.ensures)
+
+pub returns-in-SetSrcloc : goal.returns-in-SetSrcloc
+returns-in-SetSrcloc c = subst (λ (x : Call). MakesCall x c.args.builder.now c.set_srcloc.new.builder c.args.answers.now c.set_srcloc.result) (sym c.in-SetSrcloc.is) c.set_srcloc.ensures.made
+
+pub returns-in-CollectDebugInfo : goal.returns-in-CollectDebugInfo
+returns-in-CollectDebugInfo c = subst (λ (x : Call). MakesCall x c.args.builder.now c.collect_debug_info.new.builder c.args.answers.now c.collect_debug_info.result) (sym c.in-CollectDebugInfo.is) c.collect_debug_info.ensures.made
+
+pub returns-in-SetValLabel : goal.returns-in-SetValLabel
+returns-in-SetValLabel c = subst (λ (x : Call). MakesCall x c.args.builder.now c.set_val_label.new.builder c.args.answers.now c.set_val_label.result) (sym c.in-SetValLabel.is) c.set_val_label.ensures.made
+
 pub returns-in-F128const : goal.returns-in-F128const
 returns-in-F128const c =
     let new = c.make_constant.new.builder in

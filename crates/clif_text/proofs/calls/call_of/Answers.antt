@@ -1,6 +1,6 @@
 use Rattle.std.proofs.Common.{◌∷◌, ◌++◌, ap, sym, subst, ◌∙◌}
 use Rattle.std.proofs.lemmas.List.{append-nil}
-use Rattle.clif_text.specs.Scope.{names_of}
+use Rattle.clif_arguments.specs.Scope.{names_of}
 use Rattle.clif_text.specs.Grammar.{IsCall}
 use Rattle.clif_text.proofs.calls.call_of.Goals as goal
 

@@ -2,8 +2,8 @@
 use Rattle.std.proofs.Common.{List, ℕ, ◌∷◌, ◌++◌, [], ap, sym, subst, ◌∙◌}
 use Rattle.std.proofs.lemmas.List.{append_assoc, append-nil}
 use Rattle.clif_words.specs.Cursor.{words_left}
-use Rattle.clif_text.specs.Grammar.{AreAnswers, IsAnswer, IsEdge, IsJumpTable, IsLastEdge}
-use Rattle.clif_text.specs.Scope.{names_of}
+use Rattle.clif_arguments.specs.Arguments.{AreAnswers, IsAnswer, IsEdge, IsJumpTable, IsLastEdge}
+use Rattle.clif_arguments.specs.Scope.{names_of}
 use Rattle.clif_text.proofs.calls.read_call.Goals as goal
 
 pub returns-in_ok-ty-in-declare_var : goal.returns-in_ok-ty-in-declare_var

@@ -1,7 +1,7 @@
 -- The words are the name, the block's word and what else was taken.
 use Rattle.std.proofs.Common.{List, ℕ, ◌∷◌, [], ap, subst, ◌∙◌}
-use Rattle.clif_text.specs.Grammar.{IsAnswer}
-use Rattle.clif_text.specs.Scope.{names_of}
+use Rattle.clif_arguments.specs.Arguments.{IsAnswer}
+use Rattle.clif_arguments.specs.Scope.{names_of}
 use Rattle.clif_text.proofs.calls.read_call_at_block.Goals as goal
 
 pub returns-in-switch_to_block : goal.returns-in-switch_to_block

@@ -4,9 +4,9 @@ use Rattle.std.specs.Prelude.{codes}
 use Rattle.std.proofs.lemmas.List.{append_assoc}
 use Rattle.clif_words.specs.Cursor.{words_left}
 use Rattle.clif_words.specs.Spelling.{flag_word}
-use Rattle.clif_text.specs.Grammar.{IsSignatureName}
-use Rattle.clif_text.specs.Scope.{names_of}
-use Rattle.clif_text.proofs.Offsets.{three_taken}
+use Rattle.clif_arguments.specs.Arguments.{IsSignatureName}
+use Rattle.clif_arguments.specs.Scope.{names_of}
+use Rattle.clif_arguments.proofs.Offsets.{three_taken}
 use Rattle.clif_text.proofs.entries.imported.Goals as goal
 
 pub returns : goal.returns

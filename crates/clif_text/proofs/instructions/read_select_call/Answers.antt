@@ -1,7 +1,7 @@
 -- The words are the name and a word for each value.
 use Rattle.std.proofs.Common.{List, ℕ, ◌∷◌, [], ap, subst, ◌∙◌}
-use Rattle.clif_text.specs.Grammar.{AreAnswers}
-use Rattle.clif_text.specs.Scope.{names_of}
+use Rattle.clif_arguments.specs.Arguments.{AreAnswers}
+use Rattle.clif_arguments.specs.Scope.{names_of}
 use Rattle.clif_text.proofs.instructions.read_select_call.Goals as goal
 
 pub returns : goal.returns

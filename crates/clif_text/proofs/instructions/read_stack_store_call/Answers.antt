@@ -2,9 +2,9 @@
 use Rattle.std.proofs.Common.{List, ℕ, ◌∷◌, ap, subst, sym, ◌∙◌}
 use Rattle.std.specs.Int.{w32}
 use Rattle.std.proofs.lemmas.Int.{to_z-of_z}
-use Rattle.clif_text.specs.Grammar.{IsLastOffset, IsSlot}
-use Rattle.clif_text.specs.Scope.{names_of}
-use Rattle.clif_text.proofs.Offsets.{offset_fits}
+use Rattle.clif_arguments.specs.Arguments.{IsLastOffset, IsSlot}
+use Rattle.clif_arguments.specs.Scope.{names_of}
+use Rattle.clif_arguments.proofs.Offsets.{offset_fits}
 use Rattle.clif_text.proofs.instructions.read_stack_store_call.Goals as goal
 
 pub returns : goal.returns

@@ -3,9 +3,9 @@ use Rattle.std.proofs.Common.{List, ℕ, ◌∷◌, ◌++◌, [], ap, subst, sym
 use Rattle.std.specs.Int.{w32}
 use Rattle.std.proofs.lemmas.Int.{to_z-of_z}
 use Rattle.clif_words.specs.Cursor.{words_left}
-use Rattle.clif_text.specs.Grammar.{AreAnswers, IsLastOffset}
-use Rattle.clif_text.specs.Scope.{names_of}
-use Rattle.clif_text.proofs.Offsets.{offset_fits, three_taken}
+use Rattle.clif_arguments.specs.Arguments.{AreAnswers, IsLastOffset}
+use Rattle.clif_arguments.specs.Scope.{names_of}
+use Rattle.clif_arguments.proofs.Offsets.{offset_fits, three_taken}
 use Rattle.clif_text.proofs.instructions.read_store_call.Goals as goal
 
 pub returns : goal.returns

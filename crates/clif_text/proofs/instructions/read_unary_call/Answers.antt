@@ -2,7 +2,7 @@
 use Rattle.std.proofs.Common.{List, ℕ, ◌∷◌, [], ap, subst, sym}
 use Rattle.clif_calls.specs.declared.plan.Plan.{Plan}
 use Rattle.clif_text.specs.Grammar.{IsPlain}
-use Rattle.clif_text.specs.Scope.{names_of}
+use Rattle.clif_arguments.specs.Scope.{names_of}
 use Rattle.clif_text.proofs.instructions.read_unary_call.Goals as goal
 
 pub returns : goal.returns

@@ -1,6 +1,6 @@
 use Rattle.std.proofs.Common.{◌+◌, ap, sym, subst, ◌∙◌, arith, take}
 use Rattle.clif_words.specs.Cursor.{texts}
-use Rattle.clif_text.specs.Given.{first_answer}
+use Rattle.clif_arguments.specs.Given.{first_answer}
 use Rattle.clif_text.proofs.Giving.{GivenSoFar, first_byte, none_given, instruction_more, answer_more, all_given}
 use Rattle.clif_text.proofs.reader.give_names.Goals as goal
 use Rattle.clif_text.proofs.reader.give_names.Goals.{in-Some+in_ok-checked+in_ok-give, in_default+then-given-answers+in_ok-checked-2+in_ok-give-2}

@@ -1,7 +1,7 @@
 -- The names so far were given.
 use Rattle.std.proofs.Common.{◌+◌, take}
 use Rattle.clif_words.specs.Cursor.{texts}
-use Rattle.clif_text.specs.Given.{first_answer}
+use Rattle.clif_arguments.specs.Given.{first_answer}
 use Rattle.clif_text.proofs.Giving.{GivenSoFar}
 use Rattle.clif_text.proofs.reader.give_names.Given as goal
 

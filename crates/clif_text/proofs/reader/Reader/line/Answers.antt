@@ -4,7 +4,8 @@ use Rattle.std.proofs.lemmas.Result.{on_ok_weaker}
 use Rattle.std.specs.Prelude.{codes}
 use Rattle.clif_words.specs.Cursor.{texts}
 use Rattle.clif_words.specs.Words.{AreWords}
-use Rattle.clif_text.specs.Reader.{header_said, said_to}
+use Rattle.clif_arguments.specs.Header.{header_said}
+use Rattle.clif_text.specs.Reader.{said_to}
 use Rattle.clif_text.proofs.Reading.{says_alone, says_behind, says_header, has_first, has_one, refuses_words, may_refuse_words}
 use Rattle.clif_text.proofs.reader.Reader.line.Goals as goal
 

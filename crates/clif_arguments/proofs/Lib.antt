@@ -1,0 +1,4 @@
+mod Taking
+mod Scopes
+mod Headers
+pub mod Offsets

@@ -1,0 +1,81 @@
+-- Which words stand for names of answers and for what calls take. Source: own; docs/SCRIPTS.md describes the same format.
+use Rattle.std.specs.Prelude.{◌≡◌, ℕ, ℤ, pos, ◌⊎◌, ◌++◌, List, [], ◌∷◌, Option, Some, None, codes}
+use Rattle.clif_types.specs.Texts.{lib_call_text}
+use Rattle.clif_types.specs.declared.extname.ExternalName.{ExternalName}
+use Rattle.clif_types.specs.declared.extname.ExternalName.TheVariants as name
+use Rattle.clif_types.specs.declared.extname.UserFuncName.TheVariants as func_name
+use Rattle.clif_words.specs.Spelling.{IsDecimal, IsOffset}
+use Rattle.clif_calls.specs.declared.call.Name.{Name}
+use Rattle.clif_calls.specs.declared.call.Edge.{Edge}
+use Rattle.clif_arguments.specs.Header.{IsFunctionName}
+
+-- what names stand for: the answer that a given name stands for, and the number of the variable, of the stack slot, of the
+-- jump table, or of the signature that an answer is
+pub record Names : Type 0 where
+  pub given : List ℕ → Option Name
+  pub variable : Name → ℕ
+  pub slot : Name → ℕ
+  pub jump_table : Name → ℕ
+  pub signature : Name → ℕ
+
+-- `$P.K`, with the place and the answer in decimal digits
+abbrev pub IsPlaceName : List ℕ → Name → Type 0
+IsPlaceName word name = (place answer : List ℕ) × (word ≡ codes "$" ++ (place ++ (codes "." ++ answer))) × IsDecimal place name.place × IsDecimal answer name.answer
+
+-- a word stands for an answer: by its place, or by a name that was given
+abbrev pub IsAnswer : Names → List ℕ → Name → Type 0
+IsAnswer names word name = IsPlaceName word name ⊎ (names.given word ≡ Some name)
+
+-- a word stands for this number: as an answer that has it, or as the number in decimal digits behind the prefix where no
+-- such name was given
+abbrev pub IsNumbered : List ℕ → (Name → ℕ) → Names → List ℕ → ℕ → Type 0
+IsNumbered prefix number_of names word number = ((name : Name) × IsAnswer names word name × (number_of name ≡ number)) ⊎ ((digits : List ℕ) × (word ≡ prefix ++ digits) × IsDecimal digits number × (names.given word ≡ None))
+
+-- the variable of this number: as the answer of a declaration, or as `varN`
+abbrev pub IsVariable : Names → List ℕ → ℕ → Type 0
+IsVariable names = IsNumbered (codes "var") names.variable names
+
+-- the stack slot of this number: as the answer of the call that made it, or as `ssN`
+abbrev pub IsSlot : Names → List ℕ → ℕ → Type 0
+IsSlot names = IsNumbered (codes "ss") names.slot names
+
+-- the jump table of this number: as the answer of the call that made it, or as `jtN`
+abbrev pub IsJumpTable : Names → List ℕ → ℕ → Type 0
+IsJumpTable names = IsNumbered (codes "jt") names.jump_table names
+
+-- the signature of this number: as the answer of the call that imported it, or as `sigN`
+abbrev pub IsSignatureName : Names → List ℕ → ℕ → Type 0
+IsSignatureName names = IsNumbered (codes "sig") names.signature names
+
+-- the words stand for the answers, one for one
+abbrev pub AreAnswers : Names → List (List ℕ) → List Name → Type 0
+AreAnswers names [] [] = Unit {0}
+AreAnswers names [] (answer ∷ answers) = ⊥
+AreAnswers names (word ∷ words) [] = ⊥
+AreAnswers names (word ∷ words) (answer ∷ answers) = IsAnswer names word answer × AreAnswers names words answers
+
+-- the answers in parentheses
+abbrev pub AreClosed : Names → List (List ℕ) → List Name → Type 0
+AreClosed names words answers = (inner : List (List ℕ)) × (words ≡ codes "(" ∷ (inner ++ codes ")" ∷ [])) × AreAnswers names inner answers
+
+-- the answers that end a line: in parentheses or not
+abbrev pub AreLast : Names → List (List ℕ) → List Name → Type 0
+AreLast names words answers = AreClosed names words answers ⊎ AreAnswers names words answers
+
+-- an edge: the block, and what is passed in parentheses, which may be left out where nothing is passed
+abbrev pub IsEdge : Names → List (List ℕ) → Edge → Type 0
+IsEdge names words edge = (block : List ℕ) × (passed : List (List ℕ)) × (words ≡ block ∷ passed) × IsAnswer names block edge.block × (AreClosed names passed edge.args.items ⊎ ((passed ≡ []) × (edge.args.items ≡ [])))
+
+-- an edge that ends a line: the parentheses may be left out
+abbrev pub IsLastEdge : Names → List (List ℕ) → Edge → Type 0
+IsLastEdge names words edge = (block : List ℕ) × (passed : List (List ℕ)) × (words ≡ block ∷ passed) × IsAnswer names block edge.block × AreLast names passed edge.args.items
+
+-- an offset that ends a line: it may be left out where it is 0
+abbrev pub IsLastOffset : List (List ℕ) → ℤ → Type 0
+IsLastOffset words offset = ((words ≡ []) × (offset ≡ pos 0)) ⊎ ((word : List ℕ) × (words ≡ word ∷ []) × IsOffset word offset)
+
+-- the name of a function or of a symbol: as that of the function that is built, or that of a function of the C library
+abbrev pub IsExternalName : List (List ℕ) → ExternalName → Type 0
+IsExternalName words (name.TestCase text) = (word : List ℕ) × (words ≡ word ∷ []) × IsFunctionName word (func_name.Testcase text)
+IsExternalName words (name.User user) = (word : List ℕ) × (words ≡ word ∷ []) × IsFunctionName word (func_name.User user)
+IsExternalName words (name.LibCall call) = words ≡ codes "libcall" ∷ lib_call_text call ∷ []

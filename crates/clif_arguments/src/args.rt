@@ -1,0 +1,442 @@
+//! What follows the name of a call.
+ghost use Rattle.std.specs.Prelude.{◌≡◌, ◌<◌, ◌-◌, ◌^◌, ◌++◌, ◌∷◌, [], ℕ, List, IfSome, codes};
+ghost use Rattle.clif_words.specs.Spelling.{IsDecimal};
+
+use crate::header::{function_name, last_signature};
+use crate::scope::{Kind, Scope, is_name};
+use clif_calls::{Edge, Name};
+use clif_records::Variable;
+use clif_types::{
+    EntityRef, ExternalName, IntCC, JumpTable, MemFlagsData, SigRef, Signature, StackSlot,
+    TrapCode, Type, UserFuncName, ValueLabel,
+};
+use clif_words::bytes::bytes;
+use clif_words::cursor::Cursor;
+use clif_words::error::{Expected, Fault, LineError};
+use clif_words::number::{decimal, magnitude, number, offset};
+use clif_words::types::{condition_named, lib_call_named, trap_code_named, type_named};
+use std::alloc::Global;
+
+/// The words that are left, and what names in them stand for.
+#[derive(Drop)]
+pub struct Args<'w, 'a> {
+    words: Cursor<'w, 'a>,
+    scope: &'w Scope<'a>,
+}
+
+// How many there can be of a kind that is named by number.
+const MOST_OF_A_KIND: usize = 0xffff_ffff;
+
+impl<'w, 'a> Args<'w, 'a> {
+    ghost use Rattle.std.specs.Prelude.{IfOk, OnOk};
+    ghost use Rattle.clif_types.specs.Texts.{int_cc_text};
+    ghost use Rattle.clif_words.specs.Cursor.{TakesFlags, texts, words_left};
+    ghost use Rattle.clif_words.specs.Spelling.{IsBytes, IsMagnitude, IsNumber, IsTrapCode, IsTypeWord, flag_word};
+    ghost use Rattle.clif_arguments.specs.Arguments.{AreAnswers, AreLast, IsEdge, IsExternalName, IsJumpTable, IsLastEdge, IsLastOffset, IsNumbered, IsSignatureName, IsSlot, IsVariable};
+    ghost use Rattle.clif_arguments.specs.Header.{IsSignature};
+    ghost use Rattle.clif_arguments.specs.Taking.{TakesAnswer, TakesAnswers, TakesWord, TakesWords, names_in, numbers_in};
+
+    pub fn new(words: &'w [&'a str], scope: &'w Scope<'a>) -> Args<'w, 'a>
+        ensures words { words_left result.words ≡ texts words.now }
+        ensures scope { result.scope ≡ scope.entry }
+    {
+        Args {
+            words: Cursor::new(words),
+            scope,
+        }
+    }
+
+    /// The name of a call.
+    pub fn head(&mut self) -> Result<&'a str, LineError<'a>>
+        ensures scope { self.new.scope ≡ self.old.scope }
+        ensures ok { IfOk result (λ head. words_left self.old.words ≡
+            head.now ∷ words_left self.new.words) }
+    {
+        self.words.take(Expected::Call)
+    }
+
+    // What a name stands for.
+    fn answer(&mut self, expected: Expected) -> Result<Name, LineError<'a>>
+        ensures scope { self.new.scope ≡ self.old.scope }
+        ensures ok { IfOk result (TakesAnswer self.old self.new) }
+    {
+        let word = self.words.take(expected)?;
+        match self.scope.answer(word) {
+            Some(name) => Ok(name),
+            None => Err(unknown(word, expected)),
+        }
+    }
+
+    /// A block.
+    pub fn block(&mut self) -> Result<Name, LineError<'a>>
+        ensures scope { self.new.scope ≡ self.old.scope }
+        ensures ok { IfOk result (TakesAnswer self.old self.new) }
+    {
+        self.answer(Expected::Block)
+    }
+
+    /// A value.
+    pub fn value(&mut self) -> Result<Name, LineError<'a>>
+        ensures scope { self.new.scope ≡ self.old.scope }
+        ensures ok { IfOk result (TakesAnswer self.old self.new) }
+    {
+        self.answer(Expected::Value)
+    }
+
+    // The number of one of this kind: of the one that a name or `$P.K` stands for, or the number behind the
+    // prefix, unless that name was given.
+    fn numbered(
+        &mut self,
+        prefix: &str,
+        kind: Kind,
+        expected: Expected,
+    ) -> Result<usize, LineError<'a>>
+        ensures scope { self.new.scope ≡ self.old.scope }
+        ensures ok { IfOk result (TakesWord self.old self.new
+            (IsNumbered prefix.now (numbers_in kind self.old) (names_in self.old))) }
+        ensures bounded { IfOk result (λ number. number < 2 ^ 32 - 1) }
+    {
+        let word = self.words.take(expected)?;
+        let number = match self.scope.answer(word) {
+            Some(name) => self.scope.number(kind, name),
+            None => match number_behind(prefix, word) {
+                Some(number) => number,
+                None => return Err(unknown(word, expected)),
+            },
+        };
+        if number < MOST_OF_A_KIND {
+            Ok(number)
+        } else {
+            Err(LineError::wanted(expected))
+        }
+    }
+
+    /// A variable: the one that a name or `$P.K` stands for, or `varN`, which is variable N unless that name
+    /// was given.
+    pub fn variable(&mut self) -> Result<Variable, LineError<'a>>
+        ensures scope { self.new.scope ≡ self.old.scope }
+        ensures ok { IfOk result (TakesWord self.old self.new (IsVariable (names_in self.old))) }
+    {
+        let number = self.numbered("var", Kind::Variable, Expected::Variable)?;
+        Ok(Variable::new(number))
+    }
+
+    /// A stack slot: the one that a name or `$P.K` stands for, or `ssN`, which is slot N unless that name was
+    /// given.
+    pub fn slot(&mut self) -> Result<StackSlot, LineError<'a>>
+        ensures scope { self.new.scope ≡ self.old.scope }
+        ensures ok { IfOk result (TakesWord self.old self.new (IsSlot (names_in self.old))) }
+    {
+        let number = self.numbered("ss", Kind::StackSlot, Expected::StackSlot)?;
+        Ok(StackSlot::new(number))
+    }
+
+    /// A jump table: the one that a name or `$P.K` stands for, or `jtN`, which is table N unless that name was
+    /// given.
+    pub fn jump_table(&mut self) -> Result<JumpTable, LineError<'a>>
+        ensures scope { self.new.scope ≡ self.old.scope }
+        ensures ok { IfOk result (TakesWord self.old self.new (IsJumpTable (names_in self.old))) }
+    {
+        let number = self.numbered("jt", Kind::JumpTable, Expected::JumpTable)?;
+        Ok(JumpTable::new(number))
+    }
+
+    /// A signature: the one that a name or `$P.K` stands for, or `sigN`, which is signature N unless that name was
+    /// given.
+    pub fn signature(&mut self) -> Result<SigRef, LineError<'a>>
+        ensures scope { self.new.scope ≡ self.old.scope }
+        ensures ok { IfOk result (TakesWord self.old self.new
+            (IsSignatureName (names_in self.old))) }
+    {
+        let number = self.numbered("sig", Kind::Signature, Expected::Signature)?;
+        Ok(SigRef::new(number))
+    }
+
+    /// An edge that `block_call` answered.
+    pub fn edge_name(&mut self) -> Result<Name, LineError<'a>>
+        ensures scope { self.new.scope ≡ self.old.scope }
+        ensures ok { IfOk result (TakesAnswer self.old self.new) }
+    {
+        self.answer(Expected::Edge)
+    }
+
+    /// Edges that `block_call` answered, up to the end of the line.
+    pub fn last_edge_names(&mut self, alloc: Global) -> Result<Vec<Name>, LineError<'a>>
+        ensures scope { self.new.scope ≡ self.old.scope }
+        ensures ok { IfOk result (λ names. (words_left self.new.words ≡ []) ×
+            AreAnswers (names_in self.old) (words_left self.old.words) names.items) }
+    {
+        self.answers_to_end(alloc, Expected::Edge)
+    }
+
+    /// A type.
+    pub fn ty(&mut self) -> Result<Type, LineError<'a>>
+        ensures scope { self.new.scope ≡ self.old.scope }
+        ensures ok { IfOk result (TakesWord self.old self.new IsTypeWord) }
+    {
+        let word = self.words.take(Expected::Type)?;
+        type_named(word).ok_or(LineError::wanted(Expected::Type))
+    }
+
+    /// A number.
+    pub fn number(&mut self) -> Result<i64, LineError<'a>>
+        ensures scope { self.new.scope ≡ self.old.scope }
+        ensures ok { IfOk result (TakesWord self.old self.new IsNumber) }
+    {
+        let word = self.words.take(Expected::Number)?;
+        number(word).ok_or(LineError::wanted(Expected::Number))
+    }
+
+    /// Two values.
+    pub fn two_values(&mut self) -> Result<(Name, Name), LineError<'a>>
+        ensures scope { self.new.scope ≡ self.old.scope }
+        ensures ok { IfOk result (λ two. TakesAnswers self.old self.new (two.0 ∷ two.1 ∷ [])) }
+    {
+        let first = self.value()?;
+        let second = self.value()?;
+        Ok((first, second))
+    }
+
+    /// A number without a sign, which the line should have as `expected`.
+    pub fn magnitude(&mut self, expected: Expected) -> Result<u64, LineError<'a>>
+        ensures scope { self.new.scope ≡ self.old.scope }
+        ensures ok { IfOk result (TakesWord self.old self.new IsMagnitude) }
+    {
+        let word = self.words.take(expected)?;
+        magnitude(word).ok_or(LineError::wanted(expected))
+    }
+
+    /// The bytes of a constant.
+    pub fn bytes(&mut self, alloc: Global) -> Result<Vec<u8>, LineError<'a>>
+        ensures scope { self.new.scope ≡ self.old.scope }
+        ensures ok { IfOk result (λ bytes. TakesWord self.old self.new IsBytes bytes.items) }
+    {
+        let word = self.words.take(Expected::Bytes)?;
+        bytes(alloc, word)
+    }
+
+    /// A number of 32 bits without a sign, which the line should have as `expected`.
+    pub fn short_magnitude(&mut self, expected: Expected) -> Result<u32, LineError<'a>>
+        ensures scope { self.new.scope ≡ self.old.scope }
+        ensures ok { IfOk result (TakesWord self.old self.new IsMagnitude) }
+    {
+        match u32::try_from(self.magnitude(expected)?) {
+            Ok(number) => Ok(number),
+            Err(_) => Err(LineError::wanted(expected)),
+        }
+    }
+
+    /// A label of a value.
+    pub fn label(&mut self) -> Result<ValueLabel, LineError<'a>>
+        ensures scope { self.new.scope ≡ self.old.scope }
+        ensures ok { IfOk result (TakesWord self.old self.new IsMagnitude) }
+    {
+        match self.short_magnitude(Expected::ValueLabel)? {
+            u32::MAX => Err(LineError::wanted(Expected::ValueLabel)),
+            number => Ok(ValueLabel::from_u32(number)),
+        }
+    }
+
+    /// The size of a stack slot.
+    pub fn slot_size(&mut self) -> Result<u32, LineError<'a>>
+        ensures scope { self.new.scope ≡ self.old.scope }
+        ensures ok { IfOk result (TakesWord self.old self.new IsMagnitude) }
+    {
+        self.short_magnitude(Expected::SlotSize)
+    }
+
+    /// The shift that makes the alignment of a stack slot.
+    pub fn align_shift(&mut self) -> Result<u8, LineError<'a>>
+        ensures scope { self.new.scope ≡ self.old.scope }
+        ensures ok { IfOk result (TakesWord self.old self.new IsMagnitude) }
+    {
+        match u8::try_from(self.magnitude(Expected::AlignShift)?) {
+            Ok(shift) => Ok(shift),
+            Err(_) => Err(LineError::wanted(Expected::AlignShift)),
+        }
+    }
+
+    /// The number of a dynamic type.
+    pub fn dynamic_type(&mut self) -> Result<u32, LineError<'a>>
+        ensures scope { self.new.scope ≡ self.old.scope }
+        ensures ok { IfOk result (TakesWord self.old self.new IsMagnitude) }
+    {
+        self.short_magnitude(Expected::DynamicType)
+    }
+
+    /// Whether the next word is this one, which is taken then.
+    pub fn has(&mut self, word: &str) -> bool
+        ensures scope { self.new.scope ≡ self.old.scope }
+        ensures taken { words_left self.old.words ≡
+            flag_word result word.now ++ words_left self.new.words }
+    {
+        self.words.skips(word)
+    }
+
+    /// The name of a function, or of what `expected` says.
+    pub fn external_name(
+        &mut self,
+        alloc: Global,
+        expected: Expected,
+    ) -> Result<ExternalName, LineError<'a>>
+        ensures scope { self.new.scope ≡ self.old.scope }
+        ensures ok { IfOk result (TakesWords self.old self.new IsExternalName) }
+    {
+        if self.words.skips("libcall") {
+            let word = self.words.take(Expected::LibCall)?;
+            return match lib_call_named(word) {
+                Some(call) => Ok(ExternalName::LibCall(call)),
+                None => Err(LineError::wanted(Expected::LibCall)),
+            };
+        }
+        let word = self.words.take(expected)?;
+        match function_name(alloc, word, expected)? {
+            UserFuncName::User(name) => Ok(ExternalName::User(name)),
+            UserFuncName::Testcase(name) => Ok(ExternalName::TestCase(name)),
+        }
+    }
+
+    /// A signature that ends the line, with its types.
+    pub fn last_signature(&mut self, alloc: Global) -> Result<Signature, LineError<'a>>
+        ensures scope { self.new.scope ≡ self.old.scope }
+        ensures ok { IfOk result (TakesWords self.old self.new IsSignature) }
+    {
+        last_signature(alloc, &mut self.words)
+    }
+
+    /// A condition.
+    pub fn condition(&mut self) -> Result<IntCC, LineError<'a>>
+        ensures scope { self.new.scope ≡ self.old.scope }
+        ensures ok { IfOk result (TakesWord self.old self.new (λ word cond. word ≡
+            int_cc_text cond)) }
+    {
+        let word = self.words.take(Expected::Condition)?;
+        condition_named(word).ok_or(LineError::wanted(Expected::Condition))
+    }
+
+    /// A reason for a trap.
+    pub fn trap_code(&mut self) -> Result<TrapCode, LineError<'a>>
+        ensures scope { self.new.scope ≡ self.old.scope }
+        ensures ok { IfOk result (TakesWord self.old self.new IsTrapCode) }
+    {
+        let word = self.words.take(Expected::TrapCode)?;
+        trap_code_named(word).ok_or(LineError::wanted(Expected::TrapCode))
+    }
+
+    /// The flags of a load or a store.
+    pub fn flags(&mut self) -> MemFlagsData
+        ensures scope { self.new.scope ≡ self.old.scope }
+        ensures flags { TakesFlags self.old.words self.new.words result }
+    {
+        self.words.take_flags()
+    }
+
+    /// An offset that ends the line; it may be left out where it is 0.
+    pub fn last_offset(&mut self) -> Result<i32, LineError<'a>>
+        ensures scope { self.new.scope ≡ self.old.scope }
+        ensures ok { IfOk result (TakesWords self.old self.new IsLastOffset) }
+    {
+        if self.words.is_empty() {
+            return Ok(0);
+        }
+        let word = self.words.take(Expected::Offset)?;
+        match offset(word) {
+            Some(number) => Ok(number),
+            None => Err(LineError::wanted(Expected::Offset)),
+        }
+    }
+
+    // Values up to `)`.
+    #[tactic(auto, using(crate::proofs::Taking::taking_rules))]
+    fn values_to_close(&mut self, alloc: Global) -> Result<Vec<Name>, LineError<'a>>
+        ensures scope { self.new.scope ≡ self.old.scope }
+        ensures ok { IfOk result (λ values. (words : List (List ℕ)) × (words_left self.old.words ≡
+            words ++ codes ")" ∷ words_left self.new.words) × AreAnswers (names_in self.old) words
+            values.items) }
+    {
+        let mut values = Vec::new(alloc);
+        while !self.words.skips(")") {
+            values.push(self.answer(Expected::ValueOrClose)?)?;
+        }
+        Ok(values)
+    }
+
+    // Answers up to the end of the line.
+    #[tactic(auto, using(crate::proofs::Taking::taking_rules))]
+    fn answers_to_end(
+        &mut self,
+        alloc: Global,
+        expected: Expected,
+    ) -> Result<Vec<Name>, LineError<'a>>
+        ensures scope { self.new.scope ≡ self.old.scope }
+        ensures ok { IfOk result (λ values. (words_left self.new.words ≡ []) ×
+            AreAnswers (names_in self.old) (words_left self.old.words) values.items) }
+    {
+        let mut values = Vec::new(alloc);
+        while !self.words.is_empty() {
+            values.push(self.answer(expected)?)?;
+        }
+        Ok(values)
+    }
+
+    /// Values that end the line, in parentheses or not.
+    pub fn last_values(&mut self, alloc: Global) -> Result<Vec<Name>, LineError<'a>>
+        ensures scope { self.new.scope ≡ self.old.scope }
+        ensures ok { IfOk result (λ values. TakesWords self.old self.new
+            (AreLast (names_in self.old)) values.items) }
+    {
+        if self.words.skips("(") {
+            self.values_to_close(alloc)
+        } else {
+            self.answers_to_end(alloc, Expected::Value)
+        }
+    }
+
+    /// An edge: a block, and the values that it passes in parentheses.
+    pub fn edge(&mut self, alloc: Global) -> Result<Edge, LineError<'a>>
+        ensures scope { self.new.scope ≡ self.old.scope }
+        ensures ok { IfOk result (TakesWords self.old self.new (IsEdge (names_in self.old))) }
+    {
+        let block = self.block()?;
+        let args = if self.words.skips("(") {
+            self.values_to_close(alloc)?
+        } else {
+            Vec::new(alloc)
+        };
+        Ok(Edge { block, args })
+    }
+
+    /// An edge that ends the line: the parentheses may be left out.
+    pub fn last_edge(&mut self, alloc: Global) -> Result<Edge, LineError<'a>>
+        ensures scope { self.new.scope ≡ self.old.scope }
+        ensures ok { IfOk result (TakesWords self.old self.new (IsLastEdge (names_in self.old))) }
+    {
+        let block = self.block()?;
+        let args = self.last_values(alloc)?;
+        Ok(Edge { block, args })
+    }
+
+    /// Nothing is left.
+    pub fn end(&self) -> Result<(), LineError<'a>>
+        ensures { OnOk result (words_left self.now.words ≡ []) }
+    {
+        self.words.end()
+    }
+}
+
+// The word stands for nothing.
+fn unknown(word: &str, expected: Expected) -> LineError<'_> {
+    if is_name(word) {
+        LineError::Fault(Fault::UnknownName(word))
+    } else {
+        LineError::wanted(expected)
+    }
+}
+
+// The number behind the prefix, as in `varN`.
+fn number_behind(prefix: &str, word: &str) -> Option<usize>
+    ensures { IfSome result (λ number. (digits : List ℕ) × (word.now ≡ prefix.now ++ digits) ×
+        IsDecimal digits number) }
+{
+    decimal(word.strip_prefix(prefix)?)
+}

@@ -1,0 +1,246 @@
+//! The header lines: the function's name and signature, and the configuration.
+ghost use Rattle.std.specs.Prelude.{◌≡◌, ◌++◌, ◌∷◌, [], ℕ, List, None, Some, IfOk, IfSome, OnOk, codes};
+ghost use Rattle.clif_types.specs.Texts.{call_conv_text};
+ghost use Rattle.clif_words.specs.Cursor.{texts, words_left};
+ghost use Rattle.clif_arguments.specs.Header.{AreReturned, AreTypes, IsFunction, IsFunctionName, IsSignature, IsUserName, name_in, signature_in};
+ghost use Rattle.clif_words.specs.Spelling.{pointer_text};
+
+use clif_types::{
+    AbiParam, CallConv, PointerWidth, Signature, TargetFrontendConfig, UserExternalName,
+    UserFuncName,
+};
+use clif_words::cursor::Cursor;
+use clif_words::error::{Expected, Fault, LineError};
+use clif_words::number::short_decimal;
+use clif_words::types::{call_conv_named, pointer_width_named};
+use std::alloc::Global;
+
+/// What the header lines so far say.
+#[derive(Drop)]
+pub struct Header {
+    function: Option<(UserFuncName, Signature)>,
+    pointer_width: Option<PointerWidth>,
+    call_conv: Option<CallConv>,
+}
+
+/// Whether a line that begins with this word is a header line.
+pub fn is_header(word: &str) -> bool {
+    matches!(word, "function" | "pointer" | "conv" | "region")
+}
+
+impl Header {
+    ghost use Rattle.clif_arguments.specs.Header.{IsHeader, call_conv_in, header_said, no_header, pointer_width_in};
+
+    pub fn new() -> Header
+        ensures { header_said result ≡ no_header }
+    {
+        Header {
+            function: None,
+            pointer_width: None,
+            call_conv: None,
+        }
+    }
+
+    /// Reads a header line, of which `head` is the first word.
+    pub fn read<'a>(
+        &mut self,
+        alloc: Global,
+        head: &'a str,
+        rest: &[&'a str],
+    ) -> Result<(), LineError<'a>>
+        ensures { OnOk result (IsHeader (head.now ∷ texts rest.now) (header_said self.old)
+            (header_said self.new)) }
+    {
+        match head {
+            "function" => keep(&mut self.function, function_of(alloc, rest)?, head),
+            "pointer" => keep(&mut self.pointer_width, pointer_width_of(rest)?, head),
+            "conv" => keep(&mut self.call_conv, call_conv_of(rest)?, head),
+            _ => Err(LineError::Fault(Fault::NotSupported(head))),
+        }
+    }
+
+    /// The configuration; pointers have 64 bits and the convention is `system_v` where no line says else.
+    pub fn config(&self) -> TargetFrontendConfig
+        ensures width { result.pointer_width ≡ pointer_width_in (header_said self.now).pointer_width }
+        ensures conv { result.default_call_conv ≡ call_conv_in (header_said self.now).call_conv }
+    {
+        TargetFrontendConfig {
+            default_call_conv: self.call_conv.unwrap_or(CallConv::SystemV),
+            pointer_width: self.pointer_width.unwrap_or(PointerWidth::U64),
+            page_size_align_log2: 12,
+        }
+    }
+
+    /// The name and the signature; `u0:0`, with nothing taken or returned and the convention `fast`, where no
+    /// line says else.
+    pub fn function(self, alloc: Global) -> (UserFuncName, Signature)
+        ensures name { result.0 ≡ name_in (header_said self).function }
+        ensures signature { result.1 ≡ signature_in (header_said self).function }
+    {
+        match self.function {
+            Some(function) => function,
+            None => (
+                UserFuncName::user(0, 0),
+                Signature::new(alloc, CallConv::Fast),
+            ),
+        }
+    }
+}
+
+// Keeps what a header line says, of which `head` is the first word, unless one of its kind stands above.
+fn keep<'a, T: Drop>(kept: &mut Option<T>, said: T, head: &'a str) -> Result<(), LineError<'a>>
+    ensures { OnOk result ((kept.old ≡ None) × (kept.new ≡ Some said)) }
+{
+    if kept.is_some() {
+        return Err(LineError::Fault(Fault::Repeated(head)));
+    }
+    *kept = Some(said);
+    Ok(())
+}
+
+fn pointer_width_of<'a>(rest: &[&'a str]) -> Result<PointerWidth, LineError<'a>>
+    ensures { IfOk result (λ width. texts rest.now ≡ pointer_text width ∷ []) }
+{
+    let mut words = Cursor::new(rest);
+    let word = words.take(Expected::PointerWidth)?;
+    let width = pointer_width_named(word).ok_or(LineError::wanted(Expected::PointerWidth))?;
+    words.end()?;
+    Ok(width)
+}
+
+fn call_conv_of<'a>(rest: &[&'a str]) -> Result<CallConv, LineError<'a>>
+    ensures { IfOk result (λ conv. texts rest.now ≡ call_conv_text conv ∷ []) }
+{
+    last_call_conv(&mut Cursor::new(rest), Expected::CallConv)
+}
+
+// The convention that ends a line.
+fn last_call_conv<'a>(
+    words: &mut Cursor<'_, 'a>,
+    expected: Expected,
+) -> Result<CallConv, LineError<'a>>
+    ensures conv { IfOk result (λ conv. words_left words.old ≡ call_conv_text conv ∷ []) }
+    ensures end { OnOk result (words_left words.new ≡ []) }
+{
+    let word = words.take(expected)?;
+    let conv = call_conv_named(word).ok_or(LineError::wanted(expected))?;
+    words.end()?;
+    Ok(conv)
+}
+
+// The name of a function, or of what `expected` says: `%` and a text, or `u0:0`.
+pub fn function_name<'a>(
+    alloc: Global,
+    word: &'a str,
+    expected: Expected,
+) -> Result<UserFuncName, LineError<'a>>
+    ensures { IfOk result (IsFunctionName word.now) }
+{
+    if let Some(text) = word.strip_prefix('%') {
+        if text.is_empty() {
+            return Err(LineError::wanted(expected));
+        }
+        return Ok(UserFuncName::testcase(String::from_str(alloc, text)?));
+    }
+    match user_name(word) {
+        Some(name) => Ok(UserFuncName::User(name)),
+        None => Err(LineError::wanted(expected)),
+    }
+}
+
+fn user_name(word: &str) -> Option<UserExternalName>
+    ensures { IfSome result (IsUserName word.now) }
+{
+    let (namespace, index) = word.strip_prefix('u')?.split_once(':')?;
+    Some(UserExternalName {
+        namespace: short_decimal(namespace)?,
+        index: short_decimal(index)?,
+    })
+}
+
+// The types that come next, each as a parameter.
+fn take_types<'a>(alloc: Global, words: &mut Cursor<'_, 'a>) -> Result<Vec<AbiParam>, LineError<'a>>
+    ensures { IfOk result (λ params. (taken : List (List ℕ)) × (words_left words.old ≡
+        taken ++ words_left words.new) × AreTypes taken params.items) }
+{
+    let mut params = Vec::new(alloc);
+    while let Some(ty) = words.take_type() {
+        params.push(AbiParam::new(ty))?;
+    }
+    Ok(params)
+}
+
+// The parameters in parentheses.
+fn take_params<'a>(
+    alloc: Global,
+    words: &mut Cursor<'_, 'a>,
+) -> Result<Vec<AbiParam>, LineError<'a>>
+    ensures { IfOk result (λ params. (taken : List (List ℕ)) × (words_left words.old ≡
+        codes "(" ∷ (taken ++ (codes ")" ∷ words_left words.new))) × AreTypes taken params.items) }
+{
+    if !words.skips("(") {
+        return Err(LineError::wanted(Expected::Open));
+    }
+    let params = take_types(alloc, words)?;
+    if words.skips(")") {
+        Ok(params)
+    } else {
+        Err(LineError::wanted(Expected::TypeOrClose))
+    }
+}
+
+// What is returned: types behind an arrow, or nothing without one.
+fn take_returns<'a>(
+    alloc: Global,
+    words: &mut Cursor<'_, 'a>,
+) -> Result<Vec<AbiParam>, LineError<'a>>
+    ensures { IfOk result (λ params. (taken : List (List ℕ)) × (words_left words.old ≡
+        taken ++ words_left words.new) × AreReturned taken params.items) }
+{
+    if !words.skips("->") {
+        return Ok(Vec::new(alloc));
+    }
+    let returns = take_types(alloc, words)?;
+    if returns.is_empty() {
+        Err(LineError::wanted(Expected::Type))
+    } else {
+        Ok(returns)
+    }
+}
+
+// `(types) -> types CONV`, or the same without the arrow, which ends a line.
+pub fn last_signature<'a>(
+    alloc: Global,
+    words: &mut Cursor<'_, 'a>,
+) -> Result<Signature, LineError<'a>>
+    ensures signature { IfOk result (IsSignature (words_left words.old)) }
+    ensures end { OnOk result (words_left words.new ≡ []) }
+{
+    let params = take_params(alloc, words)?;
+    let returns = take_returns(alloc, words)?;
+    let expected = if returns.is_empty() {
+        Expected::ArrowOrCallConv
+    } else {
+        Expected::TypeOrCallConv
+    };
+    let call_conv = last_call_conv(words, expected)?;
+    Ok(Signature {
+        params,
+        returns,
+        call_conv,
+    })
+}
+
+// `%name`, and a signature.
+fn function_of<'a>(
+    alloc: Global,
+    rest: &[&'a str],
+) -> Result<(UserFuncName, Signature), LineError<'a>>
+    ensures { IfOk result (IsFunction (texts rest.now)) }
+{
+    let mut words = Cursor::new(rest);
+    let word = words.take(Expected::FunctionName)?;
+    let name = function_name(alloc, word, Expected::FunctionName)?;
+    let signature = last_signature(alloc, &mut words)?;
+    Ok((name, signature))
+}

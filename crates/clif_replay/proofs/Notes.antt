@@ -1,0 +1,36 @@
+-- A note was made: the builder stands for the calls before it, and so for those with it.
+use Rattle.std.proofs.Common.{◌≡◌, ℕ, List, [], ◌∷◌, ◌++◌, refl, ap, sym}
+use Rattle.std.specs.Prelude.{◌&&◌, Bool, None, Some, true, false}
+use Rattle.std.proofs.lemmas.Bool.{and_from}
+use Rattle.clif_types.specs.Signature.{SignatureShape}
+use Rattle.clif_meaning.specs.Name as meaning
+use Rattle.clif_meaning.specs.Acceptance.{allows}
+use Rattle.clif_meaning.specs.Ledger.{has_value}
+use Rattle.clif_meaning.specs.Request.{AnsweredCall, Annotate}
+use Rattle.cranelift_frontend.specs.declared.builder.FunctionBuilder.{FunctionBuilder}
+use Rattle.cranelift_frontend.specs.Ledger.{ledger_of}
+use Rattle.cranelift_frontend.specs.LedgerLaws.{NotesAddNothing}
+use Rattle.cranelift_frontend.specs.StandsFor.{StandsFor}
+use Rattle.clif_calls.specs.declared.call.Name.{Name}
+use Rattle.clif_replay.specs.declared.script.Answer.{Answer}
+use Rattle.clif_replay.specs.declared.script.Answer.TheVariants as answer
+use Rattle.clif_replay.specs.Ready.{IsReady, IsReadyAfter, value_of}
+use Rattle.clif_replay.specs.Requests.{name_of}
+use Rattle.clif_replay.proofs.ReadyLaws.{ready-more, value-found, value-missing}
+
+-- the note answers nothing
+pub note-ready : NotesAddNothing → {declared : SignatureShape} (calls : List AnsweredCall) (old new : FunctionBuilder) (answers : List Answer) (values : List meaning.Name)
+    → IsReady declared calls old answers → StandsFor declared calls new → new.func.now.tables.jump_tables ≡ old.func.now.tables.jump_tables
+    → IsReadyAfter declared calls (Annotate values) new answers answer.Nothing
+note-ready law {declared} calls old new answers values ready stands tables =
+    ([], ready-more calls _ old new answers answer.Nothing ready tt tables (law.stands declared calls new values stands) (refl, refl))
+
+-- its value is one in the ledger where its name leads to one here
+pub note-none : {declared : SignatureShape} (calls : List AnsweredCall) (b : FunctionBuilder) (answers : List Answer) → IsReady declared calls b answers
+    → (name : Name) → value_of b.func.now answers name ≡ None → allows (ledger_of calls) (Annotate (name_of name ∷ [])) ≡ false
+note-none calls b answers ready name missing = ap (λ (there : Bool). there && true) (value-missing calls b answers ready name missing)
+
+pub note-some : {declared : SignatureShape} (calls : List AnsweredCall) (b : FunctionBuilder) (answers : List Answer) → IsReady declared calls b answers
+    → (name : Name) (value : ℕ) → value_of b.func.now answers name ≡ Some value → allows (ledger_of calls) (Annotate (name_of name ∷ [])) ≡ true
+note-some calls b answers ready name value found =
+    ap (λ (there : Bool). there && true) (value-found calls b answers ready name value found).is_value

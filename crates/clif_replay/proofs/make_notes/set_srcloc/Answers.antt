@@ -1,0 +1,18 @@
+use Rattle.std.proofs.Common.{◌∙◌, ap, refl}
+use Rattle.cranelift_frontend.specs.declared.builder.FunctionBuilder.{FunctionBuilder}
+use Rattle.clif_replay.specs.declared.script.Answer.TheVariants as answer
+use Rattle.clif_replay.proofs.Making.{made-answer}
+use Rattle.clif_replay.proofs.Notes.{note-ready}
+use Rattle.clif_replay.proofs.make_notes.set_srcloc.Goals as goal
+
+pub returns-clause-made : goal.returns-clause-made
+returns-clause-made c =
+    let old = c.args.builder.now in
+    let new = c.set_srcloc.new.self in
+    let done = c.set_srcloc.ensures in
+    made-answer old new c.args.answers.now answer.Nothing
+    (record { func = ap (λ (b : FunctionBuilder). b.func.ghost_name) done.builder; ctx = ap (λ (b : FunctionBuilder). b.ctx.ghost_name) done.builder })
+    (ap (λ (b : FunctionBuilder). b.func.now.name) done.builder) (ap (λ (b : FunctionBuilder). b.failed) done.builder ∙ c.requires.sound)
+    (ap (λ (b : FunctionBuilder). b.ctx.now.variables) done.builder) (λ declared calls ready. refl)
+    (λ declared calls ready. note-ready c.notes_add_nothing.ensures calls old new c.args.answers.now _ ready (done.stands declared calls ready.stands)
+    (ap (λ (b : FunctionBuilder). b.func.now.tables.jump_tables) done.builder))

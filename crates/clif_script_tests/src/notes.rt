@@ -1,0 +1,177 @@
+//! Scripts that set source places and labels, and that make instructions through the cursor.
+#![tactic(auto)]
+
+use crate::support::{faults, gives, rewritten, script_of};
+use clif_ir::Function;
+use clif_script::replay;
+use clif_types::{EntityRef, Inst, SourceLoc, Value};
+use cranelift_frontend::FunctionBuilderContext;
+use std::alloc::Global;
+use std::process::Abort;
+use std::test::Fail;
+
+const NOTES: &str = "\
+function %notes () -> i32 system_v
+b = create_block
+switch_to_block b
+seal_block b
+x = iconst.i32 1
+set_val_label x 5
+collect_debug_info
+set_val_label x 6
+set_srcloc 7
+set_val_label x 0x4
+y = cursor ineg x
+set_srcloc 0xffff_ffff
+z = bnot y
+collect_debug_info
+set_val_label x 6
+return z
+";
+
+// Neither is printed.
+const NOTES_TEXT: &str = "\
+function %notes() -> i32 system_v {
+block0:
+    v0 = iconst.i32 1
+    v1 = ineg v0  ; v0 = 1
+    v2 = bnot v1
+    return v2
+}
+";
+
+#[test]
+fn notes(rt: HostRuntime) -> Result<(), Fail> {
+    gives(&rt, rt.alloc(), NOTES.as_bytes(), 0, NOTES_TEXT, "")
+}
+
+const WRITTEN: &str = "\
+function %notes () -> i32 system_v
+pointer 64
+conv system_v
+create_block
+switch_to_block $0.0
+seal_block $0.0
+iconst.i32 1
+set_val_label $3.1 5
+collect_debug_info
+set_val_label $3.1 6
+set_srcloc 7
+set_val_label $3.1 4
+cursor ineg $3.1
+set_srcloc 4294967295
+bnot $9.1
+collect_debug_info
+set_val_label $3.1 6
+return $11.1
+";
+
+#[test]
+fn written(rt: HostRuntime) -> Result<(), Fail> {
+    for script in [NOTES, WRITTEN] {
+        let text = rewritten(rt.alloc(), script)?;
+        assert!(rt; text.as_str() == WRITTEN);
+    }
+    Ok(())
+}
+
+// The function that a script makes.
+fn built(alloc: Global, text: &str) -> Result<Function, Fail> {
+    let script = script_of(alloc, text)?;
+    let mut ctx = FunctionBuilderContext::new(alloc);
+    let name = script.name.clone()?;
+    let signature = script.signature.clone()?;
+    let calls = script.calls.as_slice();
+    Ok(replay(alloc, calls, name, signature, &mut ctx, script.config)?)
+}
+
+// Asserts the labels of a value: the source place of each, and its number.
+fn has_labels(rt: &impl Abort, func: &Function, number: usize, labels: &[(u32, u32)]) {
+    assert!(rt; number < func.value_count());
+    let kept = func.value_labels(Value::new(number));
+    assert!(rt; kept.len() == labels.len());
+    for (start, (place, label)) in kept.iter().zip(labels.iter()) {
+        assert!(rt; start.from == SourceLoc::new(*place) && start.label.as_u32() == *label);
+    }
+}
+
+// Labels are kept from `collect_debug_info` on, in the order of the calls, each with the source place that was set last.
+#[test]
+fn labels(rt: HostRuntime) -> Result<(), Fail> {
+    let func = built(rt.alloc(), NOTES)?;
+    has_labels(&rt, &func, 0, &[(0xffff_ffff, 6), (7, 4), (0xffff_ffff, 6)]);
+    has_labels(&rt, &func, 1, &[]);
+    Ok(())
+}
+
+// An instruction has the source place that was set last, also one that is made through the cursor.
+#[test]
+fn places(rt: HostRuntime) -> Result<(), Fail> {
+    let func = built(rt.alloc(), NOTES)?;
+    let places = [0xffff_ffff, 7, 0xffff_ffff, 0xffff_ffff];
+    assert!(rt; func.inst_count() == places.len());
+    for (number, place) in places.iter().enumerate() {
+        assert!(rt; number < func.inst_count());
+        assert!(rt; func.srcloc(Inst::new(number)) == SourceLoc::new(*place));
+    }
+    Ok(())
+}
+
+const MISUSES: [(&str, &str); 5] = [
+    // a label of what is no value
+    (
+        "b = create_block\nset_val_label b 1",
+        "misuse at call 1\nline 2: set_val_label b 1: $0.0 is no value\n",
+    ),
+    (
+        "set_val_label $0.0 1",
+        "misuse at call 0\nline 1: set_val_label $0.0 1: $0.0 is no value\n",
+    ),
+    // the conditions of an instruction hold through the cursor, too
+    (
+        "cursor iconst.i32 1",
+        "misuse at call 0\nline 1: cursor iconst.i32 1: no block is current\n",
+    ),
+    (
+        "b = create_block\nswitch_to_block b\ncursor ineg b",
+        "misuse at call 2\nline 3: cursor ineg b: $0.0 is no value\n",
+    ),
+    (
+        "b = create_block\nswitch_to_block b\nreturn\ncursor iconst.i32 1",
+        "misuse at call 3\nline 4: cursor iconst.i32 1: block0 is filled\n",
+    ),
+];
+
+#[test]
+fn misuses(rt: HostRuntime) -> Result<(), Fail> {
+    for (script, err) in MISUSES.iter() {
+        gives(&rt, rt.alloc(), script.as_bytes(), 1, "", err)?;
+    }
+    Ok(())
+}
+
+const FAULTS: [(&str, &str); 15] = [
+    ("set_srcloc", "expected a source place of 32 bits"),
+    ("set_srcloc -1", "expected a source place of 32 bits"),
+    (
+        "set_srcloc 4294967296",
+        "expected a source place of 32 bits",
+    ),
+    ("set_srcloc 1 1", "expected the end of the line"),
+    ("a = set_srcloc 1", "expected no names"),
+    ("collect_debug_info 1", "expected the end of the line"),
+    ("set_val_label", "expected a value"),
+    ("set_val_label b", "expected a label"),
+    ("set_val_label b 4294967295", "expected a label"),
+    ("a = set_val_label b 1", "expected no names"),
+    ("cursor", "expected a call"),
+    ("cursor create_block", "expected an instruction for cursor"),
+    ("cursor jump b", "expected an instruction for cursor"),
+    ("cursor cursor ineg b", "expected an instruction for cursor"),
+    ("@a, c, d = cursor ineg b", "expected at most 1 name"),
+];
+
+#[test]
+fn lines(rt: HostRuntime) -> Result<(), Fail> {
+    faults(&rt, rt.alloc(), &FAULTS)
+}

@@ -1,0 +1,139 @@
+-- Interrupted runs that may also go, at a block's end so far, along edges that aren't made yet: into unsealed blocks, where the
+-- names so far are given before their places whichever of these edges come. Along such an edge memory and events become any
+-- ones, alike on both sides, and so do the bits of the target's parameters of the caller's. So a block that only a coming branch
+-- will reach is read, too, and a coming edge may be that of an outside call. Own.
+use Rattle.std.specs.Prelude.{◌≡◌, ℕ, false, true, Bool, List, [], ◌∷◌, map, Contains, Option, Some, None, IsTrue, if◌then◌else◌}
+use Rattle.std.specs.List.{list_any}
+use Rattle.clif_types.specs.Signature.{SignatureShape}
+use Rattle.clif_types.specs.declared.target.PointerWidth.{PointerWidth}
+use Rattle.clif_ir.specs.Body.{Body}
+use Rattle.clif_ssa.specs.Sound.{EntryIsFree}
+use Rattle.clif_ssa.specs.Ssa.{SsaState, sealed_of}
+use Rattle.clif_records.specs.Tables.{is_yes}
+use Rattle.clif_meaning.specs.Bits.{Bits}
+use Rattle.clif_meaning.specs.Memory.{Memory}
+use Rattle.clif_meaning.specs.Name.{Name, same_name}
+use Rattle.clif_meaning.specs.Request.{AnsweredCall, script_of}
+use Rattle.clif_meaning.specs.Ledger.{ledger_after}
+use Rattle.clif_meaning.specs.Program.{Item, Program}
+use Rattle.clif_meaning.specs.Event.{Event}
+use Rattle.clif_meaning.specs.World.{World}
+use Rattle.clif_meaning.specs.Store.{assigned}
+use Rattle.clif_meaning.specs.Machine.{Machine, Control, At, HasReturned, HasTrapped, IsStuck, Observation, state_after}
+use Rattle.clif_meaning.specs.ScriptMachine.{ScriptRun, ScriptState, script_machine}
+use Rattle.clif_meaning.specs.FunctionMachine.{Collector, FunctionRun, FunctionState, function_machine, same_value}
+use Rattle.clif_meaning.specs.View.{view_of}
+use Rattle.clif_meaning.specs.Path.{Place}
+use Rattle.clif_meaning.specs.WellPlaced.{Code, IsWellPlaced, item_at, item_targets, program_code}
+use Rattle.clif_meaning.specs.Headline.{IsWorldOf}
+use Rattle.clif_simulation.specs.Tables.{answered, block_name, program_so_far}
+use Rattle.clif_simulation.specs.Reading.{with_ends, MovesAlike, WellTypedSoFar, script_run_so_far, function_run_so_far}
+use Rattle.clif_simulation.specs.Interrupted.{Unknowns, ScriptStanding, script_edge, script_goes, script_enters, FunctionStanding, function_edge, function_goes, function_enters, HasBesideIn, AreOpen}
+
+-- the blocks that edges may still come to from a block, by its name
+abbrev pub Coming : Type 0
+Coming = Name → List Name
+
+-- the blocks that the item leads to, or at a block's end so far, where no item stands, those that one may still come to
+abbrev pub targets_with : List Name → Option Item → List Name
+targets_with coming None = coming
+targets_with coming (Some item) = item_targets (Some item)
+
+-- the code so far, with the edges that may still come
+abbrev pub code_coming : Coming → List AnsweredCall → Code Name Name
+code_coming coming calls =
+    let code = with_ends (program_code (program_so_far calls)) in
+    record code { flow = record code.flow { targets = λ p. targets_with (coming p.block) (item_at (program_so_far calls) p) } }
+
+-- These edges may still come: they lead into unsealed blocks, and whichever of them come, names are given before.
+pub record MayCome (coming : Coming) (calls : List AnsweredCall) (s : SsaState) : Type 0 where
+  pub blocks : (from target : Name) → Contains (coming from) target → block_name calls (answered calls target) ≡ Some target
+  pub unsealed : (from target : Name) → Contains (coming from) target → is_yes (sealed_of s (answered calls target)) ≡ false
+  pub given_before : IsWellPlaced (code_coming coming calls)
+
+-- Control comes along such an edge, whatever makes it: to this block, with any memory, any events, and any bits of the parameters
+-- that the caller gave the block.
+pub record Arrival : Type 0 where
+  pub block : Name
+  pub memory : Memory
+  pub events : List Event
+  pub parameters : List Bits
+
+-- where a run goes from a block's end so far after it entered so many blocks, if anywhere
+abbrev pub Arrivals : Type 0
+Arrivals = ℕ → Option Arrival
+
+-- only at a block's end so far, where nothing stands
+abbrev pub arrival_at : {Thing : Type 0} → Option Arrival → Control Thing → Option Arrival
+arrival_at None control = None
+arrival_at (Some arrival) (At []) = Some arrival
+arrival_at (Some arrival) _ = None
+
+-- The script's side --------------------------------------------------------------------------------------------------
+
+abbrev pub script_arrived : List AnsweredCall → Arrival → ScriptState → ScriptState
+script_arrived calls arrival state = record state {
+  names = assigned same_name ((program_so_far calls).parameters arrival.block) arrival.parameters state.names;
+  memory = arrival.memory;
+  events = arrival.events;
+  control = At ((program_so_far calls).items arrival.block);
+}
+
+-- along an edge that may come from the block, or else as the run goes on
+abbrev pub script_comes : Coming → List AnsweredCall → SsaState → Unknowns → ScriptStanding → Option Arrival → ScriptStanding → ScriptStanding
+script_comes coming calls s unknowns before None after = after
+script_comes coming calls s unknowns before (Some arrival) after =
+    if list_any (same_name arrival.block) (coming before.place.block)
+    then script_enters s unknowns (answered calls arrival.block) arrival.block before.entries (script_arrived calls arrival before.state)
+    else after
+
+-- the run from the entry, which has this number and name
+abbrev pub coming_script : Coming → Arrivals → List AnsweredCall → SsaState → Unknowns → ℕ → Name → ScriptRun → Machine ScriptStanding Observation
+coming_script coming arrivals calls s unknowns block name run = record {
+  start = script_enters s unknowns block name 0 (script_machine run).start;
+  next = λ standing. script_comes coming calls s unknowns standing (arrival_at (arrivals standing.entries) standing.state.control)
+      (script_goes calls s unknowns standing (script_edge run standing.state standing.state.control) ((script_machine run).next standing.state));
+  shown = λ standing. (script_machine run).shown standing.state;
+}
+
+-- The function's side ------------------------------------------------------------------------------------------------
+
+-- a parameter of the caller's has the bits of its name
+abbrev pub function_arrived : List AnsweredCall → FunctionRun → Arrival → FunctionState → FunctionState
+function_arrived calls run arrival state = record state {
+  values = assigned same_value (map (answered calls) ((program_so_far calls).parameters arrival.block)) arrival.parameters state.values;
+  memory = arrival.memory;
+  events = arrival.events;
+  control = At (run.function.blocks (answered calls arrival.block)).items;
+}
+
+abbrev pub function_comes : List AnsweredCall → FunctionRun → SsaState → Unknowns → FunctionStanding → Option Arrival → FunctionStanding → FunctionStanding
+function_comes calls run s unknowns before None after = after
+function_comes calls run s unknowns before (Some arrival) after =
+    function_enters s unknowns (answered calls arrival.block) before.entries (function_arrived calls run arrival before.state)
+
+abbrev pub coming_function : Arrivals → List AnsweredCall → SsaState → Unknowns → ℕ → FunctionRun → Machine FunctionStanding Observation
+coming_function arrivals calls s unknowns block run = record {
+  start = function_enters s unknowns block 0 (function_machine run).start;
+  next = λ standing. function_comes calls run s unknowns standing (arrival_at (arrivals standing.entries) standing.state.control)
+      (function_goes s unknowns standing (function_edge run standing.state standing.state.control) ((function_machine run).next standing.state));
+  shown = λ standing. (function_machine run).shown standing.state;
+}
+
+-- Beside one another -------------------------------------------------------------------------------------------------
+
+abbrev pub RunsBesideComing : Coming → List AnsweredCall → Body → SsaState → ScriptRun → FunctionRun → ℕ → Name → Type 0
+RunsBesideComing coming calls f s left right block name =
+    (unknowns : Unknowns) (arrivals : Arrivals) (n : ℕ) (rest : List Item)
+    → (state_after (coming_script coming arrivals calls s unknowns block name left) n).state.control ≡ At rest
+    → HasBesideIn (code_coming coming calls) calls f s (state_after (coming_script coming arrivals calls s unknowns block name left) n)
+    (coming_function arrivals calls s unknowns block right)
+
+-- `ReadsRightWhere`, along each set of edges that may still come
+abbrev pub ReadsRightComing : (Name → Bool) → List AnsweredCall → SignatureShape → Body → SsaState → Type 0
+ReadsRightComing growing calls signature f s =
+    (width : PointerWidth) (world : World) (tracked : Name → Bool) (collector : Collector) (coming : Coming)
+    → IsWorldOf signature (view_of f) width world → WellTypedSoFar growing (ledger_after (script_of calls)) (program_so_far calls) signature
+    → MayCome coming calls s → EntryIsFree f s → MovesAlike calls tracked collector
+    → (block : ℕ) (name : Name) → block_name calls block ≡ Some name → (program_so_far calls).entry ≡ Some name
+    → RunsBesideComing coming calls f s (script_run_so_far calls f world tracked) (function_run_so_far calls f world collector) block name
