@@ -1,13 +1,13 @@
 //! The interpreter of scripts, written from the script machine: it runs the variable program of a script. It has
 //! variables and names of answers, and no aliases and no parameters of variables.
 use crate::error::{Cause, Operand, Place, RunError};
-use crate::instruction::{
-    Edges, Instruction, branch_by_table, constant_of, edge_count, edge_of, instruction_of, plan_of,
-};
-use crate::program::{Program, ProgramBlock};
 use crate::run::{End, Ending, World};
 use clif_calls::{Call, Edge, Name, Plan};
 use clif_operations::{Fault, Operation, Outcome, Store, Typed, bits_of, carry_out, kept};
+use clif_script_program::instruction::{
+    Edges, Instruction, branch_by_table, constant_of, edge_count, edge_of, instruction_of, plan_of,
+};
+use clif_script_program::program::{Program, ProgramBlock};
 use clif_types::{AbiParam, EntityRef, JumpTable, Signature, Type};
 use std::alloc::{AllocError, Global};
 

@@ -1,8 +1,8 @@
 //! Which condition of a call doesn't hold, by what the calls before it alone tell.
 use clif_calls::{Call, Edge, EntryCall, Name};
-use clif_interpreter::instruction::{edge_count, edge_of, instruction_of, plan_of};
 use clif_opcodes::{Control, Demand, Opcode, PooledConstOpcode};
 use clif_operations::Operation;
+use clif_script_program::instruction::{edge_count, edge_of, instruction_of, plan_of};
 use clif_types::types::F128;
 use clif_types::{AbiParam, EntityRef, JumpTable, Signature, StackSlot, Type};
 use std::alloc::{AllocError, Global};

@@ -6,43 +6,39 @@ use std::alloc::{AllocError, Global};
 
 /// A block of a variable program.
 #[derive(Drop)]
-pub(crate) struct ProgramBlock {
+pub struct ProgramBlock {
     /// The caller's parameters: their names and their types.
-    pub(crate) params: Vec<(Name, Type)>,
+    pub params: Vec<(Name, Type)>,
     /// The places of the instructions, uses and assignments, in order.
-    pub(crate) items: Vec<usize>,
+    pub items: Vec<usize>,
     /// Whether the block has a terminator.
-    pub(crate) is_filled: bool,
+    pub is_filled: bool,
 }
 
 /// A variable program, with the stack slots that the script asks for.
 #[derive(Drop)]
-pub(crate) struct Program {
+pub struct Program {
     alloc: Global,
     current: Option<usize>,
     // for each call the number of the block that it answered
     numbers: Vec<Option<usize>>,
     /// The blocks, in the order of the calls that made them.
-    pub(crate) blocks: Vec<ProgramBlock>,
+    pub blocks: Vec<ProgramBlock>,
     /// The block that was current at the first call that put one into the layout.
-    pub(crate) entry: Option<usize>,
+    pub entry: Option<usize>,
     /// The types of the variables.
-    pub(crate) variables: Vec<Type>,
+    pub variables: Vec<Type>,
     /// The size of each stack slot, and the shift of its alignment.
-    pub(crate) slots: Vec<(u32, u8)>,
+    pub slots: Vec<(u32, u8)>,
     // for each jump table the places of the calls that answered its edges, the default first
     tables: Vec<Vec<usize>>,
     /// For each call how many answers it has. What is no value is never given.
-    pub(crate) answers: Vec<usize>,
+    pub answers: Vec<usize>,
 }
 
 impl Program {
     /// The variable program of these calls, for a function of this signature.
-    pub(crate) fn of(
-        alloc: Global,
-        calls: &[Call],
-        signature: &Signature,
-    ) -> Result<Program, AllocError> {
+    pub fn of(alloc: Global, calls: &[Call], signature: &Signature) -> Result<Program, AllocError> {
         let mut program = Program {
             alloc,
             current: None,
@@ -61,7 +57,7 @@ impl Program {
     }
 
     /// The number of the block that a name leads to.
-    pub(crate) fn number(&self, block: Name) -> Option<usize> {
+    pub fn number(&self, block: Name) -> Option<usize> {
         if block.answer != 0 {
             return None;
         }
@@ -69,17 +65,17 @@ impl Program {
     }
 
     /// The block with a number.
-    pub(crate) fn block(&self, number: usize) -> Option<&ProgramBlock> {
+    pub fn block(&self, number: usize) -> Option<&ProgramBlock> {
         self.blocks.get(number)
     }
 
     /// The item of a block at an index.
-    pub(crate) fn item(&self, number: usize, index: usize) -> Option<usize> {
+    pub fn item(&self, number: usize, index: usize) -> Option<usize> {
         self.block(number)?.items.get(index).copied()
     }
 
     /// How many edges a jump table has, the default included; none if it wasn't made.
-    pub(crate) fn table_len(&self, table: JumpTable) -> usize {
+    pub fn table_len(&self, table: JumpTable) -> usize {
         match self.tables.get(table.index()) {
             Some(places) => places.len(),
             None => 0,
@@ -87,7 +83,7 @@ impl Program {
     }
 
     /// The edge of a jump table with this number, the default first, in the calls of the script.
-    pub(crate) fn table_edge<'c>(
+    pub fn table_edge<'c>(
         &self,
         calls: &'c [Call],
         table: JumpTable,
