@@ -6,11 +6,15 @@
 #[cfg(test)]
 mod agreement;
 #[cfg(test)]
+mod changes;
+#[cfg(test)]
 mod instructions;
 #[cfg(test)]
 mod memory;
 #[cfg(test)]
 mod notes;
+#[cfg(test)]
+mod outside;
 #[cfg(test)]
 mod refusals;
 #[cfg(test)]

@@ -10,13 +10,14 @@ use Rattle.clif_calls.specs.declared.call.Edge.{Edge}
 use Rattle.clif_arguments.specs.Header.{IsFunctionName}
 
 -- what names stand for: the answer that a given name stands for, and the number of the variable, of the stack slot, of the
--- jump table, or of the signature that an answer is
+-- jump table, of the signature, or of the function that an answer is
 pub record Names : Type 0 where
   pub given : List ℕ → Option Name
   pub variable : Name → ℕ
   pub slot : Name → ℕ
   pub jump_table : Name → ℕ
   pub signature : Name → ℕ
+  pub function : Name → ℕ
 
 -- `$P.K`, with the place and the answer in decimal digits
 abbrev pub IsPlaceName : List ℕ → Name → Type 0
@@ -25,6 +26,10 @@ IsPlaceName word name = (place answer : List ℕ) × (word ≡ codes "$" ++ (pla
 -- a word stands for an answer: by its place, or by a name that was given
 abbrev pub IsAnswer : Names → List ℕ → Name → Type 0
 IsAnswer names word name = IsPlaceName word name ⊎ (names.given word ≡ Some name)
+
+-- a word stands for an instruction: for its answer, with or without the `@` that gives an instruction its name
+abbrev pub IsInst : Names → List ℕ → Name → Type 0
+IsInst names word name = IsAnswer names word name ⊎ ((rest : List ℕ) × (word ≡ codes "@" ++ rest) × IsAnswer names rest name)
 
 -- a word stands for this number: as an answer that has it, or as the number in decimal digits behind the prefix where no
 -- such name was given
@@ -46,6 +51,10 @@ IsJumpTable names = IsNumbered (codes "jt") names.jump_table names
 -- the signature of this number: as the answer of the call that imported it, or as `sigN`
 abbrev pub IsSignatureName : Names → List ℕ → ℕ → Type 0
 IsSignatureName names = IsNumbered (codes "sig") names.signature names
+
+-- the function of this number: as the answer of the call that imported it, or as `fnN`
+abbrev pub IsFunctionRef : Names → List ℕ → ℕ → Type 0
+IsFunctionRef names = IsNumbered (codes "fn") names.function names
 
 -- the words stand for the answers, one for one
 abbrev pub AreAnswers : Names → List (List ℕ) → List Name → Type 0

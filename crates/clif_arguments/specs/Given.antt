@@ -16,6 +16,7 @@ abbrev pub numbered_kind : Call → Option Kind
 numbered_kind (call.DeclareVar ty) = Some kind.Variable
 numbered_kind (call.Entry (entry.CreateSizedStackSlot size align_shift)) = Some kind.StackSlot
 numbered_kind (call.Entry (entry.ImportSignature signature)) = Some kind.Signature
+numbered_kind (call.Entry (entry.ImportFunction function)) = Some kind.Function
 numbered_kind (call.CreateJumpTable default entries) = Some kind.JumpTable
 numbered_kind _ = None
 
@@ -23,6 +24,7 @@ numbered_kind _ = None
 abbrev pub is_instruction : Call → Bool
 is_instruction (call.Plain instruction) = true
 is_instruction (call.Cursor instruction) = true
+is_instruction (call.Outside called) = true
 is_instruction (call.F128const bytes) = true
 is_instruction (call.Vconst ty bytes) = true
 is_instruction (call.Jump edge) = true
@@ -34,7 +36,7 @@ is_instruction _ = false
 
 -- how many there are of each kind at first
 abbrev pub no_totals : Totals
-no_totals = record { variables = 0; stack_slots = 0; jump_tables = 0; signatures = 0 }
+no_totals = record { variables = 0; stack_slots = 0; jump_tables = 0; signatures = 0; functions = 0 }
 
 -- how many there are of this kind
 abbrev pub total_of : Kind → Totals → ℕ
@@ -42,6 +44,7 @@ total_of kind.Variable totals = totals.variables
 total_of kind.StackSlot totals = totals.stack_slots
 total_of kind.JumpTable totals = totals.jump_tables
 total_of kind.Signature totals = totals.signatures
+total_of kind.Function totals = totals.functions
 
 -- how many there are of each kind behind a call that answers one of this kind, or none
 abbrev pub totals_behind : Option Kind → Totals → Totals
@@ -50,6 +53,7 @@ totals_behind (Some kind.Variable) totals = record totals { variables = totals.v
 totals_behind (Some kind.StackSlot) totals = record totals { stack_slots = totals.stack_slots + 1 }
 totals_behind (Some kind.JumpTable) totals = record totals { jump_tables = totals.jump_tables + 1 }
 totals_behind (Some kind.Signature) totals = record totals { signatures = totals.signatures + 1 }
+totals_behind (Some kind.Function) totals = record totals { functions = totals.functions + 1 }
 
 -- what such a call answers by number
 abbrev pub next_of : Option Kind → Totals → Numbered
@@ -58,6 +62,7 @@ next_of (Some kind.Variable) totals = numbered.Variable totals.variables
 next_of (Some kind.StackSlot) totals = numbered.StackSlot totals.stack_slots
 next_of (Some kind.JumpTable) totals = numbered.JumpTable totals.jump_tables
 next_of (Some kind.Signature) totals = numbered.Signature totals.signatures
+next_of (Some kind.Function) totals = numbered.Function totals.functions
 
 -- how many there are of each kind behind these calls, where there were so many before them
 abbrev pub totals_from : Totals → List Call → Totals
@@ -75,6 +80,7 @@ number_as kind.Variable (numbered.Variable number) = Some number
 number_as kind.StackSlot (numbered.StackSlot number) = Some number
 number_as kind.JumpTable (numbered.JumpTable number) = Some number
 number_as kind.Signature (numbered.Signature number) = Some number
+number_as kind.Function (numbered.Function number) = Some number
 number_as _ _ = None
 
 -- the number of the one of this kind that a call answers, or else this number
@@ -94,6 +100,7 @@ names_with answered totals given = record {
   slot = number_in kind.StackSlot answered totals;
   jump_table = number_in kind.JumpTable answered totals;
   signature = number_in kind.Signature answered totals;
+  function = number_in kind.Function answered totals;
 }
 
 -- what names stand for behind these calls, where names were given so

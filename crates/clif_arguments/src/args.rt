@@ -7,7 +7,7 @@ use crate::scope::{Kind, Scope, is_name};
 use clif_calls::{Edge, Name};
 use clif_records::Variable;
 use clif_types::{
-    EntityRef, ExternalName, IntCC, JumpTable, MemFlagsData, SigRef, Signature, StackSlot,
+    EntityRef, ExternalName, FuncRef, IntCC, JumpTable, MemFlagsData, SigRef, Signature, StackSlot,
     TrapCode, Type, UserFuncName, ValueLabel,
 };
 use clif_words::bytes::bytes;
@@ -32,7 +32,7 @@ impl<'w, 'a> Args<'w, 'a> {
     ghost use Rattle.clif_types.specs.Texts.{int_cc_text};
     ghost use Rattle.clif_words.specs.Cursor.{TakesFlags, texts, words_left};
     ghost use Rattle.clif_words.specs.Spelling.{IsBytes, IsMagnitude, IsNumber, IsTrapCode, IsTypeWord, flag_word};
-    ghost use Rattle.clif_arguments.specs.Arguments.{AreAnswers, AreLast, IsEdge, IsExternalName, IsJumpTable, IsLastEdge, IsLastOffset, IsNumbered, IsSignatureName, IsSlot, IsVariable};
+    ghost use Rattle.clif_arguments.specs.Arguments.{AreAnswers, AreLast, IsEdge, IsExternalName, IsFunctionRef, IsInst, IsJumpTable, IsLastEdge, IsLastOffset, IsNumbered, IsSignatureName, IsSlot, IsVariable};
     ghost use Rattle.clif_arguments.specs.Header.{IsSignature};
     ghost use Rattle.clif_arguments.specs.Taking.{TakesAnswer, TakesAnswers, TakesWord, TakesWords, names_in, numbers_in};
 
@@ -81,6 +81,22 @@ impl<'w, 'a> Args<'w, 'a> {
         ensures ok { IfOk result (TakesAnswer self.old self.new) }
     {
         self.answer(Expected::Value)
+    }
+
+    /// An instruction: a name that it was given, with or without the `@` in front of it, or `$P.K`.
+    pub fn inst(&mut self) -> Result<Name, LineError<'a>>
+        ensures scope { self.new.scope ≡ self.old.scope }
+        ensures ok { IfOk result (TakesWord self.old self.new (IsInst (names_in self.old))) }
+    {
+        let word = self.words.take(Expected::Inst)?;
+        let named = match word.strip_prefix('@') {
+            Some(rest) => rest,
+            None => word,
+        };
+        match self.scope.answer(named) {
+            Some(name) => Ok(name),
+            None => Err(unknown(named, Expected::Inst)),
+        }
     }
 
     // The number of one of this kind: of the one that a name or `$P.K` stands for, or the number behind the
@@ -150,6 +166,15 @@ impl<'w, 'a> Args<'w, 'a> {
     {
         let number = self.numbered("sig", Kind::Signature, Expected::Signature)?;
         Ok(SigRef::new(number))
+    }
+
+    /// A function: the one that a name or `$P.K` stands for, or `fnN`, which is function N unless that name was given.
+    pub fn function(&mut self) -> Result<FuncRef, LineError<'a>>
+        ensures scope { self.new.scope ≡ self.old.scope }
+        ensures ok { IfOk result (TakesWord self.old self.new (IsFunctionRef (names_in self.old))) }
+    {
+        let number = self.numbered("fn", Kind::Function, Expected::Function)?;
+        Ok(FuncRef::new(number))
     }
 
     /// An edge that `block_call` answered.

@@ -19,6 +19,8 @@ pub enum Kind {
     JumpTable,
     /// A signature.
     Signature,
+    /// A function.
+    Function,
 }
 
 /// What a call answers by number.
@@ -28,6 +30,7 @@ pub enum Numbered {
     StackSlot(usize),
     JumpTable(usize),
     Signature(usize),
+    Function(usize),
     Nothing,
 }
 
@@ -38,6 +41,7 @@ pub struct Totals {
     stack_slots: usize,
     jump_tables: usize,
     signatures: usize,
+    functions: usize,
 }
 
 /// The names that the lines so far gave, and what their calls answered by number.
@@ -51,6 +55,7 @@ pub struct Scope<'a> {
     ghost slots_counted: { totals.stack_slots ≤ vec_len numbered },
     ghost tables_counted: { totals.jump_tables ≤ vec_len numbered },
     ghost signatures_counted: { totals.signatures ≤ vec_len numbered },
+    ghost functions_counted: { totals.functions ≤ vec_len numbered },
 }
 
 impl Numbered {
@@ -62,7 +67,8 @@ impl Numbered {
             (Numbered::Variable(number), Kind::Variable)
             | (Numbered::StackSlot(number), Kind::StackSlot)
             | (Numbered::JumpTable(number), Kind::JumpTable)
-            | (Numbered::Signature(number), Kind::Signature) => Some(number),
+            | (Numbered::Signature(number), Kind::Signature)
+            | (Numbered::Function(number), Kind::Function) => Some(number),
             _ => None,
         }
     }
@@ -78,6 +84,7 @@ impl Totals {
             Kind::StackSlot => self.stack_slots,
             Kind::JumpTable => self.jump_tables,
             Kind::Signature => self.signatures,
+            Kind::Function => self.functions,
         }
     }
 }
@@ -125,6 +132,7 @@ impl<'a> Scope<'a> {
                 stack_slots: 0,
                 jump_tables: 0,
                 signatures: 0,
+                functions: 0,
             },
         }
     }
@@ -184,6 +192,11 @@ impl<'a> Scope<'a> {
                 let number = self.totals.signatures;
                 self.numbered.push(Numbered::Signature(number))?;
                 self.totals.signatures += 1;
+            }
+            Some(Kind::Function) => {
+                let number = self.totals.functions;
+                self.numbered.push(Numbered::Function(number))?;
+                self.totals.functions += 1;
             }
             None => self.numbered.push(Numbered::Nothing)?,
         }

@@ -1,5 +1,6 @@
 //! The calls of a script, and the names of their answers.
 use crate::entry::EntryCall;
+use crate::outside::OutsideCall;
 use clif_records::Variable;
 use clif_types::{
     IntCC, JumpTable, MemFlagsData, SourceLoc, StackSlot, TrapCode, Type, ValueLabel,
@@ -211,7 +212,7 @@ pub enum PlainInstruction {
 
 /// One call on a builder, with names in place of what earlier calls answered.
 ///
-/// Each variant but `Entry`, `Plain` and `Cursor` is the builder's method, or the instruction, of its name, and has its
+/// Each variant but `Entry`, `Plain`, `Cursor` and `Outside` is the builder's method, or the instruction, of its name, and has its
 /// conditions. A variable is named by its number.
 #[derive(Drop)]
 pub enum Call {
@@ -299,6 +300,8 @@ pub enum Call {
     Plain(PlainInstruction),
     /// The same, made through `cursor()`.
     Cursor(PlainInstruction),
+    /// An outside call, an instruction that ends no block.
+    Outside(OutsideCall),
     /// `set_srcloc(srcloc)`: answers nothing, and has no condition. Each later instruction gets this place in the source.
     SetSrcloc {
         srcloc: SourceLoc,
@@ -309,6 +312,13 @@ pub enum Call {
     SetValLabel {
         value: Name,
         label: ValueLabel,
+    },
+    /// `change_jump_destination(branch, from, to)`: answers nothing. The branch is an instruction that leads to the block
+    /// `from`, and neither block is sealed; they may be one block.
+    ChangeJumpDestination {
+        branch: Name,
+        from: Name,
+        to: Name,
     },
     /// `f128const bytes`: the float with the bits that these 16 bytes make, the lowest first. It has one result.
     F128const {

@@ -3,8 +3,10 @@
 
 mod call;
 mod entry;
+mod outside;
 mod plan;
 
 pub use call::{Call, Edge, Name, PlainInstruction};
 pub use entry::EntryCall;
+pub use outside::OutsideCall;
 pub use plan::Plan;

@@ -1,13 +1,10 @@
 //! The interpreter of functions, written from the function machine. It has the bits of values, and follows aliases.
 use crate::error::{Cause, Operand, Place, RunError};
-use crate::outside::{Callee, Event, Outside, Payload, cut};
+use crate::outside::{Callee, Event, Outside, Payload, call_library, cut, show};
 use crate::run::{End, Ending, World};
 use clif_ir::{BlockArg, BlockCall, ExceptionTargets, Function, InstructionData};
 use clif_operations::arithmetic::bits_of_bytes;
-use clif_operations::{
-    Fault, LibraryCall, Operation, Outcome, Store, Typed, bits_of, carry_out, is_library_signature,
-    kept, library_result,
-};
+use clif_operations::{Fault, Operation, Outcome, Store, Typed, bits_of, carry_out, kept};
 use clif_types::{
     Block, Constant, EntityRef, ExternalName, FuncRef, Inst, PointerWidth, SigRef, Signature,
     StackSlot, Type, Value,
@@ -306,11 +303,14 @@ impl<'a, O: Outside> State<'a, O> {
             arguments,
             ..
         } = call;
-        self.events.push(Event { callee, arguments })?;
-        let thrown = self.outside.thrown(self.events.as_slice(), items);
-        self.outside
-            .change(self.events.as_slice(), &mut self.store.memory);
-        Ok(thrown.filter(|item| *item < items))
+        let event = Event { callee, arguments };
+        show(
+            self.outside,
+            &mut self.events,
+            event,
+            items,
+            &mut self.store.memory,
+        )
     }
 
     // Makes a call that isn't a try call, which gives its results.
@@ -346,24 +346,16 @@ impl<'a, O: Outside> State<'a, O> {
         let ExternalName::LibCall(callee) = name else {
             return Ok(None);
         };
-        let (callee, pointer_width) = (*callee, self.pointer_width);
-        if !is_library_signature(callee, pointer_width, signature) {
-            return Err(Cause::Fault(Fault::LibrarySignature));
-        }
         let arguments = self.arguments(signature, values)?;
-        let [first, second, size] = arguments.as_slice() else {
-            return Err(Cause::CallArguments);
-        };
-        let call = LibraryCall {
-            callee,
-            pointer_width,
-            first: *first,
-            second: *second,
-            size: *size,
-        };
-        let bits = call.run(self.alloc, &mut self.store.memory)?;
-        let ty = library_result(callee, pointer_width);
-        Ok(Some(Typed { ty, bits }))
+        let value = call_library(
+            self.alloc,
+            *callee,
+            self.pointer_width,
+            signature,
+            arguments.as_slice(),
+            &mut self.store.memory,
+        )?;
+        Ok(Some(value))
     }
 
     // Calls a function, which gives its results.

@@ -1,7 +1,9 @@
 //! Outside calls: what is shown of them, and who answers them.
-use clif_operations::Memory;
+use crate::error::Cause;
 use clif_operations::arithmetic::greatest;
-use clif_types::{AbiParam, ExternalName, SigRef, Type, types};
+use clif_operations::{Fault, LibraryCall, Memory, Typed, is_library_signature, library_result};
+use clif_types::{AbiParam, ExternalName, LibCall, PointerWidth, SigRef, Signature, Type, types};
+use std::alloc::Global;
 
 /// What is called.
 #[derive(PartialEq, Eq, Drop)]
@@ -84,4 +86,46 @@ impl Payload<'_> {
 /// The low bits of an answer, as many as a type has.
 pub(crate) fn cut(ty: Type, bits: u128) -> u128 {
     bits & greatest(ty)
+}
+
+/// Shows a call, and has it answered, which may change memory. The answer is which of so many items with an edge it goes
+/// along, if it throws.
+pub(crate) fn show<O: Outside>(
+    outside: &O,
+    events: &mut Vec<Event>,
+    event: Event,
+    items: usize,
+    memory: &mut Memory,
+) -> Result<Option<usize>, Cause> {
+    events.push(event)?;
+    let thrown = outside.thrown(events.as_slice(), items);
+    outside.change(events.as_slice(), memory);
+    Ok(thrown.filter(|item| *item < items))
+}
+
+/// What a function of the C library gives, called by this signature: it does its work.
+pub(crate) fn call_library(
+    alloc: Global,
+    callee: LibCall,
+    pointer_width: PointerWidth,
+    signature: &Signature,
+    arguments: &[u128],
+    memory: &mut Memory,
+) -> Result<Typed, Cause> {
+    if !is_library_signature(callee, pointer_width, signature) {
+        return Err(Cause::Fault(Fault::LibrarySignature));
+    }
+    let [first, second, size] = arguments else {
+        return Err(Cause::CallArguments);
+    };
+    let call = LibraryCall {
+        callee,
+        pointer_width,
+        first: *first,
+        second: *second,
+        size: *size,
+    };
+    let bits = call.run(alloc, memory)?;
+    let ty = library_result(callee, pointer_width);
+    Ok(Typed { ty, bits })
 }

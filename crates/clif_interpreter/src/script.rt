@@ -1,14 +1,15 @@
 //! The interpreter of scripts, written from the script machine: it runs the variable program of a script. It has
 //! variables and names of answers, and no aliases and no parameters of variables.
 use crate::error::{Cause, Operand, Place, RunError};
+use crate::outside::{Callee, Event, Outside, call_library, cut, show};
 use crate::run::{End, Ending, World};
-use clif_calls::{Call, Edge, Name, Plan};
+use clif_calls::{Call, Edge, Name, OutsideCall};
 use clif_operations::{Fault, Operation, Outcome, Store, Typed, bits_of, carry_out, kept};
 use clif_script_program::instruction::{
-    Edges, Instruction, branch_by_table, constant_of, edge_count, edge_of, instruction_of, plan_of,
+    Edges, Instruction, branch_by_table, constant_of, edge_of, instruction_of, plan_of,
 };
 use clif_script_program::program::{Program, ProgramBlock};
-use clif_types::{AbiParam, EntityRef, JumpTable, Signature, Type};
+use clif_types::{AbiParam, EntityRef, ExternalName, JumpTable, PointerWidth, Signature, Type};
 use std::alloc::{AllocError, Global};
 
 /// What comes behind an item.
@@ -22,9 +23,9 @@ enum Next {
     Ended(End),
 }
 
-/// A run of a script: what variables and names hold, and memory.
+/// A run of a script: what variables and names hold, memory, and the outside calls so far.
 #[derive(Drop)]
-struct State<'s, 'p> {
+struct State<'s, 'p, 'o, O> {
     alloc: Global,
     signature: &'s Signature,
     program: &'p Program,
@@ -33,9 +34,12 @@ struct State<'s, 'p> {
     // for each call its answers that were given
     names: Vec<Vec<Option<Typed>>>,
     store: Store,
+    pointer_width: PointerWidth,
+    outside: &'o O,
+    events: Vec<Event>,
 }
 
-impl State<'_, '_> {
+impl<O: Outside> State<'_, '_, '_, O> {
     // What a name holds.
     fn value(&self, name: Name) -> Result<Typed, Cause> {
         let Some(answers) = self.names.get(name.place) else {
@@ -106,11 +110,12 @@ impl State<'_, '_> {
         Ok(())
     }
 
-    fn follow(&mut self, edge: Option<&Edge>) -> Result<Next, Cause> {
+    // Goes along an edge to the block with a number: that of its name, unless the branch was changed.
+    fn follow(&mut self, target: Option<usize>, edge: Option<&Edge>) -> Result<Next, Cause> {
         let Some(edge) = edge else {
             return Err(Cause::NoTarget);
         };
-        let Some(number) = self.program.number(edge.block) else {
+        let Some(number) = target else {
             return Err(Cause::NoTarget);
         };
         let values = self.values(edge.args.as_slice())?;
@@ -157,21 +162,116 @@ impl State<'_, '_> {
                 self.give_results(place, operation, ty, bits.as_slice())?;
                 Ok(Next::Item)
             }
-            (_, Outcome::Went(number)) => match edges {
-                Edges::None => Err(Cause::NoTarget),
-                Edges::Own(plan) => self.follow(edge_of(plan, number)),
-                Edges::Table(table) => {
-                    let program = self.program;
-                    self.follow(program.table_edge(self.calls, table, number))
-                }
-            },
+            (_, Outcome::Went(number)) => {
+                let program = self.program;
+                let edge = match edges {
+                    Edges::None => None,
+                    Edges::Own(plan) => edge_of(plan, number),
+                    Edges::Table(table) => program.table_edge(self.calls, table, number),
+                };
+                self.follow(program.target(place, number), edge)
+            }
             (_, Outcome::Returned) => Ok(Next::Ended(End::Returned(bits_of(alloc, operands)?))),
             (_, Outcome::Trapped(code)) => Ok(Next::Ended(End::Trapped(code))),
         }
     }
 
-    // Makes the pooled constant, the branch by a table or the other instruction of a call, if it makes one.
+    // The bits of a call's arguments, which have the types of the signature's parameters.
+    fn arguments(&self, signature: &Signature, names: &[Name]) -> Result<Vec<u128>, Cause> {
+        let params = signature.params.as_slice();
+        if params.len() != names.len() {
+            return Err(Cause::CallArguments);
+        }
+        let mut arguments = Vec::new(self.alloc);
+        for (name, param) in names.iter().zip(params.iter()) {
+            let value = self.value(*name)?;
+            if value.ty != param.value_type {
+                return Err(Cause::CallArguments);
+            }
+            arguments.push(value.bits)?;
+        }
+        Ok(arguments)
+    }
+
+    // Shows the outside call at a place, which gives its results.
+    fn answered(
+        &mut self,
+        place: usize,
+        event: Event,
+        signature: &Signature,
+    ) -> Result<Next, Cause> {
+        show(
+            self.outside,
+            &mut self.events,
+            event,
+            0,
+            &mut self.store.memory,
+        )?;
+        for (index, param) in signature.returns.iter().enumerate() {
+            let bits = self.outside.value(self.events.as_slice(), index);
+            let ty = param.value_type;
+            let bits = cut(ty, bits);
+            let answer = index.saturating_add(1);
+            self.give(Name { place, answer }, Typed { ty, bits })?;
+        }
+        Ok(Next::Item)
+    }
+
+    // Makes the outside call at a place.
+    fn call_outside(&mut self, place: usize, called: &OutsideCall) -> Result<Next, Cause> {
+        let (program, calls) = (self.program, self.calls);
+        let Some(signature) = program.imports.called_by(calls, called) else {
+            return Err(Cause::NoFunction);
+        };
+        match called {
+            OutsideCall::Call { function, args } => {
+                let Some(data) = program.imports.function(calls, *function) else {
+                    return Err(Cause::NoFunction);
+                };
+                let arguments = self.arguments(signature, args.as_slice())?;
+                self.call_named(place, &data.name, signature, arguments)
+            }
+            OutsideCall::CallIndirect {
+                signature: number,
+                callee,
+                args,
+            } => {
+                let callee = Callee::AtAddress(self.value(*callee)?.bits, *number);
+                let arguments = self.arguments(signature, args.as_slice())?;
+                self.answered(place, Event { callee, arguments }, signature)
+            }
+        }
+    }
+
+    // Calls the function of this name. One of the C library does its work, and is no outside call.
+    fn call_named(
+        &mut self,
+        place: usize,
+        name: &ExternalName,
+        signature: &Signature,
+        arguments: Vec<u128>,
+    ) -> Result<Next, Cause> {
+        if let ExternalName::LibCall(callee) = name {
+            let value = call_library(
+                self.alloc,
+                *callee,
+                self.pointer_width,
+                signature,
+                arguments.as_slice(),
+                &mut self.store.memory,
+            )?;
+            self.give(Name { place, answer: 1 }, value)?;
+            return Ok(Next::Item);
+        }
+        let callee = Callee::Named(name.clone()?);
+        self.answered(place, Event { callee, arguments }, signature)
+    }
+
+    // Makes what a call makes: the outside call, the pooled constant, the branch by a table, or the other instruction.
     fn call(&mut self, place: usize, call: &Call) -> Result<Next, Cause> {
+        if let Call::Outside(called) = call {
+            return self.call_outside(place, called);
+        }
         if let Some(constant) = constant_of(call) {
             return self.instruct(place, &constant, Edges::None);
         }
@@ -228,7 +328,7 @@ impl State<'_, '_> {
     }
 
     // Gives the arguments to the parameters of the entry block, which are those of the signature.
-    fn start<O>(&mut self, entry: usize, world: &World<'_, O>) -> Result<(), Cause> {
+    fn start(&mut self, entry: usize, world: &World<'_, O>) -> Result<(), Cause> {
         let program = self.program;
         let Some(block) = program.block(entry) else {
             return Err(Cause::NoTarget);
@@ -283,9 +383,9 @@ fn no_answers(alloc: Global, program: &Program) -> Result<Vec<Vec<Option<Typed>>
     Ok(names)
 }
 
-// Why the theorem covers no branch along an edge, if it covers none: its target has a terminator and isn't the entry.
-fn bad_target(program: &Program, edge: &Edge) -> Option<Cause> {
-    let Some(number) = program.number(edge.block) else {
+// Why the theorem covers no branch to a block, if it covers none: the block has a terminator and isn't the entry.
+fn bad_target(program: &Program, target: Option<usize>) -> Option<Cause> {
+    let Some(number) = target else {
         return Some(Cause::NoTarget);
     };
     if program.entry == Some(number) {
@@ -298,13 +398,10 @@ fn bad_target(program: &Program, edge: &Edge) -> Option<Cause> {
     }
 }
 
-// The same of the edges of a jump table.
-fn bad_table(program: &Program, calls: &[Call], table: JumpTable) -> Option<Cause> {
-    for number in 0..program.table_len(table) {
-        let Some(edge) = program.table_edge(calls, table, number) else {
-            return Some(Cause::NoTarget);
-        };
-        let bad = bad_target(program, edge);
+// The same of the edges of the call at a place.
+fn bad_branch(program: &Program, place: usize) -> Option<Cause> {
+    for target in program.targets(place) {
+        let bad = bad_target(program, *target);
         if bad.is_some() {
             return bad;
         }
@@ -312,29 +409,10 @@ fn bad_table(program: &Program, calls: &[Call], table: JumpTable) -> Option<Caus
     None
 }
 
-// The same of the edges of a call.
-fn bad_branch(program: &Program, calls: &[Call], call: &Call) -> Option<Cause> {
-    if let Call::BrTable { table, .. } = call {
-        return bad_table(program, calls, *table);
-    }
-    let Some(plan) = plan_of(call) else {
-        return None;
-    };
-    for number in 0..edge_count(&plan) {
-        if let Some(edge) = edge_of(&plan, number) {
-            let bad = bad_target(program, edge);
-            if bad.is_some() {
-                return bad;
-            }
-        }
-    }
-    None
-}
-
 // Looks at each edge of a script, also at those that no run takes: the theorem asks it of all of them.
-fn check_targets(program: &Program, calls: &[Call]) -> Result<(), RunError> {
-    for (place, call) in calls.iter().enumerate() {
-        if let Some(cause) = bad_branch(program, calls, call) {
+fn check_targets(program: &Program, calls: usize) -> Result<(), RunError> {
+    for place in 0..calls {
+        if let Some(cause) = bad_branch(program, place) {
             return Err(cause.at(Place::Call(place)));
         }
     }
@@ -346,9 +424,10 @@ fn check_targets(program: &Program, calls: &[Call]) -> Result<(), RunError> {
 /// # Errors
 ///
 /// Where a premise of the theorem doesn't hold of the run: a branch leads to the entry block or to a block without a
-/// terminator, a name has no value yet, types don't fit, or what a load or a store claims isn't true. And where memory
+/// terminator, a name has no value yet, types don't fit, what a load or a store claims isn't true, or a function of the C
+/// library can't do its work. And where memory
 /// is refused, a value has more than 128 bits, or a stack slot has no place.
-pub fn run<O>(
+pub fn run<O: Outside>(
     alloc: Global,
     calls: &[Call],
     signature: &Signature,
@@ -359,7 +438,7 @@ pub fn run<O>(
         Ok(program) => program,
         Err(_) => return Err(RunError::memory()),
     };
-    check_targets(&program, calls)?;
+    check_targets(&program, calls.len())?;
     let entry = program.entry;
     let mut state = match begin(alloc, signature, &program, calls, world) {
         Ok(state) => state,
@@ -372,22 +451,22 @@ pub fn run<O>(
         }
         end = state.steps(entry, bound)?;
     }
-    let State { store, .. } = state;
+    let State { store, events, .. } = state;
     Ok(Ending {
-        events: Vec::new(alloc),
+        events,
         end,
         memory: store.memory,
     })
 }
 
 // A run before its first step.
-fn begin<'s, 'p, O>(
+fn begin<'s, 'p, 'o, O: Outside>(
     alloc: Global,
     signature: &'s Signature,
     program: &'p Program,
     calls: &'p [Call],
-    world: &World<'_, O>,
-) -> Result<State<'s, 'p>, Cause> {
+    world: &World<'o, O>,
+) -> Result<State<'s, 'p, 'o, O>, Cause> {
     let mut store = world.store(alloc)?;
     for (size, shift) in program.slots.iter() {
         store.add_slot(*size, *shift)?;
@@ -400,5 +479,8 @@ fn begin<'s, 'p, O>(
         variables: zeros(alloc, program)?,
         names: no_answers(alloc, program)?,
         store,
+        pointer_width: world.pointer_width,
+        outside: world.outside,
+        events: Vec::new(alloc),
     })
 }

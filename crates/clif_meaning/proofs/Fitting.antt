@@ -1,6 +1,6 @@
 -- Outcomes fit the typing table.
-use Rattle.std.proofs.Common.{◌≡◌, ◌^◌, ◌*◌, ◌+◌, ◌/◌, ◌%◌, ◌<◌, ℕ, zero, suc, List, [], ◌∷◌, ◌++◌, arith, subst, refl, sym, ◌∙◌, ap}
-use Rattle.std.specs.Prelude.{ℤ, pos, negsuc, Option, Some, None, Bool, true, false, ◌==◌, ◌&&◌, not, IsTrue, if◌then◌else◌, take}
+use Rattle.std.proofs.Common.{◌≡◌, ◌^◌, ◌*◌, ◌+◌, ◌/◌, ◌%◌, ◌<◌, ℕ, List, [], ◌∷◌, ◌++◌, arith, subst, refl, sym, ◌∙◌}
+use Rattle.std.specs.Prelude.{ℤ, pos, negsuc, Option, Some, None, Bool, true, false, ◌==◌, ◌&&◌, not, if◌then◌else◌, take}
 use Rattle.std.specs.List.{AllByRecursion}
 use Rattle.std.proofs.Math.Nat.{mod-lt}
 use Rattle.std.proofs.lemmas.Bool.{eq-eqb}
@@ -24,8 +24,8 @@ use Rattle.clif_opcodes.specs.declared.kinds.OperandKind.TheVariants as kind
 use Rattle.clif_opcodes.specs.Typing.{AreOfKinds, binary_second, convert_operand}
 use Rattle.clif_meaning.specs.Bits.{Bits, HasWidth, IsValue, AreValues, value_bytes, value_of_bytes, wrapped}
 use Rattle.clif_opcodes.specs.declared.opcodes.StackOpcode.TheVariants.{StackAddr, StackLoad}
-use Rattle.clif_meaning.specs.Instruction.{Iconst, FloatConst, PooledConst, Unary, Binary, Compare, Concat, Split, Convert, Select, Operation, Compute, Load, Store, Stack, StackStore, Trap, CondTrap, Jump, Brif, BrTable, Return, Call, CallIndirect, TryCall, TryCallIndirect}
-use Rattle.clif_meaning.specs.Memory.{Memory, Range, address_in, bytes_in, written}
+use Rattle.clif_meaning.specs.Instruction.{Iconst, FloatConst, PooledConst, Unary, Binary, Compare, Concat, Split, Convert, Select, AddConstant, CompareConstant, Operation, Compute, Load, Store, Stack, StackStore, Trap, CondTrap, Jump, Brif, BrTable, Return, Call, CallIndirect, TryCall, TryCallIndirect}
+use Rattle.clif_meaning.specs.Memory.{Memory, Range, bytes_in, written}
 use Rattle.clif_meaning.specs.Access.{Accessible, Aligned, Holds, access_claims, call_claims, claims_if, claims_of, library_named}
 use Rattle.clif_meaning.specs.Outcome.{Outcome, Gives, Goes, NoStep, Traps, access_outcome, accessed, are_accessible, compares, converted_number, low_bits_at, no_claim, slot_accessed, slot_address, traps_on, unary_number, binary_fault, binary_number, call_outcome, library_outcome, outcome_of, outcome_of_computed, unless_fault}
 use Rattle.clif_meaning.specs.Laws.{FitsTypes, OutcomesFit}
@@ -223,6 +223,12 @@ outcomes_fit world (Compute (Convert opcode)) ty returns types operands memory o
 outcomes_fit world (Compute Select) ty returns types operands memory outside at fits values =
     three_operands (Fits world (Compute Select) ty returns memory) ty kind.AnInteger kind.Controlling kind.Controlling types operands fits values
     (λ t u v x y z second third y_is z_is claims. (either_fits ty (x == 0) y z (subst (λ (s : «Type»). IsValue s y) second y_is) (subst (λ (s : «Type»). IsValue s z) third z_is), tt))
+outcomes_fit world (Compute (AddConstant number)) ty returns types operands memory outside at fits values =
+    one_operand (Fits world (Compute (AddConstant number)) ty returns memory) ty kind.Controlling types operands fits values
+    (λ t x is_kind is_value claims. (low_fits ty (x + wrapped (bits_of ty) number), tt))
+outcomes_fit world (Compute (CompareConstant condition number)) ty returns types operands memory outside at fits values =
+    one_operand (Fits world (Compute (CompareConstant condition number)) ty returns memory) ty kind.Controlling types operands fits values
+    (λ t x is_kind is_value claims. (bit_fits (compares condition (bits_of ty) x (wrapped (bits_of ty) number)), tt))
 outcomes_fit world (Load flags offset) ty returns types operands memory outside at fits values =
     one_operand (Fits world (Load flags offset) ty returns memory) ty kind.Address types operands fits values
     (λ t x is_kind is_value claims.

@@ -1,6 +1,6 @@
 -- Calls of functions of the C library: they run by their signatures where what they claim is true, and answer values of the
 -- types that they give.
-use Rattle.std.proofs.Common.{◌≡◌, ◌&&◌, ◌++◌, ◌%◌, ◌^◌, ◌<◌, ℕ, zero, suc, Bool, true, false, not, if◌then◌else◌, List, [], ◌∷◌, map, refl, sym, ◌∙◌, ap, subst, arith}
+use Rattle.std.proofs.Common.{◌≡◌, ◌&&◌, ◌++◌, ◌^◌, ◌<◌, ℕ, zero, suc, Bool, true, false, if◌then◌else◌, List, [], ◌∷◌, map, refl, ◌∙◌, ap, arith}
 use Rattle.std.specs.Prelude.{IsTrue}
 use Rattle.std.specs.List.{AllByRecursion}
 use Rattle.std.specs.declared.cmp.Ordering.{Ordering}
@@ -15,7 +15,7 @@ use Rattle.clif_types.specs.declared.libcall.LibCall.TheVariants.{Memcpy, Memmov
 use Rattle.clif_types.specs.declared.types.LaneType.TheVariants as lane
 use Rattle.clif_types.specs.declared.types.«Type».{«Type»}
 use Rattle.clif_types.specs.declared.types.«Type».TheVariants as type
-use Rattle.clif_meaning.specs.Access.{Accessible, Apart, Claim, Holds, call_claims}
+use Rattle.clif_meaning.specs.Access.{Accessible, Claim, Holds, call_claims}
 use Rattle.clif_meaning.specs.Bits.{Bits, AreValues, IsValue}
 use Rattle.clif_meaning.specs.Library.{are_apart, bytes_at, has_library_types, library_answer, library_apart, library_memory, library_parameters, library_ranges, library_returns, pointer_of}
 use Rattle.clif_meaning.specs.Memory.{Memory, Range, address_in, byte_order, bytes_in, lies_in}

@@ -21,12 +21,13 @@ use Rattle.clif_types.specs.declared.types.«Type».{«Type»}
 use Rattle.clif_types.specs.declared.types.«Type».TheVariants as type
 use Rattle.clif_types.specs.MemFlags.{MemFlagsShape}
 use Rattle.clif_types.specs.Types.{bytes_of, is_int, is_type}
+use Rattle.clif_tables.specs.Callees.{function_at, signature_at}
 use Rattle.clif_tables.specs.Entries.{TableEntry, AStackSlot, AFunction}
 use Rattle.clif_tables.specs.Lists.{TableLists}
 use Rattle.clif_meaning.specs.SameType.{same_type}
-use Rattle.clif_meaning.specs.Instruction.{Iconst, FloatConst, PooledConst, Unary, Binary, Compare, Concat, Split, Convert, Select, Operation, operation_entries, Instruction, Compute, Load, Store, Stack, StackStore, Trap, CondTrap, Jump, Brif, BrTable, Return, Call, CallIndirect, TryCall, TryCallIndirect, Argument, Known, CallResult, CallPayload, Edge}
+use Rattle.clif_meaning.specs.Instruction.{Iconst, FloatConst, PooledConst, Unary, Binary, Compare, Concat, Split, Convert, Select, AddConstant, CompareConstant, Operation, operation_entries, Instruction, Compute, Load, Store, Stack, StackStore, Trap, CondTrap, Jump, Brif, BrTable, Return, Call, CallIndirect, TryCall, TryCallIndirect, Argument, Known, CallResult, CallPayload, Edge}
 use Rattle.clif_meaning.specs.Name.{Name}
-use Rattle.clif_meaning.specs.Request.{Request, CreateBlock, SwitchToBlock, SealBlock, SealAllBlocks, InsertBlockAfter, SetColdBlock, EnsureInsertedBlock, AppendBlockParams, AppendFunctionParams, DeclareVar, DefVar, UseVar, MakeEntry, MakeEdge, MakeJumpTable, Annotate, Build, ChangeJumpDestination, Finalize, Script, Attempt, outright}
+use Rattle.clif_meaning.specs.Request.{Request, CreateBlock, SwitchToBlock, SealBlock, SealAllBlocks, InsertBlockAfter, SetColdBlock, EnsureInsertedBlock, AppendBlockParams, AppendFunctionParams, DeclareVar, DefVar, UseVar, MakeEntry, MakeEdge, MakeJumpTable, Annotate, GivenEntry, ServedBy, Imported, Build, ChangeJumpDestination, Finalize, Script, Attempt, outright}
 use Rattle.clif_meaning.specs.Ledger.{BlockState, Ledger, empty_ledger, type_of, or_invalid, has_value, has_block, has_instruction, leads_to, edge_named, unserved_edges, is_filled, is_sealed, is_inserted, is_pristine, has_predecessors, is_unreachable, variable_type, ledger_with}
 
 -- there is a current block, and it isn't filled
@@ -54,28 +55,24 @@ has_argument ledger (CallPayload index) = true
 abbrev pub can_lead : Ledger → Edge Name Name → Bool
 can_lead ledger edge = has_block ledger edge.target && not (is_sealed ledger edge.target) && list_all (has_argument ledger) edge.arguments
 
--- the jump table that is to serve an instruction is there, and serves none so far
-abbrev pub may_serve : Ledger → Option ℕ → Bool
-may_serve ledger None = true
-may_serve ledger (Some table) = is_some (unserved_edges ledger table)
-
 -- a pooled constant has as many bytes as its type
 abbrev pub has_bytes : PooledConstOpcode → «Type» → List ℕ → Bool
 has_bytes F128const ty bytes = length bytes == 16
 has_bytes Vconst ty bytes = is_met AVector ty && (length bytes == bytes_of ty)
 
--- What an operation asks beside its operands: the table of operations. No script makes an outside call so far.
+-- What an operation asks beside its operands: the table of operations. No script makes a try call so far, and what only
+-- scripts have isn't built as an instruction.
 abbrev pub can_operate : Operation → «Type» → Bool
 can_operate (Compute (Iconst number)) ty = is_int ty
 can_operate (Compute (PooledConst opcode bytes)) ty = has_bytes opcode ty bytes
 can_operate (Compute (Convert opcode)) ty = is_met (convert_demand opcode) ty
 can_operate (Compute Concat) ty = is_met ADoubled ty
 can_operate (Compute Split) ty = is_met AHalved ty
+can_operate (Compute (AddConstant number)) ty = false
+can_operate (Compute (CompareConstant condition number)) ty = false
 can_operate (Load flags offset) ty = is_type ty
 can_operate (Stack StackAddr slot offset) ty = is_int ty
 can_operate (Stack StackLoad slot offset) ty = is_type ty
-can_operate (Call name signature) ty = false
-can_operate (CallIndirect signature) ty = false
 can_operate (TryCall name call) ty = false
 can_operate (TryCallIndirect call) ty = false
 can_operate _ ty = true
@@ -86,6 +83,11 @@ has_entry tables (ASlot number) = nat_lt number (length tables.stack_slots)
 has_entry tables (AConstant number) = nat_lt number (length tables.constants)
 has_entry tables (ASignatureRef number) = nat_lt number (length tables.signatures)
 has_entry tables (AFunctionRef number) = nat_lt number (length tables.functions)
+
+-- an entry may be given to an instruction: it was made, and a jump table serves none so far
+abbrev pub may_give : Ledger → GivenEntry → Bool
+may_give ledger (ServedBy table) = is_some (unserved_edges ledger table)
+may_give ledger (Imported entry) = has_entry ledger.tables entry
 
 -- an entry may be made: a stack slot is aligned to at most 2^31 bytes, and the signature of a function was imported
 abbrev pub can_make : TableLists → TableEntry → Bool
@@ -111,8 +113,8 @@ allows ledger (MakeEntry entry) = can_make ledger.tables entry
 allows ledger (MakeEdge edge) = has_block ledger edge.target && list_all (has_argument ledger) edge.arguments
 allows ledger (MakeJumpTable default entries) = list_all (λ name. is_some (edge_named ledger name)) (default ∷ entries)
 allows ledger (Annotate values) = list_all (has_value ledger) values
-allows ledger (Build table instruction) =
-    may_serve ledger table && is_open ledger ledger.current && list_all (has_value ledger) instruction.operands && list_all (can_lead ledger) instruction.edges
+allows ledger (Build entries instruction) =
+    list_all (may_give ledger) entries && is_open ledger ledger.current && list_all (has_value ledger) instruction.operands && list_all (can_lead ledger) instruction.edges
     && can_operate instruction.operation instruction.controlling && list_all (has_entry ledger.tables) (operation_entries instruction.operation)
 allows ledger (ChangeJumpDestination branch from to) =
     has_instruction ledger branch && leads_to ledger branch from && not (is_sealed ledger from) && has_block ledger to && not (is_sealed ledger to)
@@ -173,68 +175,68 @@ verdict_on script = verdict_on_attempts (map outright script)
 
 -- The instruction calls. Operations on operands and `brif` are made at the type of their first operand.
 abbrev pub iconst : «Type» → ℤ → Request
-iconst ty number = Build None (record { operation = Compute (Iconst number); controlling = ty; operands = []; edges = [] })
+iconst ty number = Build [] (record { operation = Compute (Iconst number); controlling = ty; operands = []; edges = [] })
 
 abbrev pub unary : Ledger → UnaryOpcode → Name → Request
-unary ledger opcode a = Build None (record { operation = Compute (Unary opcode); controlling = or_invalid (type_of ledger a); operands = a ∷ []; edges = [] })
+unary ledger opcode a = Build [] (record { operation = Compute (Unary opcode); controlling = or_invalid (type_of ledger a); operands = a ∷ []; edges = [] })
 
 abbrev pub binary : Ledger → BinaryOpcode → Name → Name → Request
-binary ledger opcode a b = Build None (record { operation = Compute (Binary opcode); controlling = or_invalid (type_of ledger a); operands = a ∷ b ∷ []; edges = [] })
+binary ledger opcode a b = Build [] (record { operation = Compute (Binary opcode); controlling = or_invalid (type_of ledger a); operands = a ∷ b ∷ []; edges = [] })
 
 abbrev pub convert : ConvertOpcode → «Type» → Name → Request
-convert opcode ty a = Build None (record { operation = Compute (Convert opcode); controlling = ty; operands = a ∷ []; edges = [] })
+convert opcode ty a = Build [] (record { operation = Compute (Convert opcode); controlling = ty; operands = a ∷ []; edges = [] })
 
 abbrev pub float_const : FloatConstOpcode → ℕ → Request
-float_const opcode bits = Build None (record { operation = Compute (FloatConst opcode bits); controlling = type.Invalid; operands = []; edges = [] })
+float_const opcode bits = Build [] (record { operation = Compute (FloatConst opcode bits); controlling = type.Invalid; operands = []; edges = [] })
 
 abbrev pub pooled_const : PooledConstOpcode → «Type» → List ℕ → Request
-pooled_const opcode ty bytes = Build None (record { operation = Compute (PooledConst opcode bytes); controlling = ty; operands = []; edges = [] })
+pooled_const opcode ty bytes = Build [] (record { operation = Compute (PooledConst opcode bytes); controlling = ty; operands = []; edges = [] })
 
 abbrev pub compare : Ledger → IntCC → Name → Name → Request
 compare ledger condition a b =
-    Build None (record { operation = Compute (Compare condition); controlling = or_invalid (type_of ledger a); operands = a ∷ b ∷ []; edges = [] })
+    Build [] (record { operation = Compute (Compare condition); controlling = or_invalid (type_of ledger a); operands = a ∷ b ∷ []; edges = [] })
 
 abbrev pub concat : Ledger → Name → Name → Request
 concat ledger low high =
-    Build None (record { operation = Compute Concat; controlling = or_invalid (type_of ledger low); operands = low ∷ high ∷ []; edges = [] })
+    Build [] (record { operation = Compute Concat; controlling = or_invalid (type_of ledger low); operands = low ∷ high ∷ []; edges = [] })
 
 abbrev pub split : Ledger → Name → Request
-split ledger a = Build None (record { operation = Compute Split; controlling = or_invalid (type_of ledger a); operands = a ∷ []; edges = [] })
+split ledger a = Build [] (record { operation = Compute Split; controlling = or_invalid (type_of ledger a); operands = a ∷ []; edges = [] })
 
 abbrev pub load : MemFlagsShape → «Type» → Name → ℤ → Request
-load flags ty address offset = Build None (record { operation = Load flags offset; controlling = ty; operands = address ∷ []; edges = [] })
+load flags ty address offset = Build [] (record { operation = Load flags offset; controlling = ty; operands = address ∷ []; edges = [] })
 
 -- at the type of what is stored
 abbrev pub store : Ledger → MemFlagsShape → Name → Name → ℤ → Request
 store ledger flags stored address offset =
-    Build None (record { operation = Store flags offset; controlling = or_invalid (type_of ledger stored); operands = stored ∷ address ∷ []; edges = [] })
+    Build [] (record { operation = Store flags offset; controlling = or_invalid (type_of ledger stored); operands = stored ∷ address ∷ []; edges = [] })
 
 abbrev pub stack : StackOpcode → «Type» → ℕ → ℤ → Request
-stack opcode ty slot offset = Build None (record { operation = Stack opcode slot offset; controlling = ty; operands = []; edges = [] })
+stack opcode ty slot offset = Build [] (record { operation = Stack opcode slot offset; controlling = ty; operands = []; edges = [] })
 
 -- at the type of what is stored
 abbrev pub stack_store : Ledger → Name → ℕ → ℤ → Request
 stack_store ledger stored slot offset =
-    Build None (record { operation = StackStore slot offset; controlling = or_invalid (type_of ledger stored); operands = stored ∷ []; edges = [] })
+    Build [] (record { operation = StackStore slot offset; controlling = or_invalid (type_of ledger stored); operands = stored ∷ []; edges = [] })
 
 abbrev pub trap : TrapCode → Request
-trap reason = Build None (record { operation = Trap reason; controlling = type.Invalid; operands = []; edges = [] })
+trap reason = Build [] (record { operation = Trap reason; controlling = type.Invalid; operands = []; edges = [] })
 
 abbrev pub cond_trap : Ledger → CondTrapOpcode → Name → TrapCode → Request
 cond_trap ledger opcode condition reason =
-    Build None (record { operation = CondTrap opcode reason; controlling = or_invalid (type_of ledger condition); operands = condition ∷ []; edges = [] })
+    Build [] (record { operation = CondTrap opcode reason; controlling = or_invalid (type_of ledger condition); operands = condition ∷ []; edges = [] })
 
 -- at the type of its second operand
 abbrev pub select : Ledger → Name → Name → Name → Request
 select ledger condition a b =
-    Build None (record { operation = Compute Select; controlling = or_invalid (type_of ledger a); operands = condition ∷ a ∷ b ∷ []; edges = [] })
+    Build [] (record { operation = Compute Select; controlling = or_invalid (type_of ledger a); operands = condition ∷ a ∷ b ∷ []; edges = [] })
 
 abbrev pub jump : Edge Name Name → Request
-jump edge = Build None (record { operation = Jump; controlling = type.Invalid; operands = []; edges = edge ∷ [] })
+jump edge = Build [] (record { operation = Jump; controlling = type.Invalid; operands = []; edges = edge ∷ [] })
 
 abbrev pub brif : Ledger → Name → Edge Name Name → Edge Name Name → Request
 brif ledger condition taken other =
-    Build None (record { operation = Brif; controlling = or_invalid (type_of ledger condition); operands = condition ∷ []; edges = taken ∷ other ∷ [] })
+    Build [] (record { operation = Brif; controlling = or_invalid (type_of ledger condition); operands = condition ∷ []; edges = taken ∷ other ∷ [] })
 
 -- a branch along these edges: the default, and then the entries
 abbrev pub table_branch : Name → List (Edge Name Name) → Instruction Name Name
@@ -242,7 +244,27 @@ table_branch index edges = record { operation = BrTable (length edges - 1); cont
 
 -- a branch along the edges of a jump table, which serves it
 abbrev pub br_table : Ledger → Name → ℕ → Request
-br_table ledger index table = Build (Some table) (table_branch index (unwrap_or (unserved_edges ledger table) []))
+br_table ledger index table = Build (ServedBy table ∷ []) (table_branch index (unwrap_or (unserved_edges ledger table) []))
+
+-- a call of a function that was imported
+abbrev pub call_function : Ledger → ℕ → List Name → Request
+call_function ledger function arguments =
+    Build (Imported (AFunctionRef function) ∷ []) (record {
+      operation = Call (function_at ledger.tables function).name (signature_at ledger.tables (function_at ledger.tables function).signature);
+      controlling = type.Invalid;
+      operands = arguments;
+      edges = [];
+    })
+
+-- a call of what is at an address, by a signature that was imported
+abbrev pub call_indirect : Ledger → ℕ → Name → List Name → Request
+call_indirect ledger signature callee arguments =
+    Build (Imported (ASignatureRef signature) ∷ []) (record {
+      operation = CallIndirect (signature_at ledger.tables signature);
+      controlling = type.Invalid;
+      operands = callee ∷ arguments;
+      edges = [];
+    })
 
 abbrev pub return_ : List Name → Request
-return_ values = Build None (record { operation = Return; controlling = type.Invalid; operands = values; edges = [] })
+return_ values = Build [] (record { operation = Return; controlling = type.Invalid; operands = values; edges = [] })

@@ -1,6 +1,6 @@
 -- Branches, by computation: differences, the edge that a condition takes, and the row `both_arms` on both machines.
 -- Own; the row is from the project's worked examples.
-use Rattle.std.specs.Prelude.{◌≡◌, ◌≢◌, ◌-◌, ◌^◌, ℕ, zero, suc, List, [], ◌∷◌, None, Some, pos, negsuc}
+use Rattle.std.specs.Prelude.{◌≡◌, ◌≢◌, ◌-◌, ◌^◌, ℕ, zero, suc, List, [], ◌∷◌, Some, pos, negsuc}
 use Rattle.clif_types.specs.declared.types.«Type».TheVariants as type
 use Rattle.clif_types.specs.declared.call_conv.CallConv.TheVariants.{SystemV}
 use Rattle.clif_types.specs.Signature.{SignatureShape}
@@ -9,7 +9,7 @@ use Rattle.clif_meaning.specs.Instruction.{Iconst, Binary, Compute, Jump, Brif, 
 use Rattle.clif_opcodes.specs.declared.opcodes.BinaryOpcode.TheVariants.{Iadd, Isub}
 use Rattle.clif_meaning.specs.Outcome.{Goes, Values, computed, outcome_of}
 use Rattle.clif_meaning.specs.Name.{Name, answer_of}
-use Rattle.clif_meaning.specs.Request.{Request, CreateBlock, SwitchToBlock, SealBlock, DeclareVar, DefVar, UseVar, MakeEdge, MakeJumpTable, Build, Script}
+use Rattle.clif_meaning.specs.Request.{Request, CreateBlock, SwitchToBlock, SealBlock, DeclareVar, DefVar, UseVar, MakeEdge, MakeJumpTable, Build, ServedBy, Script}
 use Rattle.clif_meaning.specs.Acceptance.{iconst, jump, table_branch, return_, Accepted, Misuse, verdict_on}
 use Rattle.clif_meaning.specs.FunctionView.{Placed, BlockView, FunctionView}
 use Rattle.clif_meaning.specs.Typing.{EdgesMatch}
@@ -28,7 +28,7 @@ passing block value = record { target = block; arguments = Known value ∷ [] }
 -- a branch of 32 bits
 abbrev pub branch : Name → Name → Name → Request
 branch condition taken other =
-    Build None (record { operation = Brif; controlling = i32; operands = condition ∷ []; edges = plain taken ∷ plain other ∷ [] })
+    Build [] (record { operation = Brif; controlling = i32; operands = condition ∷ []; edges = plain taken ∷ plain other ∷ [] })
 
 abbrev pub block : ℕ → Name
 block number = answer_of number 0
@@ -41,7 +41,7 @@ both_arms_script =
     ∷ SwitchToBlock (block 0) ∷ SealBlock (block 0) ∷ iconst i32 (pos 5) ∷ DefVar 0 (answer_of 7 1) ∷ jump (plain (block 1))
     ∷ SwitchToBlock (block 1) ∷ UseVar 0 ∷ branch (answer_of 11 0) (block 2) (block 3)
     ∷ SwitchToBlock (block 2) ∷ SealBlock (block 2) ∷ UseVar 0 ∷ iconst i32 (negsuc 0)
-    ∷ Build None (record { operation = Compute (Binary Iadd); controlling = i32; operands = answer_of 15 0 ∷ answer_of 16 1 ∷ []; edges = [] })
+    ∷ Build [] (record { operation = Compute (Binary Iadd); controlling = i32; operands = answer_of 15 0 ∷ answer_of 16 1 ∷ []; edges = [] })
     ∷ DefVar 0 (answer_of 17 1) ∷ branch (answer_of 17 1) (block 1) (block 1) ∷ SealBlock (block 1)
     ∷ SwitchToBlock (block 3) ∷ SealBlock (block 3) ∷ UseVar 0 ∷ return_ (answer_of 23 0 ∷ []) ∷ []
 
@@ -100,7 +100,7 @@ swapped_function = both_arms_with (plain 3 ∷ plain 2 ∷ []) (passing 1 3 ∷ 
 
 -- by this name, along the one edge of the jump table, to block1
 abbrev pub by_table : Name → Request
-by_table index = Build (Some 0) (table_branch index (plain (block 1) ∷ []))
+by_table index = Build (ServedBy 0 ∷ []) (table_branch index (plain (block 1) ∷ []))
 
 -- two blocks branch by one jump table
 abbrev pub served_twice : Script

@@ -10,7 +10,13 @@ use Rattle.clif_opcodes.specs.declared.opcodes.ConvertOpcode.{ConvertOpcode}
 use Rattle.clif_opcodes.specs.declared.opcodes.StackOpcode.{StackOpcode}
 use Rattle.clif_opcodes.specs.declared.opcodes.Opcode.{Opcode}
 use Rattle.clif_opcodes.specs.declared.opcodes.Opcode.TheVariants as opcode
-use Rattle.clif_opcodes.specs.Typing.{Row, row_of}
+use Rattle.clif_opcodes.specs.declared.kinds.Demand.TheVariants.{AnInteger}
+use Rattle.clif_opcodes.specs.declared.kinds.OperandKind.TheVariants.{Controlling}
+use Rattle.clif_opcodes.specs.declared.kinds.ResultKind.TheVariants as kind
+use Rattle.clif_opcodes.specs.declared.opcodes.BinaryOpcode.TheVariants.{Iadd}
+use Rattle.clif_opcodes.specs.Typing.{Row, like_first, row_of, unary_row}
+use Rattle.clif_types.specs.declared.types.LaneType.TheVariants as lane
+use Rattle.clif_types.specs.declared.types.«Type».TheVariants as type
 use Rattle.clif_types.specs.declared.condcodes.IntCC.{IntCC}
 use Rattle.clif_types.specs.declared.trapcode.TrapCode.{TrapCode}
 use Rattle.clif_types.specs.declared.types.«Type».{«Type»}
@@ -43,6 +49,10 @@ pub data Arithmetic : Type 0 where
   Convert : ConvertOpcode → Arithmetic
   -- the second of three operands if the first isn't zero, and else the third
   Select : Arithmetic
+  -- Of scripts alone; several instructions of a function stand for each. The sum of an operand and a constant, a number of 64
+  -- bits, and 1 if the condition holds of an operand and a constant, and else 0.
+  AddConstant : (number : ℤ) → Arithmetic
+  CompareConstant : IntCC → (number : ℤ) → Arithmetic
 
 -- what an instruction does
 pub data Operation : Type 0 where
@@ -76,7 +86,7 @@ pub data Operation : Type 0 where
   TryCall : (name : ExternalName) → CallShape → Operation
   TryCallIndirect : CallShape → Operation
 
--- its opcode
+-- its opcode; of what only scripts have that of the last instruction that stands for it
 abbrev pub operation_opcode : Operation → Opcode
 operation_opcode (Compute (Iconst number)) = opcode.Iconst
 operation_opcode (Compute (FloatConst name bits)) = opcode.FloatConst name
@@ -88,6 +98,8 @@ operation_opcode (Compute Concat) = opcode.Iconcat
 operation_opcode (Compute Split) = opcode.Isplit
 operation_opcode (Compute (Convert name)) = opcode.Convert name
 operation_opcode (Compute Select) = opcode.Select
+operation_opcode (Compute (AddConstant number)) = opcode.Binary Iadd
+operation_opcode (Compute (CompareConstant condition number)) = opcode.Icmp
 operation_opcode (Load flags offset) = opcode.Load
 operation_opcode (Store flags offset) = opcode.Store
 operation_opcode (Stack name slot offset) = opcode.Stack name
@@ -103,8 +115,10 @@ operation_opcode (CallIndirect signature) = opcode.CallIndirect
 operation_opcode (TryCall name call) = opcode.TryCall
 operation_opcode (TryCallIndirect call) = opcode.TryCallIndirect
 
--- its row of the typing table
+-- its row of the typing table; of what only scripts have a row without the constant
 abbrev pub operation_typing : Operation → Row
+operation_typing (Compute (AddConstant number)) = unary_row
+operation_typing (Compute (CompareConstant condition number)) = like_first AnInteger (Controlling ∷ []) (kind.Exactly (type.Lane lane.I8) ∷ [])
 operation_typing operation = row_of (operation_opcode operation)
 
 -- what a plain call gives. A try call gives nothing itself: what it gets is passed along its first edge.

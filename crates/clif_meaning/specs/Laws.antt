@@ -1,5 +1,5 @@
 -- Laws of the definitions, as the contracts of this crate's functions state them.
-use Rattle.std.specs.Prelude.{◌≡◌, ℕ, List, [], ◌∷◌, ◌++◌, length, slice_get, Some, None, IsTrue}
+use Rattle.std.specs.Prelude.{◌≡◌, ℕ, List, [], ◌∷◌, ◌++◌, length, slice_get, Some, IsTrue}
 use Rattle.clif_types.specs.declared.types.«Type».{«Type»}
 use Rattle.clif_opcodes.specs.Kinds.{is_met}
 use Rattle.std.specs.List.{AllByRecursion}

@@ -9,7 +9,7 @@ use Rattle.clif_tables.specs.Entries.{TableEntry, count_for, with_entry}
 use Rattle.clif_tables.specs.Lists.{TableLists, no_entries}
 use Rattle.clif_meaning.specs.Instruction.{Operation, operation_typing, Edge, Instruction}
 use Rattle.clif_meaning.specs.Name.{Name, answer_of, same_name}
-use Rattle.clif_meaning.specs.Request.{Request, CreateBlock, SwitchToBlock, SealBlock, SealAllBlocks, InsertBlockAfter, SetColdBlock, EnsureInsertedBlock, AppendBlockParams, AppendFunctionParams, DeclareVar, DefVar, UseVar, MakeEntry, MakeEdge, MakeJumpTable, Annotate, Build, ChangeJumpDestination, Finalize, Script}
+use Rattle.clif_meaning.specs.Request.{Request, CreateBlock, SwitchToBlock, SealBlock, SealAllBlocks, InsertBlockAfter, SetColdBlock, EnsureInsertedBlock, AppendBlockParams, AppendFunctionParams, DeclareVar, DefVar, UseVar, MakeEntry, MakeEdge, MakeJumpTable, Annotate, GivenEntry, ServedBy, Imported, Build, ChangeJumpDestination, Finalize, Script}
 use Rattle.clif_meaning.specs.Program.{result_types}
 
 -- what an answer is
@@ -237,7 +237,7 @@ answers_to ledger (MakeEntry entry) = AnEntry entry (count_for ledger.tables ent
 answers_to ledger (MakeEdge edge) = AnEdge edge ∷ []
 answers_to ledger (MakeJumpTable default entries) = AJumpTable (length ledger.jump_tables) ∷ []
 answers_to ledger (Annotate values) = []
-answers_to ledger (Build table instruction) = AnInstruction ∷ map AValue (result_types instruction.operation instruction.controlling)
+answers_to ledger (Build entries instruction) = AnInstruction ∷ map AValue (result_types instruction.operation instruction.controlling)
 answers_to ledger (ChangeJumpDestination branch from to) = []
 answers_to ledger Finalize = []
 
@@ -285,10 +285,11 @@ redirected_state branch from to state =
     else (if same_name state.block from then left_by branch state
     else (if same_name state.block to then led_by branch state else state))
 
--- a jump table serves an instruction, if one does
-abbrev pub with_served : List (Option (List (Edge Name Name))) → Option ℕ → List (Option (List (Edge Name Name)))
-with_served tables None = tables
-with_served tables (Some table) = slice_set tables table None
+-- each jump table that an instruction is given serves it
+abbrev pub with_served : List (Option (List (Edge Name Name))) → List GivenEntry → List (Option (List (Edge Name Name)))
+with_served tables [] = tables
+with_served tables (ServedBy table ∷ entries) = with_served (slice_set tables table None) entries
+with_served tables (Imported entry ∷ entries) = with_served tables entries
 
 -- What each kind of call changes, its answers aside.
 abbrev pub changed_by : Ledger → Request → Ledger
@@ -309,8 +310,8 @@ changed_by ledger (MakeEdge edge) = ledger
 changed_by ledger (MakeJumpTable default entries) =
     record ledger { jump_tables = ledger.jump_tables ++ Some (edges_named ledger (default ∷ entries)) ∷ [] }
 changed_by ledger (Annotate values) = ledger
-changed_by ledger (Build table instruction) =
-    record (with_instruction ledger instruction) { jump_tables = with_served ledger.jump_tables table }
+changed_by ledger (Build entries instruction) =
+    record (with_instruction ledger instruction) { jump_tables = with_served ledger.jump_tables entries }
 changed_by ledger (ChangeJumpDestination branch from to) =
     record ledger { blocks = map (redirected_state branch from to) ledger.blocks }
 changed_by ledger Finalize = ledger

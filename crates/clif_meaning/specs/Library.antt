@@ -1,6 +1,6 @@
 -- What functions of the C library take and give, which bytes they touch, and what they do with them. After `memcpy`,
 -- `memmove`, `memset` and `memcmp` of the C standard's <string.h>.
-use Rattle.std.specs.Prelude.{ℕ, zero, suc, ◌+◌, ◌%◌, ◌^◌, ◌&&◌, not, Bool, true, List, [], ◌∷◌, unwrap_or}
+use Rattle.std.specs.Prelude.{ℕ, zero, suc, ◌%◌, ◌^◌, ◌&&◌, not, Bool, true, List, [], ◌∷◌, unwrap_or}
 use Rattle.clif_tables.specs.Callees.{types_of}
 use Rattle.clif_types.specs.Signature.{SignatureShape}
 use Rattle.clif_types.specs.Types.{int_of}

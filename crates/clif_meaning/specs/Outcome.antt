@@ -30,7 +30,7 @@ use Rattle.clif_opcodes.specs.declared.opcodes.ConvertOpcode.TheVariants.{Splat,
 use Rattle.clif_types.specs.Types.{bits_of, bytes_of, lane_count_of, lane_type_of}
 use Rattle.clif_meaning.specs.Bits.{Bits, value_bytes, value_of_bytes, wrapped}
 use Rattle.clif_meaning.specs.Memory.{Memory, Range, address_in, bytes_in, written}
-use Rattle.clif_meaning.specs.Instruction.{Arithmetic, Iconst, FloatConst, PooledConst, Unary, Binary, Compare, Concat, Split, Convert, Select, Operation, Compute, Load, Store, Stack, StackStore, Trap, CondTrap, Jump, Brif, BrTable, Return, Call, CallIndirect, TryCall, TryCallIndirect}
+use Rattle.clif_meaning.specs.Instruction.{Arithmetic, Iconst, FloatConst, PooledConst, Unary, Binary, Compare, Concat, Split, Convert, Select, AddConstant, CompareConstant, Operation, Compute, Load, Store, Stack, StackStore, Trap, CondTrap, Jump, Brif, BrTable, Return, Call, CallIndirect, TryCall, TryCallIndirect}
 use Rattle.clif_meaning.specs.Event.{Callee, Named, AtAddress, CallShape, plain_call}
 use Rattle.clif_meaning.specs.World.{World}
 use Rattle.clif_meaning.specs.Library.{has_library_types, library_answer, library_apart, library_memory, library_ranges, pointer_of}
@@ -182,6 +182,10 @@ computed Concat ty types (low ∷ high ∷ []) = Values (low_bits_at (double_of 
 computed Split ty types (x ∷ []) = Values (low_bits_at (half_of ty) x ∷ low_bits_at (half_of ty) (x / 2 ^ bits_of (half_of ty)) ∷ [])
 computed (Convert opcode) ty types (x ∷ []) = Values (low_bits_at ty (converted_number opcode (operand_type types 0) ty x) ∷ [])
 computed Select ty types (condition ∷ x ∷ y ∷ []) = Values ((if condition == 0 then y else x) ∷ [])
+-- the constant is cut to the type, or its sign is repeated
+computed (AddConstant number) ty types (x ∷ []) = Values (low_bits_at ty (x + wrapped (bits_of ty) number) ∷ [])
+computed (CompareConstant condition number) ty types (x ∷ []) =
+    Values ((if compares condition (bits_of ty) x (wrapped (bits_of ty) number) then 1 else 0) ∷ [])
 computed _ ty types _ = Undefined
 
 -- arithmetic as an instruction: it leaves memory

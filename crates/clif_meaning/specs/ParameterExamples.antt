@@ -1,6 +1,6 @@
 -- Parameters that the caller makes, by computation: a script whose entry takes the function's parameters and passes their
 -- difference to a block, on both machines; and calls that may not be made. Own.
-use Rattle.std.specs.Prelude.{◌≡◌, ℕ, zero, suc, List, [], ◌∷◌, None, Some, pos}
+use Rattle.std.specs.Prelude.{◌≡◌, ℕ, zero, suc, List, [], ◌∷◌, Some, pos}
 use Rattle.clif_types.specs.declared.types.«Type».TheVariants as type
 use Rattle.clif_types.specs.declared.call_conv.CallConv.TheVariants.{SystemV}
 use Rattle.clif_types.specs.Signature.{SignatureShape}
@@ -22,7 +22,7 @@ abbrev pub difference_script : Script
 difference_script =
     CreateBlock ∷ CreateBlock ∷ AppendFunctionParams (block 0) (i32 ∷ i32 ∷ []) ∷ AppendBlockParams (block 1) (i32 ∷ [])
     ∷ SwitchToBlock (block 0) ∷ SealBlock (block 0)
-    ∷ Build None (record { operation = Compute (Binary Isub); controlling = i32; operands = answer_of 2 0 ∷ answer_of 2 1 ∷ []; edges = [] })
+    ∷ Build [] (record { operation = Compute (Binary Isub); controlling = i32; operands = answer_of 2 0 ∷ answer_of 2 1 ∷ []; edges = [] })
     ∷ jump (record { target = block 1; arguments = Known (answer_of 6 1) ∷ [] })
     ∷ SealBlock (block 1) ∷ SwitchToBlock (block 1) ∷ return_ (answer_of 3 0 ∷ []) ∷ []
 

@@ -105,7 +105,7 @@ extended program (MakeEntry entry) = program
 extended program (MakeEdge edge) = program
 extended program (MakeJumpTable default entries) = program
 extended program (Annotate values) = program
-extended program (Build table instruction) =
+extended program (Build entries instruction) =
     with_item (with_inserted program) (Instruct program.place instruction (result_names program.place instruction))
 extended program (ChangeJumpDestination branch from to) = with_redirected program branch from to
 extended program Finalize = program

@@ -2,9 +2,16 @@
 -- methods of Cranelift's `FunctionBuilder`. A variable is known by its number, and by nothing else.
 use Rattle.std.specs.Prelude.{ℕ, List, map, Option, slice_get, option_and_then, Bool, true, false}
 use Rattle.clif_types.specs.declared.types.«Type».{«Type»}
+use Rattle.clif_instructions.specs.Instruction.{EntryRef}
 use Rattle.clif_tables.specs.Entries.{TableEntry}
 use Rattle.clif_meaning.specs.Instruction.{Edge, Instruction}
 use Rattle.clif_meaning.specs.Name.{Name}
+
+-- an entry of a table that an instruction is given by its number: a jump table, which serves it from then on, or a function
+-- or a signature that was imported, which it calls, or calls by
+pub data GivenEntry : Type 0 where
+  ServedBy : (table : ℕ) → GivenEntry
+  Imported : EntryRef → GivenEntry
 
 pub data Request : Type 0 where
   CreateBlock : Request
@@ -30,9 +37,9 @@ pub data Request : Type 0 where
   MakeJumpTable : (default : Name) (entries : List Name) → Request
   -- a note on these values, or on none, for a debugger: a place in the source, or a label. The function means the same with it.
   Annotate : (values : List Name) → Request
-  -- an instruction at the end of the current block, and the jump table that serves it, if one does. It answers its number,
-  -- and then its results.
-  Build : (table : Option ℕ) → Instruction Name Name → Request
+  -- an instruction at the end of the current block, with the entries that it is given. It answers its number, and then its
+  -- results.
+  Build : (entries : List GivenEntry) → Instruction Name Name → Request
   -- the edges of a branch that lead to one block lead to another one
   ChangeJumpDestination : (branch from to : Name) → Request
   -- the end of every script

@@ -2,7 +2,7 @@
 -- a loop over three variables, sealed as soon as may be or all at once, on both machines; and a loop that names, in a later
 -- block, what it read in an earlier one.
 -- Source: the documentation of cranelift-frontend; the functions are from the project's worked examples.
-use Rattle.std.specs.Prelude.{◌≡◌, ℕ, zero, suc, ◌+◌, ◌^◌, List, [], ◌∷◌, map, None, Some, pos, negsuc, ◌==◌, if◌then◌else◌}
+use Rattle.std.specs.Prelude.{◌≡◌, ℕ, zero, suc, ◌+◌, ◌^◌, List, [], ◌∷◌, map, Some, pos, negsuc, ◌==◌, if◌then◌else◌}
 use Rattle.clif_types.specs.declared.types.«Type».TheVariants as type
 use Rattle.clif_types.specs.declared.call_conv.CallConv.TheVariants.{SystemV}
 use Rattle.clif_types.specs.Signature.{SignatureShape}
@@ -19,7 +19,7 @@ use Rattle.clif_meaning.specs.BranchExamples.{block, branch, going, no_block, pl
 
 -- an instruction on two values of 32 bits
 abbrev pub of_two : Arithmetic → Name → Name → Request
-of_two arithmetic x y = Build None (record { operation = Compute arithmetic; controlling = i32; operands = x ∷ y ∷ []; edges = [] })
+of_two arithmetic x y = Build [] (record { operation = Compute arithmetic; controlling = i32; operands = x ∷ y ∷ []; edges = [] })
 
 -- block0(x): y = 2, z = x + y, jump to block1; block1: z = y + z, by y to block3 or block2; block2: z = z - x, returns y;
 -- block3: y = y - x, jump to block1. Each block is sealed as soon as its branches are there.

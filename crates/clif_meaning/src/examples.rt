@@ -20,7 +20,8 @@ pub fn branch_examples()
     ensures { BranchExamples }
 {}
 
-/// Branches that are changed, and the rows `change_both` and `change_one`, which answer 1 on both machines in every world.
+/// Branches that are changed, and the rows `change_both` and `change_one`, which answer 1 on both machines in every world; and
+/// an unsealed entry that a branch names, which is changed then.
 pub fn change_examples()
     ensures { ChangeExamples }
 {}

@@ -114,7 +114,7 @@ sealing_kept ledger (MakeEntry entry) is = let none : ⊥ = cc in absurd none
 sealing_kept ledger (MakeEdge edge) is = let none : ⊥ = cc in absurd none
 sealing_kept ledger (MakeJumpTable default entries) is = let none : ⊥ = cc in absurd none
 sealing_kept ledger (Annotate values) is = let none : ⊥ = cc in absurd none
-sealing_kept ledger (Build table instruction) is = let none : ⊥ = cc in absurd none
+sealing_kept ledger (Build entries instruction) is = let none : ⊥ = cc in absurd none
 sealing_kept ledger (ChangeJumpDestination branch from to) is = let none : ⊥ = cc in absurd none
 sealing_kept ledger Finalize is = let none : ⊥ = cc in absurd none
 
@@ -213,7 +213,7 @@ module _ (rename : Name → Name) (apart : KeepsApart rename) where
   both_changed l l' (MakeEdge edge) same at = same
   both_changed l l' (MakeJumpTable default entries) same at = record { marks = same.marks; current = same.current }
   both_changed l l' (Annotate values) same at = same
-  both_changed l l' (Build table instruction) same at =
+  both_changed l l' (Build entries instruction) same at =
       let both = built_both l l' (next_answer l) (next_answer l') instruction.operation instruction.edges (map (renamed_edge rename) instruction.edges) same in
       record { marks = both.marks; current = both.current }
   both_changed l l' (ChangeJumpDestination branch from to) same at =

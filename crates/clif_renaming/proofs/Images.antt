@@ -115,7 +115,7 @@ module _ (rename : Name → Name) where
   extended_images p (MakeEdge edge) has = has
   extended_images p (MakeJumpTable default entries) has = has
   extended_images p (Annotate values) has = has
-  extended_images p (Build table instruction) has = item_images (with_inserted p) _ (inserted_images p has)
+  extended_images p (Build entries instruction) has = item_images (with_inserted p) _ (inserted_images p has)
   extended_images p (ChangeJumpDestination branch from to) has = redirected_images p (rename branch) (rename from) (rename to) has
   extended_images p Finalize has = has
 

@@ -75,7 +75,7 @@ sealing_keeps ledger (MakeEntry entry) is = let none : ⊥ = cc in absurd none
 sealing_keeps ledger (MakeEdge edge) is = let none : ⊥ = cc in absurd none
 sealing_keeps ledger (MakeJumpTable default entries) is = let none : ⊥ = cc in absurd none
 sealing_keeps ledger (Annotate values) is = let none : ⊥ = cc in absurd none
-sealing_keeps ledger (Build table instruction) is = let none : ⊥ = cc in absurd none
+sealing_keeps ledger (Build entries instruction) is = let none : ⊥ = cc in absurd none
 sealing_keeps ledger (ChangeJumpDestination branch from to) is = let none : ⊥ = cc in absurd none
 sealing_keeps ledger Finalize is = let none : ⊥ = cc in absurd none
 
@@ -104,7 +104,7 @@ module _ (rename : Name → Name) (l l' : Ledger) (same : SameTables l l') where
   both_changed (MakeEdge edge) = record { variables = same.variables; tables = same.tables }
   both_changed (MakeJumpTable default entries) = record { variables = same.variables; tables = same.tables }
   both_changed (Annotate values) = record { variables = same.variables; tables = same.tables }
-  both_changed (Build table instruction) =
+  both_changed (Build entries instruction) =
       let both = both_kept l l' _ _ same (built (next_answer l) l instruction.operation instruction.edges)
       (built (next_answer l') l' instruction.operation (map (renamed_edge rename) instruction.edges)) in
       record { variables = both.variables; tables = both.tables }
@@ -132,7 +132,7 @@ module _ (rename : Name → Name) (l l' : Ledger) (same : SameTables l l') where
   answered_alike (MakeEdge edge) = refl
   answered_alike (MakeJumpTable default entries) = refl
   answered_alike (Annotate values) = refl
-  answered_alike (Build table instruction) = refl
+  answered_alike (Build entries instruction) = refl
   answered_alike (ChangeJumpDestination branch from to) = refl
   answered_alike Finalize = refl
 
@@ -223,7 +223,7 @@ no_answer (request ∷ script) ledger zero index sealing = by request sealing
     by (MakeEdge edge) is = let none : ⊥ = cc in absurd none
     by (MakeJumpTable default entries) is = let none : ⊥ = cc in absurd none
     by (Annotate values) is = let none : ⊥ = cc in absurd none
-    by (Build table instruction) is = let none : ⊥ = cc in absurd none
+    by (Build entries instruction) is = let none : ⊥ = cc in absurd none
     by (ChangeJumpDestination branch from to) is = let none : ⊥ = cc in absurd none
     by Finalize is = let none : ⊥ = cc in absurd none
 no_answer (request ∷ script) ledger (suc place) index sealing = no_answer script (ledger_with ledger request) place index sealing

@@ -193,7 +193,7 @@ module _ (rename : Name → Name) (apart : KeepsApart rename) where
   extended_both p p' (MakeEdge edge) is at = is
   extended_both p p' (MakeJumpTable default entries) is at = is
   extended_both p p' (Annotate values) is at = is
-  extended_both p p' (Build table instruction) is at =
+  extended_both p p' (Build entries instruction) is at =
       item_more (with_inserted p) (with_inserted p') _ _ (inserted p p' is)
       (refl, answers_renamed p.place p'.place at 1 (result_types instruction.operation instruction.controlling)) (at 0)
   extended_both p p' (ChangeJumpDestination branch from to) is at = redirected_programs p p' branch from to is
@@ -217,7 +217,7 @@ module _ (rename : Name → Name) (apart : KeepsApart rename) where
   sealing_adds_nothing p (MakeEdge edge) is = let none : ⊥ = cc in absurd none
   sealing_adds_nothing p (MakeJumpTable default entries) is = let none : ⊥ = cc in absurd none
   sealing_adds_nothing p (Annotate values) is = let none : ⊥ = cc in absurd none
-  sealing_adds_nothing p (Build table instruction) is = let none : ⊥ = cc in absurd none
+  sealing_adds_nothing p (Build entries instruction) is = let none : ⊥ = cc in absurd none
   sealing_adds_nothing p (ChangeJumpDestination branch from to) is = let none : ⊥ = cc in absurd none
   sealing_adds_nothing p Finalize is = let none : ⊥ = cc in absurd none
 

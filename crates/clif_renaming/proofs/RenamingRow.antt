@@ -15,7 +15,7 @@ first_place [] = 0
 first_place (name ∷ names) = name.place
 
 abbrev place_in : Option Request → ℕ
-place_in (Some (Build table instruction)) = first_place instruction.operands
+place_in (Some (Build entries instruction)) = first_place instruction.operands
 place_in _ = 0
 
 pub other_answer : DifferInSealing sealed_early (sealed_late 0 5) → ⊥

@@ -49,7 +49,7 @@ module _ (rename : Name → Name) (ledger ledger' : Ledger) (same : (variable : 
   tracked_both (MakeEdge edge) place place' at = refl
   tracked_both (MakeJumpTable default entries) place place' at = refl
   tracked_both (Annotate values) place place' at = refl
-  tracked_both (Build table instruction) place place' at = refl
+  tracked_both (Build entries instruction) place place' at = refl
   tracked_both (ChangeJumpDestination branch from to) place place' at = refl
   tracked_both Finalize place place' at = refl
 
@@ -71,7 +71,7 @@ module _ (rename : Name → Name) (ledger ledger' : Ledger) (same : (variable : 
   sealing_tracks_none (MakeEdge edge) place is = refl
   sealing_tracks_none (MakeJumpTable default entries) place is = refl
   sealing_tracks_none (Annotate values) place is = refl
-  sealing_tracks_none (Build table instruction) place is = refl
+  sealing_tracks_none (Build entries instruction) place is = refl
   sealing_tracks_none (ChangeJumpDestination branch from to) place is = refl
   sealing_tracks_none Finalize place is = refl
 

@@ -49,7 +49,7 @@ renamed_request rename (MakeEntry entry) = MakeEntry entry
 renamed_request rename (MakeEdge edge) = MakeEdge (renamed_edge rename edge)
 renamed_request rename (MakeJumpTable default entries) = MakeJumpTable (rename default) (map rename entries)
 renamed_request rename (Annotate values) = Annotate (map rename values)
-renamed_request rename (Build table instruction) = Build table (renamed_instruction rename instruction)
+renamed_request rename (Build entries instruction) = Build entries (renamed_instruction rename instruction)
 renamed_request rename (ChangeJumpDestination branch from to) = ChangeJumpDestination (rename branch) (rename from) (rename to)
 renamed_request rename Finalize = Finalize
 

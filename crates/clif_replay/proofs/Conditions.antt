@@ -162,7 +162,7 @@ seal-some calls b answers ready name block found =
     rw (there, sealed) refl
 
 -- `append_block_param`
-no-state : (o : Option BlockState) (test : BlockState → Bool) → is_some o ≡ false → state_has test o ≡ false
+pub no-state : (o : Option BlockState) (test : BlockState → Bool) → is_some o ≡ false → state_has test o ≡ false
 no-state None test is = refl
 no-state (Some state) test is = let no_way : ⊥ = cc in absurd no_way
 

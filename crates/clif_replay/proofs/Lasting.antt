@@ -11,8 +11,8 @@ use Rattle.clif_instructions.specs.declared.block_call.BlockArg.TheVariants as a
 use Rattle.clif_instructions.specs.declared.block_call.BlockCall.{BlockCall}
 use Rattle.clif_meaning.specs.Instruction.{Argument, CallPayload, CallResult, Edge, Known}
 use Rattle.clif_meaning.specs.Name.{Name}
-use Rattle.clif_meaning.specs.Request.{AnsweredCall, Annotate, AppendBlockParams, AppendFunctionParams, Build, ChangeJumpDestination, CreateBlock, DeclareVar, DefVar, EnsureInsertedBlock, Finalize, InsertBlockAfter, MakeEdge, MakeEntry, MakeJumpTable, Request, SealAllBlocks, SealBlock, SetColdBlock, SwitchToBlock, UseVar, number_of, script_of}
-use Rattle.clif_meaning.specs.Ledger.{ABlock, AnEdge, AValue, Answered, Ledger, answer_at, answers_to, empty_ledger, is_inserted, ledger_with, with_begun_at, with_layout, with_state}
+use Rattle.clif_meaning.specs.Request.{AnsweredCall, Annotate, AppendBlockParams, AppendFunctionParams, Build, GivenEntry, ServedBy, Imported, ChangeJumpDestination, CreateBlock, DeclareVar, DefVar, EnsureInsertedBlock, Finalize, InsertBlockAfter, MakeEdge, MakeEntry, MakeJumpTable, Request, SealAllBlocks, SealBlock, SetColdBlock, SwitchToBlock, UseVar, number_of, script_of}
+use Rattle.clif_meaning.specs.Ledger.{ABlock, AnEdge, AValue, Answered, Ledger, answer_at, answers_to, empty_ledger, is_inserted, ledger_with, with_begun_at, with_layout, with_served, with_state}
 use Rattle.clif_meaning.proofs.CallLists as earlier
 use Rattle.clif_simulation.proofs.LedgerValues.{value_stays}
 use Rattle.cranelift_frontend.specs.declared.builder.FunctionBuilder.{FunctionBuilder}
@@ -30,11 +30,22 @@ ledger-more calls call =
 
 -- THE LEDGER'S TABLES ---------------------------------------------------------------------------------------------------
 
+-- no jump table is among the entries that an instruction is given
+abbrev pub GivesNoTable : List GivenEntry → Type 0
+GivesNoTable [] = Unit {0}
+GivesNoTable (ServedBy table ∷ entries) = ⊥
+GivesNoTable (Imported entry ∷ entries) = GivesNoTable entries
+
+served-none : (tables : List (Option (List (Edge Name Name)))) (entries : List GivenEntry) → GivesNoTable entries → with_served tables entries ≡ tables
+served-none tables [] gives = refl
+served-none tables (ServedBy table ∷ entries) gives = absurd gives
+served-none tables (Imported entry ∷ entries) gives = served-none tables entries gives
+
 -- the request makes no edge and no jump table, and lets none serve
 abbrev pub LeavesTables : Request → Type 0
 LeavesTables (MakeEdge edge) = ⊥
 LeavesTables (MakeJumpTable default entries) = ⊥
-LeavesTables (Build (Some table) instruction) = ⊥
+LeavesTables (Build entries instruction) = GivesNoTable entries
 LeavesTables _ = Unit {0}
 
 begun-tables : (ledger : Ledger) (o : Option Name) → (with_begun_at ledger o).jump_tables ≡ ledger.jump_tables
@@ -62,8 +73,7 @@ tables-kept ledger (MakeEntry entry) leaves = refl
 tables-kept ledger (MakeEdge edge) leaves = absurd leaves
 tables-kept ledger (MakeJumpTable default entries) leaves = absurd leaves
 tables-kept ledger (Annotate values) leaves = refl
-tables-kept ledger (Build None instruction) leaves = refl
-tables-kept ledger (Build (Some table) instruction) leaves = absurd leaves
+tables-kept ledger (Build entries instruction) leaves = served-none ledger.jump_tables entries leaves
 tables-kept ledger (ChangeJumpDestination branch from to) leaves = refl
 tables-kept ledger Finalize leaves = refl
 
@@ -89,8 +99,7 @@ no-edge ledger (MakeEntry entry) leaves edge is = cc
 no-edge ledger (MakeEdge other) leaves edge is = leaves
 no-edge ledger (MakeJumpTable default entries) leaves edge is = leaves
 no-edge ledger (Annotate values) leaves edge is = cc
-no-edge ledger (Build None instruction) leaves edge is = cc
-no-edge ledger (Build (Some table) instruction) leaves edge is = leaves
+no-edge ledger (Build entries instruction) leaves edge is = cc
 no-edge ledger (ChangeJumpDestination branch from to) leaves edge is = cc
 no-edge ledger Finalize leaves edge is = cc
 

@@ -12,3 +12,5 @@ pub mod Making
 pub mod JumpTables
 pub mod Replays
 pub mod Notes
+pub mod Changes
+pub mod Outside

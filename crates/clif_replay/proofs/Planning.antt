@@ -33,13 +33,12 @@ use Rattle.clif_inst_builder.proofs.NoCalls.{no_contexts, plain_count}
 use Rattle.clif_tables.specs.Callees.{count_of_results}
 use Rattle.clif_meaning.specs.Event.{CallShape}
 use Rattle.clif_meaning.specs.Typing.{call_shape}
-use Rattle.clif_opcodes.specs.declared.opcodes.Opcode.{Opcode}
-use Rattle.clif_opcodes.specs.Typing.{row_of}
+use Rattle.clif_opcodes.specs.Typing.{Row}
 use Rattle.clif_meaning.specs.Instruction.{Compute, Operation, PooledConst, operation_entries, operation_typing}
 use Rattle.clif_meaning.specs.View.{operation_of}
 use Rattle.clif_ssa.specs.Limits.{IsFull}
 use Rattle.cranelift_frontend.specs.Built.{HasFullTable}
-use Rattle.cranelift_frontend.proofs.Sorts.{same_opcode}
+use Rattle.clif_meaning.proofs.OperationTypes.{operation_typed}
 use Rattle.clif_replay.specs.Limits.{PlanMeetsFullTable}
 use Rattle.clif_replay.specs.declared.make_instructions.Planned.{Planned}
 use Rattle.clif_replay.specs.Makes.{AreFound, Finds, IsPlanned, ValuesExist, can_make, has_entries, has_names, type_in}
@@ -200,7 +199,7 @@ entry-exists tables (AConstant number) there = ltb-true number (length tables.co
 entry-exists tables (ASignatureRef number) there = ltb-true number (length tables.signatures) there
 entry-exists tables (AFunctionRef number) there = ltb-true number (length tables.functions) there
 
-all-entries-exist : (tables : TableLists) (entries : List EntryRef) → list_all (has_entry tables) entries ≡ true → All (EntryExists tables) entries
+pub all-entries-exist : (tables : TableLists) (entries : List EntryRef) → list_all (has_entry tables) entries ≡ true → All (EntryExists tables) entries
 all-entries-exist tables [] there k d inside = absurd (omega (arith, inside))
 all-entries-exist tables (entry ∷ entries) there zero d inside = entry-exists tables entry (and_parts (has_entry tables entry) _ there).0
 all-entries-exist tables (entry ∷ entries) there (suc k) d inside =
@@ -218,15 +217,17 @@ entries-found tables (entry ∷ entries) exist =
     entry-found (ASignatureRef number) below = lt-ltb number (length tables.signatures) below
     entry-found (AFunctionRef number) below = lt-ltb number (length tables.functions) below
 
+-- a test of these entries
+pub entries-tested : (tables : TableLists) (entries : List EntryRef) (test : Bool) → IsTrue test ↔ All (EntryExists tables) entries → list_all (has_entry tables) entries ≡ test
+entries-tested tables entries true tells = entries-found tables entries (tells.0 refl)
+entries-tested tables entries false tells =
+    false_from_ne_true _ (λ there. let no_way : false ≡ true = tells.1 (all-entries-exist tables entries there) in absurd (false≢true no_way))
+
 -- a test of what the shape names is one of what the plan names
 pub entries-same : (b : FunctionBuilder) (answers : List Answer) (p : Plan) (s : InstructionData) (ty : «Type») (test : Bool) → IsPlanned b answers p s ty
     → IsTrue test ↔ All (EntryExists b.func.now.tables) (entries_of s) → has_entries b.func.now p ≡ test
 entries-same b answers p s ty test planned tells =
-    ap (list_all (has_entry b.func.now.tables)) (entries-alike b.func.now.tables p s planned.operation) ∙ by test tells
-  where
-    by : (test : Bool) → IsTrue test ↔ All (EntryExists b.func.now.tables) (entries_of s) → list_all (has_entry b.func.now.tables) (entries_of s) ≡ test
-    by true tells = entries-found b.func.now.tables (entries_of s) (tells.0 refl)
-    by false tells = false_from_ne_true _ (λ there. let no_way : false ≡ true = tells.1 (all-entries-exist b.func.now.tables (entries_of s) there) in absurd (false≢true no_way))
+    ap (list_all (has_entry b.func.now.tables)) (entries-alike b.func.now.tables p s planned.operation) ∙ entries-tested b.func.now.tables (entries_of s) test tells
 
 pub entries-exist : (b : FunctionBuilder) (answers : List Answer) (p : Plan) (s : InstructionData) (ty : «Type») → IsPlanned b answers p s ty → can_make b answers p ≡ true
     → All (EntryExists b.func.now.tables) (entries_of s)
@@ -268,7 +269,7 @@ pub planned-full : (b : FunctionBuilder) (answers : List Answer) (p : Plan) (s :
     → HasNoRoom b.func.now (count_of_results b.func.now.tables s) → (count_of_results b.func.now.tables s ≤ 1 → HasFullTable b) → PlanMeetsFullTable p b.func.now
 planned-full b answers p s ty planned none few =
     let same : plan_count p ≡ count_of_results b.func.now.tables s =
-    ap (λ (o : Operation). length (operation_typing o).results) planned.operation ∙ ap (λ (o : Opcode). length (row_of o).results) (same_opcode b.func.now.tables s)
+    ap (λ (o : Operation). length (operation_typing o).results) planned.operation ∙ ap (λ (row : Row). length row.results) (operation_typed b.func.now.tables s)
     ∙ sym (plain_count b.func.now.tables s (planned-no-call b.func.now.tables p s planned.operation)) in
     plan-met b.func.now p (subst (HasNoRoom b.func.now) (sym same) none) (λ small. full-either b.func.now (few (subst (λ (n : ℕ). n ≤ 1) same small)))
 

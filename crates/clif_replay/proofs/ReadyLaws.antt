@@ -12,11 +12,11 @@ use Rattle.clif_nodes.specs.declared.nodes.ValueNode.{ValueNode}
 use Rattle.clif_ir.specs.Body.{inst_at}
 use Rattle.clif_nodes.specs.Nodes.{no_inst}
 use Rattle.clif_meaning.specs.Request.{AnsweredCall, number_of, script_of}
-use Rattle.clif_meaning.specs.Ledger.{Answered, ABlock, AVariable, AValue, AnInstruction, AnEntry, AnEdge, AJumpTable, Ledger, answer_at, answered_edge, answers_to, edge_named, has_block, ledger_with, has_value, type_of, value_answer_type}
+use Rattle.clif_meaning.specs.Ledger.{Answered, ABlock, AVariable, AValue, AnInstruction, AnEntry, AnEdge, AJumpTable, Ledger, answer_at, answered_edge, answers_to, edge_named, has_block, has_instruction, is_instruction_answer, ledger_with, has_value, type_of, value_answer_type}
 use Rattle.clif_simulation.specs.Carries.{numbers_from}
 use Rattle.cranelift_frontend.specs.declared.builder.FunctionBuilder.{FunctionBuilder}
 use Rattle.cranelift_frontend.specs.StandsFor.{StandsFor}
-use Rattle.cranelift_frontend.specs.Ledger.{AnswersAgree, ResultsFollow, NamesBlock, NamesEdge, NamesValue, block_name, value_type, ledger_of}
+use Rattle.cranelift_frontend.specs.Ledger.{AnswersAgree, ResultsFollow, NamesBlock, NamesEdge, NamesInstruction, NamesValue, block_name, value_type, ledger_of}
 use Rattle.cranelift_frontend.specs.LedgerLaws.{IsReadByNumber}
 use Rattle.clif_calls.specs.declared.call.Name.{Name}
 use Rattle.clif_replay.specs.declared.script.Answer.{Answer}
@@ -25,7 +25,7 @@ use Rattle.clif_instructions.specs.declared.block_call.BlockCall.{BlockCall}
 use Rattle.clif_meaning.specs.Instruction as meaning
 use Rattle.clif_meaning.specs.Name as named
 use Rattle.clif_replay.specs.Requests.{name_of}
-use Rattle.clif_replay.specs.Ready.{AnswerIs, AnswerExists, IsReady, TablesAgree, edge_at, edge_in, block_in, block_of, value_in, value_of}
+use Rattle.clif_replay.specs.Ready.{AnswerIs, AnswerExists, IsReady, TablesAgree, edge_at, edge_in, block_in, block_of, inst_in, inst_of, value_in, value_of}
 use Rattle.clif_replay.proofs.Lasting.{LeavesTables, answer-stays, edge-stays, ledger-more, no-edge, tables-kept, tables-stay}
 use Rattle.clif_replay.proofs.Options.{get-push, get-below, map-some, some-is, if-no, name-of-some}
 
@@ -190,6 +190,100 @@ block-missing calls b answers ready name missing =
         let e = entry calls b answers ready name.place (answer.Block x) at in
         let one = one-answer e.given ABlock name.answer ABlock e.is.0 (sym (answer-at calls b name.place name.answer (answer.Block x) e) ∙ answered) in
         by_block x name.answer one.0 missing
+
+-- a name that leads to an instruction is its first answer
+inst-at : (answers : List Answer) (name : Name) (inst : ℕ) → inst_of answers name ≡ Some inst → (slice_get answers name.place ≡ Some (answer.Inst inst)) × (name.answer ≡ 0)
+inst-at answers name inst found = by (slice_get answers name.place) refl found
+  where
+    by_inst : (i : ℕ) → slice_get answers name.place ≡ Some (answer.Inst i) → (index : ℕ) → name.answer ≡ index → (if index == 0 then Some i else None) ≡ Some inst
+        → (slice_get answers name.place ≡ Some (answer.Inst inst)) × (name.answer ≡ 0)
+    by_inst i at zero is found = (at ∙ ap (λ (k : ℕ). Some (answer.Inst k)) (same_Some i inst found), is)
+    by_inst i at (suc k) is found = absurd (none-some inst (sym (past k (Some i) None) ∙ found))
+
+    by : (o : Option Answer) → slice_get answers name.place ≡ o → inst_in name.answer o ≡ Some inst → (slice_get answers name.place ≡ Some (answer.Inst inst)) × (name.answer ≡ 0)
+    by None at found = absurd (none-some inst found)
+    by (Some answer.Nothing) at found = absurd (none-some inst found)
+    by (Some (answer.Block x)) at found = absurd (none-some inst found)
+    by (Some (answer.Variable v)) at found = absurd (none-some inst found)
+    by (Some answer.Entry) at found = absurd (none-some inst found)
+    by (Some (answer.Edge edge)) at found = absurd (none-some inst found)
+    by (Some answer.Table) at found = absurd (none-some inst found)
+    by (Some (answer.Values first count)) at found = absurd (none-some inst found)
+    by (Some (answer.Inst i)) at found = by_inst i at name.answer refl found
+
+-- and names it
+pub inst-found : {declared : SignatureShape} (calls : List AnsweredCall) (b : FunctionBuilder) (answers : List Answer) → IsReady declared calls b answers
+    → (name : Name) (inst : ℕ) → inst_of answers name ≡ Some inst → NamesInstruction calls (name_of name) inst
+inst-found calls b answers ready name inst found =
+    let at = inst-at answers name inst found in
+    let e = entry calls b answers ready name.place (answer.Inst inst) at.0 in
+    let answered : answer_at (ledger_of calls) (name_of name) ≡ Some AnInstruction =
+    answer-at calls b name.place name.answer (answer.Inst inst) e ∙ ap (slice_get e.given) at.1 ∙ ap (λ (xs : List Answered). slice_get xs 0) e.is.2 in
+    record {
+      number = number-at calls b name.place name.answer (answer.Inst inst) e ∙ ap (slice_get e.call.numbers) at.1 ∙ ap (λ (xs : List ℕ). slice_get xs 0) e.is.3;
+      is_instruction = ap is_instruction_answer answered;
+    }
+
+-- a name that leads to no instruction names none
+pub inst-missing : {declared : SignatureShape} (calls : List AnsweredCall) (b : FunctionBuilder) (answers : List Answer) → IsReady declared calls b answers
+    → (name : Name) → inst_of answers name ≡ None → has_instruction (ledger_of calls) (name_of name) ≡ false
+inst-missing calls b answers ready name missing =
+    false_from_ne_true (has_instruction (ledger_of calls) (name_of name)) (λ there.
+    by (slice_get answers name.place) refl missing (instruction-is (answer_at (ledger_of calls) (name_of name)) there))
+  where
+    instruction-is : (o : Option Answered) → is_instruction_answer o ≡ true → o ≡ Some AnInstruction
+    instruction-is None is = absurd (false≢true is)
+    instruction-is (Some ABlock) is = absurd (false≢true is)
+    instruction-is (Some (AVariable variable)) is = absurd (false≢true is)
+    instruction-is (Some (AValue ty)) is = absurd (false≢true is)
+    instruction-is (Some AnInstruction) is = refl
+    instruction-is (Some (AnEntry entry place)) is = absurd (false≢true is)
+    instruction-is (Some (AnEdge edge)) is = absurd (false≢true is)
+    instruction-is (Some (AJumpTable place)) is = absurd (false≢true is)
+
+    by_inst : (i index : ℕ) → index ≡ 0 → (if index == 0 then Some i else None) ≡ None → ⊥
+    by_inst i zero is missing = none-some i (sym missing)
+    by_inst i (suc k) is missing = omega (arith, is)
+
+    one-wrong : (a : Answer) (x : Answered) (e : Entry calls b name.place a) → e.given ≡ x ∷ [] → answer_at (ledger_of calls) (name_of name) ≡ Some AnInstruction → x ≡ AnInstruction
+    one-wrong a x e is answered = (one-answer e.given x name.answer AnInstruction is (sym (answer-at calls b name.place name.answer a e) ∙ answered)).1
+
+    by : (o : Option Answer) → slice_get answers name.place ≡ o → inst_in name.answer o ≡ None → answer_at (ledger_of calls) (name_of name) ≡ Some AnInstruction → ⊥
+    by None at missing answered = none-some AnInstruction (sym (answer-past calls b answers ready name.place name.answer at) ∙ answered)
+    by (Some answer.Nothing) at missing answered =
+        let e = entry calls b answers ready name.place answer.Nothing at in
+        no-answer e.given name.answer AnInstruction e.is.0 (sym (answer-at calls b name.place name.answer answer.Nothing e) ∙ answered)
+    by (Some (answer.Block x)) at missing answered =
+        let e = entry calls b answers ready name.place (answer.Block x) at in
+        let wrong : ABlock ≡ AnInstruction = one-wrong (answer.Block x) ABlock e e.is.0 answered in
+        cc
+    by (Some (answer.Variable v)) at missing answered =
+        let e = entry calls b answers ready name.place (answer.Variable v) at in
+        let wrong : AVariable v ≡ AnInstruction = one-wrong (answer.Variable v) (AVariable v) e e.is.0 answered in
+        cc
+    by (Some answer.Entry) at missing answered =
+        let e = entry calls b answers ready name.place answer.Entry at in
+        let wrong : AnEntry e.is.0 e.is.1 ≡ AnInstruction = one-wrong answer.Entry (AnEntry e.is.0 e.is.1) e e.is.2 answered in
+        cc
+    by (Some (answer.Edge edge)) at missing answered =
+        let e = entry calls b answers ready name.place (answer.Edge edge) at in
+        let wrong : AnEdge e.is.0 ≡ AnInstruction = one-wrong (answer.Edge edge) (AnEdge e.is.0) e e.is.1 answered in
+        cc
+    by (Some answer.Table) at missing answered =
+        let e = entry calls b answers ready name.place answer.Table at in
+        let wrong : AJumpTable e.is.0 ≡ AnInstruction = one-wrong answer.Table (AJumpTable e.is.0) e e.is.1 answered in
+        cc
+    by (Some (answer.Values first count)) at missing answered =
+        let e = entry calls b answers ready name.place (answer.Values first count) at in
+        let value = values-answer e.given e.is.0 name.answer AnInstruction e.is.1 (sym (answer-at calls b name.place name.answer (answer.Values first count) e) ∙ answered) in
+        let wrong : AValue value.0 ≡ AnInstruction = value.1 in
+        cc
+    by (Some (answer.Inst i)) at missing answered =
+        let e = entry calls b answers ready name.place (answer.Inst i) at in
+        elim (instruction-answer e.given e.is.0 name.answer AnInstruction e.is.2 (sym (answer-at calls b name.place name.answer (answer.Inst i) e) ∙ answered)) [
+          | inl first ↦ by_inst i name.answer first.0 missing
+          | inr later ↦ let wrong : AValue later.2 ≡ AnInstruction = later.3 in cc
+        ]
 
 -- the results of an instruction that was answered
 record Results (calls : List AnsweredCall) (b : FunctionBuilder) (place i : ℕ) : Type 0 where
@@ -394,6 +488,13 @@ block-there calls b answers ready name block found =
     let names = block-found calls b answers ready name block found in
     let r = read calls b answers ready in
     r.exists block (name_of name) (r.named (name_of name) block names)
+
+-- an instruction that is named exists
+pub inst-there : {declared : SignatureShape} (calls : List AnsweredCall) (b : FunctionBuilder) (answers : List Answer) → IsReady declared calls b answers
+    → (name : Name) (inst : ℕ) → inst_of answers name ≡ Some inst → inst < length b.func.now.insts
+inst-there calls b answers ready name inst found =
+    let r = results-of calls b answers ready name.place inst (inst-at answers name inst found).0 in
+    slice_get_within b.func.now.insts inst r.node r.there
 
 -- the current block exists
 pub current-exists : {declared : SignatureShape} (calls : List AnsweredCall) (b : FunctionBuilder) (answers : List Answer) → IsReady declared calls b answers → IfSome b.position (λ block. block < length b.func.now.blocks)

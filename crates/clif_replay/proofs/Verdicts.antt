@@ -16,6 +16,7 @@ use Rattle.cranelift_frontend.specs.declared.error.FinalizeError.TheVariants as 
 use Rattle.cranelift_frontend.specs.Ledger.{RefusalAgrees, ledger_of}
 use Rattle.clif_calls.specs.declared.call.Call.{Call}
 use Rattle.clif_calls.specs.declared.call.Call.TheVariants as call
+use Rattle.clif_calls.specs.declared.outside.OutsideCall.TheVariants as outside
 use Rattle.clif_replay.specs.declared.script.CallError.{CallError}
 use Rattle.clif_replay.specs.declared.script.CallError.TheVariants as error
 use Rattle.clif_replay.specs.declared.script.ReplayError.{ReplayError}
@@ -29,6 +30,8 @@ use Rattle.clif_replay.proofs.Lasting.{ledger-more}
 -- no call of a list is `finalize`
 no-refusal : (declared : SignatureShape) (ledger : Ledger) (c : Call) → refusal_of ledger (request_of declared ledger c) ≡ None
 no-refusal declared ledger call.CreateBlock = refl
+no-refusal declared ledger (call.Outside (outside.Call function args)) = refl
+no-refusal declared ledger (call.Outside (outside.CallIndirect signature callee args)) = refl
 no-refusal declared ledger _ = refl
 
 -- the requests of a list with one more call

@@ -1,14 +1,19 @@
 -- Where a call meets a full table. Source: own.
 use Rattle.std.specs.Prelude.{◌≡◌, ◌-◌, ◌^◌, ◌⊎◌, ℕ, List, false, length, slice_get, Some}
+use Rattle.clif_tables.specs.Callees.{function_at, signature_at}
 use Rattle.clif_tables.specs.Constants.{has_constant}
 use Rattle.clif_tables.specs.Entries.{count_for}
+use Rattle.clif_tables.specs.Lists.{TableLists}
 use Rattle.clif_ir.specs.Body.{Body}
 use Rattle.clif_ssa.specs.Constructs.{OnlyConstructs}
 use Rattle.clif_ssa.specs.Limits.{IsFull}
 use Rattle.clif_ssa.specs.Pools.{SealingIsFull, UseIsFull, WaitsWithType}
+use Rattle.clif_types.specs.declared.extfunc.AbiParam.{AbiParam}
 use Rattle.clif_types.specs.declared.types.«Type».{«Type»}
 use Rattle.clif_ir.specs.Changes.{HasNoRoom}
 use Rattle.clif_calls.specs.Plan.{plan_of}
+use Rattle.clif_calls.specs.declared.outside.OutsideCall.{OutsideCall}
+use Rattle.clif_calls.specs.declared.outside.OutsideCall.TheVariants as outside
 use Rattle.clif_calls.specs.declared.plan.Plan.{Plan}
 use Rattle.clif_calls.specs.declared.plan.Plan.TheVariants as plan
 use Rattle.clif_calls.specs.declared.call.Call.{Call}
@@ -41,8 +46,13 @@ abbrev pub ConstantMeetsFullTable : List ℕ → Body → Type 0
 ConstantMeetsFullTable bytes f =
     ((has_constant f.tables.constants bytes ≡ false) × (length f.tables.constants ≡ 2 ^ 32 - 1)) ⊎ IsFull f
 
+-- what an outside call gives, by the signature of what it calls
+abbrev pub returns_in : TableLists → OutsideCall → List AbiParam
+returns_in tables (outside.Call function args) = (signature_at tables (function_at tables function).signature).returns
+returns_in tables (outside.CallIndirect signature callee args) = (signature_at tables signature).returns
+
 -- A call, made so far as it is made, meets a table that holds 2^32 - 1 entries: a call that lengthens a table finds it full,
--- one that makes several parameters fills the table of values before it has made them all, and a use of a variable and a
+-- an outside call doesn't find room for all that it gives, one that makes several parameters fills the table of values before it has made them all, and a use of a variable and a
 -- sealing construct until a table is full. No other call lengthens a table.
 abbrev pub MeetsFullTable : Call → Body → ContextState → Type 0
 MeetsFullTable call.CreateBlock f c = length f.blocks ≡ 2 ^ 32 - 1
@@ -54,6 +64,7 @@ MeetsFullTable (call.AppendBlockParamsForFunctionParams block) f c = NoRoomFor f
 MeetsFullTable (call.AppendBlockParamsForFunctionReturns block) f c = NoRoomFor f (length f.signature.returns)
 MeetsFullTable (call.Plain instruction) f c = PlanMeetsFullTable (plan_of instruction) f
 MeetsFullTable (call.Cursor instruction) f c = PlanMeetsFullTable (plan_of instruction) f
+MeetsFullTable (call.Outside called) f c = HasNoRoom f (length (returns_in f.tables called))
 MeetsFullTable (call.F128const bytes) f c = ConstantMeetsFullTable bytes.items f
 MeetsFullTable (call.Vconst ty bytes) f c = ConstantMeetsFullTable bytes.items f
 MeetsFullTable (call.Jump destination) f c = IsFull f
@@ -73,5 +84,6 @@ MeetsFullTable call.EnsureInsertedBlock f c = ⊥
 MeetsFullTable (call.SetSrcloc srcloc) f c = ⊥
 MeetsFullTable call.CollectDebugInfo f c = ⊥
 MeetsFullTable (call.SetValLabel value label) f c = ⊥
+MeetsFullTable (call.ChangeJumpDestination branch from to) f c = ⊥
 MeetsFullTable (call.DefVar variable value) f c = ⊥
 MeetsFullTable (call.TryDefVar variable value) f c = ⊥

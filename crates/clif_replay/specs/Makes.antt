@@ -7,9 +7,10 @@ use Rattle.clif_types.specs.declared.types.«Type».TheVariants.{Invalid}
 use Rattle.clif_ir.specs.Body.{Body, value_at}
 use Rattle.clif_ir.specs.Changes.{with_tables}
 use Rattle.clif_opcodes.specs.declared.opcodes.PooledConstOpcode.{PooledConstOpcode}
-use Rattle.clif_instructions.specs.Instruction.{destinations, operands, result_types}
+use Rattle.clif_instructions.specs.Instruction.{destinations, entries_of, operands, result_types}
 use Rattle.clif_instructions.specs.declared.block_call.BlockCall.{BlockCall}
 use Rattle.clif_instructions.specs.declared.instructions.InstructionData.{InstructionData}
+use Rattle.clif_instructions.specs.declared.instructions.InstructionData.TheVariants as shape
 use Rattle.clif_meaning.specs.Acceptance.{allows, blames_variable, can_operate, has_entry, pooled_const}
 use Rattle.clif_meaning.specs.Instruction.{operation_entries}
 use Rattle.clif_meaning.specs.Ledger.{Ledger}
@@ -19,7 +20,10 @@ use Rattle.cranelift_frontend.specs.declared.builder.FunctionBuilder.{FunctionBu
 use Rattle.cranelift_frontend.specs.Builder.{SameLoans}
 use Rattle.cranelift_frontend.specs.Labels.{labelled}
 use Rattle.cranelift_frontend.specs.Ledger.{ledger_of}
+use Rattle.clif_calls.specs.Outside.{operands_of}
 use Rattle.clif_calls.specs.Plan.{edges_in, operands_in}
+use Rattle.clif_calls.specs.declared.outside.OutsideCall.{OutsideCall}
+use Rattle.clif_calls.specs.declared.outside.OutsideCall.TheVariants as outside
 use Rattle.clif_calls.specs.declared.call.Call.{Call}
 use Rattle.clif_calls.specs.declared.call.Edge.{Edge}
 use Rattle.clif_calls.specs.declared.call.Name.{Name}
@@ -60,6 +64,24 @@ MakesPlan plan old new answers result =
 abbrev pub MakesConstant : PooledConstOpcode → «Type» → List ℕ → FunctionBuilder → FunctionBuilder → List Answer → Result Answer CallError → Type 0
 MakesConstant opcode ty bytes old new answers result =
     Makes (λ declared ledger. pooled_const opcode ty bytes) false (ConstantMeetsFullTable bytes old.func.now) old.ctx.now.variables old new answers result
+
+-- the instruction of an outside call, with these values
+abbrev pub outside_shape : OutsideCall → List ℕ → InstructionData
+outside_shape (outside.Call function args) values = shape.Call function values
+outside_shape (outside.CallIndirect signature callee args) values = shape.CallIndirect signature values
+
+-- it is of this shape, with the values to which its names lead
+abbrev pub IsOutsideShape : Body → List Answer → OutsideCall → InstructionData → Type 0
+IsOutsideShape f answers called instruction =
+    (values : List ℕ) × (map (value_of f answers) (operands_of called) ≡ map Some values) × (instruction ≡ outside_shape called values)
+
+-- what it calls was imported
+abbrev pub is_imported : Body → OutsideCall → Bool
+is_imported f called = list_all (has_entry f.tables) (entries_of (outside_shape called []))
+
+-- it may be made: in an open block, where its names lead to values
+abbrev pub can_call : FunctionBuilder → List Answer → OutsideCall → Bool
+can_call b answers called = (is_open b && all_values b.func.now answers (operands_of called)) && is_imported b.func.now called
 
 -- for a jump table of the edges with these names
 abbrev pub MakesTable : Name → List Name → FunctionBuilder → FunctionBuilder → List Answer → Result Answer CallError → Type 0

@@ -107,6 +107,14 @@ block_in index None = None
 abbrev pub block_of : List Answer → Name → Option ℕ
 block_of answers name = block_in name.answer (slice_get answers name.place)
 
+-- the instruction that a name leads to
+abbrev pub inst_in : ℕ → Option Answer → Option ℕ
+inst_in index (Some (answer.Inst i)) = if index == 0 then Some i else None
+inst_in index _ = None
+
+abbrev pub inst_of : List Answer → Name → Option ℕ
+inst_of answers name = inst_in name.answer (slice_get answers name.place)
+
 -- the value that a name leads to: the numbers of values follow one another, and results follow the number of an instruction
 abbrev pub value_in : Body → ℕ → Option Answer → Option ℕ
 value_in f index (Some (answer.Values first count)) = if nat_lt index count then Some (first + index) else None
@@ -152,6 +160,10 @@ can_switch b block = not (is_filled_status (status_of b.ctx.now block)) && is_fr
 -- a block may be sealed
 abbrev pub can_seal : FunctionBuilder → ℕ → Bool
 can_seal b block = not (is_yes (sealed_of b.ctx.now.ssa block))
+
+-- a branch may lead to one block in place of another one: it leads to that one, and both are unsealed
+abbrev pub can_change : FunctionBuilder → (inst from to : ℕ) → Bool
+can_change b inst from to = stands_in inst (predecessors_of b.ctx.now.ssa from) && can_seal b from && can_seal b to
 
 -- a block may get a parameter of the caller's: nothing was made in it
 abbrev pub can_append : FunctionBuilder → ℕ → Bool

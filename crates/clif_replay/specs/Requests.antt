@@ -4,9 +4,9 @@ use Rattle.clif_ir.specs.Body.{Body}
 use Rattle.clif_tables.specs.Callees.{types_of}
 use Rattle.clif_meaning.specs.Name.{Name}
 use Rattle.clif_meaning.specs.Instruction.{Binary, Brif, Compare, Compute, Concat, CondTrap, Convert, Edge, FloatConst, Iconst, Jump, Known, Load, Operation, Return, Select, Split, Stack, StackStore, Store, Trap, Unary}
-use Rattle.clif_meaning.specs.Request.{Request, CreateBlock, SwitchToBlock, SealBlock, SealAllBlocks, InsertBlockAfter, SetColdBlock, EnsureInsertedBlock, AppendBlockParams, AppendFunctionParams, DeclareVar, DefVar, UseVar, MakeEntry, MakeEdge, MakeJumpTable, Annotate, Build, Finalize, Script, AnsweredCall, script_of, Attempt, outright}
+use Rattle.clif_meaning.specs.Request.{Request, CreateBlock, SwitchToBlock, SealBlock, SealAllBlocks, InsertBlockAfter, SetColdBlock, EnsureInsertedBlock, AppendBlockParams, AppendFunctionParams, DeclareVar, DefVar, UseVar, MakeEntry, MakeEdge, MakeJumpTable, Annotate, Build, ChangeJumpDestination, Finalize, Script, AnsweredCall, script_of, Attempt, outright}
 use Rattle.clif_meaning.specs.Ledger.{Ledger, empty_ledger, ledger_after, ledger_with, or_invalid, type_of}
-use Rattle.clif_meaning.specs.Acceptance.{Verdict, Accepted, Misuse, Refused, pooled_const, jump, brif, br_table, return_, trap, allows, verdict_from, verdict_on_attempts}
+use Rattle.clif_meaning.specs.Acceptance.{Verdict, Accepted, Misuse, Refused, pooled_const, jump, brif, br_table, call_function, call_indirect, return_, trap, allows, verdict_from, verdict_on_attempts}
 use Rattle.clif_opcodes.specs.declared.opcodes.PooledConstOpcode.TheVariants.{F128const, Vconst}
 use Rattle.clif_types.specs.declared.types.«Type».{«Type»}
 use Rattle.clif_types.specs.declared.types.«Type».TheVariants.{Invalid}
@@ -18,6 +18,8 @@ use Rattle.clif_calls.specs.declared.call.Name as named
 use Rattle.clif_calls.specs.declared.call.Edge as script
 use Rattle.clif_calls.specs.declared.call.Call.{Call}
 use Rattle.clif_calls.specs.declared.call.Call.TheVariants as call
+use Rattle.clif_calls.specs.declared.outside.OutsideCall.{OutsideCall}
+use Rattle.clif_calls.specs.declared.outside.OutsideCall.TheVariants as outside
 use Rattle.clif_calls.specs.Plan.{edges_in, operands_in, plan_of}
 use Rattle.clif_calls.specs.declared.plan.Plan.{Plan}
 use Rattle.clif_calls.specs.declared.plan.Plan.TheVariants as plan
@@ -81,7 +83,12 @@ controlling_in typed _ = Invalid
 -- the request of an instruction, which is made at types that the ledger tells
 abbrev pub request_in : Ledger → Plan → Request
 request_in ledger plan =
-    Build None (record { operation = operation_in plan; controlling = controlling_in (λ name. or_invalid (type_of ledger (name_of name))) plan; operands = map name_of (operands_in plan); edges = map edge_of (edges_in plan) })
+    Build [] (record { operation = operation_in plan; controlling = controlling_in (λ name. or_invalid (type_of ledger (name_of name))) plan; operands = map name_of (operands_in plan); edges = map edge_of (edges_in plan) })
+
+-- the request of an outside call, of what the ledger's tables hold
+abbrev pub outside_request : Ledger → OutsideCall → Request
+outside_request ledger (outside.Call function args) = call_function ledger function (map name_of args.items)
+outside_request ledger (outside.CallIndirect signature callee args) = call_indirect ledger signature (name_of callee) (map name_of args.items)
 
 -- the request of a call, on a function of this signature. `brif` is made at the type of its condition, which the ledger
 -- tells.
@@ -106,9 +113,11 @@ request_of signature ledger (call.TryDefVar variable value) = DefVar variable (n
 request_of signature ledger (call.TryUseVar variable) = UseVar variable
 request_of signature ledger (call.Plain instruction) = request_in ledger (plan_of instruction)
 request_of signature ledger (call.Cursor instruction) = request_in ledger (plan_of instruction)
+request_of signature ledger (call.Outside called) = outside_request ledger called
 request_of signature ledger (call.SetSrcloc srcloc) = Annotate []
 request_of signature ledger call.CollectDebugInfo = Annotate []
 request_of signature ledger (call.SetValLabel value label) = Annotate (name_of value ∷ [])
+request_of signature ledger (call.ChangeJumpDestination branch from to) = ChangeJumpDestination (name_of branch) (name_of from) (name_of to)
 request_of signature ledger (call.F128const bytes) = pooled_const F128const Invalid bytes.items
 request_of signature ledger (call.Vconst ty bytes) = pooled_const Vconst ty bytes.items
 request_of signature ledger (call.Jump destination) = jump (edge_of destination)

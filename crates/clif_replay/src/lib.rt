@@ -3,10 +3,12 @@
 
 mod make;
 mod make_blocks;
+mod make_branches;
 mod make_constants;
 mod make_entities;
 mod make_instructions;
 mod make_notes;
+mod make_outside;
 mod make_parameters;
 mod make_tables;
 mod names;

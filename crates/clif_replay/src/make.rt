@@ -7,10 +7,12 @@ use crate::make_blocks::{
     create_block, ensure_inserted_block, insert_block_after, seal_all_blocks, seal_block,
     set_cold_block, switch_to_block,
 };
+use crate::make_branches::change_jump_destination;
 use crate::make_constants::make_constant;
 use crate::make_entities::make_entry;
 use crate::make_instructions::{Lender, make_instruction};
 use crate::make_notes::{collect_debug_info, set_srcloc, set_val_label};
+use crate::make_outside::make_outside_call;
 use crate::make_parameters::{
     append_block_param, append_block_params_for_function_params,
     append_block_params_for_function_returns,
@@ -68,9 +70,13 @@ pub(crate) fn make_call(
         Call::Cursor(instruction) => {
             make_instruction(builder, answers, Lender::Cursor, &instruction.plan())
         }
+        Call::Outside(called) => make_outside_call(builder, answers, called),
         Call::SetSrcloc { srcloc } => set_srcloc(builder, answers, *srcloc),
         Call::CollectDebugInfo => collect_debug_info(builder, answers),
         Call::SetValLabel { value, label } => set_val_label(builder, answers, *value, *label),
+        Call::ChangeJumpDestination { branch, from, to } => {
+            change_jump_destination(builder, answers, *branch, *from, *to)
+        }
         Call::F128const { bytes } => {
             let opcode = PooledConstOpcode::F128const;
             make_constant(builder, answers, opcode, Type::Invalid, bytes.as_slice())

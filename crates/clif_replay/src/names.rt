@@ -2,13 +2,13 @@
 ghost use Rattle.std.specs.Prelude.{◌≡◌, ◌≢◌, option_copied, ◌<◌, ◌+◌, ◌-◌, ◌∷◌, [], ℕ, map, length, Some, None, nat_lt, if◌then◌else◌, IfOk, Err, false};
 ghost use Rattle.std.specs.List.{list_all};
 ghost use Rattle.clif_replay.specs.Makes.{AreFound, Finds};
-ghost use Rattle.clif_replay.specs.Ready.{IsFound, AnswerExists, AnswersExist, all_values, argument_of, block_of, edge_at, may_lead, value_in, value_of};
+ghost use Rattle.clif_replay.specs.Ready.{IsFound, AnswerExists, AnswersExist, all_values, argument_of, block_of, edge_at, inst_of, may_lead, value_in, value_of};
 
 use crate::make_blocks::may_seal;
 use crate::script::{Answer, CallError};
 use clif_calls::{Edge, Name};
 use clif_ir::{BlockArg, BlockArgs, BlockCall, Function, ValueList};
-use clif_types::{Block, EntityRef, Value};
+use clif_types::{Block, EntityRef, Inst, Value};
 use cranelift_frontend::FunctionBuilder;
 
 // The block that a name leads to.
@@ -17,6 +17,16 @@ pub(crate) fn block_named(answers: &[Answer], name: Name) -> Option<Block>
 {
     match answers.get(name.place) {
         Some(Answer::Block(block)) if name.answer == 0 => Some(*block),
+        _ => None,
+    }
+}
+
+// The instruction that a name leads to.
+pub(crate) fn inst_named(answers: &[Answer], name: Name) -> Option<Inst>
+    ensures { result ≡ inst_of answers.now name }
+{
+    match answers.get(name.place) {
+        Some(Answer::Inst(inst)) if name.answer == 0 => Some(*inst),
         _ => None,
     }
 }

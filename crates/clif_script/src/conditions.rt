@@ -1,101 +1,14 @@
 //! Which condition of a call doesn't hold, by what the calls before it alone tell.
-use clif_calls::{Call, Edge, EntryCall, Name};
+use crate::condition::Condition;
+use clif_calls::{Call, Edge, EntryCall, Name, OutsideCall};
 use clif_opcodes::{Control, Demand, Opcode, PooledConstOpcode};
 use clif_operations::Operation;
-use clif_script_program::instruction::{edge_count, edge_of, instruction_of, plan_of};
+use clif_script_program::branches::Branches;
+use clif_script_program::imports::Imports;
+use clif_script_program::instruction::{edge_count, edge_of, edges_of, instruction_of, plan_of};
 use clif_types::types::F128;
-use clif_types::{AbiParam, EntityRef, JumpTable, Signature, StackSlot, Type};
+use clif_types::{AbiParam, EntityRef, JumpTable, SigRef, Signature, StackSlot, Type};
 use std::alloc::{AllocError, Global};
-use std::fmt;
-
-/// A condition that doesn't hold. Blocks have the numbers that the function's text gives them.
-#[derive(Clone, Copy)]
-pub enum Condition {
-    /// The name leads to no block.
-    NoBlock(Name),
-    /// The name leads to no value.
-    NoValue(Name),
-    /// The name leads to no edge.
-    NoEdge(Name),
-    /// The variable isn't declared.
-    NoVariable(usize),
-    /// The stack slot isn't there.
-    NoSlot(usize),
-    /// The jump table isn't there.
-    NoTable(usize),
-    /// The signature isn't there.
-    NoSignature(usize),
-    /// The jump table serves another instruction.
-    Served(usize),
-    /// No block is current.
-    NoCurrent,
-    /// The block has a terminator.
-    Filled(usize),
-    /// The current block has no terminator yet, so it can't be left.
-    Unfilled(usize),
-    /// The block is sealed.
-    Sealed(usize),
-    /// Something was made in the block.
-    Begun(usize),
-    /// A branch leads to the block.
-    Reached(usize),
-    /// The block is in the layout.
-    Placed(usize),
-    /// The block isn't in the layout.
-    Unplaced(usize),
-    /// No variable can have this type.
-    VariableType(Type),
-    /// The value doesn't have the variable's type.
-    AssignedType(Type, Type),
-    /// The alignment of a stack slot is too great.
-    Alignment(u8),
-    /// A constant of so many bytes is wanted, and has so many.
-    Bytes(u32, usize),
-    /// The instruction can't be made at this type.
-    MadeAt(Opcode, Type),
-}
-
-impl fmt::Display for Condition {
-    fn fmt<W: fmt::Write>(&self, f: &mut fmt::Formatter<W>) -> fmt::Result {
-        match self {
-            Condition::NoBlock(name) => write_name(f, *name, "block"),
-            Condition::NoValue(name) => write_name(f, *name, "value"),
-            Condition::NoEdge(name) => write_name(f, *name, "block call"),
-            Condition::NoVariable(number) => write!(f, "var{number} isn't declared"),
-            Condition::NoSlot(number) => write!(f, "ss{number} isn't there"),
-            Condition::NoTable(number) => write!(f, "jt{number} isn't there"),
-            Condition::NoSignature(number) => write!(f, "sig{number} isn't there"),
-            Condition::Served(number) => write!(f, "jt{number} serves another instruction"),
-            Condition::NoCurrent => f.write_str("no block is current"),
-            Condition::Filled(number) => write_block(f, *number, "is filled"),
-            Condition::Unfilled(number) => write_block(f, *number, "isn't filled yet"),
-            Condition::Sealed(number) => write_block(f, *number, "is sealed"),
-            Condition::Begun(number) => write_block(f, *number, "isn't empty"),
-            Condition::Reached(number) => write_block(f, *number, "has a predecessor"),
-            Condition::Placed(number) => write_block(f, *number, "is in the layout"),
-            Condition::Unplaced(number) => write_block(f, *number, "isn't in the layout"),
-            Condition::VariableType(ty) => write!(f, "no variable can have type {ty}"),
-            Condition::AssignedType(wanted, found) => {
-                write!(f, "the variable has type {wanted}, and the value {found}")
-            }
-            Condition::Alignment(shift) => write!(f, "the shift {shift} is above 31"),
-            Condition::Bytes(wanted, found) => {
-                write!(f, "the constant has {found} bytes, and its type {wanted}")
-            }
-            Condition::MadeAt(opcode, ty) => write!(f, "{opcode} can't be made at type {ty}"),
-        }
-    }
-}
-
-fn write_name<W: fmt::Write>(f: &mut fmt::Formatter<W>, name: Name, kind: &str) -> fmt::Result {
-    let place = name.place;
-    let answer = name.answer;
-    write!(f, "${place}.{answer} is no {kind}")
-}
-
-fn write_block<W: fmt::Write>(f: &mut fmt::Formatter<W>, number: usize, is: &str) -> fmt::Result {
-    write!(f, "block{number} {is}")
-}
 
 /// An answer of a call.
 #[derive(Clone, Copy)]
@@ -103,6 +16,7 @@ enum Answer {
     Block(usize),
     Value(Type),
     Edge,
+    Inst,
     Other,
 }
 
@@ -113,7 +27,8 @@ struct BlockState {
     is_filled: bool,
     is_sealed: bool,
     is_placed: bool,
-    is_reached: bool,
+    // how many edges lead to it
+    edges: usize,
 }
 
 /// What may come to be known of a block.
@@ -123,7 +38,6 @@ enum Mark {
     Filled,
     Sealed,
     Placed,
-    Reached,
 }
 
 const NEW_BLOCK: BlockState = BlockState {
@@ -131,7 +45,7 @@ const NEW_BLOCK: BlockState = BlockState {
     is_filled: false,
     is_sealed: false,
     is_placed: false,
-    is_reached: false,
+    edges: 0,
 };
 
 /// What the calls so far tell.
@@ -144,9 +58,10 @@ struct Ledger<'a> {
     blocks: Vec<BlockState>,
     variables: Vec<Type>,
     slots: usize,
-    signatures: usize,
+    imports: Imports,
     // for each jump table the places of the calls that answered its edges, until it serves an instruction
     tables: Vec<Option<Vec<usize>>>,
+    branches: Branches,
     current: Option<usize>,
     entry: Option<usize>,
 }
@@ -164,14 +79,26 @@ impl<'a> Ledger<'a> {
     fn block(&self, name: Name) -> Result<usize, Condition> {
         match self.answer(name) {
             Answer::Block(number) => Ok(number),
-            Answer::Value(_) | Answer::Edge | Answer::Other => Err(Condition::NoBlock(name)),
+            Answer::Value(_) | Answer::Edge | Answer::Inst | Answer::Other => {
+                Err(Condition::NoBlock(name))
+            }
+        }
+    }
+
+    // The place of an instruction.
+    fn inst(&self, name: Name) -> Result<usize, Condition> {
+        match self.answer(name) {
+            Answer::Inst => Ok(name.place),
+            _ => Err(Condition::NoInst(name)),
         }
     }
 
     fn value(&self, name: Name) -> Result<Type, Condition> {
         match self.answer(name) {
             Answer::Value(ty) => Ok(ty),
-            Answer::Block(_) | Answer::Edge | Answer::Other => Err(Condition::NoValue(name)),
+            Answer::Block(_) | Answer::Edge | Answer::Inst | Answer::Other => {
+                Err(Condition::NoValue(name))
+            }
         }
     }
 
@@ -216,12 +143,32 @@ impl<'a> Ledger<'a> {
         };
         let state = self.state(number);
         let is_entry = self.entry.is_none() || self.entry == Some(number);
-        let is_unreachable = !is_entry && state.is_sealed && !state.is_reached;
+        let is_unreachable = !is_entry && state.is_sealed && state.edges == 0;
         if !state.is_begun || state.is_filled || is_unreachable {
             Ok(())
         } else {
             Err(Condition::Unfilled(number))
         }
+    }
+
+    // A branch may lead to one block in place of another one.
+    fn can_change(&self, branch: Name, from: Name, to: Name) -> Result<(), Condition> {
+        let place = self.inst(branch)?;
+        let source = self.block(from)?;
+        if !self.branches.leads_to(place, source) {
+            return Err(Condition::LeadsElsewhere(branch, source));
+        }
+        self.is_unsealed(source)?;
+        let target = self.block(to)?;
+        self.is_unsealed(target)
+    }
+
+    // A block isn't sealed.
+    fn is_unsealed(&self, number: usize) -> Result<(), Condition> {
+        if self.state(number).is_sealed {
+            return Err(Condition::Sealed(number));
+        }
+        Ok(())
     }
 
     // Nothing was made in a block.
@@ -255,9 +202,7 @@ impl<'a> Ledger<'a> {
 
     fn can_lead(&self, edge: &Edge) -> Result<(), Condition> {
         let number = self.block(edge.block)?;
-        if self.state(number).is_sealed {
-            return Err(Condition::Sealed(number));
-        }
+        self.is_unsealed(number)?;
         for name in edge.args.iter() {
             self.value(*name)?;
         }
@@ -293,14 +238,46 @@ impl<'a> Ledger<'a> {
         Ok(())
     }
 
+    fn has_signature(&self, signature: SigRef) -> Result<(), Condition> {
+        match self.imports.signature(self.calls, signature) {
+            Some(_) => Ok(()),
+            None => Err(Condition::NoSignature(signature.index())),
+        }
+    }
+
+    // An outside call may be made.
+    fn can_call(&self, called: &OutsideCall) -> Result<(), Condition> {
+        self.is_open()?;
+        let args = match called {
+            OutsideCall::Call { function, args } => {
+                if self.imports.function(self.calls, *function).is_none() {
+                    return Err(Condition::NoFunction(function.index()));
+                }
+                args
+            }
+            OutsideCall::CallIndirect {
+                signature,
+                callee,
+                args,
+            } => {
+                self.has_signature(*signature)?;
+                self.value(*callee)?;
+                args
+            }
+        };
+        for name in args.iter() {
+            self.value(*name)?;
+        }
+        Ok(())
+    }
+
     // An entry of a table may be made.
     fn can_add(&self, entry: &EntryCall) -> Result<(), Condition> {
         match entry {
             EntryCall::CreateSizedStackSlot { align_shift, .. } if *align_shift > 31 => {
                 Err(Condition::Alignment(*align_shift))
             }
-            EntryCall::ImportFunction(function) if function.signature.index() >= self.signatures =>
-                { Err(Condition::NoSignature(function.signature.index())) }
+            EntryCall::ImportFunction(function) => self.has_signature(function.signature),
             _ => Ok(()),
         }
     }
@@ -360,10 +337,10 @@ impl<'a> Ledger<'a> {
             }
             Call::SealBlock { block } => {
                 let number = self.block(*block)?;
-                if self.state(number).is_sealed {
-                    return Err(Condition::Sealed(number));
-                }
-                Ok(())
+                self.is_unsealed(number)
+            }
+            Call::ChangeJumpDestination { branch, from, to } => {
+                self.can_change(*branch, *from, *to)
             }
             Call::InsertBlockAfter { block, after } => self.can_insert(*block, *after),
             Call::SetColdBlock { block } => self.block(*block).map(|_| ()),
@@ -375,7 +352,7 @@ impl<'a> Ledger<'a> {
             }
             Call::AppendBlockParamsForFunctionParams { block } => {
                 let number = self.is_pristine(*block)?;
-                if self.state(number).is_reached {
+                if self.state(number).edges > 0 {
                     return Err(Condition::Reached(number));
                 }
                 Ok(())
@@ -386,6 +363,7 @@ impl<'a> Ledger<'a> {
                 self.have_edges(*default, entries.as_slice())
             }
             Call::BrTable { index, table } => self.can_branch(*index, *table),
+            Call::Outside(called) => self.can_call(called),
             Call::DeclareVar { ty } => can_declare(*ty),
             Call::DefVar { variable, value } => self.can_define(variable.index(), *value),
             Call::UseVar { variable } => {
@@ -478,8 +456,9 @@ impl<'a> Ledger<'a> {
             blocks: Vec::new(alloc),
             variables: Vec::new(alloc),
             slots: 0,
-            signatures: 0,
+            imports: Imports::new(alloc),
             tables: Vec::new(alloc),
+            branches: Branches::new(alloc),
             current: None,
             entry: None,
         }
@@ -494,7 +473,6 @@ impl<'a> Ledger<'a> {
             Mark::Filled => state.is_filled = true,
             Mark::Sealed => state.is_sealed = true,
             Mark::Placed => state.is_placed = true,
-            Mark::Reached => state.is_reached = true,
         }
     }
 
@@ -502,6 +480,48 @@ impl<'a> Ledger<'a> {
         if let Ok(number) = self.block(name) {
             self.mark(number, mark);
         }
+    }
+
+    // Adds where the edges of a call lead, before anything else of it changes.
+    fn add_branch(&mut self, call: &'a Call) -> Result<(), AllocError> {
+        let none: &[usize] = &[];
+        let places = match call {
+            Call::BrTable { table, .. } => self.table(*table).unwrap_or(none),
+            _ => none,
+        };
+        let edges = edges_of(self.alloc, self.calls, call, places)?;
+        let mut targets = Vec::new(self.alloc);
+        for edge in edges.iter() {
+            let target = match edge {
+                Some(edge) => self.block(edge.block).ok(),
+                None => None,
+            };
+            self.reach(target, 1);
+            targets.push(target)?;
+        }
+        self.branches.push(targets)
+    }
+
+    // So many edges more lead to a block.
+    fn reach(&mut self, target: Option<usize>, edges: usize) {
+        let Some(number) = target else {
+            return;
+        };
+        if let Some(state) = self.blocks.get_mut(number) {
+            state.edges = state.edges.saturating_add(edges);
+        }
+    }
+
+    // A branch leads to one block in place of another one.
+    fn change_branch(&mut self, branch: Name, from: Name, to: Name) {
+        let (Ok(source), Ok(target)) = (self.block(from), self.block(to)) else {
+            return;
+        };
+        let changed = self.branches.change(branch.place, source, target);
+        if let Some(state) = self.blocks.get_mut(source) {
+            state.edges = state.edges.saturating_sub(changed);
+        }
+        self.reach(Some(target), changed);
     }
 
     // Something is made in the current block, which puts it into the layout.
@@ -537,7 +557,7 @@ impl<'a> Ledger<'a> {
     fn pool(&mut self, ty: Type) -> Result<(), AllocError> {
         self.begin();
         let mut answers = Vec::new(self.alloc);
-        answers.push(Answer::Other)?;
+        answers.push(Answer::Inst)?;
         answers.push(Answer::Value(ty))?;
         self.answers.push(answers)?;
         Ok(())
@@ -546,7 +566,7 @@ impl<'a> Ledger<'a> {
     // The instruction of a call is made, which answers itself and its results.
     fn make(&mut self, call: &Call) -> Result<(), AllocError> {
         let mut answers = Vec::new(self.alloc);
-        answers.push(Answer::Other)?;
+        answers.push(Answer::Inst)?;
         if let Some(plan) = plan_of(call) {
             self.begin();
             let instruction = instruction_of(&plan);
@@ -556,13 +576,22 @@ impl<'a> Ledger<'a> {
             for kind in typing.results {
                 answers.push(Answer::Value(kind.at(ty)))?;
             }
-            for number in 0..edge_count(&plan) {
-                if let Some(edge) = edge_of(&plan, number) {
-                    self.mark_named(edge.block, Mark::Reached);
-                }
-            }
             if let Some(number) = self.current.filter(|_| typing.ends) {
                 self.mark(number, Mark::Filled);
+            }
+        }
+        self.answers.push(answers)?;
+        Ok(())
+    }
+
+    // An outside call is made, which answers itself and its results.
+    fn call_outside(&mut self, called: &OutsideCall) -> Result<(), AllocError> {
+        self.begin();
+        let mut answers = Vec::new(self.alloc);
+        answers.push(Answer::Inst)?;
+        if let Some(signature) = self.imports.called_by(self.calls, called) {
+            for param in signature.returns.iter() {
+                answers.push(Answer::Value(param.value_type))?;
             }
         }
         self.answers.push(answers)?;
@@ -573,8 +602,7 @@ impl<'a> Ledger<'a> {
     fn add(&mut self, entry: &EntryCall) -> Result<(), AllocError> {
         match entry {
             EntryCall::CreateSizedStackSlot { .. } => self.slots = self.slots.saturating_add(1),
-            EntryCall::ImportSignature(_) => self.signatures = self.signatures.saturating_add(1),
-            _ => {}
+            _ => self.imports.add(self.answers.len(), entry)?,
         }
         self.push(Answer::Other)
     }
@@ -593,25 +621,13 @@ impl<'a> Ledger<'a> {
     // A branch by a jump table is made, which serves it from now on.
     fn branch(&mut self, table: JumpTable) -> Result<(), AllocError> {
         self.begin();
-        let served = match self.tables.get_mut(table.index()) {
-            Some(places) => places.take(),
-            None => None,
-        };
-        if let Some(places) = served {
-            for place in places.iter() {
-                let name = Name {
-                    place: *place,
-                    answer: 0,
-                };
-                if let Ok(edge) = self.edge(name) {
-                    self.mark_named(edge.block, Mark::Reached);
-                }
-            }
+        if let Some(places) = self.tables.get_mut(table.index()) {
+            *places = None;
         }
         if let Some(number) = self.current {
             self.mark(number, Mark::Filled);
         }
-        self.push(Answer::Other)
+        self.push(Answer::Inst)
     }
 
     // A call is made: a row for each.
@@ -633,6 +649,7 @@ impl<'a> Ledger<'a> {
                 self.add_table(*default, entries.as_slice())
             }
             Call::BrTable { table, .. } => self.branch(*table),
+            Call::Outside(called) => self.call_outside(called),
             Call::UseVar { variable } | Call::TryUseVar { variable } => {
                 self.begin();
                 let ty = self.variable(variable.index()).unwrap_or(Type::Invalid);
@@ -655,6 +672,7 @@ impl<'a> Ledger<'a> {
             | Call::SetSrcloc { .. }
             | Call::CollectDebugInfo
             | Call::SetValLabel { .. }
+            | Call::ChangeJumpDestination { .. }
             | Call::EnsureInsertedBlock
             | Call::DefVar { .. }
             | Call::TryDefVar { .. } => {
@@ -677,6 +695,9 @@ impl<'a> Ledger<'a> {
             }
             Call::InsertBlockAfter { block, .. } => self.mark_named(*block, Mark::Placed),
             Call::EnsureInsertedBlock => self.begin(),
+            Call::ChangeJumpDestination { branch, from, to } => {
+                self.change_branch(*branch, *from, *to);
+            }
             _ => {}
         }
     }
@@ -695,6 +716,7 @@ pub fn broken_condition(
         if at == place {
             return Ok(ledger.test(call).err());
         }
+        ledger.add_branch(call)?;
         ledger.change(call)?;
     }
     Ok(None)

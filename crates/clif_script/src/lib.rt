@@ -3,6 +3,7 @@
 #![tactic(auto)]
 
 mod command;
+mod condition;
 mod conditions;
 mod execution;
 mod program;
@@ -12,7 +13,8 @@ mod rows;
 pub use clif_calls::{Call, Edge, EntryCall, Name, PlainInstruction, Plan};
 pub use clif_replay::{ReplayError, replay};
 pub use command::{Command, Run, STEPS, USAGE};
-pub use conditions::{Condition, broken_condition};
+pub use condition::Condition;
+pub use conditions::broken_condition;
 pub use execution::execute;
 pub use program::build;
 pub use rows::{row_text, run};

@@ -2,7 +2,8 @@
 ghost use Rattle.std.specs.Prelude.{◌≡◌, ◌<◌, IfOk};
 ghost use Rattle.clif_script.specs.Program.{IsAccepted, MakesFunction};
 
-use crate::conditions::{Condition, broken_condition};
+use crate::condition::Condition;
+use crate::conditions::broken_condition;
 use clif_replay::{ReplayError, replay};
 use clif_text::{Expected, Fault, ReadError, Script, read};
 use cranelift_frontend::FunctionBuilderContext;

@@ -198,5 +198,45 @@ return a0 b0 c0
 seal_all_blocks
 ";
 
+/// A branch of which both arms are changed.
+pub(crate) const CHANGE_BOTH: &str = "\
+# Both arms lead to block1, and then to block2. The branch is one predecessor of block2.
+function %change_both () -> i32 system_v
+x = declare_var i32
+block0 = create_block
+block1 = create_block
+block2 = create_block
+switch_to_block block0
+one = iconst.i32 1
+def_var x one
+@branch = brif one block1 block1
+change_jump_destination @branch block1 block2
+seal_block block2
+switch_to_block block2
+value = use_var x
+return value
+seal_all_blocks
+";
+
+/// A branch of which one arm is changed, and the other one leads to the new block already.
+pub(crate) const CHANGE_ONE: &str = "\
+# One arm leads to block1, and then to block2, where the other one leads. The branch is one predecessor of block2.
+function %change_one () -> i32 system_v
+x = declare_var i32
+block0 = create_block
+block1 = create_block
+block2 = create_block
+switch_to_block block0
+one = iconst.i32 1
+def_var x one
+@branch = brif one block1 block2
+change_jump_destination @branch block1 block2
+seal_block block2
+switch_to_block block2
+value = use_var x
+return value
+seal_all_blocks
+";
+
 /// No calls.
 pub(crate) const EMPTY: &str = "";

@@ -3,18 +3,23 @@ ghost use Rattle.std.specs.Prelude.{◌≡◌, ◌<◌, ◌↔◌, length, strin
 ghost use Rattle.clif_script.specs.Rows.{IsRowName};
 
 use crate::program::build_text;
-use crate::row_texts::{BOTH_ARMS, EMPTY, FIRST, REORDERING, SAMPLE, SAMPLE_LATE, UNDEF_VECTORS};
+use crate::row_texts::{
+    BOTH_ARMS, CHANGE_BOTH, CHANGE_ONE, EMPTY, FIRST, REORDERING, SAMPLE, SAMPLE_LATE,
+    UNDEF_VECTORS,
+};
 use std::alloc::Global;
 use std::io;
 
 // The names of the rows, in order.
-const NAMES: [&str; 7] = [
+const NAMES: [&str; 9] = [
     "first",
     "reordering",
     "sample",
     "sample_late",
     "both_arms",
     "undef_vectors",
+    "change_both",
+    "change_one",
     "empty",
 ];
 
@@ -29,6 +34,8 @@ pub fn row_text(name: &str) -> Option<&'static str>
         "sample_late" => Some(SAMPLE_LATE),
         "both_arms" => Some(BOTH_ARMS),
         "undef_vectors" => Some(UNDEF_VECTORS),
+        "change_both" => Some(CHANGE_BOTH),
+        "change_one" => Some(CHANGE_ONE),
         "empty" => Some(EMPTY),
         _ => None,
     }

@@ -4,6 +4,7 @@ use clif_opcodes::PooledConstOpcode;
 use clif_operations::Operation;
 use clif_operations::arithmetic::bits_of_bytes;
 use clif_types::{JumpTable, Type};
+use std::alloc::{AllocError, Global};
 use std::slice;
 
 /// An instruction of a script: what it does, the type that is given with it, and its operands.
@@ -186,6 +187,35 @@ pub fn edge_of<'a>(plan: &Plan<'a>, number: usize) -> Option<&'a Edge> {
         (Plan::Jump { destination }, 0) => Some(destination),
         (Plan::Brif { block_then, .. }, 0) => Some(block_then),
         (Plan::Brif { block_else, .. }, 1) => Some(block_else),
+        _ => None,
+    }
+}
+
+/// The edges of the instruction of a call, in order; those of a branch by a jump table are of the calls at these places.
+pub fn edges_of<'c>(
+    alloc: Global,
+    calls: &'c [Call],
+    call: &'c Call,
+    places: &[usize],
+) -> Result<Vec<Option<&'c Edge>>, AllocError> {
+    let mut edges = Vec::new(alloc);
+    if let Call::BrTable { .. } = call {
+        for place in places {
+            edges.push(edge_made(calls, *place))?;
+        }
+    }
+    if let Some(plan) = plan_of(call) {
+        for number in 0..edge_count(&plan) {
+            edges.push(edge_of(&plan, number))?;
+        }
+    }
+    Ok(edges)
+}
+
+/// The edge that the call at a place answers.
+pub fn edge_made(calls: &[Call], place: usize) -> Option<&Edge> {
+    match calls.get(place)? {
+        Call::BlockCall { edge } => Some(edge),
         _ => None,
     }
 }

@@ -3,5 +3,7 @@
 //! `clif_interpreter` runs it. No contract names it: that it is the program of the definitions is only tested.
 #![tactic(auto)]
 
+pub mod branches;
+pub mod imports;
 pub mod instruction;
 pub mod program;

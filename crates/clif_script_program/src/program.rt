@@ -1,5 +1,7 @@
 //! The variable program of a script: for each block the calls that run in it, in order, and the caller's parameters.
-use crate::instruction::result_count;
+use crate::branches::Branches;
+use crate::imports::Imports;
+use crate::instruction::{edge_made, edges_of, result_count};
 use clif_calls::{Call, Edge, EntryCall, Name};
 use clif_types::{AbiParam, EntityRef, JumpTable, Signature, Type};
 use std::alloc::{AllocError, Global};
@@ -32,6 +34,9 @@ pub struct Program {
     pub slots: Vec<(u32, u8)>,
     // for each jump table the places of the calls that answered its edges, the default first
     tables: Vec<Vec<usize>>,
+    branches: Branches,
+    /// The signatures and functions that the script imports.
+    pub imports: Imports,
     /// For each call how many answers it has. What is no value is never given.
     pub answers: Vec<usize>,
 }
@@ -48,9 +53,14 @@ impl Program {
             variables: Vec::new(alloc),
             slots: Vec::new(alloc),
             tables: Vec::new(alloc),
+            branches: Branches::new(alloc),
+            imports: Imports::new(alloc),
             answers: Vec::new(alloc),
         };
         for (place, call) in calls.iter().enumerate() {
+            let answers = program.answer_count(calls, call, signature);
+            program.answers.push(answers)?;
+            program.add_branch(calls, call)?;
             program.add(place, call, signature)?;
         }
         Ok(program)
@@ -90,16 +100,52 @@ impl Program {
         number: usize,
     ) -> Option<&'c Edge> {
         let place = self.tables.get(table.index())?.get(number)?;
-        match calls.get(*place)? {
-            Call::BlockCall { edge } => Some(edge),
-            _ => None,
+        edge_made(calls, *place)
+    }
+
+    /// The numbers of the blocks that the edges of the call at a place lead to, in order, once all calls were made; none
+    /// where a name leads to no block.
+    pub fn targets(&self, place: usize) -> &[Option<usize>] {
+        self.branches.targets(place)
+    }
+
+    /// That of the edge with this number.
+    pub fn target(&self, place: usize, number: usize) -> Option<usize> {
+        *self.targets(place).get(number)?
+    }
+
+    // Adds where the edges of a call lead.
+    fn add_branch(&mut self, calls: &[Call], call: &Call) -> Result<(), AllocError> {
+        let none: &[usize] = &[];
+        let places = match call {
+            Call::BrTable { table, .. } => match self.tables.get(table.index()) {
+                Some(places) => places.as_slice(),
+                None => none,
+            },
+            _ => none,
+        };
+        let edges = edges_of(self.alloc, calls, call, places)?;
+        let mut targets = Vec::new(self.alloc);
+        for edge in edges.iter() {
+            let target = match edge {
+                Some(edge) => self.number(edge.block),
+                None => None,
+            };
+            targets.push(target)?;
+        }
+        self.branches.push(targets)
+    }
+
+    // Lets a branch lead to one block in place of another one.
+    fn change_branch(&mut self, branch: Name, from: Name, to: Name) {
+        if let (0, Some(from), Some(to)) = (branch.answer, self.number(from), self.number(to)) {
+            self.branches.change(branch.place, from, to);
         }
     }
 
     // Adds the call at this place.
     fn add(&mut self, place: usize, call: &Call, signature: &Signature) -> Result<(), AllocError> {
         let number = self.number_answered(call);
-        self.answers.push(answer_count(call, signature))?;
         self.numbers.push(number)?;
         match call {
             Call::CreateBlock => self.add_block(),
@@ -120,6 +166,7 @@ impl Program {
             Call::Entry(EntryCall::CreateSizedStackSlot { size, align_shift }) => {
                 Ok(self.slots.push((*size, *align_shift))?)
             }
+            Call::Entry(entry) => self.imports.add(place, entry),
             Call::EnsureInsertedBlock => {
                 self.put_into_layout();
                 Ok(())
@@ -129,6 +176,7 @@ impl Program {
             | Call::TryUseVar { .. }
             | Call::Plain(_)
             | Call::Cursor(_)
+            | Call::Outside(_)
             | Call::F128const { .. }
             | Call::Vconst { .. } => {
                 self.put_into_layout();
@@ -145,6 +193,10 @@ impl Program {
                 self.put_into_layout();
                 self.add_item(place, true)
             }
+            Call::ChangeJumpDestination { branch, from, to } => {
+                self.change_branch(*branch, *from, *to);
+                Ok(())
+            }
             Call::SealBlock { .. }
             | Call::SealAllBlocks
             | Call::InsertBlockAfter { .. }
@@ -152,7 +204,6 @@ impl Program {
             | Call::SetSrcloc { .. }
             | Call::CollectDebugInfo
             | Call::SetValLabel { .. }
-            | Call::Entry(_)
             | Call::BlockCall { .. } => Ok(()),
         }
     }
@@ -226,16 +277,20 @@ impl Program {
         block.is_filled = fills;
         Ok(())
     }
-}
 
-// How many answers a call has: an instruction answers itself and then its results.
-fn answer_count(call: &Call, signature: &Signature) -> usize {
-    match call {
-        Call::AppendBlockParamsForFunctionParams { .. } => signature.params.len(),
-        Call::AppendBlockParamsForFunctionReturns { .. } => signature.returns.len(),
-        Call::Plain(_) | Call::Cursor(_) => result_count(call).saturating_add(1),
-        Call::F128const { .. } | Call::Vconst { .. } => 2,
-        Call::AppendBlockParam { .. } | Call::UseVar { .. } | Call::TryUseVar { .. } => 1,
-        _ => 0,
+    // How many answers a call has: an instruction answers itself and then its results.
+    fn answer_count(&self, calls: &[Call], call: &Call, signature: &Signature) -> usize {
+        match call {
+            Call::AppendBlockParamsForFunctionParams { .. } => signature.params.len(),
+            Call::AppendBlockParamsForFunctionReturns { .. } => signature.returns.len(),
+            Call::Plain(_) | Call::Cursor(_) => result_count(call).saturating_add(1),
+            Call::Outside(called) => match self.imports.called_by(calls, called) {
+                Some(signature) => signature.returns.len().saturating_add(1),
+                None => 1,
+            },
+            Call::F128const { .. } | Call::Vconst { .. } => 2,
+            Call::AppendBlockParam { .. } | Call::UseVar { .. } | Call::TryUseVar { .. } => 1,
+            _ => 0,
+        }
     }
 }

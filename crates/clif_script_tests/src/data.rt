@@ -3,18 +3,42 @@
 #![tactic(auto)]
 
 /// The rows by their names, with the texts of their functions.
-pub const ROWS: [(&str, &str); 7] = [
+pub const ROWS: [(&str, &str); 9] = [
     ("first", FIRST_TEXT),
     ("reordering", REORDERING_TEXT),
     ("sample", SAMPLE_TEXT),
     ("sample_late", SAMPLE_LATE_TEXT),
     ("both_arms", BOTH_ARMS_TEXT),
     ("undef_vectors", UNDEF_VECTORS_TEXT),
+    ("change_both", CHANGE_BOTH_TEXT),
+    ("change_one", CHANGE_ONE_TEXT),
     ("empty", EMPTY_TEXT),
 ];
 
 /// The function of no calls.
 pub const EMPTY_TEXT: &str = "function u0:0() fast {\n}\n";
+
+const CHANGE_BOTH_TEXT: &str = "\
+function %change_both() -> i32 system_v {
+block0:
+    v0 = iconst.i32 1
+    brif v0, block2, block2  ; v0 = 1
+
+block2:
+    return v0  ; v0 = 1
+}
+";
+
+const CHANGE_ONE_TEXT: &str = "\
+function %change_one() -> i32 system_v {
+block0:
+    v0 = iconst.i32 1
+    brif v0, block2, block2  ; v0 = 1
+
+block2:
+    return v0  ; v0 = 1
+}
+";
 
 const FIRST_TEXT: &str = "\
 function %first() -> i32 system_v {

@@ -171,7 +171,7 @@ fn of_header_lines(rt: HostRuntime) -> Result<(), Fail> {
 
 const CALLS_TO_COME: [(&str, &str); 2] = [
     ("switch x b 1:c", "not supported yet: switch"),
-    ("call f (x)", "not supported yet: call"),
+    ("try_call f (x) t", "not supported yet: try_call"),
 ];
 
 // Each call of the format that isn't understood so far.

@@ -3,6 +3,8 @@
 #![tactic(auto)]
 
 #[cfg(test)]
+mod changes;
+#[cfg(test)]
 mod data;
 #[cfg(test)]
 mod entries;
@@ -10,6 +12,8 @@ mod entries;
 mod errors;
 #[cfg(test)]
 mod notes;
+#[cfg(test)]
+mod outside;
 #[cfg(test)]
 mod parameters;
 #[cfg(test)]

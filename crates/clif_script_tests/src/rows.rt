@@ -25,7 +25,8 @@ fn run_with(
     ended(status, out, err)
 }
 
-const NAMES: &str = "first\nreordering\nsample\nsample_late\nboth_arms\nundef_vectors\nempty\n";
+const NAMES: &str =
+    "first\nreordering\nsample\nsample_late\nboth_arms\nundef_vectors\nchange_both\nchange_one\nempty\n";
 
 // One run with these arguments gives this status and these texts.
 fn gives(

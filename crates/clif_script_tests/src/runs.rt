@@ -147,7 +147,7 @@ fn numbers(rt: HostRuntime) -> Result<(), Fail> {
 }
 
 /// Scripts without parameters, and what they give in each status but 3.
-const SCRIPTS: [(&str, Given); 8] = [
+const SCRIPTS: [(&str, Given); 14] = [
     (
         "b = create_block\nswitch_to_block b\nseal_block b\nreturn",
         (
@@ -195,6 +195,52 @@ const SCRIPTS: [(&str, Given); 8] = [
             5,
             "script: hasn't ended after 10 steps\nfunction: hasn't ended after 10 steps\n",
             "stopped after 10 steps: --steps N allows more\n",
+        ),
+    ),
+    // an outside call gives 0
+    (
+        "function %f () -> i32 system_v\ns = import_signature (i32) -> i32 system_v\nf = import_function %g s\nb = create_block\nswitch_to_block b\nseal_block b\nx = iconst.i32 5\n@c, r = call f (x)\nreturn r",
+        (0, "script: returned 0\nfunction: returned 0\n", ""),
+    ),
+    (
+        "function %f () -> i32 system_v\ns = import_signature (i32) -> i32 system_v\nf = import_function %g s\nb = create_block\nswitch_to_block b\nseal_block b\nx = iconst.i64 5\n@c, r = call f (x)\nreturn r",
+        (
+            4,
+            "",
+            "the promise doesn't cover this: the operands of a call don't fit its signature\nline 8: @c, r = call f (x)\n",
+        ),
+    ),
+    // a function of the C library copies the bytes 10, 11, 12 and 13 (hexadecimal)
+    (
+        "function %f () -> i32 system_v\ns = import_signature (i64, i64, i64) -> i64 system_v\nf = import_function libcall Memcpy s\nb = create_block\nswitch_to_block b\nseal_block b\nd = iconst.i64 0x1020\np = iconst.i64 0x1010\nn = iconst.i64 4\n@c = call f (d p n)\nx = load.i32 d\nreturn x",
+        (
+            0,
+            "script: returned 319951120\nfunction: returned 319951120\n",
+            "",
+        ),
+    ),
+    (
+        "function %f () -> i32 system_v\ns = import_signature (i64, i64, i64) -> i64 system_v\nf = import_function libcall Memcpy s\nb = create_block\nswitch_to_block b\nseal_block b\nd = iconst.i64 0x1012\np = iconst.i64 0x1010\nn = iconst.i64 4\n@c = call f (d p n)\nx = load.i32 d\nreturn x",
+        (
+            4,
+            "",
+            "the promise doesn't cover this: Memcpy copies between bytes that overlap\nline 10: @c = call f (d p n)\n",
+        ),
+    ),
+    (
+        "function %f () -> i32 system_v\ns = import_signature (i64, i64, i64) -> i64 system_v\nf = import_function libcall Memcpy s\nb = create_block\nswitch_to_block b\nseal_block b\nd = iconst.i64 0\np = iconst.i64 0x1010\nn = iconst.i64 4\n@c = call f (d p n)\nx = load.i32 d\nreturn x",
+        (
+            4,
+            "",
+            "the promise doesn't cover this: a function of the C library touches a byte that isn't accessible\nline 10: @c = call f (d p n)\n",
+        ),
+    ),
+    (
+        "function %f () -> i32 system_v\ns = import_signature (i64, i64, i64) system_v\nf = import_function libcall Memcpy s\nb = create_block\nswitch_to_block b\nseal_block b\nd = iconst.i64 0x1020\np = iconst.i64 0x1010\nn = iconst.i64 4\n@c = call f (d p n)\nx = load.i32 d\nreturn x",
+        (
+            4,
+            "",
+            "the promise doesn't cover this: a function of the C library is called by another signature than its own\nline 10: @c = call f (d p n)\n",
         ),
     ),
 ];

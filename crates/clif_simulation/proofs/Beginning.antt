@@ -75,7 +75,7 @@ current_of_program program request = by (program_effect request)
     by (Switches block is) = of_request _ is refl
     by (Assigns variable value is) = of_request _ is (current-item program program.current _)
     by (Uses variable is) = of_request _ is (current-item (with_inserted program) program.current _)
-    by (Builds table instruction is) = of_request _ is (current-item (with_inserted program) program.current _)
+    by (Builds entries instruction is) = of_request _ is (current-item (with_inserted program) program.current _)
     by (Redirects branch from to stays is) = of_program _ (is program) refl stays
 
 current_of_ledger : (ledger : Ledger) (request : Request) → (ledger_with ledger request).current ≡ first_block (switch_of request) ledger.current
@@ -101,7 +101,7 @@ current_of_ledger ledger request = by (ledger_effect request)
     by (Declares ty is) = of_request _ is refl
     by (Touches variable value is) = of_request _ is refl
     by (Reads variable is) = of_request _ is (current-begun ledger ledger.current)
-    by (Appends table instruction is) =
+    by (Appends entries instruction is) =
         of_request _ is
         (current-edges (answer_of (length ledger.answers) 0) (with_terminator (with_begun ledger) instruction.operation) instruction.edges
         ∙ current-terminator (with_begun ledger) instruction.operation ∙ current-begun ledger ledger.current)

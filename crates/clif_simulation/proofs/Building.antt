@@ -43,7 +43,7 @@ use Rattle.clif_ssa.proofs.Owning.{own_described}
 use Rattle.clif_ssa.proofs.StructuredLaws.{inserted_structured, instruction_structured}
 use Rattle.clif_meaning.specs.Name.{Name, answer_of}
 use Rattle.clif_meaning.specs.Instruction.{Operation, Instruction, Edge}
-use Rattle.clif_meaning.specs.Request.{Build, AnsweredCall, script_of}
+use Rattle.clif_meaning.specs.Request.{Build, GivenEntry, AnsweredCall, script_of}
 use Rattle.clif_meaning.specs.Ledger.{AnInstruction, AValue, answers_to, is_filled, is_terminator, ledger_after, value_answer_type}
 use Rattle.clif_meaning.specs.Program.{Item, Instruct, result_types, answers_from, first_block}
 use Rattle.clif_meaning.specs.FunctionView.{Placed}
@@ -138,9 +138,9 @@ first_new h b shape types loc t ts is =
 
 module _ (calls : List AnsweredCall) (f : Body) (s : SsaState) (c : Carries calls f s) (consistent : IsConsistent f)
     (b : ℕ) (B : Name) (current : IsCurrent calls b B) (unfilled : is_filled (ledger_after (script_of calls)) B ≡ false) (there : b < length f.blocks)
-    (shape : InstructionData) (table : Option ℕ) (instruction : Instruction Name Name) (loc : ℕ) (numbers : List ℕ) where
+    (shape : InstructionData) (entries : List GivenEntry) (instruction : Instruction Name Name) (loc : ℕ) (numbers : List ℕ) where
   abbrev call : AnsweredCall
-  call = record { request = Build table instruction; numbers = numbers }
+  call = record { request = Build entries instruction; numbers = numbers }
 
   abbrev after : List AnsweredCall
   after = calls ++ call ∷ []
@@ -297,7 +297,7 @@ module _ (calls : List AnsweredCall) (f : Body) (s : SsaState) (c : Carries call
     leads_plain = leads_kept calls call c.own mine s s stays own_still (λ d. refl) c.holds.leads_own
 
     entry_on : HasEntry after g
-    entry_on = entry_begun calls after f g b B (Requests.entry_instructed calls call B current.current table instruction refl) refl current.named stays c.holds.entry
+    entry_on = entry_begun calls after f g b B (Requests.entry_instructed calls call B current.current entries instruction refl) refl current.named stays c.holds.entry
 
   -- the tables once the block is in the layout
   abbrev entered : SoundOnPaths calls c.own f s → Blocks
@@ -316,7 +316,7 @@ module _ (calls : List AnsweredCall) (f : Body) (s : SsaState) (c : Carries call
   open_here = open_kept f h s s b (insts_inserted f b) (λ d. refl) exist open_in
 
   entry_is : (program_so_far after).entry ≡ first_block (program_so_far calls).entry (Some B)
-  entry_is = Requests.entry_instructed calls call B current.current table instruction refl
+  entry_is = Requests.entry_instructed calls call B current.current entries instruction refl
 
   -- THE INSTRUCTION -----------------------------------------------------------------------------------------------------
 
@@ -335,7 +335,7 @@ module _ (calls : List AnsweredCall) (f : Body) (s : SsaState) (c : Carries call
 
     puts : PutsItem calls call B (Instruct (length calls) instruction (answers_from (length calls) 1 types))
     puts = subst (λ (ts : List «Type»). PutsItem calls call B (Instruct (length calls) instruction (answers_from (length calls) 1 ts))) typed
-        (Requests.puts_instruction calls call B current.current table instruction refl)
+        (Requests.puts_instruction calls call B current.current entries instruction refl)
 
     operands_after : operands shape ≡ map (answered after) instruction.operands
     operands_after = matches.arguments ∙ sym (numbers_kept calls call instruction.operands matches.earlier)
@@ -463,7 +463,7 @@ module _ (calls : List AnsweredCall) (f : Body) (s : SsaState) (c : Carries call
               → (block : ℕ) × (name : Name) × Contains (mine.insts block) j × (block_name after block ≡ Some name) × IsTrue (is_filled (ledger_after (script_of after)) name)
           by (inl old) = leads_plain types target j old
           by (inr new) =
-              (b, B, subst (λ (e : ℕ). Contains (mine.insts b) e) (sym new.0) own_it, stays b B current.named, fills calls call table instruction b B refl ends current)
+              (b, B, subst (λ (e : ℕ). Contains (mine.insts b) e) (sym new.0) own_it, stays b B current.named, fills calls call entries instruction b B refl ends current)
 
       edges_branch : HaveEdges m t
       edges_branch target j here = by (along_told told s t i along target j here)

@@ -48,7 +48,7 @@ switched = carries_switched one_call block_with_callee no_state created (block 0
 pub carried : Carries call_calls (call_body i32) no_state
 carried =
     carries_plain before_call block_with_callee no_state switched consistent 0 (block 0) (record { current = refl; named = refl }) refl (omega arith)
-    (shape.Call 0 []) None call_instruction 0 (0 ∷ 0 ∷ [])
+    (shape.Call 0 []) [] call_instruction 0 (0 ∷ 0 ∷ [])
     (record { operation = refl; arguments = refl; no_edges = refl; edges = refl; earlier = tt }) (i32 ∷ []) refl refl numbered refl
   where
     numbered : (k : ℕ) → k < 1 → slice_get (0 ∷ 0 ∷ []) (suc k) ≡ Some (0 + k)

@@ -22,7 +22,7 @@ use Rattle.clif_opcodes.specs.declared.opcodes.FloatConstOpcode.TheVariants.{F16
 use Rattle.clif_types.specs.MemFlags.{MemFlagsShape}
 use Rattle.clif_opcodes.specs.declared.opcodes.PooledConstOpcode.TheVariants.{F128const, Vconst}
 use Rattle.clif_opcodes.specs.declared.opcodes.StackOpcode.TheVariants.{StackAddr, StackLoad}
-use Rattle.clif_meaning.specs.Instruction.{Instruction, Operation, Compute, Load, Store, Stack, StackStore, Trap, CondTrap, Jump, Brif, BrTable, Return, Call, CallIndirect, TryCall, TryCallIndirect, Arithmetic, Iconst, FloatConst, PooledConst, Unary, Binary, Compare, Concat, Split, Convert, Select}
+use Rattle.clif_meaning.specs.Instruction.{Instruction, Operation, Compute, Load, Store, Stack, StackStore, Trap, CondTrap, Jump, Brif, BrTable, Return, Call, CallIndirect, TryCall, TryCallIndirect, Arithmetic, Iconst, FloatConst, PooledConst, Unary, Binary, Compare, Concat, Split, Convert, Select, AddConstant, CompareConstant}
 use Rattle.clif_meaning.specs.Request.{Request, Script}
 use Rattle.clif_meaning.specs.Program.{Program, Item, Instruct, Use, Assign, result_types, result_names, answers_from, with_item_at, with_inserted, extended, with_call, empty_program, program_of}
 use Rattle.clif_meaning.specs.Ledger.{is_terminator}
@@ -67,7 +67,7 @@ with_request program request all = by (program_effect request)
     by (Uses variable is) =
         subst (λ (r : Request). AllGive (extended program r)) (sym is)
         (with_one (with_inserted program) program.current (Use variable (answer_of program.place 0)) all tt)
-    by (Builds table instruction is) =
+    by (Builds entries instruction is) =
         subst (λ (r : Request). AllGive (extended program r)) (sym is)
         (with_one (with_inserted program) program.current (Instruct program.place instruction (result_names program.place instruction)) all refl)
     by (Redirects branch from to stays is) = subst AllGive (sym (is program)) (λ block. all_redirected GivesResults GivesResults branch from to (λ item gives. gives) (λ place instruction results gives. gives) (program.items block) (all block))
@@ -139,6 +139,12 @@ counted_arithmetic Concat ty types (x ∷ y ∷ z ∷ operands) memory = tt
 counted_arithmetic Split ty types [] memory = tt
 counted_arithmetic Split ty types (x ∷ []) memory = refl
 counted_arithmetic Split ty types (x ∷ y ∷ operands) memory = tt
+counted_arithmetic (AddConstant number) ty types [] memory = tt
+counted_arithmetic (AddConstant number) ty types (x ∷ []) memory = refl
+counted_arithmetic (AddConstant number) ty types (x ∷ y ∷ operands) memory = tt
+counted_arithmetic (CompareConstant condition number) ty types [] memory = tt
+counted_arithmetic (CompareConstant condition number) ty types (x ∷ []) memory = refl
+counted_arithmetic (CompareConstant condition number) ty types (x ∷ y ∷ operands) memory = tt
 counted_arithmetic (Convert opcode) ty types [] memory = tt
 counted_arithmetic (Convert opcode) ty types (x ∷ []) memory = refl
 counted_arithmetic (Convert opcode) ty types (x ∷ y ∷ operands) memory = tt

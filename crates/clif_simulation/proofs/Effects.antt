@@ -8,7 +8,7 @@ use Rattle.clif_tables.specs.Entries.{with_entry}
 use Rattle.clif_tables.specs.Lists.{TableLists}
 use Rattle.clif_meaning.specs.Name.{Name, same_name}
 use Rattle.clif_meaning.specs.Instruction.{Edge, Instruction}
-use Rattle.clif_meaning.specs.Request.{Request, CreateBlock, SwitchToBlock, SealBlock, SealAllBlocks, InsertBlockAfter, SetColdBlock, EnsureInsertedBlock, AppendBlockParams, AppendFunctionParams, DeclareVar, DefVar, UseVar, MakeEntry, MakeEdge, MakeJumpTable, Annotate, Build, ChangeJumpDestination, Finalize}
+use Rattle.clif_meaning.specs.Request.{Request, CreateBlock, SwitchToBlock, SealBlock, SealAllBlocks, InsertBlockAfter, SetColdBlock, EnsureInsertedBlock, AppendBlockParams, AppendFunctionParams, DeclareVar, DefVar, UseVar, MakeEntry, MakeEdge, MakeJumpTable, Annotate, Build, GivenEntry, ChangeJumpDestination, Finalize}
 use Rattle.clif_meaning.specs.Program.{Program, answers_from, extended, with_inserted, with_parameters, with_redirected}
 use Rattle.clif_meaning.specs.Ledger.{BlockState, Ledger, changed_by, edges_named, left_by, put_after, redirected_state, sealed, with_begun, with_cold_mark, with_parameter_types, with_state}
 
@@ -42,7 +42,7 @@ pub data ProgramEffect (request : Request) : Type 0 where
   -- an item of the current block
   Assigns : (variable : ℕ) (value : Name) → request ≡ DefVar variable value → ProgramEffect request
   Uses : (variable : ℕ) → request ≡ UseVar variable → ProgramEffect request
-  Builds : (table : Option ℕ) (instruction : Instruction Name Name) → request ≡ Build table instruction → ProgramEffect request
+  Builds : (entries : List GivenEntry) (instruction : Instruction Name Name) → request ≡ Build entries instruction → ProgramEffect request
   -- edges of items lead elsewhere
   Redirects : (branch from to : Name) → switch_of request ≡ None
       → ((program : Program) → extended program request ≡ with_redirected program branch from to) → ProgramEffect request
@@ -64,7 +64,7 @@ program_effect (MakeEntry entry) = Leaves refl (λ program. refl)
 program_effect (MakeEdge edge) = Leaves refl (λ program. refl)
 program_effect (MakeJumpTable default entries) = Leaves refl (λ program. refl)
 program_effect (Annotate values) = Leaves refl (λ program. refl)
-program_effect (Build table instruction) = Builds table instruction refl
+program_effect (Build entries instruction) = Builds entries instruction refl
 program_effect (ChangeJumpDestination branch from to) = Redirects branch from to refl (λ program. refl)
 program_effect Finalize = Leaves refl (λ program. refl)
 
@@ -96,7 +96,7 @@ pub data LedgerEffect (request : Request) : Type 0 where
   Declares : (ty : «Type») → request ≡ DeclareVar ty → LedgerEffect request
   Touches : (variable : ℕ) (value : Name) → request ≡ DefVar variable value → LedgerEffect request
   Reads : (variable : ℕ) → request ≡ UseVar variable → LedgerEffect request
-  Appends : (table : Option ℕ) (instruction : Instruction Name Name) → request ≡ Build table instruction → LedgerEffect request
+  Appends : (entries : List GivenEntry) (instruction : Instruction Name Name) → request ≡ Build entries instruction → LedgerEffect request
 
 seals : KeepsFilled sealed
 seals = record { name = λ state. refl; filled = λ state is. is }
@@ -152,6 +152,6 @@ ledger_effect (MakeJumpTable default entries) =
     Lays (λ ledger. ledger.layout) (λ ledger. ledger.tables) (λ ledger. ledger.jump_tables ++ Some (edges_named ledger (default ∷ entries)) ∷ []) refl
     (λ ledger. refl)
 ledger_effect (Annotate values) = Keeps refl (λ ledger. refl)
-ledger_effect (Build table instruction) = Appends table instruction refl
+ledger_effect (Build entries instruction) = Appends entries instruction refl
 ledger_effect (ChangeJumpDestination branch from to) = ChangesEach (redirected_state branch from to) (redirects branch from to) refl (λ ledger. refl)
 ledger_effect Finalize = Keeps refl (λ ledger. refl)

@@ -6,7 +6,7 @@ use Rattle.std.specs.List.{list_any}
 use Rattle.clif_types.specs.declared.types.«Type».{«Type»}
 use Rattle.clif_meaning.specs.Name.{Name, answer_of, same_name}
 use Rattle.clif_meaning.specs.Instruction.{Operation, Edge, Instruction}
-use Rattle.clif_meaning.specs.Request.{Request, Build, AnsweredCall, script_of}
+use Rattle.clif_meaning.specs.Request.{Request, Build, GivenEntry, AnsweredCall, script_of}
 use Rattle.clif_meaning.specs.Ledger.{BlockState, Ledger, VariableState, changed_by, ledger_after, ledger_with, with_state, with_layout, with_begun_at, with_begun, with_filled_at, with_terminator, with_predecessor, touched_at, new_variable, is_inserted, is_filled, is_terminator, state_has, variable_type}
 use Rattle.clif_simulation.specs.Carries.{AreTypes}
 use Rattle.clif_simulation.specs.Carries as carries
@@ -127,7 +127,7 @@ module _ (name : Name) where
       by (Declares ty is) = of_request _ is filled
       by (Touches variable value is) = of_request _ is filled
       by (Reads variable is) = of_request _ is (filled-with_begun_at ledger ledger.current filled)
-      by (Appends table instruction is) =
+      by (Appends entries instruction is) =
           of_request _ is
           (filled-with_edges (answer_of (length ledger.answers) 0) (with_terminator (with_begun ledger) instruction.operation) instruction.edges
           (filled-with_terminator (with_begun ledger) instruction.operation (filled-with_begun_at ledger ledger.current filled)))
@@ -173,20 +173,20 @@ filled_here (state ∷ states) block name found = by (same_name state.block name
         (subst (λ (test : Bool). IsTrue (first_or name test state (map (with_name_filled name) states))) (sym is) (other_block block is found rest))
 
 -- a terminator fills the current block
-fills_with : (ledger : Ledger) (table : Option ℕ) (instruction : Instruction Name Name) (block : ℕ) (name : Name) → ledger.current ≡ Some name → is_terminator instruction.operation ≡ true
+fills_with : (ledger : Ledger) (entries : List GivenEntry) (instruction : Instruction Name Name) (block : ℕ) (name : Name) → ledger.current ≡ Some name → is_terminator instruction.operation ≡ true
     → slice_get (map (λ (state : BlockState). state.block) ledger.blocks) block ≡ Some name
-    → IsTrue (is_filled (ledger_with ledger (Build table instruction)) name)
-fills_with ledger table instruction block name current ends named =
+    → IsTrue (is_filled (ledger_with ledger (Build entries instruction)) name)
+fills_with ledger entries instruction block name current ends named =
     filled-with_edges name (answer_of (length ledger.answers) 0) (with_terminator (with_begun ledger) instruction.operation) instruction.edges
     (subst (λ (test : Bool). IsTrue (is_filled (if test then with_filled_at (with_begun ledger) (with_begun ledger).current else with_begun ledger) name)) (sym ends)
     (subst (λ (o : Option Name). IsTrue (is_filled (with_filled_at (with_begun ledger) o) name)) (sym (current-begun ledger ledger.current ∙ current))
     (filled_here (with_begun ledger).blocks block name (ap (λ (names : List Name). slice_get names block) (names-with_begun_at ledger ledger.current) ∙ named))))
 
-pub fills : (calls : List AnsweredCall) (call : AnsweredCall) (table : Option ℕ) (instruction : Instruction Name Name) (block : ℕ) (name : Name) → call.request ≡ Build table instruction → is_terminator instruction.operation ≡ true
+pub fills : (calls : List AnsweredCall) (call : AnsweredCall) (entries : List GivenEntry) (instruction : Instruction Name Name) (block : ℕ) (name : Name) → call.request ≡ Build entries instruction → is_terminator instruction.operation ≡ true
     → carries.IsCurrent calls block name → IsTrue (is_filled (ledger_after (script_of (calls ++ call ∷ []))) name)
-fills calls call table instruction block name request ends current =
+fills calls call entries instruction block name request ends current =
     subst (λ (ledger : Ledger). IsTrue (is_filled ledger name)) (sym (ledger_longer calls call ∙ ap (ledger_with (ledger_after (script_of calls))) request))
-    (fills_with (ledger_after (script_of calls)) table instruction block name (sym (one_current calls) ∙ current.current) ends current.named)
+    (fills_with (ledger_after (script_of calls)) entries instruction block name (sym (one_current calls) ∙ current.current) ends current.named)
 
 -- TYPES -----------------------------------------------------------------------------------------------------------------
 
@@ -249,7 +249,7 @@ type_with ledger request x ty typed = by (ledger_effect request)
     by (Declares declared is) = of_request _ is (type_longer ledger.variables (new_variable declared ∷ []) x ty typed)
     by (Touches variable value is) = of_request _ is (type_touched ledger.variables variable x ∙ typed)
     by (Reads variable is) = of_request _ is (type_touched (with_begun ledger).variables variable x ∙ begun)
-    by (Appends table instruction is) =
+    by (Appends entries instruction is) =
         of_request _ is
         (ap (λ (states : List VariableState). type_in states x)
         (variables-edges (answer_of (length ledger.answers) 0) (with_terminator (with_begun ledger) instruction.operation) instruction.edges

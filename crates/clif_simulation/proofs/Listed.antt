@@ -31,7 +31,7 @@ call_leaves program request none = by (program_effect request)
     by (Switches block is) = of_request _ is refl
     by (Assigns variable value is) = of_request _ is (item_leaves program program.current _)
     by (Uses variable is) = of_request _ is (item_leaves (with_inserted program) program.current _)
-    by (Builds table instruction is) = of_request _ is (item_leaves (with_inserted program) program.current _)
+    by (Builds entries instruction is) = of_request _ is (item_leaves (with_inserted program) program.current _)
     by (Redirects branch from to stays is) = ap (λ (p : Program). p.parameters) (is program)
 
 -- such a call leaves each block's

@@ -91,7 +91,7 @@ nothing_there name (request ∷ rest) program never apart none =
     items (Switches block is) = of_request _ is none
     items (Assigns variable value is) = of_request _ is (no_new_item program program.current _ name apart ∙ none)
     items (Uses variable is) = of_request _ is (no_new_item (with_inserted program) program.current _ name apart ∙ none)
-    items (Builds table instruction is) = of_request _ is (no_new_item (with_inserted program) program.current _ name apart ∙ none)
+    items (Builds entries instruction is) = of_request _ is (no_new_item (with_inserted program) program.current _ name apart ∙ none)
     items (Redirects branch from to stays is) = ap (λ (p : Program). p.items name) (is program) ∙ ap (map (redirected_item branch from to)) none
 
 data FourCases (name : Name) : Type 0 where

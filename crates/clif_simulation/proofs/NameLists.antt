@@ -121,7 +121,7 @@ names_after ledger request made = by (ledger_effect request)
     by (Declares ty is) = of_request _ is refl
     by (Touches variable value is) = of_request _ is refl
     by (Reads variable is) = of_request _ is (names-with_begun_at ledger ledger.current)
-    by (Appends table instruction is) =
+    by (Appends entries instruction is) =
         of_request _ is
         (names-with_edges (answer_of (length ledger.answers) 0) (with_terminator (with_begun ledger) instruction.operation) instruction.edges
         ∙ names-with_terminator (with_begun ledger) instruction.operation ∙ names-with_begun_at ledger ledger.current)

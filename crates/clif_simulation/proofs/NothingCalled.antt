@@ -15,7 +15,7 @@ use Rattle.clif_simulation.proofs.Effects.{ProgramEffect, program_effect, Leaves
 
 -- the request builds no outside call
 abbrev builds_no_call : Request → Bool
-builds_no_call (Build table instruction) = not (is_some (call_shape instruction.operation))
+builds_no_call (Build entries instruction) = not (is_some (call_shape instruction.operation))
 builds_no_call _ = true
 
 abbrev pub build_no_calls : Script → Bool
@@ -51,7 +51,7 @@ with_request program request none all = by (program_effect request)
     by (Uses variable is) =
         subst (λ (r : Request). EachItem CallsNothing (extended program r)) (sym is)
         (with_one (with_inserted program) program.current (Use variable (answer_of program.place 0)) all tt)
-    by (Builds table instruction is) =
+    by (Builds entries instruction is) =
         subst (λ (r : Request). EachItem CallsNothing (extended program r)) (sym is)
         (with_one (with_inserted program) program.current (Instruct program.place instruction (result_names program.place instruction)) all
         (none_is (call_shape instruction.operation) (sym (ap builds_no_call is) ∙ none)))

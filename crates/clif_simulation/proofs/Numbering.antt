@@ -29,7 +29,7 @@ values_alone (ty ∷ types) (suc index) is = values_alone types index is
 
 -- the call makes no instruction
 abbrev pub MakesNoInstruction : Request → Type 0
-MakesNoInstruction (Build table instruction) = ⊥
+MakesNoInstruction (Build entries instruction) = ⊥
 MakesNoInstruction _ = Unit {0}
 
 pub none_made : (ledger : Ledger) (request : Request) → MakesNoInstruction request → (index : ℕ) → slice_get (answers_to ledger request) index ≡ Some AnInstruction → ⊥
@@ -55,7 +55,7 @@ none_made ledger (MakeEdge edge) none (suc index) is = none_some is
 none_made ledger (MakeJumpTable default entries) none zero is = cc
 none_made ledger (MakeJumpTable default entries) none (suc index) is = none_some is
 none_made ledger (Annotate values) none index is = none_some is
-none_made ledger (Build table instruction) none index is = absurd none
+none_made ledger (Build entries instruction) none index is = absurd none
 none_made ledger (ChangeJumpDestination branch from to) none index is = none_some is
 none_made ledger Finalize none index is = none_some is
 
@@ -185,11 +185,11 @@ module _ (calls : List AnsweredCall) (call : AnsweredCall) where
 
 -- a call's instruction, if it answers one, has this number, and the next one comes after it
 abbrev pub HasNumber : Request → List ℕ → ℕ → Type 0
-HasNumber (Build table instruction) numbers n = slice_get numbers 0 ≡ Some n
+HasNumber (Build entries instruction) numbers n = slice_get numbers 0 ≡ Some n
 HasNumber _ numbers n = Unit {0}
 
 abbrev pub next_number : Request → ℕ → ℕ
-next_number (Build table instruction) n = suc n
+next_number (Build entries instruction) n = suc n
 next_number _ n = n
 
 abbrev pub NumbersRise : ℕ → List AnsweredCall → Type 0
@@ -219,8 +219,8 @@ apart_next calls (MakeEntry entry) numbers n has apart = apart_on calls _ n n (n
 apart_next calls (MakeEdge edge) numbers n has apart = apart_on calls _ n n (none_made (ledger_after (script_of calls)) (MakeEdge edge) tt) (omega arith) apart
 apart_next calls (MakeJumpTable default entries) numbers n has apart = apart_on calls _ n n (none_made (ledger_after (script_of calls)) (MakeJumpTable default entries) tt) (omega arith) apart
 apart_next calls (Annotate values) numbers n has apart = apart_on calls _ n n (none_made (ledger_after (script_of calls)) (Annotate values) tt) (omega arith) apart
-apart_next calls (Build table instruction) numbers n has apart =
-    let call : AnsweredCall = record { request = Build table instruction; numbers = numbers } in
+apart_next calls (Build entries instruction) numbers n has apart =
+    let call : AnsweredCall = record { request = Build entries instruction; numbers = numbers } in
     apart_made calls call n (suc n) (λ index is. instruction_first (result_types instruction.operation instruction.controlling) index is) (sym (number_of_answer calls call 0 n has)) (omega arith) apart
 apart_next calls (ChangeJumpDestination branch from to) numbers n has apart = apart_on calls _ n n (none_made (ledger_after (script_of calls)) (ChangeJumpDestination branch from to) tt) (omega arith) apart
 apart_next calls Finalize numbers n has apart = apart_on calls _ n n (none_made (ledger_after (script_of calls)) Finalize tt) (omega arith) apart

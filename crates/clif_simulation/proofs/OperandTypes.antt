@@ -22,7 +22,7 @@ use Rattle.clif_ir.specs.Body.{Body}
 use Rattle.clif_meaning.specs.Bits.{Bits}
 use Rattle.clif_tables.specs.Callees.{types_of}
 use Rattle.clif_opcodes.specs.declared.opcodes.StackOpcode.TheVariants.{StackAddr, StackLoad}
-use Rattle.clif_meaning.specs.Instruction.{Iconst, FloatConst, PooledConst, Unary, Binary, Compare, Concat, Split, Convert, Select, Operation, Compute, Load, Store, Stack, StackStore, Trap, CondTrap, Jump, Brif, BrTable, Return, Call, CallIndirect, TryCall, TryCallIndirect, Instruction, operation_typing}
+use Rattle.clif_meaning.specs.Instruction.{Iconst, FloatConst, PooledConst, Unary, Binary, Compare, Concat, Split, Convert, Select, AddConstant, CompareConstant, Operation, Compute, Load, Store, Stack, StackStore, Trap, CondTrap, Jump, Brif, BrTable, Return, Call, CallIndirect, TryCall, TryCallIndirect, Instruction, operation_typing}
 use Rattle.clif_meaning.specs.Ledger.{ledger_after, or_invalid, type_of}
 use Rattle.clif_meaning.specs.Memory.{Memory}
 use Rattle.clif_meaning.specs.Name.{Name}
@@ -153,6 +153,8 @@ outcome_by_types world operation ty returns types others operands memory at fits
     by (Compute Split) at fits = alike (Compute Split) (kinds_valid ty (halved_valid ty at) (kind.Controlling ∷ []) tt types fits)
     by (Compute (Convert opcode)) at fits = alike (Compute (Convert opcode)) (kinds_valid ty (convert_valid opcode ty at) (convert_operand opcode ∷ []) (convert_told opcode) types fits)
     by (Compute Select) at fits = alike (Compute Select) (kinds_valid ty at (kind.AnInteger ∷ kind.Controlling ∷ kind.Controlling ∷ []) tt types fits)
+    by (Compute (AddConstant number)) at fits = alike (Compute (AddConstant number)) (kinds_valid ty (int_valid ty at) (kind.Controlling ∷ []) tt types fits)
+    by (Compute (CompareConstant condition number)) at fits = alike (Compute (CompareConstant condition number)) (kinds_valid ty (int_valid ty at) (kind.Controlling ∷ []) tt types fits)
     by (Load flags offset) at fits = alike (Load flags offset) (kinds_valid ty at (kind.Address ∷ []) tt types fits)
     by (Store flags offset) at fits = alike (Store flags offset) (kinds_valid ty at (kind.Controlling ∷ kind.Address ∷ []) tt types fits)
     by (Stack StackAddr slot offset) at fits = alike (Stack StackAddr slot offset) (none_valid ty types fits)

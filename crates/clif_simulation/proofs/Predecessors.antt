@@ -123,7 +123,7 @@ module _ (calls : List AnsweredCall) (call : AnsweredCall) where
       by (MakeEdge edge) is may = old
       by (MakeJumpTable default entries) is may = old
       by (Annotate values) is may = old
-      by (Build table instruction) is may =
+      by (Build entries instruction) is may =
           edges_led (IsInstruction after) (next_answer ledger) (new (ap (λ (request : Request). slice_get (answers_to ledger request) 0) is)) instruction.edges
           (with_terminator (with_begun ledger) instruction.operation)
           (ended_led (IsInstruction after) (with_begun ledger) instruction.operation (begun_led (IsInstruction after) ledger ledger.current old))

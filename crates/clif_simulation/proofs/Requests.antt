@@ -7,7 +7,7 @@ use Rattle.clif_instructions.specs.Members.{stands_in}
 use Rattle.clif_ssa.specs.Sound.{entry_of}
 use Rattle.clif_meaning.specs.Name.{Name, answer_of}
 use Rattle.clif_meaning.specs.Instruction.{Instruction}
-use Rattle.clif_meaning.specs.Request.{Request, SwitchToBlock, EnsureInsertedBlock, DefVar, UseVar, Build, AnsweredCall}
+use Rattle.clif_meaning.specs.Request.{Request, SwitchToBlock, EnsureInsertedBlock, DefVar, UseVar, Build, GivenEntry, AnsweredCall}
 use Rattle.clif_meaning.specs.Program.{Program, Instruct, Use, Assign, extended, with_call, with_item_at, with_inserted, first_block, result_names}
 use Rattle.clif_simulation.specs.Tables.{program_so_far, block_name}
 use Rattle.clif_simulation.specs.Carries.{HasEntry}
@@ -78,20 +78,20 @@ module _ (calls : List AnsweredCall) (call : AnsweredCall) where
     entry_assigned x n is =
         ap (λ (p : Program). p.entry) (program_with (DefVar x n) is) ∙ ap (λ (o : Option Name). (with_item_at before o (Assign x n)).entry) current
 
-    pub puts_instruction : (table : Option ℕ) (instruction : Instruction Name Name) → call.request ≡ Build table instruction
+    pub puts_instruction : (entries : List GivenEntry) (instruction : Instruction Name Name) → call.request ≡ Build entries instruction
         → PutsItem calls call B (Instruct (length calls) instruction (result_names (length calls) instruction))
-    puts_instruction table instruction is = record {
+    puts_instruction entries instruction is = record {
       items = λ N.
-          ap (λ (p : Program). p.items N) (program_with (Build table instruction) is)
+          ap (λ (p : Program). p.items N) (program_with (Build entries instruction) is)
           ∙ ap (λ (o : Option Name). (with_item_at (with_inserted before) o (Instruct before.place instruction (result_names before.place instruction))).items N) current
           ∙ ap (λ (place : ℕ). (with_item_at before (Some B) (Instruct place instruction (result_names place instruction))).items N) (place_so_far calls);
       no_block = subst MakesNoBlock (sym is) tt;
       no_parameter = subst MakesNoParameter (sym is) tt;
     }
 
-    pub entry_instructed : (table : Option ℕ) (instruction : Instruction Name Name) → call.request ≡ Build table instruction → longer.entry ≡ first_block before.entry (Some B)
-    entry_instructed table instruction is =
-        ap (λ (p : Program). p.entry) (program_with (Build table instruction) is)
+    pub entry_instructed : (entries : List GivenEntry) (instruction : Instruction Name Name) → call.request ≡ Build entries instruction → longer.entry ≡ first_block before.entry (Some B)
+    entry_instructed entries instruction is =
+        ap (λ (p : Program). p.entry) (program_with (Build entries instruction) is)
         ∙ ap (λ (o : Option Name). (with_item_at (with_inserted before) o (Instruct before.place instruction (result_names before.place instruction))).entry) current
         ∙ ap (first_block before.entry) current
 

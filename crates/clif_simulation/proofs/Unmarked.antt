@@ -48,7 +48,7 @@ unmarked_with ledger request all = by (ledger_effect request)
     by (Declares ty is) = of_request _ is (unmarked_longer ledger.variables ty all)
     by (Touches variable value is) = of_request _ is (unmarked_touched ledger.variables variable all)
     by (Reads variable is) = of_request _ is (unmarked_touched (with_begun ledger).variables variable begun)
-    by (Appends table instruction is) =
+    by (Appends entries instruction is) =
         of_request _ is
         (subst AreUnmarked
         (sym (variables-edges (answer_of (length ledger.answers) 0) (with_terminator (with_begun ledger) instruction.operation) instruction.edges

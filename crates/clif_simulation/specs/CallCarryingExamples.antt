@@ -44,7 +44,7 @@ before_call = record { request = CreateBlock; numbers = 0 ∷ [] } ∷ record { 
 abbrev pub call_calls : List AnsweredCall
 call_calls =
     record { request = CreateBlock; numbers = 0 ∷ [] } ∷ record { request = SwitchToBlock (block 0); numbers = [] }
-    ∷ record { request = Build None call_instruction; numbers = 0 ∷ 0 ∷ [] } ∷ []
+    ∷ record { request = Build [] call_instruction; numbers = 0 ∷ 0 ∷ [] } ∷ []
 
 abbrev pub empty_with_callee : Body
 empty_with_callee = record (empty_body (Testcase (99 ∷ [])) first_signature) { tables = with_callee }

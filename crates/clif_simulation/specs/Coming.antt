@@ -1,7 +1,7 @@
 -- Interrupted runs that may also go, at a block's end so far, along edges that aren't made yet: into unsealed blocks, where the
 -- names so far are given before their places whichever of these edges come. Along such an edge memory and events become any
 -- ones, alike on both sides, and so do the bits of the target's parameters of the caller's. So a block that only a coming branch
--- will reach is read, too, and a coming edge may be that of an outside call. Own.
+-- will reach is read, too; and where nothing is tracked a coming edge may be that of an outside call. Own.
 use Rattle.std.specs.Prelude.{◌≡◌, ℕ, false, true, Bool, List, [], ◌∷◌, map, Contains, Option, Some, None, IsTrue, if◌then◌else◌}
 use Rattle.std.specs.List.{list_any}
 use Rattle.clif_types.specs.Signature.{SignatureShape}

@@ -10,10 +10,12 @@ use Rattle.clif_calls.specs.declared.call.Call.{Call}
 use Rattle.clif_calls.specs.declared.call.Call.TheVariants as call
 use Rattle.clif_calls.specs.declared.entry.EntryCall.{EntryCall}
 use Rattle.clif_calls.specs.declared.entry.EntryCall.TheVariants as entry
+use Rattle.clif_calls.specs.declared.outside.OutsideCall.{OutsideCall}
+use Rattle.clif_calls.specs.declared.outside.OutsideCall.TheVariants as outside
 use Rattle.clif_calls.specs.Plan.{plan_of}
 use Rattle.clif_calls.specs.declared.plan.Plan.{Plan}
 use Rattle.clif_calls.specs.declared.plan.Plan.TheVariants as plan
-use Rattle.clif_arguments.specs.Arguments.{AreAnswers, AreLast, IsAnswer, IsEdge, IsExternalName, IsJumpTable, IsLastEdge, IsLastOffset, IsSignatureName, IsSlot, IsVariable, Names}
+use Rattle.clif_arguments.specs.Arguments.{AreAnswers, AreLast, IsAnswer, IsEdge, IsExternalName, IsFunctionRef, IsInst, IsJumpTable, IsLastEdge, IsLastOffset, IsSignatureName, IsSlot, IsVariable, Names}
 use Rattle.clif_arguments.specs.Header.{IsSignature}
 
 -- The words stand for an instruction of this plan, which neither branches nor ends its block.
@@ -61,6 +63,14 @@ IsEntry names words (entry.CreateGlobalValue value) = (v : List (List ℕ)) × (
 IsEntry names words (entry.ImportSignature signature) = (s : List (List ℕ)) × (words ≡ codes "import_signature" ∷ s) × IsSignature s signature
 IsEntry names words (entry.ImportFunction function) = (f : List (List ℕ)) × (words ≡ codes "import_function" ∷ f) × IsImported names f function
 
+-- The words stand for an outside call: its name, what it calls, and what is passed.
+abbrev pub IsOutside : Names → List (List ℕ) → OutsideCall → Type 0
+IsOutside names words (outside.Call function args) =
+    (f : List ℕ) × (v : List (List ℕ)) × (words ≡ codes "call" ∷ f ∷ v) × IsFunctionRef names f function × AreLast names v args.items
+IsOutside names words (outside.CallIndirect signature callee args) =
+    (s p : List ℕ) × (v : List (List ℕ)) × (words ≡ codes "call_indirect" ∷ s ∷ p ∷ v)
+    × IsSignatureName names s signature × IsAnswer names p callee × AreLast names v args.items
+
 -- The words stand for the call: its name, and then what it takes, in order.
 abbrev pub IsCall : Names → List (List ℕ) → Call → Type 0
 IsCall names words call.CreateBlock = words ≡ codes "create_block" ∷ []
@@ -84,9 +94,12 @@ IsCall names words (call.TryDefVar variable value) = (a b : List ℕ) × (words 
 IsCall names words (call.TryUseVar variable) = (a : List ℕ) × (words ≡ codes "try_use_var" ∷ a ∷ []) × IsVariable names a variable
 IsCall names words (call.Plain instruction) = IsPlain names words (plan_of instruction)
 IsCall names words (call.Cursor instruction) = (i : List (List ℕ)) × (words ≡ codes "cursor" ∷ i) × IsPlain names i (plan_of instruction)
+IsCall names words (call.Outside called) = IsOutside names words called
 IsCall names words (call.SetSrcloc srcloc) = (n : List ℕ) × (words ≡ codes "set_srcloc" ∷ n ∷ []) × IsMagnitude n srcloc
 IsCall names words call.CollectDebugInfo = words ≡ codes "collect_debug_info" ∷ []
 IsCall names words (call.SetValLabel value label) = (a n : List ℕ) × (words ≡ codes "set_val_label" ∷ a ∷ n ∷ []) × IsAnswer names a value × IsMagnitude n label
+IsCall names words (call.ChangeJumpDestination branch from to) =
+    (i a b : List ℕ) × (words ≡ codes "change_jump_destination" ∷ i ∷ a ∷ b ∷ []) × IsInst names i branch × IsAnswer names a from × IsAnswer names b to
 IsCall names words (call.F128const bytes) = (n : List ℕ) × (words ≡ codes "f128const" ∷ n ∷ []) × IsBytes n bytes.items
 IsCall names words (call.Vconst ty bytes) = (t n : List ℕ) × (words ≡ (codes "vconst." ++ t) ∷ n ∷ []) × IsTypeWord t ty × IsBytes n bytes.items
 IsCall names words (call.Jump edge) = (e : List (List ℕ)) × (words ≡ codes "jump" ∷ e) × IsLastEdge names e edge

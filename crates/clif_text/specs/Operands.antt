@@ -2,7 +2,7 @@
 use Rattle.std.specs.Prelude.{List, [], ◌++◌, ℕ, codes}
 use Rattle.std.specs.Fmt.{decimal}
 use Rattle.clif_types.specs.Texts.{bytes_text, type_text}
-use Rattle.clif_text.specs.Texts.{answer_text, answers_text, edge_text, entry_text, plan_text, variable_text}
+use Rattle.clif_text.specs.Texts.{answer_text, answers_text, edge_text, entry_text, outside_text, plan_text, variable_text}
 use Rattle.clif_text.specs.declared.writer.Operands.{Operands}
 use Rattle.clif_text.specs.declared.writer.Operands.TheVariants as operands
 
@@ -11,6 +11,8 @@ abbrev pub operands_text : Operands → List ℕ
 operands_text operands.None = []
 operands_text (operands.Answer x) = codes " " ++ answer_text x
 operands_text (operands.Answers x y) = codes " " ++ (answer_text x ++ (codes " " ++ answer_text y))
+operands_text (operands.Change branch from to) =
+    codes " " ++ (answer_text branch ++ (codes " " ++ (answer_text from ++ (codes " " ++ answer_text to))))
 operands_text (operands.Param block ty) = codes " " ++ (answer_text block ++ (codes " " ++ type_text ty))
 operands_text (operands.«Type» ty) = codes " " ++ type_text ty
 operands_text (operands.Entry entry) = entry_text entry.now
@@ -21,6 +23,7 @@ operands_text (operands.TypedBytes ty bytes) = codes "." ++ (type_text ty ++ (co
 operands_text (operands.Edge edge) = codes " " ++ edge_text edge.now
 operands_text (operands.Table default entries) = codes " " ++ (answer_text default ++ answers_text entries.now)
 operands_text (operands.Branch index table) = codes " " ++ (answer_text index ++ (codes " jt" ++ decimal table))
+operands_text (operands.Outside called) = outside_text called.now
 operands_text (operands.Number number) = codes " " ++ decimal number
 operands_text (operands.Label x label) = codes " " ++ (answer_text x ++ (codes " " ++ decimal label))
 operands_text (operands.Instruction plan) = plan_text plan

@@ -18,6 +18,8 @@ use Rattle.clif_calls.specs.declared.call.Call.{Call}
 use Rattle.clif_calls.specs.declared.call.Call.TheVariants as call
 use Rattle.clif_calls.specs.declared.entry.EntryCall.{EntryCall}
 use Rattle.clif_calls.specs.declared.entry.EntryCall.TheVariants as entry
+use Rattle.clif_calls.specs.declared.outside.OutsideCall.{OutsideCall}
+use Rattle.clif_calls.specs.declared.outside.OutsideCall.TheVariants as outside
 use Rattle.clif_calls.specs.Plan.{plan_of}
 use Rattle.clif_calls.specs.declared.plan.Plan.{Plan}
 use Rattle.clif_calls.specs.declared.plan.Plan.TheVariants as plan
@@ -92,6 +94,16 @@ entry_text (entry.CreateGlobalValue value) = codes "create_global_value " ++ glo
 entry_text (entry.ImportSignature signature) = codes "import_signature " ++ signature_text signature
 entry_text (entry.ImportFunction function) = codes "import_function " ++ imported_text function
 
+-- `( $5.1 $6.1)`
+abbrev pub passed_text : List Name → List ℕ
+passed_text names = codes "(" ++ (answers_text names ++ codes ")")
+
+-- an outside call
+abbrev pub outside_text : OutsideCall → List ℕ
+outside_text (outside.Call function args) = codes "call fn" ++ (decimal function ++ passed_text args.items)
+outside_text (outside.CallIndirect signature callee args) =
+    codes "call_indirect sig" ++ (decimal signature ++ (codes " " ++ (answer_text callee ++ passed_text args.items)))
+
 abbrev pub call_text : Call → List ℕ
 call_text call.CreateBlock = codes "create_block"
 call_text (call.SwitchToBlock block) = codes "switch_to_block " ++ answer_text block
@@ -113,9 +125,12 @@ call_text (call.TryDefVar variable value) = codes "try_def_var " ++ (variable_te
 call_text (call.TryUseVar variable) = codes "try_use_var " ++ variable_text variable
 call_text (call.Plain instruction) = plan_text (plan_of instruction)
 call_text (call.Cursor instruction) = codes "cursor " ++ plan_text (plan_of instruction)
+call_text (call.Outside called) = outside_text called
 call_text (call.SetSrcloc srcloc) = codes "set_srcloc " ++ decimal srcloc
 call_text call.CollectDebugInfo = codes "collect_debug_info"
 call_text (call.SetValLabel value label) = codes "set_val_label " ++ (answer_text value ++ (codes " " ++ decimal label))
+call_text (call.ChangeJumpDestination branch from to) =
+    codes "change_jump_destination " ++ (answer_text branch ++ (codes " " ++ (answer_text from ++ (codes " " ++ answer_text to))))
 call_text (call.F128const bytes) = codes "f128const " ++ bytes_text bytes.items
 call_text (call.Vconst ty bytes) = codes "vconst." ++ (type_text ty ++ (codes " " ++ bytes_text bytes.items))
 call_text (call.Jump edge) = codes "jump " ++ edge_text edge

@@ -14,6 +14,7 @@ use crate::instructions::{
     read_stack_call, read_stack_store_call, read_store_call, read_unary_call, read_vconst_call,
     stack_named, unary_named,
 };
+use crate::outside::read_outside_call;
 use clif_arguments::args::Args;
 use clif_arguments::scope::Scope;
 use clif_calls::{Call, PlainInstruction};
@@ -23,11 +24,10 @@ use clif_words::types::type_named;
 use std::alloc::Global;
 
 // The calls of the format that aren't understood so far, without the type that may follow their name.
-const NOT_SUPPORTED: [&str; 18] = [
+const NOT_SUPPORTED: [&str; 15] = [
     "declare_var_needs_stack_map",
     "declare_value_needs_stack_map",
     "create_exception_table",
-    "change_jump_destination",
     "switch",
     "call_memcpy",
     "call_memmove",
@@ -38,8 +38,6 @@ const NOT_SUPPORTED: [&str; 18] = [
     "emit_small_memory_compare",
     "iadd_imm_s",
     "icmp_imm_s",
-    "call",
-    "call_indirect",
     "try_call",
     "try_call_indirect",
 ];
@@ -98,7 +96,9 @@ fn read_call<'a>(
         "trap" => Ok(Call::Trap {
             code: args.trap_code()?,
         }),
+        "call" | "call_indirect" => read_outside_call(alloc, head, args),
         "set_srcloc" | "collect_debug_info" | "set_val_label" => read_note_call(head, args),
+        "change_jump_destination" => read_change_call(head, args),
         "cursor" => read_cursor_call(alloc, head, args),
         _ => read_instruction(alloc, head, args),
     }
@@ -122,6 +122,17 @@ fn read_note_call<'a>(head: &'a str, args: &mut Args<'_, 'a>) -> Result<Call, Li
         }
         _ => Err(LineError::Fault(Fault::UnknownCall(head))),
     }
+}
+
+// The same for a branch that is changed: the branch, the block that it leads to, and the other one.
+fn read_change_call<'a>(head: &'a str, args: &mut Args<'_, 'a>) -> Result<Call, LineError<'a>>
+    requires { head.now ≡ codes "change_jump_destination" }
+    ensures { IfOk result (ReadsCall args.old args.new head.now) }
+{
+    let branch = args.inst()?;
+    let from = args.block()?;
+    let to = args.block()?;
+    Ok(Call::ChangeJumpDestination { branch, from, to })
 }
 
 // The same for `cursor`, which has an instruction behind it that neither branches nor ends its block.
@@ -319,8 +330,8 @@ pub(crate) fn call_of<'a>(
 pub(crate) struct Answers {
     /// Whether it is an instruction, which `@` names.
     pub instruction: bool,
-    /// How many names it can have, beside that of an instruction. How many parameters a signature has isn't known here:
-    /// its line may come later.
+    /// How many names it can have, beside that of an instruction. How many parameters or returns a signature has isn't
+    /// known here: its line may come later.
     pub names: usize,
 }
 
@@ -349,7 +360,8 @@ pub(crate) fn answers_of(call: &Call) -> Answers
         | Call::TryDefVar { .. }
         | Call::SetSrcloc { .. }
         | Call::CollectDebugInfo
-        | Call::SetValLabel { .. } => (false, 0),
+        | Call::SetValLabel { .. }
+        | Call::ChangeJumpDestination { .. } => (false, 0),
         Call::Plain(instruction) | Call::Cursor(instruction) => (true, result_count(instruction)),
         Call::Jump { .. }
         | Call::Brif { .. }
@@ -357,6 +369,7 @@ pub(crate) fn answers_of(call: &Call) -> Answers
         | Call::Return { .. }
         | Call::Trap { .. } => (true, 0),
         Call::F128const { .. } | Call::Vconst { .. } => (true, 1),
+        Call::Outside(_) => (true, usize::MAX),
     };
     Answers { instruction, names }
 }

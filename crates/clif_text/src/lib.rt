@@ -4,6 +4,7 @@
 mod calls;
 mod entries;
 mod instructions;
+mod outside;
 mod reader;
 mod writer;
 

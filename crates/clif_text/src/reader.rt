@@ -126,6 +126,7 @@ fn kind_answered(call: &Call) -> Option<Kind>
         Call::DeclareVar { .. } => Some(Kind::Variable),
         Call::Entry(EntryCall::CreateSizedStackSlot { .. }) => Some(Kind::StackSlot),
         Call::Entry(EntryCall::ImportSignature(_)) => Some(Kind::Signature),
+        Call::Entry(EntryCall::ImportFunction(_)) => Some(Kind::Function),
         Call::CreateJumpTable { .. } => Some(Kind::JumpTable),
         _ => None,
     }

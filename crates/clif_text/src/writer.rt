@@ -1,9 +1,9 @@
 //! Scripts as text, written.
 ghost use Rattle.std.specs.Prelude.{◌≡◌, ◌++◌, Some, IfOk, string_bytes};
-ghost use Rattle.clif_text.specs.Texts.{answer_text, answers_text, edge_text, entry_text, global_text, imported_name_text, imported_text, offset_text, plan_text, call_text, calls_text, header_text};
+ghost use Rattle.clif_text.specs.Texts.{answer_text, answers_text, edge_text, entry_text, global_text, imported_name_text, imported_text, offset_text, outside_text, passed_text, plan_text, call_text, calls_text, header_text};
 ghost use Rattle.clif_text.specs.Operands.{operands_text};
 
-use clif_calls::{Call, Edge, EntryCall, Name, Plan};
+use clif_calls::{Call, Edge, EntryCall, Name, OutsideCall, Plan};
 use clif_records::Variable;
 use clif_types::{
     ExtFuncData, ExternalName, GlobalValueData, HexBytes, JumpTable, PointerWidth, Signature,
@@ -218,12 +218,49 @@ impl fmt::Display for EntryText<'_> {
     }
 }
 
-// What is written behind the name of a call, or, of an instruction or of an entry, with its name.
+// What is passed, in parentheses.
+#[derive(Clone, Copy)]
+struct PassedText<'a>(&'a [Name]);
+
+impl fmt::Display for PassedText<'_> {
+    ghost output = { λ text. Some (passed_text text.0.now) };
+
+    fn fmt<W: fmt::Write>(&self, f: &mut fmt::Formatter<W>) -> fmt::Result {
+        write!(f, "({})", AnswersText(self.0))
+    }
+}
+
+// An outside call.
+#[derive(Clone, Copy)]
+struct OutsideText<'a>(&'a OutsideCall);
+
+impl fmt::Display for OutsideText<'_> {
+    ghost output = { λ text. Some (outside_text text.0.now) };
+
+    fn fmt<W: fmt::Write>(&self, f: &mut fmt::Formatter<W>) -> fmt::Result {
+        match self.0 {
+            OutsideCall::Call { function, args } => {
+                write!(f, "call {function}{}", PassedText(args.as_slice()))
+            }
+            OutsideCall::CallIndirect {
+                signature,
+                callee,
+                args,
+            } => {
+                let (callee, passed) = (AnswerText(*callee), PassedText(args.as_slice()));
+                write!(f, "call_indirect {signature} {callee}{passed}")
+            }
+        }
+    }
+}
+
+// What is written behind the name of a call, or, of an instruction, an entry or an outside call, with its name.
 #[derive(Clone, Copy)]
 enum Operands<'a> {
     None,
     Answer(Name),
     Answers(Name, Name),
+    Change(Name, Name, Name),
     Param(Name, Type),
     Type(Type),
     Entry(&'a EntryCall),
@@ -234,6 +271,7 @@ enum Operands<'a> {
     Edge(&'a Edge),
     Table(Name, &'a [Name]),
     Branch(Name, JumpTable),
+    Outside(&'a OutsideCall),
     Number(u32),
     Label(Name, u32),
     Instruction(Plan<'a>),
@@ -247,6 +285,10 @@ impl fmt::Display for Operands<'_> {
             Operands::None => Ok(()),
             Operands::Answer(x) => write!(f, " {}", AnswerText(*x)),
             Operands::Answers(x, y) => write!(f, " {} {}", AnswerText(*x), AnswerText(*y)),
+            Operands::Change(branch, from, to) => {
+                let (branch, from, to) = (AnswerText(*branch), AnswerText(*from), AnswerText(*to));
+                write!(f, " {branch} {from} {to}")
+            }
             Operands::Param(block, ty) => write!(f, " {} {ty}", AnswerText(*block)),
             Operands::Type(ty) => write!(f, " {ty}"),
             Operands::Entry(entry) => write!(f, "{}", EntryText(entry)),
@@ -259,6 +301,7 @@ impl fmt::Display for Operands<'_> {
                 write!(f, " {}{}", AnswerText(*default), AnswersText(entries))
             }
             Operands::Branch(index, table) => write!(f, " {} {table}", AnswerText(*index)),
+            Operands::Outside(called) => write!(f, "{}", OutsideText(called)),
             Operands::Number(number) => write!(f, " {number}"),
             Operands::Label(x, label) => write!(f, " {} {label}", AnswerText(*x)),
             Operands::Instruction(plan) => write!(f, "{}", PlanText(plan)),
@@ -308,11 +351,16 @@ fn parts(call: &Call) -> (&'static str, Operands<'_>)
         Call::TryUseVar { variable } => ("try_use_var", Operands::Variable(*variable)),
         Call::Plain(instruction) => ("", Operands::Instruction(instruction.plan())),
         Call::Cursor(instruction) => ("cursor ", Operands::Instruction(instruction.plan())),
+        Call::Outside(called) => ("", Operands::Outside(called)),
         Call::SetSrcloc { srcloc } => ("set_srcloc", Operands::Number(srcloc.bits())),
         Call::CollectDebugInfo => ("collect_debug_info", Operands::None),
         Call::SetValLabel { value, label } => (
             "set_val_label",
             Operands::Label(*value, label.as_u32()),
+        ),
+        Call::ChangeJumpDestination { branch, from, to } => (
+            "change_jump_destination",
+            Operands::Change(*branch, *from, *to),
         ),
         Call::F128const { bytes } => ("f128const", Operands::Bytes(bytes.as_slice())),
         Call::Vconst { ty, bytes } => ("vconst", Operands::TypedBytes(*ty, bytes.as_slice())),
@@ -340,8 +388,8 @@ fn parts(call: &Call) -> (&'static str, Operands<'_>)
 }
 
 /// A call as a line of a script, without the line's end. It is printed with `$P.K` for each answer, `varN` for
-/// each variable, `ssN` for each stack slot, `jtN` for each jump table and `sigN` for each signature, so it needs
-/// no names. The region of a load or a store is written as it is printed, though no script can name it.
+/// each variable, `ssN` for each stack slot, `jtN` for each jump table, `sigN` for each signature and `fnN` for each
+/// function, so it needs no names. The region of a load or a store is written as it is printed, though no script can name it.
 #[derive(Clone, Copy)]
 pub struct CallText<'a>(pub &'a Call);
 

@@ -7,7 +7,7 @@ use Rattle.std.proofs.lemmas.List.{append-nil, append_assoc}
 use Rattle.clif_types.specs.declared.types.«Type».{«Type»}
 use Rattle.clif_types.specs.Signature.{SignatureShape}
 use Rattle.clif_ssa.specs.Structured.{VariableTypes}
-use Rattle.clif_meaning.specs.Acceptance.{Accepted, Misuse, Refused, Verdict, allows, can_lead, can_operate, has_entry, is_open, is_refused, may_serve, refusal_of, verdict_from, verdict_on}
+use Rattle.clif_meaning.specs.Acceptance.{Accepted, Misuse, Refused, Verdict, allows, can_lead, can_operate, has_entry, is_open, is_refused, may_give, refusal_of, verdict_from, verdict_on}
 use Rattle.clif_meaning.specs.Bits.{AreValues}
 use Rattle.clif_tables.specs.Callees.{types_of}
 use Rattle.clif_meaning.specs.FunctionView.{FunctionView}
@@ -18,7 +18,7 @@ use Rattle.clif_meaning.specs.Name.{Name, answer_of}
 use Rattle.clif_meaning.specs.Premises.{EachItem, EntryTakes, IsItemWellTyped, WellTyped, parameter_types}
 use Rattle.clif_meaning.specs.Program.{Item, Instruct, Use, Assign, Program, answers_from, extended, program_of, result_names, result_types, with_inserted, with_item_at}
 use Rattle.clif_meaning.specs.Name.{same_name}
-use Rattle.clif_meaning.specs.Request.{AnsweredCall, Build, ChangeJumpDestination, DefVar, Finalize, Request, Script, UseVar, outright, script_of}
+use Rattle.clif_meaning.specs.Request.{AnsweredCall, Build, GivenEntry, ChangeJumpDestination, DefVar, Finalize, Request, Script, UseVar, outright, script_of}
 use Rattle.clif_meaning.specs.World.{World}
 use Rattle.clif_simulation.specs.Carries.{AreTypes, IsValue}
 use Rattle.clif_simulation.specs.Tables.{program_so_far}
@@ -132,9 +132,9 @@ module _ (calls : List AnsweredCall) (call : AnsweredCall) where
             ap (λ (i : ℕ). type_of (ledger_of after) (answer_of (length calls) i)) next ∙ each (suc k) other there),
       )
 
-  results_typed : (table : Option ℕ) (instruction : Instruction Name Name) → call.request ≡ Build table instruction
+  results_typed : (entries : List GivenEntry) (instruction : Instruction Name Name) → call.request ≡ Build entries instruction
       → AreTyped after (answers_from (length calls) 1 (result_types instruction.operation instruction.controlling)) (result_types instruction.operation instruction.controlling)
-  results_typed table instruction is = answers_typed 1 (result_types instruction.operation instruction.controlling) each
+  results_typed entries instruction is = answers_typed 1 (result_types instruction.operation instruction.controlling) each
     where
       each : (k : ℕ) (ty : «Type») → slice_get (result_types instruction.operation instruction.controlling) k ≡ Some ty
           → type_of (ledger_of after) (answer_of (length calls) (1 + k)) ≡ Some ty
@@ -187,11 +187,11 @@ module _ (calls : List AnsweredCall) (call : AnsweredCall) where
           second_of (is_open (ledger_of calls) (ledger_of calls).current) (is_some (variable_type (ledger_of calls) variable))
           (subst (λ (request : Request). IsTrue (allows (ledger_of calls) request)) is (allowed made))
 
-      operands_there : (table : Option ℕ) (instruction : Instruction Name Name) → call.request ≡ Build table instruction → may → AllByRecursion (IsValue after) instruction.operands
-      operands_there table instruction is made =
+      operands_there : (entries : List GivenEntry) (instruction : Instruction Name Name) → call.request ≡ Build entries instruction → may → AllByRecursion (IsValue after) instruction.operands
+      operands_there entries instruction is made =
           all_mapped (IsValue calls) (IsValue after) (value_stays calls call) instruction.operands
           (all_values (ledger_of calls) instruction.operands
-          (second_of_five (may_serve (ledger_of calls) table && is_open (ledger_of calls) (ledger_of calls).current) (list_all (has_value (ledger_of calls)) instruction.operands)
+          (second_of_five (list_all (may_give (ledger_of calls)) entries && is_open (ledger_of calls) (ledger_of calls).current) (list_all (has_value (ledger_of calls)) instruction.operands)
           (list_all (can_lead (ledger_of calls)) instruction.edges) (can_operate instruction.operation instruction.controlling)
           (list_all (has_entry (ledger_of calls).tables) (operation_entries instruction.operation))
           (subst (λ (request : Request). IsTrue (allows (ledger_of calls) request)) is (allowed made))))
@@ -201,11 +201,11 @@ module _ (calls : List AnsweredCall) (call : AnsweredCall) where
       by (UseVar variable) is =
           with_one P (with_inserted before) before.current (Use variable (answer_of before.place 0)) all
           (λ made. subst (λ (p : ℕ). type_of (ledger_of after) (answer_of p 0) ≡ Some (types variable)) (sym here) (use_typed types variable are is (declared variable is made)))
-      by (Build table instruction) is =
+      by (Build entries instruction) is =
           with_one P (with_inserted before) before.current (Instruct before.place instruction (result_names before.place instruction)) all (
             subst (λ (p : ℕ). AreTyped after (answers_from p 1 (result_types instruction.operation instruction.controlling)) (result_types instruction.operation instruction.controlling))
-                (sym here) (results_typed table instruction is),
-            operands_there table instruction is,
+                (sym here) (results_typed entries instruction is),
+            operands_there entries instruction is,
           )
       by (ChangeJumpDestination branch from to) is = λ other. all_redirected P P branch from to (λ item given. given) (λ p instruction results given. given) (before.items other) (all other)
       by _ is = all

@@ -20,6 +20,8 @@ pub enum Expected {
     Block,
     /// A value.
     Value,
+    /// An instruction that was made.
+    Inst,
     /// A variable.
     Variable,
     /// A stack slot.
@@ -30,6 +32,8 @@ pub enum Expected {
     JumpTable,
     /// A signature that was imported.
     Signature,
+    /// A function that was imported.
+    Function,
     /// The size of a stack slot, in 32 bits.
     SlotSize,
     /// The shift that makes the alignment of a stack slot, in 8 bits.
@@ -96,11 +100,13 @@ impl fmt::Display for Expected {
             Expected::AnswerName => "a name",
             Expected::Block => "a block",
             Expected::Value => "a value",
+            Expected::Inst => "an instruction",
             Expected::Variable => "a variable",
             Expected::StackSlot => "a stack slot",
             Expected::Edge => "a block call",
             Expected::JumpTable => "a jump table",
             Expected::Signature => "a signature",
+            Expected::Function => "a function",
             Expected::SlotSize => "a size of 32 bits",
             Expected::AlignShift => "a shift of 8 bits",
             Expected::DynamicType => "a dynamic type of 32 bits",

@@ -104,6 +104,7 @@ fn expectations(rt: HostRuntime) -> Result<(), Fail> {
         (Expected::Condition, "a condition"),
         (Expected::TrapCode, "a trap code"),
         (Expected::Offset, "an offset"),
+        (Expected::Inst, "an instruction"),
         (Expected::SourceLoc, "a source place of 32 bits"),
         (Expected::ValueLabel, "a label"),
         (Expected::CursorInstruction, "an instruction for cursor"),

@@ -27,7 +27,7 @@ use Rattle.cranelift_frontend.specs.Built.{Builds, BuildsPair, BuildsValue, afte
 use Rattle.cranelift_frontend.specs.Construction.{IsDeclared}
 use Rattle.clif_meaning.specs.Instruction.{Instruction}
 use Rattle.clif_meaning.specs.Name.{Name}
-use Rattle.clif_meaning.specs.Request.{AnsweredCall}
+use Rattle.clif_meaning.specs.Request.{AnsweredCall, GivenEntry}
 use Rattle.cranelift_frontend.specs.Ledger.{AgreesWithLedger, HasShape, LedgerAgrees, ledger_of}
 use Rattle.cranelift_frontend.specs.StandsFor.{StandsFor, StandsIn}
 use Rattle.clif_simulation.proofs.Places.{range_count}
@@ -82,15 +82,15 @@ module _ (old new : FunctionBuilder) (shape : InstructionData) (ty : «Type») (
   appends_at = subst (λ (o : Option ℕ). IfSome o (λ b. IfOk r (Appends old new b shape ty))) (sym at) appends
 
   -- the calls after it, on a builder of these parts
-  abbrev Agrees : List AnsweredCall → Option ℕ → Instruction Name Name → Option ℕ → Type 0
-  Agrees calls table instruction position =
-      IfOk r (λ inst. LedgerAgrees (after_build calls table instruction (numbers_of new inst))
-      (ledger_of (after_build calls table instruction (numbers_of new inst))) new.func.now new.ctx.now position)
+  abbrev Agrees : List AnsweredCall → List GivenEntry → Instruction Name Name → Option ℕ → Type 0
+  Agrees calls entries instruction position =
+      IfOk r (λ inst. LedgerAgrees (after_build calls entries instruction (numbers_of new inst))
+      (ledger_of (after_build calls entries instruction (numbers_of new inst))) new.func.now new.ctx.now position)
 
-  agrees_after : (calls : List AnsweredCall) (table : Option ℕ) (instruction : Instruction Name Name) → AgreesWithLedger calls old
-      → HasShape calls old.func.now instruction shape ty → Agrees calls table instruction old.position
-  agrees_after calls table instruction agrees has =
-      ledger-shaped _ calls old.func.now new.func.now old.ctx.now new.ctx.now old.position block table instruction shape ty r agrees at
+  agrees_after : (calls : List AnsweredCall) (entries : List GivenEntry) (instruction : Instruction Name Name) → AgreesWithLedger calls old
+      → HasShape calls old.func.now instruction shape ty → Agrees calls entries instruction old.position
+  agrees_after calls entries instruction agrees has =
+      ledger-shaped _ calls old.func.now new.func.now old.ctx.now new.ctx.now old.position block entries instruction shape ty r agrees at
       (current-is old current block at) consistent has edges appends declares ssa variables
 
   pub builds_appended : Builds old new shape ty r
@@ -109,14 +109,14 @@ module _ (old new : FunctionBuilder) (shape : InstructionData) (ty : «Type») (
         unchanged = λ failed. let no_way : ⊥ = cc in absurd no_way;
         fails = fails;
         looks_once = looks_once;
-        ledger = λ calls table instruction agrees has.
-            subst (Agrees calls table instruction) (sym position) (agrees_after calls table instruction agrees has);
-        stands = λ signature calls table instruction stands has.
-            subst (λ (o : Option ℕ). IfOk r (λ inst. StandsIn signature (after_build calls table instruction (numbers_of new inst)) new.func.now new.ctx.now o))
+        ledger = λ calls entries instruction agrees has.
+            subst (Agrees calls entries instruction) (sym position) (agrees_after calls entries instruction agrees has);
+        stands = λ signature calls entries instruction stands has.
+            subst (λ (o : Option ℕ). IfOk r (λ inst. StandsIn signature (after_build calls entries instruction (numbers_of new inst)) new.func.now new.ctx.now o))
             (sym position)
-            (stands_shaped _ signature calls old.func.now new.func.now old.ctx.now new.ctx.now old.position table instruction shape ty r block
+            (stands_shaped _ signature calls old.func.now new.func.now old.ctx.now new.ctx.now old.position entries instruction shape ty r block
             stands consistent has (λ k below. operands_exist k 0 below) at (current_exists old current block at) (current_open old current block at) appends edges declares ssa
-            (agrees_after calls table instruction stands.ledger has));
+            (agrees_after calls entries instruction stands.ledger has));
         exists = append_exists _ r old.func.now old.ctx.now new.func.now new.ctx.now block shape ty appends;
         results = appended-count r old new block shape ty appends;
         grows = append_grows _ r old.func.now old.ctx.now new.func.now new.ctx.now block shape ty appends;
@@ -153,8 +153,8 @@ builds_value_refused old new shape ty e no_branch one built =
       unchanged = built.unchanged;
       fails = built.fails;
       looks_once = built.looks_once;
-      ledger = λ calls table instruction agrees has. tt;
-      stands = λ signature calls table instruction stands has. tt;
+      ledger = λ calls entries instruction agrees has. tt;
+      stands = λ signature calls entries instruction stands has. tt;
       exists = tt;
       grows = tt;
       remembers = λ v b. tt;
@@ -179,8 +179,8 @@ builds_pair_refused old new shape ty e no_branch two built =
       unchanged = built.unchanged;
       fails = built.fails;
       looks_once = built.looks_once;
-      ledger = λ calls table instruction agrees has. tt;
-      stands = λ signature calls table instruction stands has. tt;
+      ledger = λ calls entries instruction agrees has. tt;
+      stands = λ signature calls entries instruction stands has. tt;
       exists = tt;
       grows = tt;
       remembers = λ v b. tt;
@@ -225,10 +225,10 @@ module _ (old new : FunctionBuilder) (shape : InstructionData) (ty : «Type») (
     unchanged = built.unchanged;
     fails = built.fails;
     looks_once = built.looks_once;
-    ledger = λ calls table instruction agrees has.
-        subst (λ (ns : List ℕ). AgreesWithLedger (after_build calls table instruction ns) new) numbers (built.ledger calls table instruction agrees has);
-    stands = λ signature calls table instruction stands has.
-        subst (λ (ns : List ℕ). StandsFor signature (after_build calls table instruction ns) new) numbers (built.stands signature calls table instruction stands has);
+    ledger = λ calls entries instruction agrees has.
+        subst (λ (ns : List ℕ). AgreesWithLedger (after_build calls entries instruction ns) new) numbers (built.ledger calls entries instruction agrees has);
+    stands = λ signature calls entries instruction stands has.
+        subst (λ (ns : List ℕ). StandsFor signature (after_build calls entries instruction ns) new) numbers (built.stands signature calls entries instruction stands has);
     exists = exists;
     grows = built.grows;
     remembers = built.remembers;
@@ -299,10 +299,10 @@ module _ (old new : FunctionBuilder) (shape : InstructionData) (ty : «Type») (
     unchanged = built.unchanged;
     fails = built.fails;
     looks_once = built.looks_once;
-    ledger = λ calls table instruction agrees has.
-        subst (λ (ns : List ℕ). AgreesWithLedger (after_build calls table instruction ns) new) pair_numbers (built.ledger calls table instruction agrees has);
-    stands = λ signature calls table instruction stands has.
-        subst (λ (ns : List ℕ). StandsFor signature (after_build calls table instruction ns) new) pair_numbers (built.stands signature calls table instruction stands has);
+    ledger = λ calls entries instruction agrees has.
+        subst (λ (ns : List ℕ). AgreesWithLedger (after_build calls entries instruction ns) new) pair_numbers (built.ledger calls entries instruction agrees has);
+    stands = λ signature calls entries instruction stands has.
+        subst (λ (ns : List ℕ). StandsFor signature (after_build calls entries instruction ns) new) pair_numbers (built.stands signature calls entries instruction stands has);
     exists = exist;
     grows = built.grows;
     remembers = built.remembers;

@@ -20,7 +20,7 @@ use Rattle.clif_instructions.specs.Edges.{targets}
 use Rattle.clif_paths.proofs.Tables.{updated-same}
 use Rattle.clif_meaning.specs.Name.{Name}
 use Rattle.clif_meaning.specs.Instruction.{Instruction, Operation}
-use Rattle.clif_meaning.specs.Request.{AnsweredCall, Build, Request, number_of}
+use Rattle.clif_meaning.specs.Request.{AnsweredCall, Build, GivenEntry, Request, number_of}
 use Rattle.clif_meaning.specs.Program as program
 use Rattle.clif_meaning.specs.Ledger.{Answered, AValue, AnInstruction, BlockState, Ledger, is_terminator, ledger_with, next_answer, with_begun, with_filled_at, with_predecessor, with_served, with_state}
 use Rattle.clif_meaning.proofs.CallLists as earlier
@@ -129,15 +129,15 @@ results-types place f g block shape types function k ty at =
     node j (t ∷ ts) (suc m) at = node (j + 1) ts m at
 
 -- an instruction behind which its block goes on
-pub agrees-plain : (place : ℕ) (calls : List AnsweredCall) (ledger : Ledger) (f g : Body) (c d : ContextState) (p : Option ℕ) (block : ℕ) (shape : InstructionData) (table : Option ℕ)
+pub agrees-plain : (place : ℕ) (calls : List AnsweredCall) (ledger : Ledger) (f g : Body) (c d : ContextState) (p : Option ℕ) (block : ℕ) (shape : InstructionData) (entries : List GivenEntry)
     (operation : Operation) (controlling : «Type») (types : List «Type») (operands : List Name) (inst : ℕ) (results : List ℕ)
     → LedgerAgrees calls ledger f c p → p ≡ Some block → IsConsistent f → block < length f.blocks → g ≡ with_inst (inserted_in f block) block Back shape types place
     → SetsStatus c d block (begun (status_of c block)) → d.ssa ≡ c.ssa → d.variables ≡ c.variables → is_terminator operation ≡ false → program.result_types operation controlling ≡ types
     → ((new : Ledger) → AnswersAgree new g (length calls) (AnInstruction ∷ map AValue types) (inst ∷ results))
-    → LedgerAgrees (calls ++ record { request = Build table (record { operation = operation; controlling = controlling; operands = operands; edges = [] }); numbers = inst ∷ results } ∷ [])
-    (ledger_with ledger (Build table (record { operation = operation; controlling = controlling; operands = operands; edges = [] }))) g d p
-agrees-plain place calls ledger f g c d p block shape table operation controlling types operands inst results agrees at consistent exists function sets ssa variables goes_on typed answers =
-    let request : Request = Build table (record { operation = operation; controlling = controlling; operands = operands; edges = [] }) in
+    → LedgerAgrees (calls ++ record { request = Build entries (record { operation = operation; controlling = controlling; operands = operands; edges = [] }); numbers = inst ∷ results } ∷ [])
+    (ledger_with ledger (Build entries (record { operation = operation; controlling = controlling; operands = operands; edges = [] }))) g d p
+agrees-plain place calls ledger f g c d p block shape entries operation controlling types operands inst results agrees at consistent exists function sets ssa variables goes_on typed answers =
+    let request : Request = Build entries (record { operation = operation; controlling = controlling; operands = operands; edges = [] }) in
     let call : AnsweredCall = record { request = request; numbers = inst ∷ results } in
     let current = name-of-some (block_name ledger) ledger.current block (agrees.current ∙ ap (option_map (block_name ledger)) at) in
     let new : Ledger = ledger_with ledger request in
@@ -150,26 +150,26 @@ agrees-plain place calls ledger f g c d p block shape table operation controllin
   where
     begun_by : (ends : Bool) → ends ≡ false → (x : Name) → ledger.current ≡ Some x
         → MadeLedger ledger (record (if ends then with_filled_at (with_begun ledger) (with_begun ledger).current else with_begun ledger)
-        { answers = ledger.answers ++ (AnInstruction ∷ map AValue (program.result_types operation controlling)) ∷ []; jump_tables = with_served ledger.jump_tables table }) x unpristine
+        { answers = ledger.answers ++ (AnInstruction ∷ map AValue (program.result_types operation controlling)) ∷ []; jump_tables = with_served ledger.jump_tables entries }) x unpristine
     begun_by true is x at = let no_way : ⊥ = cc in absurd no_way
     begun_by false is x at =
         let begins = begun-ledger ledger x at in
         record { blocks = begins.blocks; layout = begins.layout; current = begins.current; variables = begins.variables; tables = begins.tables }
 
 -- with its results, which have the next numbers of values
-pub agrees-built : (place : ℕ) (calls : List AnsweredCall) (ledger : Ledger) (f g : Body) (c d : ContextState) (p : Option ℕ) (block : ℕ) (shape : InstructionData) (table : Option ℕ)
+pub agrees-built : (place : ℕ) (calls : List AnsweredCall) (ledger : Ledger) (f g : Body) (c d : ContextState) (p : Option ℕ) (block : ℕ) (shape : InstructionData) (entries : List GivenEntry)
     (operation : Operation) (controlling : «Type») (types : List «Type») (operands : List Name) (inst : ℕ)
     → LedgerAgrees calls ledger f c p → p ≡ Some block → IsConsistent f → block < length f.blocks → g ≡ with_inst (inserted_in f block) block Back shape types place
     → SetsStatus c d block (begun (status_of c block)) → d.ssa ≡ c.ssa → d.variables ≡ c.variables → inst ≡ length f.insts
     → is_terminator operation ≡ false → program.result_types operation controlling ≡ types
     → LedgerAgrees
-    (calls ++ record { request = Build table (record { operation = operation; controlling = controlling; operands = operands; edges = [] }); numbers = inst ∷ range_with_len (length (inserted_in f block).values) (length types) } ∷ [])
-    (ledger_with ledger (Build table (record { operation = operation; controlling = controlling; operands = operands; edges = [] }))) g d p
-agrees-built place calls ledger f g c d p block shape table operation controlling types operands inst agrees at consistent exists function sets ssa variables is_inst goes_on typed =
+    (calls ++ record { request = Build entries (record { operation = operation; controlling = controlling; operands = operands; edges = [] }); numbers = inst ∷ range_with_len (length (inserted_in f block).values) (length types) } ∷ [])
+    (ledger_with ledger (Build entries (record { operation = operation; controlling = controlling; operands = operands; edges = [] }))) g d p
+agrees-built place calls ledger f g c d p block shape entries operation controlling types operands inst agrees at consistent exists function sets ssa variables is_inst goes_on typed =
     let first : ℕ = length (inserted_in f block).values in
     let node : InstNode = inst_node (inserted_in f block) block shape types place in
     let there : slice_get g.insts inst ≡ Some node = ap (slice_get g.insts) is_inst ∙ node-there _ f g block shape types function in
-    agrees-plain _ calls ledger f g c d p block shape table operation controlling types operands inst (range_with_len first (length types)) agrees at consistent exists function sets ssa variables goes_on typed
+    agrees-plain _ calls ledger f g c d p block shape entries operation controlling types operands inst (range_with_len first (length types)) agrees at consistent exists function sets ssa variables goes_on typed
     (λ new. answers-results new g (length calls) inst first node types there refl (results-types _ f g block shape types function))
 
 -- the state of a block that gets its terminator
@@ -221,7 +221,7 @@ unsealed-target f c (edge ∷ edges) may x there =
       | inr later ↦ unsealed-target f c edges (λ k e below. may (suc k) e (omega (arith, below))) x later
     ]
 
-module _ (place : ℕ) (calls : List AnsweredCall) (f g : Body) (c d : ContextState) (p : Option ℕ) (block : ℕ) (shape : InstructionData) (table : Option ℕ) (instruction : Instruction Name Name) (inst : ℕ)
+module _ (place : ℕ) (calls : List AnsweredCall) (f g : Body) (c d : ContextState) (p : Option ℕ) (block : ℕ) (shape : InstructionData) (entries : List GivenEntry) (instruction : Instruction Name Name) (inst : ℕ)
     (agrees : LedgerAgrees calls (ledger_of calls) f c p) (at : p ≡ Some block) (consistent : IsConsistent f) (exists : block < length f.blocks) (open_in : status_of c block ≢ Filled)
     (function : g ≡ with_inst (inserted_in f block) block Back shape [] place) (sets : SetsStatus c d block Filled) (variables : d.variables ≡ c.variables) (is_inst : inst ≡ length f.insts)
     (names : NamesEdges calls instruction.edges (destinations shape)) (may : All (CanLeadIn f c) (destinations shape)) (declared : IsDeclared c.ssa inst (targets (destinations shape)) d.ssa) where
@@ -229,7 +229,7 @@ module _ (place : ℕ) (calls : List AnsweredCall) (f g : Body) (c d : ContextSt
   ledger = ledger_of calls
 
   abbrev call : AnsweredCall
-  call = record { request = Build table instruction; numbers = inst ∷ [] }
+  call = record { request = Build entries instruction; numbers = inst ∷ [] }
 
   -- the context before the branch is declared
   abbrev undeclared : ContextState
@@ -312,15 +312,15 @@ module _ (place : ℕ) (calls : List AnsweredCall) (f g : Body) (c d : ContextSt
       (appended-structured _ types agrees.own f c.ssa block shape [] consistent exists
       (agrees.structured types (subst (λ (xs : List «Type»). AreTypesOf xs types) variables are))))
 
-  led : LedLedger (record ended_ledger { answers = answered }) (record (fold (with_predecessor (next_answer ledger)) ended_ledger instruction.edges) { answers = answered; jump_tables = with_served ledger.jump_tables table })
+  led : LedLedger (record ended_ledger { answers = answered }) (record (fold (with_predecessor (next_answer ledger)) ended_ledger instruction.edges) { answers = answered; jump_tables = with_served ledger.jump_tables entries })
       (next_answer ledger) instruction.edges
   led =
       let all = led-ledger (next_answer ledger) instruction.edges ended_ledger in
       record { answers = refl; blocks = all.blocks; layout = all.layout; current = all.current; variables = all.variables; tables = all.tables }
 
-  declares : LedgerAgrees (calls ++ call ∷ []) (record (fold (with_predecessor (next_answer ledger)) ended_ledger instruction.edges) { answers = answered; jump_tables = with_served ledger.jump_tables table }) g d p
+  declares : LedgerAgrees (calls ++ call ∷ []) (record (fold (with_predecessor (next_answer ledger)) ended_ledger instruction.edges) { answers = answered; jump_tables = with_served ledger.jump_tables entries }) g d p
   declares =
-      agrees-led (calls ++ call ∷ []) (record ended_ledger { answers = answered }) (record (fold (with_predecessor (next_answer ledger)) ended_ledger instruction.edges) { answers = answered; jump_tables = with_served ledger.jump_tables table })
+      agrees-led (calls ++ call ∷ []) (record ended_ledger { answers = answered }) (record (fold (with_predecessor (next_answer ledger)) ended_ledger instruction.edges) { answers = answered; jump_tables = with_served ledger.jump_tables entries })
       g undeclared d p (next_answer ledger) inst instruction.edges (destinations shape) ended number is_new led
       (lead-still ledger (record ended_ledger { answers = answered }) instruction.edges (destinations shape)
       (λ k x is. changed-names ledger (record ended_ledger { answers = answered }) current.0 (λ (t : BlockState). filled (unpristine t)) (λ s. refl) changed.blocks k ∙ is)
@@ -329,12 +329,12 @@ module _ (place : ℕ) (calls : List AnsweredCall) (f g : Body) (c d : ContextSt
 
   -- a terminator, with its edges
   pub agrees-ended : is_terminator instruction.operation ≡ true → program.result_types instruction.operation instruction.controlling ≡ []
-      → LedgerAgrees (calls ++ call ∷ []) (ledger_with ledger (Build table instruction)) g d p
+      → LedgerAgrees (calls ++ call ∷ []) (ledger_with ledger (Build entries instruction)) g d p
   agrees-ended ends none =
       subst (λ (types : List «Type»). LedgerAgrees (calls ++ call ∷ [])
-      (record (fold (with_predecessor (next_answer ledger)) (if is_terminator instruction.operation then ended_ledger else with_begun ledger) instruction.edges) { answers = ledger.answers ++ (AnInstruction ∷ map AValue types) ∷ []; jump_tables = with_served ledger.jump_tables table }) g d p)
+      (record (fold (with_predecessor (next_answer ledger)) (if is_terminator instruction.operation then ended_ledger else with_begun ledger) instruction.edges) { answers = ledger.answers ++ (AnInstruction ∷ map AValue types) ∷ []; jump_tables = with_served ledger.jump_tables entries }) g d p)
       (sym none)
       (subst (λ (t : Bool). LedgerAgrees (calls ++ call ∷ [])
       (record (fold (with_predecessor (next_answer ledger)) (if t then ended_ledger else with_begun ledger) instruction.edges)
-      { answers = answered; jump_tables = with_served ledger.jump_tables table }) g d p)
+      { answers = answered; jump_tables = with_served ledger.jump_tables entries }) g d p)
       (sym ends) declares)

@@ -1,5 +1,5 @@
 -- An instruction of any shape is built: the agreement with the ledger is kept.
-use Rattle.std.proofs.Common.{◌≡◌, ◌≢◌, ◌<◌, ℕ, suc, ◌-◌, List, [], ◌∷◌, ◌++◌, length, refl, sym, ◌∙◌, ap, subst, ◌⊎◌, inl, inr}
+use Rattle.std.proofs.Common.{◌≡◌, ◌≢◌, ◌<◌, ℕ, suc, ◌-◌, List, [], ◌∷◌, ◌++◌, length, refl, sym, ◌∙◌, ap, ap₂, subst, ◌⊎◌, inl, inr}
 use Rattle.std.specs.Prelude.{All, Bool, map, slice_get, true, false, if◌then◌else◌, Option, Some, IfOk, Result, Ok, Err, ℤ}
 use Rattle.std.specs.List.{range_with_len}
 use Rattle.std.proofs.lemmas.Option.{get_or_from_slice_get, same_Some}
@@ -13,8 +13,7 @@ use Rattle.clif_types.specs.declared.condcodes.IntCC.{IntCC}
 use Rattle.clif_types.specs.declared.trapcode.TrapCode.{TrapCode}
 use Rattle.clif_types.specs.MemFlags.{MemFlagsShape}
 use Rattle.clif_opcodes.specs.Kinds.{result_type}
-use Rattle.clif_opcodes.specs.Typing.{row_of}
-use Rattle.clif_opcodes.specs.declared.opcodes.Opcode.{Opcode}
+use Rattle.clif_opcodes.specs.Typing.{Row}
 use Rattle.clif_opcodes.specs.declared.opcodes.BinaryOpcode.{BinaryOpcode}
 use Rattle.clif_opcodes.specs.declared.opcodes.CondTrapOpcode.{CondTrapOpcode}
 use Rattle.clif_opcodes.specs.declared.opcodes.FloatConstOpcode.{FloatConstOpcode}
@@ -26,20 +25,21 @@ use Rattle.clif_opcodes.specs.declared.opcodes.StackOpcode.{StackOpcode}
 use Rattle.clif_opcodes.specs.declared.opcodes.StackOpcode.TheVariants as stack
 use Rattle.clif_opcodes.specs.declared.opcodes.UnaryOpcode.{UnaryOpcode}
 use Rattle.clif_instructions.specs.declared.instructions.InstructionData.{InstructionData}
-use Rattle.clif_instructions.specs.declared.instructions.InstructionData.TheVariants.{UnaryImm, UnaryIeee, UnaryConst, Unary, Binary, IntCompare, Concat, Split, Convert, Ternary, Load, Store, StackLoad, StackStore, Jump, Brif, BranchTable, MultiAry, Trap, CondTrap}
+use Rattle.clif_instructions.specs.declared.instructions.InstructionData.TheVariants.{UnaryImm, UnaryIeee, UnaryConst, Unary, Binary, IntCompare, Concat, Split, Convert, Ternary, Load, Store, StackLoad, StackStore, Jump, Brif, BranchTable, MultiAry, Trap, CondTrap, Call, CallIndirect}
 use Rattle.clif_ir.specs.Body.{Body, inst_at, value_at}
 use Rattle.clif_nodes.specs.Nodes.{no_inst, no_value}
 use Rattle.clif_ir.specs.Changes.{inserted_in, with_inst, inst_node}
 use Rattle.clif_ir.specs.Consistent.{IsConsistent}
 use Rattle.clif_instructions.specs.Instruction.{destinations, is_branch, is_terminator, result_types}
 use Rattle.clif_tables.specs.Callees.{given_by_call, types_of, types_of_results}
+use Rattle.clif_tables.specs.Lists.{TableLists}
 use Rattle.clif_instructions.specs.Edges.{targets}
 use Rattle.clif_meaning.specs.Name.{Name}
 use Rattle.clif_meaning.specs.Instruction.{Edge, Instruction, Operation, Iconst, Compute}
 use Rattle.clif_meaning.specs.Instruction as operation
 use Rattle.clif_meaning.specs.Acceptance.{table_branch}
 use Rattle.clif_meaning.specs.Program as program
-use Rattle.clif_meaning.specs.Request.{AnsweredCall, Build, number_of}
+use Rattle.clif_meaning.specs.Request.{AnsweredCall, Build, GivenEntry, number_of}
 use Rattle.clif_meaning.specs.Ledger.{or_invalid, type_of}
 use Rattle.clif_meaning.specs.Ledger as meaning
 use Rattle.clif_meaning.specs.View.{operation_of}
@@ -52,14 +52,14 @@ use Rattle.cranelift_frontend.specs.Ledger.{HasShape, LedgerAgrees, NamesEdge, N
 use Rattle.cranelift_frontend.proofs.LedgerLists.{map-some}
 use Rattle.cranelift_frontend.proofs.LedgerKept.{concluded, named-value}
 use Rattle.cranelift_frontend.proofs.LedgerBuilt.{agrees-built, agrees-ended, node-there}
-use Rattle.cranelift_frontend.proofs.Sorts.{EndsBlock, StaysInBlock, same_opcode, sort_of}
-use Rattle.clif_meaning.proofs.OperationTypes.{operation_results}
+use Rattle.cranelift_frontend.proofs.Sorts.{EndsBlock, StaysInBlock, sort_of}
+use Rattle.clif_meaning.proofs.OperationTypes.{operation_results, operation_typed}
 
 -- SHAPES ----------------------------------------------------------------------------------------------------------
 
 -- the call that builds an instruction
-abbrev pub built : Option ℕ → Instruction Name Name → List ℕ → AnsweredCall
-built table instruction numbers = record { request = Build table instruction; numbers = numbers }
+abbrev pub built : List GivenEntry → Instruction Name Name → List ℕ → AnsweredCall
+built entries instruction numbers = record { request = Build entries instruction; numbers = numbers }
 
 -- an instruction without edges, by its other parts
 abbrev pub plain : Operation → «Type» → List Name → Instruction Name Name
@@ -88,11 +88,11 @@ same_types calls f instruction shape ty has =
 pub same_end : (calls : List AnsweredCall) (f : Body) (instruction : Instruction Name Name) (shape : InstructionData) (ty : «Type») → HasShape calls f instruction shape ty
     → meaning.is_terminator instruction.operation ≡ is_terminator shape
 same_end calls f instruction shape ty has =
-    ap meaning.is_terminator has.operation ∙ ap (λ (o : Opcode). (row_of o).ends) (same_opcode f.tables shape)
+    ap meaning.is_terminator has.operation ∙ ap (λ (row : Row). row.ends) (operation_typed f.tables shape)
 
 -- THE PARTS OF A BUILDER ------------------------------------------------------------------------------------------
 
-module _ (place : ℕ) (calls : List AnsweredCall) (f g : Body) (c d : ContextState) (p : Option ℕ) (block : ℕ) (table : Option ℕ) (instruction : Instruction Name Name) (shape : InstructionData) (ty : «Type») (inst : ℕ)
+module _ (place : ℕ) (calls : List AnsweredCall) (f g : Body) (c d : ContextState) (p : Option ℕ) (block : ℕ) (entries : List GivenEntry) (instruction : Instruction Name Name) (shape : InstructionData) (ty : «Type») (inst : ℕ)
     (agrees : LedgerAgrees calls (ledger_of calls) f c p) (at : p ≡ Some block) (exists : block < length f.blocks) (consistent : IsConsistent f)
     (has : HasShape calls f instruction shape ty) (appends : AppendsIn place f c g d block shape ty inst) (variables : d.variables ≡ c.variables) where
   function_of : (types : List «Type») → types_of_results f.tables shape ty ≡ types → g ≡ with_inst (inserted_in f block) block Back shape types place
@@ -109,7 +109,7 @@ module _ (place : ℕ) (calls : List AnsweredCall) (f g : Body) (c d : ContextSt
 
   -- the agreement, where the instruction has these results
   abbrev Agrees : Instruction Name Name → List ℕ → Type 0
-  Agrees i results = LedgerAgrees (calls ++ built table i (inst ∷ results) ∷ []) (ledger_of (calls ++ built table i (inst ∷ results) ∷ [])) g d p
+  Agrees i results = LedgerAgrees (calls ++ built entries i (inst ∷ results) ∷ []) (ledger_of (calls ++ built entries i (inst ∷ results) ∷ [])) g d p
 
   -- the instruction, where it has no edges
   same-plain : destinations shape ≡ [] → instruction ≡ plain instruction.operation instruction.controlling instruction.operands
@@ -122,8 +122,8 @@ module _ (place : ℕ) (calls : List AnsweredCall) (f g : Body) (c d : ContextSt
       let results : List ℕ = range_with_len (length (inserted_in f block).values) (length types) in
       subst (Agrees instruction) (sym (results-of types refl))
       (subst (λ (i : Instruction Name Name). Agrees i results) (sym (same-plain known.no_edges))
-      (concluded calls (built table (plain instruction.operation instruction.controlling names) (inst ∷ results)) g d p
-      (agrees-built _ calls (ledger_of calls) f g c d p block shape table instruction.operation instruction.controlling types names inst
+      (concluded calls (built entries (plain instruction.operation instruction.controlling names) (inst ∷ results)) g d p
+      (agrees-built _ calls (ledger_of calls) f g c d p block shape entries instruction.operation instruction.controlling types names inst
       agrees at consistent exists (function_of types refl) (sets_status false known.goes_on) ssa variables appends.number
       (same_end calls f instruction shape ty has ∙ known.goes_on) (same_types calls f instruction shape ty has))))
 
@@ -132,31 +132,31 @@ module _ (place : ℕ) (calls : List AnsweredCall) (f g : Body) (c d : ContextSt
       → Agrees instruction (inst_at g inst).results
   ending known open_in may declared =
       subst (Agrees instruction) (sym (results-of [] known.none))
-      (concluded calls (built table instruction (inst ∷ [])) g d p
-      (agrees-ended place calls f g c d p block shape table instruction inst agrees at consistent exists open_in (function_of [] known.none) (sets_status true known.ends) variables appends.number has.edges may declared
+      (concluded calls (built entries instruction (inst ∷ [])) g d p
+      (agrees-ended place calls f g c d p block shape entries instruction inst agrees at consistent exists open_in (function_of [] known.none) (sets_status true known.ends) variables appends.number has.edges may declared
       (same_end calls f instruction shape ty has ∙ known.ends) (same_types calls f instruction shape ty has ∙ known.none)))
 
-pub shaped-ledger : (place : ℕ) (calls : List AnsweredCall) (f g : Body) (c d : ContextState) (p : Option ℕ) (block : ℕ) (table : Option ℕ) (instruction : Instruction Name Name) (shape : InstructionData) (ty : «Type») (inst : ℕ)
+pub shaped-ledger : (place : ℕ) (calls : List AnsweredCall) (f g : Body) (c d : ContextState) (p : Option ℕ) (block : ℕ) (entries : List GivenEntry) (instruction : Instruction Name Name) (shape : InstructionData) (ty : «Type») (inst : ℕ)
     → LedgerAgrees calls (ledger_of calls) f c p → p ≡ Some block → block < length f.blocks → status_of c block ≢ Filled → IsConsistent f
     → HasShape calls f instruction shape ty → All (CanLeadIn f c) (destinations shape) → AppendsIn place f c g d block shape ty inst
     → IsDeclared c.ssa inst (targets (destinations shape)) d.ssa → (is_branch shape ≡ false → d.ssa ≡ c.ssa) → d.variables ≡ c.variables
-    → LedgerAgrees (calls ++ built table instruction (inst ∷ (inst_at g inst).results) ∷ []) (ledger_of (calls ++ built table instruction (inst ∷ (inst_at g inst).results) ∷ [])) g d p
-shaped-ledger place calls f g c d p block table instruction shape ty inst agrees at exists open_in consistent has may appends declared ssa variables = by (sort_of f.tables shape ty)
+    → LedgerAgrees (calls ++ built entries instruction (inst ∷ (inst_at g inst).results) ∷ []) (ledger_of (calls ++ built entries instruction (inst ∷ (inst_at g inst).results) ∷ [])) g d p
+shaped-ledger place calls f g c d p block entries instruction shape ty inst agrees at exists open_in consistent has may appends declared ssa variables = by (sort_of f.tables shape ty)
   where
     by : StaysInBlock shape ⊎ EndsBlock f.tables shape ty
-        → LedgerAgrees (calls ++ built table instruction (inst ∷ (inst_at g inst).results) ∷ []) (ledger_of (calls ++ built table instruction (inst ∷ (inst_at g inst).results) ∷ [])) g d p
-    by (inl known) = staying _ calls f g c d p block table instruction shape ty inst agrees at exists consistent has appends variables known (ssa known.no_branch)
-    by (inr known) = ending _ calls f g c d p block table instruction shape ty inst agrees at exists consistent has appends variables known open_in may declared
+        → LedgerAgrees (calls ++ built entries instruction (inst ∷ (inst_at g inst).results) ∷ []) (ledger_of (calls ++ built entries instruction (inst ∷ (inst_at g inst).results) ∷ [])) g d p
+    by (inl known) = staying _ calls f g c d p block entries instruction shape ty inst agrees at exists consistent has appends variables known (ssa known.no_branch)
+    by (inr known) = ending _ calls f g c d p block entries instruction shape ty inst agrees at exists consistent has appends variables known open_in may declared
 
 -- where no error is answered
-pub ledger-shaped : (place : ℕ) {E : Type 0} (calls : List AnsweredCall) (f g : Body) (c d : ContextState) (p : Option ℕ) (block : ℕ) (table : Option ℕ) (instruction : Instruction Name Name) (shape : InstructionData) (ty : «Type») (r : Result ℕ E)
+pub ledger-shaped : (place : ℕ) {E : Type 0} (calls : List AnsweredCall) (f g : Body) (c d : ContextState) (p : Option ℕ) (block : ℕ) (entries : List GivenEntry) (instruction : Instruction Name Name) (shape : InstructionData) (ty : «Type») (r : Result ℕ E)
     → LedgerAgrees calls (ledger_of calls) f c p → p ≡ Some block → (block < length f.blocks) × (status_of c block ≢ Filled) → IsConsistent f
     → HasShape calls f instruction shape ty → All (CanLeadIn f c) (destinations shape) → IfOk r (λ inst. AppendsIn place f c g d block shape ty inst)
     → IfOk r (λ inst. IsDeclared c.ssa inst (targets (destinations shape)) d.ssa) → (is_branch shape ≡ false → d.ssa ≡ c.ssa) → d.variables ≡ c.variables
-    → IfOk r (λ inst. LedgerAgrees (calls ++ built table instruction (inst ∷ (inst_at g inst).results) ∷ []) (ledger_of (calls ++ built table instruction (inst ∷ (inst_at g inst).results) ∷ [])) g d p)
-ledger-shaped place calls f g c d p block table instruction shape ty (Err e) agrees at current consistent has may appends declared ssa variables = tt
-ledger-shaped place calls f g c d p block table instruction shape ty (Ok inst) agrees at current consistent has may appends declared ssa variables =
-    shaped-ledger _ calls f g c d p block table instruction shape ty inst agrees at current.0 current.1 consistent has may appends declared ssa variables
+    → IfOk r (λ inst. LedgerAgrees (calls ++ built entries instruction (inst ∷ (inst_at g inst).results) ∷ []) (ledger_of (calls ++ built entries instruction (inst ∷ (inst_at g inst).results) ∷ [])) g d p)
+ledger-shaped place calls f g c d p block entries instruction shape ty (Err e) agrees at current consistent has may appends declared ssa variables = tt
+ledger-shaped place calls f g c d p block entries instruction shape ty (Ok inst) agrees at current consistent has may appends declared ssa variables =
+    shaped-ledger _ calls f g c d p block entries instruction shape ty inst agrees at current.0 current.1 consistent has may appends declared ssa variables
 
 -- BUILDERS --------------------------------------------------------------------------------------------------------
 
@@ -348,3 +348,28 @@ table-shape calls f index value edges table names named = record {
 pub return-shape : (calls : List AnsweredCall) (f : Body) (names : List Name) (values : List ℕ) → map (number_of calls) names ≡ map Some values
     → HasShape calls f (plain operation.Return type.Invalid names) (MultiAry values) type.Invalid
 return-shape calls f names values numbered = record { operation = refl; controlling = refl; typed = refl; operands_numbered = numbered; edges = tt }
+
+-- what is called is in tables that calls of a list make
+pub call-shape : (calls : List AnsweredCall) (f : Body) (c : ContextState) (p : Option ℕ) → LedgerAgrees calls (ledger_of calls) f c p
+    → (function : ℕ) (names : List Name) (values : List ℕ) → map (number_of calls) names ≡ map Some values
+    → HasShape calls f (plain (operation_of (ledger_of calls).tables (Call function values)) type.Invalid names) (Call function values) type.Invalid
+call-shape calls f c p agrees function names values numbered = record {
+  operation = ap (λ (tables : TableLists). operation_of tables (Call function values)) agrees.tables;
+  controlling = refl;
+  typed = refl;
+  operands_numbered = numbered;
+  edges = tt;
+}
+
+pub call_indirect-shape : (calls : List AnsweredCall) (f : Body) (c : ContextState) (p : Option ℕ) → LedgerAgrees calls (ledger_of calls) f c p
+    → (signature : ℕ) (callee : Name) (address : ℕ) (names : List Name) (values : List ℕ) → NamesValue calls callee address
+    → map (number_of calls) names ≡ map Some values
+    → HasShape calls f (plain (operation_of (ledger_of calls).tables (CallIndirect signature (address ∷ values))) type.Invalid (callee ∷ names))
+    (CallIndirect signature (address ∷ values)) type.Invalid
+call_indirect-shape calls f c p agrees signature callee address names values called numbered = record {
+  operation = ap (λ (tables : TableLists). operation_of tables (CallIndirect signature (address ∷ values))) agrees.tables;
+  controlling = refl;
+  typed = refl;
+  operands_numbered = ap₂ (λ (o : Option ℕ) (os : List (Option ℕ)). o ∷ os) called.number numbered;
+  edges = tt;
+}

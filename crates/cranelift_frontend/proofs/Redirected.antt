@@ -27,7 +27,7 @@ use Rattle.clif_ssa.proofs.Leading.{once_first}
 use Rattle.clif_ssa.proofs.Moved.{moves}
 use Rattle.clif_ssa.proofs.MovedState.{branch_structured, contained, led_before, leads_moved}
 use Rattle.clif_ssa.proofs.StructuredLaws.{append_none, none_complete}
-use Rattle.clif_meaning.specs.Ledger.{ABlock, AJumpTable, AnEdge, AnEntry, AnInstruction, Answered, AValue, AVariable, BlockState, Ledger, answer_at, is_instruction_answer, led_by, ledger_with, left_by, redirected_state}
+use Rattle.clif_meaning.specs.Ledger.{ABlock, AJumpTable, AnEdge, AnEntry, AnInstruction, Answered, AValue, AVariable, BlockState, Ledger, answer_at, block_state, is_instruction_answer, leads_to, led_by, ledger_with, left_by, redirected_state, state_has}
 use Rattle.clif_meaning.specs.Name.{Name, same_name}
 use Rattle.clif_meaning.specs.Request.{AnsweredCall, ChangeJumpDestination, number_of}
 use Rattle.clif_meaning.proofs.CallLists as earlier
@@ -50,7 +50,7 @@ use Rattle.cranelift_frontend.proofs.Growing.{Grows-same, on_ok_step}
 use Rattle.cranelift_frontend.proofs.LedgerKept.{Extends, Extends-same, KeepsInst, answer-still, answers-after, answers-none, concluded, keeps-of, places-after, types-kept}
 use Rattle.cranelift_frontend.proofs.LedgerLists.{if-yes, map-some, named-more, one-named-more}
 use Rattle.cranelift_frontend.proofs.LedgerMade.{block-exists, numbers-kept}
-use Rattle.cranelift_frontend.proofs.LedgerNames.{IsNumbered, by-number, name-number, named-block, same-block}
+use Rattle.cranelift_frontend.proofs.LedgerNames.{IsNumbered, by-number, name-number, named-block, same-block, state-by-name}
 use Rattle.cranelift_frontend.proofs.Placed.{in_order}
 use Rattle.cranelift_frontend.proofs.StandingCallers.{alone_after, kept_alone, same_callers}
 
@@ -121,7 +121,7 @@ module _ (calls : List AnsweredCall) (branch : Name) (i : ℕ) (numbered : numbe
       by-number branch name n i (λ same. only name built (is ∙ ap Some same)) (λ same. same_Some n i (sym is ∙ ap (number_of calls) (sym same) ∙ numbered))
 
   -- the branch is among the names exactly where its number is among the numbers
-  heard : (names : List Name) (numbers : List ℕ) → AllByRecursion (IsInstruction calls) names → numbers_are names numbers → list_any (same_name branch) names ≡ stands_in i numbers
+  pub heard : (names : List Name) (numbers : List ℕ) → AllByRecursion (IsInstruction calls) names → numbers_are names numbers → list_any (same_name branch) names ≡ stands_in i numbers
   heard [] [] built are = refl
   heard [] (n ∷ numbers) built are = let no_way : ⊥ = cc in absurd no_way
   heard (name ∷ names) [] built are = let no_way : ⊥ = cc in absurd no_way
@@ -332,6 +332,35 @@ instruction_is (Some (AnEntry entry number)) is = let no_way : ⊥ = cc in absur
 instruction_is (Some (AnEdge edge)) is = let no_way : ⊥ = cc in absurd no_way
 instruction_is (Some (AJumpTable number)) is = let no_way : ⊥ = cc in absurd no_way
 
+-- the predecessors of a block are instructions
+built_in : (calls : List AnsweredCall) (many : List BlockState) (k : ℕ) (s : BlockState) → AllByRecursion (λ (state : BlockState). AllByRecursion (IsInstruction calls) state.predecessors) many
+    → slice_get many k ≡ Some s → AllByRecursion (IsInstruction calls) s.predecessors
+built_in calls [] k s all there = absurd (none-some s there)
+built_in calls (t ∷ many) zero s all there = subst (λ (u : BlockState). AllByRecursion (IsInstruction calls) u.predecessors) (same_Some t s there) all.0
+built_in calls (t ∷ many) (suc k) s all there = built_in calls many k s all.1 there
+
+-- no other name was answered by the branch
+only_one : {declared : SignatureShape} (calls : List AnsweredCall) (f : Body) (c : ContextState) (p : Option ℕ) → StandsIn declared calls f c p
+    → (branch : Name) (i : ℕ) → NamesInstruction calls branch i → (name : Name) → IsInstruction calls name → number_of calls name ≡ Some i → branch ≡ name
+only_one calls f c p stands branch i names name built is =
+    stands.carries.holds.instructions.differ branch name (instruction_is (answer_at (ledger_of calls) branch) names.is_instruction) built
+    (ap number_or_none (names.number ∙ sym is))
+
+-- a branch leads to a block by their names exactly where it does by their numbers
+pub leads_by_number : {declared : SignatureShape} (calls : List AnsweredCall) (f : Body) (c : ContextState) (p : Option ℕ) → StandsIn declared calls f c p
+    → (branch block : Name) (i k : ℕ) → NamesInstruction calls branch i → NamesBlock calls block k
+    → leads_to (ledger_of calls) branch block ≡ stands_in i (predecessors_of c.ssa k)
+leads_by_number calls f c p stands branch block i k names_branch names_block =
+    ap (state_has (λ (state : BlockState). list_any (same_name branch) state.predecessors)) state.3
+    ∙ heard calls branch i names_branch.number (only_one calls f c p stands branch i names_branch) state.0.predecessors (predecessors_of c.ssa k)
+    (built_in calls (ledger_of calls).blocks k state.0 stands.leads_built state.1) (stands.ledger.blocks k state.0 state.1).predecessors
+  where
+    numbered : IsNumbered calls (ledger_of calls)
+    numbered = name-number calls (ledger_of calls) f c p stands.ledger
+
+    state : (s : BlockState) × (slice_get (ledger_of calls).blocks k ≡ Some s) × (s.block ≡ block) × (block_state (ledger_of calls) block ≡ Some s)
+    state = state-by-name calls (ledger_of calls) numbered k block (named-block calls numbered block k names_block)
+
 module _ (declared : SignatureShape) (calls : List AnsweredCall) (f : Body) (c : ContextState) (g : Body) (d : ContextState) (p : Option ℕ) (stands : StandsIn declared calls f c p)
     (branch from to : Name) (i a b : ℕ) (names_branch : NamesInstruction calls branch i) (names_from : NamesBlock calls from a) (names_to : NamesBlock calls to b)
     (consistent : IsConsistent f) (redirects : Redirects f c g d i a b) (within : i < length f.insts)
@@ -364,8 +393,7 @@ module _ (declared : SignatureShape) (calls : List AnsweredCall) (f : Body) (c :
   is_branch = instruction_is (answer_at old branch) names_branch.is_instruction
 
   only : (name : Name) → IsInstruction calls name → number_of calls name ≡ Some i → branch ≡ name
-  only name built is =
-      stands.carries.holds.instructions.differ branch name is_branch built (ap number_or_none (names_branch.number ∙ sym is))
+  only = only_one calls f c p stands branch i names_branch
 
   states : (k : ℕ) (t : BlockState) → slice_get new.blocks k ≡ Some t → (s : BlockState) × (slice_get old.blocks k ≡ Some s) × (redirected_state branch from to s ≡ t)
   states k t there = map-some (redirected_state branch from to) (slice_get old.blocks k) t (sym (slice_get-map (redirected_state branch from to) old.blocks k) ∙ there)
@@ -380,12 +408,6 @@ module _ (declared : SignatureShape) (calls : List AnsweredCall) (f : Body) (c :
 
   still_named : (k : ℕ) (x : Name) → block_name old k ≡ Some x → block_name new k ≡ Some x
   still_named k x is = same_names k ∙ is
-
-  built_in : (many : List BlockState) (k : ℕ) (s : BlockState) → AllByRecursion (λ (state : BlockState). AllByRecursion (IsInstruction calls) state.predecessors) many
-      → slice_get many k ≡ Some s → AllByRecursion (IsInstruction calls) s.predecessors
-  built_in [] k s all there = absurd (none-some s there)
-  built_in (t ∷ many) zero s all there = subst (λ (u : BlockState). AllByRecursion (IsInstruction calls) u.predecessors) (same_Some t s there) all.0
-  built_in (t ∷ many) (suc k) s all there = built_in many k s all.1 there
 
   predecessors_agree : (k : ℕ) (s : BlockState) → slice_get old.blocks k ≡ Some s → BlockAgrees calls f c k s
       → map (number_of calls) (redirected_state branch from to s).predecessors ≡ map Some (predecessors_of d.ssa k)
@@ -415,7 +437,7 @@ module _ (declared : SignatureShape) (calls : List AnsweredCall) (f : Body) (c :
       at_to = same-block calls old numbered k b s.block to named to_named
 
       built : AllByRecursion (IsInstruction calls) s.predecessors
-      built = built_in old.blocks k s stands.leads_built there
+      built = built_in calls old.blocks k s stands.leads_built there
 
       once : Once xs
       once = (structured_so_far calls f c.ssa stands.carries).leading_once k

@@ -7,10 +7,9 @@ use Rattle.clif_opcodes.specs.declared.opcodes.PooledConstOpcode.TheVariants.{F1
 use Rattle.clif_opcodes.specs.declared.opcodes.StackOpcode.TheVariants as stack
 use Rattle.clif_instructions.specs.declared.instructions.InstructionData.{InstructionData}
 use Rattle.clif_instructions.specs.declared.instructions.InstructionData.TheVariants.{UnaryIeee, UnaryConst, StackLoad, Jump, Brif, BranchTable, MultiAry, Trap, TryCall, TryCallIndirect}
-use Rattle.clif_instructions.specs.Instruction.{destinations, is_branch, is_terminator, opcode_of}
+use Rattle.clif_instructions.specs.Instruction.{destinations, is_branch, is_terminator}
 use Rattle.clif_tables.specs.Callees.{types_of_results}
 use Rattle.clif_tables.specs.Lists.{TableLists}
-use Rattle.clif_meaning.specs.Instruction.{operation_opcode}
 use Rattle.clif_meaning.specs.View.{operation_of}
 
 -- it stays in its block, which goes on; with results of any number
@@ -40,8 +39,3 @@ sort_of tables (UnaryConst Vconst constant) ty = inl (record { no_edges = refl; 
 sort_of tables (StackLoad stack.StackAddr slot offset) ty = inl (record { no_edges = refl; no_branch = refl; goes_on = refl })
 sort_of tables (StackLoad stack.StackLoad slot offset) ty = inl (record { no_edges = refl; no_branch = refl; goes_on = refl })
 sort_of tables _ ty = inl (record { no_edges = refl; no_branch = refl; goes_on = refl })
-
--- a shape and its operation have one opcode
-pub same_opcode : (tables : TableLists) (shape : InstructionData) → operation_opcode (operation_of tables shape) ≡ opcode_of shape
-same_opcode tables (Jump destination) = refl
-same_opcode tables _ = refl

@@ -21,7 +21,7 @@ use Rattle.clif_meaning.specs.Name.{Name}
 use Rattle.clif_meaning.specs.Instruction.{Instruction}
 use Rattle.clif_meaning.specs.Ledger as ledger
 use Rattle.clif_meaning.specs.Program as program
-use Rattle.clif_meaning.specs.Request.{AnsweredCall, Build}
+use Rattle.clif_meaning.specs.Request.{AnsweredCall, Build, GivenEntry}
 use Rattle.clif_meaning.specs.View.{controlling_of, edge_of}
 use Rattle.clif_simulation.specs.Carries.{Carries, DeclaredAlong, IsCurrent}
 use Rattle.clif_simulation.proofs.Building.{SameBranch, SameInstruction, carries_branch, carries_plain, made_controlling}
@@ -75,19 +75,19 @@ declared_nowhere s t inst same = record {
 
 -- AN INSTRUCTION --------------------------------------------------------------------------------------------------------
 
-abbrev pub built : Option ℕ → Instruction Name Name → List ℕ → AnsweredCall
-built table instruction numbers = record { request = Build table instruction; numbers = numbers }
+abbrev pub built : List GivenEntry → Instruction Name Name → List ℕ → AnsweredCall
+built entries instruction numbers = record { request = Build entries instruction; numbers = numbers }
 
-module _ (place : ℕ) (declared : SignatureShape) (calls : List AnsweredCall) (f g : Body) (c d : ContextState) (p : Option ℕ) (table : Option ℕ) (instruction : Instruction Name Name) (shape : InstructionData)
+module _ (place : ℕ) (declared : SignatureShape) (calls : List AnsweredCall) (f g : Body) (c d : ContextState) (p : Option ℕ) (entries : List GivenEntry) (instruction : Instruction Name Name) (shape : InstructionData)
     (ty : «Type») (inst block : ℕ) (stands : StandsIn declared calls f c p) (consistent : IsConsistent f) (has : HasShape calls f instruction shape ty)
     (operands_exist : (k : ℕ) → k < length (operands shape) → slice_index (operands shape) k < length f.values) (at : p ≡ Some block)
     (there : block < length f.blocks) (open_block : status_of c block ≢ Filled) (appends : AppendsIn place f c g d block shape ty inst)
-    (kept : LedgerAgrees (calls ++ built table instruction (inst ∷ (inst_at g inst).results) ∷ []) (ledger_of (calls ++ built table instruction (inst ∷ (inst_at g inst).results) ∷ [])) g d p) where
+    (kept : LedgerAgrees (calls ++ built entries instruction (inst ∷ (inst_at g inst).results) ∷ []) (ledger_of (calls ++ built entries instruction (inst ∷ (inst_at g inst).results) ∷ [])) g d p) where
   abbrev numbers : List ℕ
   numbers = inst ∷ (inst_at g inst).results
 
   abbrev call : AnsweredCall
-  call = built table instruction (inst ∷ (inst_at g inst).results)
+  call = built entries instruction (inst ∷ (inst_at g inst).results)
 
   here : (name : Name) × IsCurrent calls block name
   here = current_name declared calls f c p stands block at
@@ -123,7 +123,7 @@ module _ (place : ℕ) (declared : SignatureShape) (calls : List AnsweredCall) (
   controlled_at : (types : List «Type») → types_of_results f.tables shape ty ≡ types
       → controlling_of (with_inst (inserted_in f block) block Back shape types place) shape (inst_node (inserted_in f block) block shape types place).results ≡ instruction.controlling
   controlled_at types is =
-      made_controlling calls f c.ssa stands.carries consistent block here.0 here.1 unfilled there shape table instruction place numbers types ty (sym is) operands_exist ∙ sym has.controlling
+      made_controlling calls f c.ssa stands.carries consistent block here.0 here.1 unfilled there shape entries instruction place numbers types ty (sym is) operands_exist ∙ sym has.controlling
 
   -- its results have the next numbers of values
   numbered : (k : ℕ) → k < length (types_of_results f.tables shape ty) → slice_get (inst ∷ (inst_at g inst).results) (suc k) ≡ Some (length (inserted_in f block).values + k)
@@ -135,7 +135,7 @@ module _ (place : ℕ) (declared : SignatureShape) (calls : List AnsweredCall) (
   stands_plain : StaysInBlock shape → d.ssa ≡ c.ssa → StandsIn declared (calls ++ call ∷ []) g d p
   stands_plain known same =
       let types : List «Type» = types_of_results f.tables shape ty in
-      let carries = carries_plain calls f c.ssa stands.carries consistent block here.0 here.1 unfilled there shape table instruction place numbers (plainly known.no_edges)
+      let carries = carries_plain calls f c.ssa stands.carries consistent block here.0 here.1 unfilled there shape entries instruction place numbers (plainly known.no_edges)
       types program_types (controlled_at types refl) numbered (ap (λ (n : ℕ). Some n) appends.number) in
       finished types refl (subst (Carries (calls ++ call ∷ []) (with_inst (inserted_in f block) block Back shape types place)) (sym same) carries)
 
@@ -143,7 +143,7 @@ module _ (place : ℕ) (declared : SignatureShape) (calls : List AnsweredCall) (
   stands_end : EndsBlock f.tables shape ty → All (CanLeadIn f c) (destinations shape) → IsDeclared c.ssa inst (targets (destinations shape)) d.ssa → StandsIn declared (calls ++ call ∷ []) g d p
   stands_end known edges declares =
       finished [] known.none
-      (carries_branch calls f c.ssa stands.carries consistent block here.0 here.1 unfilled there shape table instruction place numbers branch [] (program_types ∙ known.none) (controlled_at [] known.none) (λ k below. absurd (omega (arith, below)))
+      (carries_branch calls f c.ssa stands.carries consistent block here.0 here.1 unfilled there shape entries instruction place numbers branch [] (program_types ∙ known.none) (controlled_at [] known.none) (λ k below. absurd (omega (arith, below)))
       (ap (λ (n : ℕ). Some n) appends.number) declares.told d.ssa (same_end calls f instruction shape ty has ∙ known.ends) declares.once
       exactly (λ x told. let to = (exactly x).0 told in target_unsealed f c (destinations shape) to.0 x edges to.1 to.2)
       (subst (λ (i : ℕ). DeclaredAlong c.ssa i declares.told d.ssa) appends.number declares.along))
@@ -156,27 +156,27 @@ module _ (place : ℕ) (declared : SignatureShape) (calls : List AnsweredCall) (
 
 -- AN INSTRUCTION OF ANY SHAPE -------------------------------------------------------------------------------------------
 
-pub shaped_stands : (place : ℕ) (declared : SignatureShape) (calls : List AnsweredCall) (f g : Body) (c d : ContextState) (p : Option ℕ) (table : Option ℕ) (instruction : Instruction Name Name) (shape : InstructionData)
+pub shaped_stands : (place : ℕ) (declared : SignatureShape) (calls : List AnsweredCall) (f g : Body) (c d : ContextState) (p : Option ℕ) (entries : List GivenEntry) (instruction : Instruction Name Name) (shape : InstructionData)
     (ty : «Type») (inst block : ℕ) → StandsIn declared calls f c p → IsConsistent f → HasShape calls f instruction shape ty
     → ((k : ℕ) → k < length (operands shape) → slice_index (operands shape) k < length f.values) → p ≡ Some block
     → block < length f.blocks → status_of c block ≢ Filled → AppendsIn place f c g d block shape ty inst
     → All (CanLeadIn f c) (destinations shape) → IsDeclared c.ssa inst (targets (destinations shape)) d.ssa → (is_branch shape ≡ false → d.ssa ≡ c.ssa)
-    → LedgerAgrees (calls ++ built table instruction (inst ∷ (inst_at g inst).results) ∷ []) (ledger_of (calls ++ built table instruction (inst ∷ (inst_at g inst).results) ∷ [])) g d p
-    → StandsIn declared (calls ++ built table instruction (inst ∷ (inst_at g inst).results) ∷ []) g d p
-shaped_stands place declared calls f g c d p table instruction shape ty inst block stands consistent has exist at there open_block appends edges declares same kept = by (sort_of f.tables shape ty)
+    → LedgerAgrees (calls ++ built entries instruction (inst ∷ (inst_at g inst).results) ∷ []) (ledger_of (calls ++ built entries instruction (inst ∷ (inst_at g inst).results) ∷ [])) g d p
+    → StandsIn declared (calls ++ built entries instruction (inst ∷ (inst_at g inst).results) ∷ []) g d p
+shaped_stands place declared calls f g c d p entries instruction shape ty inst block stands consistent has exist at there open_block appends edges declares same kept = by (sort_of f.tables shape ty)
   where
-    by : StaysInBlock shape ⊎ EndsBlock f.tables shape ty → StandsIn declared (calls ++ built table instruction (inst ∷ (inst_at g inst).results) ∷ []) g d p
-    by (inl known) = stands_plain _ declared calls f g c d p table instruction shape ty inst block stands consistent has exist at there open_block appends kept known (same known.no_branch)
-    by (inr known) = stands_end _ declared calls f g c d p table instruction shape ty inst block stands consistent has exist at there open_block appends kept known edges declares
+    by : StaysInBlock shape ⊎ EndsBlock f.tables shape ty → StandsIn declared (calls ++ built entries instruction (inst ∷ (inst_at g inst).results) ∷ []) g d p
+    by (inl known) = stands_plain _ declared calls f g c d p entries instruction shape ty inst block stands consistent has exist at there open_block appends kept known (same known.no_branch)
+    by (inr known) = stands_end _ declared calls f g c d p entries instruction shape ty inst block stands consistent has exist at there open_block appends kept known edges declares
 
 -- where no error is answered
-pub stands_shaped : (place : ℕ) {E : Type 0} (declared : SignatureShape) (calls : List AnsweredCall) (f g : Body) (c d : ContextState) (p : Option ℕ) (table : Option ℕ) (instruction : Instruction Name Name) (shape : InstructionData)
+pub stands_shaped : (place : ℕ) {E : Type 0} (declared : SignatureShape) (calls : List AnsweredCall) (f g : Body) (c d : ContextState) (p : Option ℕ) (entries : List GivenEntry) (instruction : Instruction Name Name) (shape : InstructionData)
     (ty : «Type») (r : Result ℕ E) (block : ℕ) → StandsIn declared calls f c p → IsConsistent f → HasShape calls f instruction shape ty
     → ((k : ℕ) → k < length (operands shape) → slice_index (operands shape) k < length f.values) → p ≡ Some block
     → block < length f.blocks → status_of c block ≢ Filled → IfOk r (λ inst. AppendsIn place f c g d block shape ty inst)
     → All (CanLeadIn f c) (destinations shape) → IfOk r (λ inst. IsDeclared c.ssa inst (targets (destinations shape)) d.ssa) → (is_branch shape ≡ false → d.ssa ≡ c.ssa)
-    → IfOk r (λ inst. LedgerAgrees (calls ++ built table instruction (inst ∷ (inst_at g inst).results) ∷ []) (ledger_of (calls ++ built table instruction (inst ∷ (inst_at g inst).results) ∷ [])) g d p)
-    → IfOk r (λ inst. StandsIn declared (calls ++ built table instruction (inst ∷ (inst_at g inst).results) ∷ []) g d p)
-stands_shaped place declared calls f g c d p table instruction shape ty (Err e) block stands consistent has exist at there open_block appends edges declares same kept = tt
-stands_shaped place declared calls f g c d p table instruction shape ty (Ok inst) block stands consistent has exist at there open_block appends edges declares same kept =
-    shaped_stands _ declared calls f g c d p table instruction shape ty inst block stands consistent has exist at there open_block appends edges declares same kept
+    → IfOk r (λ inst. LedgerAgrees (calls ++ built entries instruction (inst ∷ (inst_at g inst).results) ∷ []) (ledger_of (calls ++ built entries instruction (inst ∷ (inst_at g inst).results) ∷ [])) g d p)
+    → IfOk r (λ inst. StandsIn declared (calls ++ built entries instruction (inst ∷ (inst_at g inst).results) ∷ []) g d p)
+stands_shaped place declared calls f g c d p entries instruction shape ty (Err e) block stands consistent has exist at there open_block appends edges declares same kept = tt
+stands_shaped place declared calls f g c d p entries instruction shape ty (Ok inst) block stands consistent has exist at there open_block appends edges declares same kept =
+    shaped_stands _ declared calls f g c d p entries instruction shape ty inst block stands consistent has exist at there open_block appends edges declares same kept

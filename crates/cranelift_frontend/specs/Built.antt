@@ -13,7 +13,7 @@ use Rattle.clif_instructions.specs.Edges.{targets}
 use Rattle.clif_instructions.specs.declared.instructions.InstructionData.{InstructionData}
 use Rattle.clif_meaning.specs.Instruction.{Instruction}
 use Rattle.clif_meaning.specs.Name.{Name}
-use Rattle.clif_meaning.specs.Request.{AnsweredCall, Build}
+use Rattle.clif_meaning.specs.Request.{AnsweredCall, Build, GivenEntry}
 use Rattle.clif_ssa.specs.Ssa.{SealedStays}
 use Rattle.clif_ssa.specs.Structure.{LooksOnce}
 use Rattle.cranelift_frontend.specs.declared.builder.FunctionBuilder.{FunctionBuilder}
@@ -24,9 +24,9 @@ use Rattle.cranelift_frontend.specs.Growth.{Grows, RemembersIn, TypesStay}
 use Rattle.cranelift_frontend.specs.Ledger.{AgreesWithLedger, HasShape}
 use Rattle.cranelift_frontend.specs.StandsFor.{StandsFor}
 
--- the calls, and at their end the one that builds an instruction, which this jump table serves, if one does, answered by these numbers
-abbrev pub after_build : List AnsweredCall → Option ℕ → Instruction Name Name → List ℕ → List AnsweredCall
-after_build calls table instruction numbers = calls ++ record { request = Build table instruction; numbers = numbers } ∷ []
+-- the calls, and at their end the one that builds an instruction, which is given these entries, answered by these numbers
+abbrev pub after_build : List AnsweredCall → List GivenEntry → Instruction Name Name → List ℕ → List AnsweredCall
+after_build calls entries instruction numbers = calls ++ record { request = Build entries instruction; numbers = numbers } ∷ []
 
 -- the numbers that answer an instruction: its own, and those of its results
 abbrev pub numbers_of : FunctionBuilder → ℕ → List ℕ
@@ -59,12 +59,12 @@ pub record Builds (old new : FunctionBuilder) (shape : InstructionData) (ty : «
   pub unchanged : IsTrue old.failed → new ≡ old
   pub fails : new.failed ≡ is_err answer
   pub looks_once : LooksOnce old.ctx.now.ssa → LooksOnce new.ctx.now.ssa
-  pub ledger : (calls : List AnsweredCall) (table : Option ℕ) (instruction : Instruction Name Name)
+  pub ledger : (calls : List AnsweredCall) (entries : List GivenEntry) (instruction : Instruction Name Name)
       → AgreesWithLedger calls old → HasShape calls old.func.now instruction shape ty
-      → IfOk answer (λ inst. AgreesWithLedger (after_build calls table instruction (numbers_of new inst)) new)
-  pub stands : (signature : SignatureShape) (calls : List AnsweredCall) (table : Option ℕ) (instruction : Instruction Name Name)
+      → IfOk answer (λ inst. AgreesWithLedger (after_build calls entries instruction (numbers_of new inst)) new)
+  pub stands : (signature : SignatureShape) (calls : List AnsweredCall) (entries : List GivenEntry) (instruction : Instruction Name Name)
       → StandsFor signature calls old → HasShape calls old.func.now instruction shape ty
-      → IfOk answer (λ inst. StandsFor signature (after_build calls table instruction (numbers_of new inst)) new)
+      → IfOk answer (λ inst. StandsFor signature (after_build calls entries instruction (numbers_of new inst)) new)
   pub exists : IfOk answer (λ inst. inst < length new.func.now.insts)
   -- as many results as the typing table and the signature of what it calls say
   pub results : IfOk answer (λ inst. length (inst_at new.func.now inst).results ≡ count_of_results old.func.now.tables shape)
@@ -91,12 +91,12 @@ pub record BuildsValue (old new : FunctionBuilder) (shape : InstructionData) (ty
   pub unchanged : IsTrue old.failed → new ≡ old
   pub fails : new.failed ≡ is_err answer
   pub looks_once : LooksOnce old.ctx.now.ssa → LooksOnce new.ctx.now.ssa
-  pub ledger : (calls : List AnsweredCall) (table : Option ℕ) (instruction : Instruction Name Name)
+  pub ledger : (calls : List AnsweredCall) (entries : List GivenEntry) (instruction : Instruction Name Name)
       → AgreesWithLedger calls old → HasShape calls old.func.now instruction shape ty
-      → IfOk answer (λ value. AgreesWithLedger (after_build calls table instruction (numbers_with old value)) new)
-  pub stands : (signature : SignatureShape) (calls : List AnsweredCall) (table : Option ℕ) (instruction : Instruction Name Name)
+      → IfOk answer (λ value. AgreesWithLedger (after_build calls entries instruction (numbers_with old value)) new)
+  pub stands : (signature : SignatureShape) (calls : List AnsweredCall) (entries : List GivenEntry) (instruction : Instruction Name Name)
       → StandsFor signature calls old → HasShape calls old.func.now instruction shape ty
-      → IfOk answer (λ value. StandsFor signature (after_build calls table instruction (numbers_with old value)) new)
+      → IfOk answer (λ value. StandsFor signature (after_build calls entries instruction (numbers_with old value)) new)
   pub exists : IfOk answer (λ value. value < length new.func.now.values)
   pub grows : OnOk answer (Grows old.func.now new.func.now)
   pub remembers : (v b : ℕ) → OnOk answer (RemembersIn v b old new)
@@ -118,12 +118,12 @@ pub record BuildsPair (old new : FunctionBuilder) (shape : InstructionData) (ty 
   pub unchanged : IsTrue old.failed → new ≡ old
   pub fails : new.failed ≡ is_err answer
   pub looks_once : LooksOnce old.ctx.now.ssa → LooksOnce new.ctx.now.ssa
-  pub ledger : (calls : List AnsweredCall) (table : Option ℕ) (instruction : Instruction Name Name)
+  pub ledger : (calls : List AnsweredCall) (entries : List GivenEntry) (instruction : Instruction Name Name)
       → AgreesWithLedger calls old → HasShape calls old.func.now instruction shape ty
-      → IfOk answer (λ pair. AgreesWithLedger (after_build calls table instruction (numbers_with_pair old pair)) new)
-  pub stands : (signature : SignatureShape) (calls : List AnsweredCall) (table : Option ℕ) (instruction : Instruction Name Name)
+      → IfOk answer (λ pair. AgreesWithLedger (after_build calls entries instruction (numbers_with_pair old pair)) new)
+  pub stands : (signature : SignatureShape) (calls : List AnsweredCall) (entries : List GivenEntry) (instruction : Instruction Name Name)
       → StandsFor signature calls old → HasShape calls old.func.now instruction shape ty
-      → IfOk answer (λ pair. StandsFor signature (after_build calls table instruction (numbers_with_pair old pair)) new)
+      → IfOk answer (λ pair. StandsFor signature (after_build calls entries instruction (numbers_with_pair old pair)) new)
   pub exists : IfOk answer (λ pair. (pair.0 < length new.func.now.values) × (pair.1 < length new.func.now.values))
   pub grows : OnOk answer (Grows old.func.now new.func.now)
   pub remembers : (v b : ℕ) → OnOk answer (RemembersIn v b old new)

@@ -22,7 +22,7 @@ use Rattle.clif_types.specs.declared.types.«Type».{«Type»}
 use Rattle.clif_ir.specs.Body.{Body, value_at}
 use Rattle.clif_instructions.specs.Members.{stands_in}
 use Rattle.clif_meaning.specs.Name.{Name, same_name}
-use Rattle.clif_meaning.specs.Request.{AnsweredCall, Annotate, Build, MakeEdge, MakeJumpTable, Request, number_of}
+use Rattle.clif_meaning.specs.Request.{AnsweredCall, Annotate, Build, GivenEntry, MakeEdge, MakeJumpTable, Request, number_of}
 use Rattle.clif_meaning.specs.Ledger.{BlockState, block_state, has_block, is_inserted, type_of, unserved_edges, variable_type}
 use Rattle.clif_types.specs.Signature.{SignatureShape}
 use Rattle.cranelift_frontend.specs.declared.builder.FunctionBuilder.{FunctionBuilder}
@@ -34,7 +34,7 @@ use Rattle.cranelift_frontend.specs.Ledger.{AgreesWithLedger, BlockAgrees, HasSh
 -- this request asks for an instruction of this shape, made at this type
 abbrev pub AsksForShape : List AnsweredCall → Body → Request → InstructionData → «Type» → Type 0
 AsksForShape calls f asked shape ty =
-    (table : Option ℕ) × (instruction : Instruction Name Name) × (asked ≡ Build table instruction) × HasShape calls f instruction shape ty
+    (entries : List GivenEntry) × (instruction : Instruction Name Name) × (asked ≡ Build entries instruction) × HasShape calls f instruction shape ty
 
 -- The request of each format, with names of its operands, asks for the shape that the method of the format builds.
 pub record AskForTheirShapes (calls : List AnsweredCall) (f : Body) : Type 0 where
@@ -79,6 +79,11 @@ pub record AskForTheirShapes (calls : List AnsweredCall) (f : Body) : Type 0 whe
   pub br_table : (index : Name) (x number : ℕ) (edges : List (Edge Name Name)) (table : List BlockCall)
       → NamesValue calls index x → unserved_edges (ledger_of calls) number ≡ Some edges → NamesEdges calls edges table
       → AsksForShape calls f (request.br_table (ledger_of calls) index number) (shape.branch_table x table) Invalid
+  pub call_function : (function : ℕ) (names : List Name) (values : List ℕ) → map (number_of calls) names ≡ map Some values
+      → AsksForShape calls f (request.call_function (ledger_of calls) function names) (shape.call function values) Invalid
+  pub call_indirect : (signature : ℕ) (callee : Name) (address : ℕ) (names : List Name) (values : List ℕ)
+      → NamesValue calls callee address → map (number_of calls) names ≡ map Some values
+      → AsksForShape calls f (request.call_indirect (ledger_of calls) signature callee names) (shape.call_indirect signature address values) Invalid
   pub return_ : (names : List Name) (values : List ℕ) → map (number_of calls) names ≡ map Some values
       → AsksForShape calls f (request.return_ names) (multi_ary values) Invalid
 

@@ -14,3 +14,4 @@ pub mod Attempts
 pub mod Entries
 pub mod Laws
 pub mod LedgerLaws
+pub mod LeadsLaw

@@ -3,6 +3,7 @@
 
 ghost use Rattle.cranelift_frontend.specs.Growth.{BuilderUsesAgree};
 ghost use Rattle.cranelift_frontend.specs.Laws.{StandingIsWellPlaced, StandingMatchesEdges, StandingReadsRight, StandingReadsRightComing, StandingReadsRightFromAnywhere, StandingRecordsAreWellPlaced};
+ghost use Rattle.cranelift_frontend.specs.LeadsLaw.{LeadsAreReadByNumber};
 ghost use Rattle.cranelift_frontend.specs.LedgerLaws.{LedgerIsReadByNumber, NotesAddNothing, RequestsAskForTheirShapes, TableCallsAddNothing};
 
 /// Two uses of a variable in a block stand for one value, where no call between them assigns it there.
@@ -48,6 +49,12 @@ pub fn standing_records_are_well_placed()
 /// of the layout, and of the types of values and variables.
 pub fn ledger_is_read_by_number()
     ensures { LedgerIsReadByNumber }
+{}
+
+/// Where a builder stands for a list of calls, the ledger tells by names which branch leads to which block, and the builder
+/// tells the same by their numbers.
+pub fn leads_are_read_by_number()
+    ensures { LeadsAreReadByNumber }
 {}
 
 /// Where a ledger agrees with a builder, the request of each format, with names of its operands, asks for the shape that

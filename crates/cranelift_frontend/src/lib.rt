@@ -24,6 +24,7 @@ pub use clif_ir::{
     InstructionData, JumpTableData, PooledConstOpcode, UnaryOpcode, ValueDef, ValueLabelStart,
     ValueList,
 };
+pub use clif_opcodes::{Opcode, StackOpcode};
 pub use clif_ssa::Variable;
 pub use clif_types::{
     AbiParam, AliasRegion, AliasRegionData, AliasRegionSet, Block, BuildError, CallConv, Constant,

@@ -78,6 +78,9 @@ returns-in-Cursor c =
     subst (λ (x : Call). MakesCall x c.args.builder.now new c.args.answers.now c.make_instruction-in-Cursor.result) (sym c.in-Cursor.is)
     (subst (λ (p : Plan). MakesPlan p c.args.builder.now new c.args.answers.now c.make_instruction-in-Cursor.result) c.plan-in-Cursor.ensures c.make_instruction-in-Cursor.ensures)
 
+pub returns-in-Outside : goal.returns-in-Outside
+returns-in-Outside c = subst (λ (x : Call). MakesCall x c.args.builder.now c.make_outside_call.new.builder c.args.answers.now c.make_outside_call.result) (sym c.in-Outside.is) c.make_outside_call.ensures
+
 pub returns-in-SetSrcloc : goal.returns-in-SetSrcloc
 returns-in-SetSrcloc c = subst (λ (x : Call). MakesCall x c.args.builder.now c.set_srcloc.new.builder c.args.answers.now c.set_srcloc.result) (sym c.in-SetSrcloc.is) c.set_srcloc.ensures.made
 
@@ -86,6 +89,9 @@ returns-in-CollectDebugInfo c = subst (λ (x : Call). MakesCall x c.args.builder
 
 pub returns-in-SetValLabel : goal.returns-in-SetValLabel
 returns-in-SetValLabel c = subst (λ (x : Call). MakesCall x c.args.builder.now c.set_val_label.new.builder c.args.answers.now c.set_val_label.result) (sym c.in-SetValLabel.is) c.set_val_label.ensures.made
+
+pub returns-in-ChangeJumpDestination : goal.returns-in-ChangeJumpDestination
+returns-in-ChangeJumpDestination c = subst (λ (x : Call). MakesCall x c.args.builder.now c.change_jump_destination.new.builder c.args.answers.now c.change_jump_destination.result) (sym c.in-ChangeJumpDestination.is) c.change_jump_destination.ensures
 
 pub returns-in-F128const : goal.returns-in-F128const
 returns-in-F128const c =

@@ -1,5 +1,5 @@
-use Rattle.std.proofs.Common.{refl, ap, subst, ◌∙◌, sym, inl, inr}
-use Rattle.std.specs.Prelude.{Bool, None, ◌&&◌}
+use Rattle.std.proofs.Common.{refl, ap, subst, ◌∙◌, sym, inl, inr, []}
+use Rattle.std.specs.Prelude.{Bool, ◌&&◌}
 use Rattle.std.proofs.lemmas.Result.{err_from_is_err_and}
 use Rattle.clif_ssa.specs.Limits.{IsFull}
 use Rattle.clif_meaning.specs.Acceptance.{has_bytes}
@@ -60,4 +60,4 @@ returns c =
     (constant-allowed between c.args.answers.now c.args.opcode c.args.ty c.args.bytes.now opens (sym c.has_bytes.ensures ∙ c.if-not-has_bytes.false))
     (λ declared calls ready.
     let shape = constant-shape calls between.func.now c.args.opcode c.args.ty c.args.bytes.now c.in_ok-constant.constant c.requires.typed pooled.found in
-    (_, ready-more calls _ between new _ (answer.Inst c.in_ok-inst.inst) ready tt done.grows.6 (done.stands declared calls None _ ready.stands shape) (_, _, refl, refl))))
+    (_, ready-more calls _ between new _ (answer.Inst c.in_ok-inst.inst) ready tt done.grows.6 (done.stands declared calls [] _ ready.stands shape) (_, _, refl, refl))))

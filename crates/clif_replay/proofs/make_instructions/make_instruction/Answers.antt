@@ -1,8 +1,8 @@
-use Rattle.std.proofs.Common.{◌∙◌, ap, refl}
+use Rattle.std.proofs.Common.{◌∙◌, [], ap, refl}
 use Rattle.std.proofs.lemmas.Result.{err_from_is_err_and}
 use Rattle.clif_replay.specs.declared.script.Answer.TheVariants as answer
 use Rattle.clif_replay.proofs.Making.{answered-sound, made-answer, made-misused, made-refused}
-use Rattle.std.specs.Prelude.{Err, None}
+use Rattle.std.specs.Prelude.{Err}
 use Rattle.clif_replay.proofs.ReadyLaws.{answers-exist, ready-more, value-exists}
 use Rattle.clif_replay.proofs.Conditions.{has-current}
 use Rattle.clif_replay.proofs.Planning.{contexts-exist, destinations-lead, entries-exist, instruction-named, operands-exist, opens-planned, plan-same, planned-full}
@@ -51,4 +51,4 @@ returns c =
     (λ declared calls ready. plan-same calls c.args.builder.now c.args.answers.now ready c.args.plan.now ∙ c.in_ok-planned.ensures.may)
     (λ declared calls ready.
     let shape = instruction-named calls c.args.builder.now c.args.answers.now ready c.args.plan.now _ _ c.in_ok-planned.ensures.found in
-    (_, ready-more calls _ c.args.builder.now new _ (answer.Inst c.in_ok-inst.inst) ready tt done.grows.6 (done.stands declared calls None _ ready.stands shape) (_, _, refl, refl)))
+    (_, ready-more calls _ c.args.builder.now new _ (answer.Inst c.in_ok-inst.inst) ready tt done.grows.6 (done.stands declared calls [] _ ready.stands shape) (_, _, refl, refl)))

@@ -1,11 +1,11 @@
-use Rattle.std.proofs.Common.{refl, ap, List, []}
+use Rattle.std.proofs.Common.{refl, ap, List, [], ◌∷◌}
 use Rattle.std.specs.Prelude.{Option, Some, unwrap_or}
 use Rattle.clif_meaning.specs.Acceptance.{table_branch}
 use Rattle.clif_meaning.specs.Instruction.{Edge}
 use Rattle.clif_meaning.specs.Name.{Name}
-use Rattle.clif_meaning.specs.Request.{Build}
+use Rattle.clif_meaning.specs.Request.{Build, ServedBy}
 use Rattle.clif_inst_builder.specs.Shapes.{edge_to}
-use Rattle.cranelift_frontend.proofs.LedgerShaped.{binary-shape, brif-shape, compare-shape, concat-shape, cond_trap-shape, convert-shape, f128const-shape, float-shape, iconst-shape, jump-shape, load-shape, return-shape, select-shape, split-shape, stack-shape, stack_store-shape, store-shape, table-shape, trap-shape, unary-shape, vconst-shape}
+use Rattle.cranelift_frontend.proofs.LedgerShaped.{binary-shape, brif-shape, call-shape, call_indirect-shape, compare-shape, concat-shape, cond_trap-shape, convert-shape, f128const-shape, float-shape, iconst-shape, jump-shape, load-shape, return-shape, select-shape, split-shape, stack-shape, stack_store-shape, store-shape, table-shape, trap-shape, unary-shape, vconst-shape}
 use Rattle.cranelift_frontend.proofs.laws.requests_ask_for_their_shapes.Goals as goal
 
 pub returns : goal.returns
@@ -31,6 +31,9 @@ returns c = λ calls f d p agrees. record {
   brif = λ condition value first second taken other names one two.
       (_, _, refl, brif-shape calls f d p agrees condition value first second taken other _ refl names one two);
   br_table = λ index value number edges table names found named.
-      (_, _, ap (λ (o : Option (List (Edge Name Name))). Build (Some number) (table_branch index (unwrap_or o []))) found, table-shape calls f index value edges table names named);
+      (_, _, ap (λ (o : Option (List (Edge Name Name))). Build (ServedBy number ∷ []) (table_branch index (unwrap_or o []))) found, table-shape calls f index value edges table names named);
+  call_function = λ function names values numbered. (_, _, refl, call-shape calls f d p agrees function names values numbered);
+  call_indirect = λ signature callee address names values called numbered.
+      (_, _, refl, call_indirect-shape calls f d p agrees signature callee address names values called numbered);
   return_ = λ names values numbered. (_, _, refl, return-shape calls f names values numbered);
 }

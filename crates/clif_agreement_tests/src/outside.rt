@@ -1,0 +1,122 @@
+//! Scripts that make outside calls, and the functions that are built of them, in a world that answers.
+#![tactic(auto)]
+
+use crate::support::{built, script_of, zeros};
+use clif_interpreter::{Callee, End, Ending, Event, Memory, Outside, World, function, script};
+use clif_types::{EntityRef, ExternalName, SigRef};
+use cranelift_frontend::FunctionBuilderContext;
+use std::alloc::{AllocError, Global};
+use std::test::Fail;
+
+// Answers at each place ten times what the call was passed first, and the place; and counts calls in the first byte of
+// memory.
+#[derive(Clone, Copy)]
+struct TenTimes;
+
+impl Outside for TenTimes {
+    fn thrown(&self, _events: &[Event], _items: usize) -> Option<usize> {
+        None
+    }
+
+    fn value(&self, events: &[Event], place: usize) -> u128 {
+        let passed = match events.last() {
+            Some(event) => event.arguments.first().copied().unwrap_or(0),
+            None => 0,
+        };
+        passed.wrapping_mul(10).wrapping_add(place as u128)
+    }
+
+    fn change(&self, events: &[Event], memory: &mut Memory) {
+        memory.put(0, (events.len() % 256) as u8);
+    }
+}
+
+// A loop that calls as often as the argument says: `count` goes down, and `last` is what the calls gave.
+const CALLING_LOOP: &str = "\
+function %calling_loop (i64, i32) -> i32, i64 system_v
+s = import_signature (i32) -> i32, i64 system_v
+t = import_signature (i64, i32) system_v
+f = import_function %f s
+count = declare_var i32
+last = declare_var i64
+entry = create_block
+head = create_block
+body = create_block
+done = create_block
+p, x = append_block_params_for_function_params entry
+switch_to_block entry
+seal_block entry
+def_var count x
+zero = iconst.i64 0
+def_var last zero
+jump head
+switch_to_block head
+left = use_var count
+brif left, body, done
+switch_to_block body
+seal_block body
+tens, more = call f (left)
+def_var last more
+call_indirect t p (more, tens)
+one = iconst.i32 1
+less = isub left one
+def_var count less
+jump head
+seal_block head
+seal_block done
+switch_to_block done
+result = use_var count
+given = use_var last
+return result, given
+";
+
+// A call of `%f` with this argument.
+fn named(alloc: Global, argument: u128) -> Result<Event, AllocError> {
+    Ok(Event {
+        callee: Callee::Named(ExternalName::testcase(String::from_str(alloc, "f")?)),
+        arguments: vec![in alloc; argument]?,
+    })
+}
+
+// A call of what lies at address 64, by the second signature.
+fn at_address(alloc: Global, first: u128, second: u128) -> Result<Event, AllocError> {
+    Ok(Event {
+        callee: Callee::AtAddress(64, SigRef::new(1)),
+        arguments: vec![in alloc; first, second]?,
+    })
+}
+
+/// Two rounds: `%f` gets 2 and gives 20 and 21, and then gets 1 and gives 10 and 11.
+#[test]
+fn calling_loop(rt: HostRuntime) -> Result<(), Fail> {
+    let alloc = rt.alloc();
+    let text = script_of(alloc, CALLING_LOOP)?;
+    let mut ctx = FunctionBuilderContext::new(alloc);
+    let func = built(alloc, &text, &mut ctx)?;
+    let before = zeros(alloc)?;
+    let mut after = zeros(alloc)?;
+    after.put(0, 4);
+    let ending = Ending {
+        events: vec![in alloc;
+            named(alloc, 2)?,
+            at_address(alloc, 21, 20)?,
+            named(alloc, 1)?,
+            at_address(alloc, 11, 10)?,
+        ]?,
+        end: End::Returned(vec![in alloc; 0, 11]?),
+        memory: after,
+    };
+    let world = World {
+        arguments: &[64, 2],
+        memory: &before,
+        pointer_width: text.config.pointer_width,
+        slots: before.start(),
+        outside: &TenTimes,
+    };
+    let calls = text.calls.as_slice();
+    let shown = script::run(alloc, calls, &text.signature, &world, 100)?;
+    assert!(rt; shown == ending);
+    let shown = function::run(alloc, &func, &world, 100)?;
+    assert!(rt; shown == ending);
+    Ok(())
+}

@@ -1,0 +1,47 @@
+//! The calls of a script that make an outside call.
+ghost use Rattle.std.specs.Prelude.{◌≡◌, IfOk};
+ghost use Rattle.clif_calls.specs.Outside.{operands_of};
+
+use crate::call::Name;
+use clif_types::{FuncRef, SigRef};
+use std::alloc::{AllocError, Global};
+
+/// An instruction that calls what is outside the function, with names in place of values. Its results are what the
+/// signature of what it calls returns.
+///
+/// Each variant is the instruction of its name. A function and a signature are named by their numbers, and were imported.
+#[derive(Drop)]
+pub enum OutsideCall {
+    /// `call function(x, ..)`: calls a function that was imported.
+    Call {
+        function: FuncRef,
+        args: Vec<Name>,
+    },
+    /// `call_indirect signature, callee(x, ..)`: calls what is at an address, by a signature that was imported.
+    CallIndirect {
+        signature: SigRef,
+        callee: Name,
+        args: Vec<Name>,
+    },
+}
+
+impl OutsideCall {
+    /// The values that it names, in order: what is called, where that is an address, and then what is passed.
+    ///
+    /// # Errors
+    ///
+    /// Memory is refused.
+    pub fn operands(&self, alloc: Global) -> Result<Vec<Name>, AllocError>
+        ensures { IfOk result (λ names. names.items ≡ operands_of self.now) }
+    {
+        let mut names = Vec::new(alloc);
+        match self {
+            OutsideCall::Call { args, .. } => names.extend_from_slice(args.as_slice())?,
+            OutsideCall::CallIndirect { callee, args, .. } => {
+                names.push(*callee)?;
+                names.extend_from_slice(args.as_slice())?;
+            }
+        }
+        Ok(names)
+    }
+}

@@ -1,0 +1,13 @@
+pub mod Names
+pub mod Steps
+pub mod Lines
+pub mod Walks
+pub mod Alike
+pub mod Turns
+pub mod Same
+pub mod Negation
+pub mod Deciding
+pub mod Constants
+pub mod Values
+pub mod Walking
+pub mod ScriptsAlone

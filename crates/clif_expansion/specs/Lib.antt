@@ -1,0 +1,11 @@
+pub mod Reading
+pub mod Line
+pub mod Walk
+pub mod Code
+pub mod Expansion
+pub mod Laws
+pub mod Examples
+pub mod WalkExamples
+pub mod Constants
+pub mod WalkLaws
+pub mod ScriptsAlone

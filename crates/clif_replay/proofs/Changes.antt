@@ -1,0 +1,105 @@
+-- The tests before a branch is changed are the condition of that request in the ledger.
+use Rattle.std.proofs.Common.{ℕ, List, refl, ap, sym, ◌∙◌}
+use Rattle.std.specs.Prelude.{◌≡◌, ◌↔◌, ◌&&◌, Bool, IsTrue, None, Some, false, not, true}
+use Rattle.std.specs.List.{list_any}
+use Rattle.std.proofs.lemmas.Bool.{and_parts, false_from_ne_true, false≢true, not-true}
+use Rattle.clif_types.specs.Signature.{SignatureShape}
+use Rattle.clif_instructions.specs.Members.{Stands, stands_in}
+use Rattle.clif_records.specs.Tables.{is_yes}
+use Rattle.clif_ssa.specs.Ssa.{predecessors_of, sealed_of}
+use Rattle.clif_meaning.specs.Name.{same_name}
+use Rattle.clif_meaning.specs.Acceptance.{allows}
+use Rattle.clif_meaning.specs.Ledger.{BlockState, block_state, has_block, has_instruction, is_sealed, leads_to}
+use Rattle.clif_meaning.specs.Request.{AnsweredCall, ChangeJumpDestination}
+use Rattle.cranelift_frontend.specs.declared.builder.FunctionBuilder.{FunctionBuilder}
+use Rattle.cranelift_frontend.specs.LeadsLaw.{LeadsAreReadByNumber}
+use Rattle.cranelift_frontend.specs.Ledger.{NamesBlock, NamesInstruction, ledger_of}
+use Rattle.clif_calls.specs.declared.call.Name.{Name}
+use Rattle.clif_replay.specs.declared.script.Answer.{Answer}
+use Rattle.clif_replay.specs.Ready.{IsReady, block_of, can_change, can_seal, inst_of}
+use Rattle.clif_replay.specs.Requests.{name_of}
+use Rattle.clif_replay.proofs.Conditions.{no-state, sealed-same}
+use Rattle.clif_replay.proofs.Placements.{Stands-from_test, test-from_Stands}
+use Rattle.clif_replay.proofs.ReadyLaws.{block-found, block-missing, inst-found, inst-missing, read}
+
+-- a test that tells whether a number stands in a list is that test
+pub stands-same : (r : Bool) (x : ℕ) (xs : List ℕ) → (IsTrue r ↔ Stands x xs) → r ≡ stands_in x xs
+stands-same true x xs tells = sym (test-from_Stands x xs (tells.0 refl))
+stands-same false x xs tells = sym (false_from_ne_true (stands_in x xs) (λ there. false≢true (tells.1 (Stands-from_test x xs there))))
+
+-- no instruction
+pub change-no_branch : {declared : SignatureShape} (calls : List AnsweredCall) (b : FunctionBuilder) (answers : List Answer) → IsReady declared calls b answers
+    → (branch from to : Name) → inst_of answers branch ≡ None → allows (ledger_of calls) (ChangeJumpDestination (name_of branch) (name_of from) (name_of to)) ≡ false
+change-no_branch calls b answers ready branch from to missing = let none = inst-missing calls b answers ready branch missing in rw none refl
+
+-- no block that it could lead to
+pub change-no_source : {declared : SignatureShape} (calls : List AnsweredCall) (b : FunctionBuilder) (answers : List Answer) → IsReady declared calls b answers
+    → (branch from to : Name) → block_of answers from ≡ None → allows (ledger_of calls) (ChangeJumpDestination (name_of branch) (name_of from) (name_of to)) ≡ false
+change-no_source calls b answers ready branch from to missing =
+    by (has_instruction (ledger_of calls) (name_of branch)) (leads_to (ledger_of calls) (name_of branch) (name_of from)) (is_sealed (ledger_of calls) (name_of from))
+    (has_block (ledger_of calls) (name_of to)) (is_sealed (ledger_of calls) (name_of to))
+    (no-state (block_state (ledger_of calls) (name_of from)) (λ (state : BlockState). list_any (same_name (name_of branch)) state.predecessors)
+    (block-missing calls b answers ready from missing))
+  where
+    by : (there leads closed has full : Bool) → leads ≡ false → ((((there && leads) && not closed) && has) && not full) ≡ false
+    by true leads closed has full is = rw is refl
+    by false leads closed has full is = refl
+
+-- no block that it is to lead to
+pub change-no_target : {declared : SignatureShape} (calls : List AnsweredCall) (b : FunctionBuilder) (answers : List Answer) → IsReady declared calls b answers
+    → (branch from to : Name) → block_of answers to ≡ None → allows (ledger_of calls) (ChangeJumpDestination (name_of branch) (name_of from) (name_of to)) ≡ false
+change-no_target calls b answers ready branch from to missing =
+    by (has_instruction (ledger_of calls) (name_of branch)) (leads_to (ledger_of calls) (name_of branch) (name_of from)) (is_sealed (ledger_of calls) (name_of from))
+    (has_block (ledger_of calls) (name_of to)) (is_sealed (ledger_of calls) (name_of to)) (block-missing calls b answers ready to missing)
+  where
+    by : (there leads closed has full : Bool) → has ≡ false → ((((there && leads) && not closed) && has) && not full) ≡ false
+    by true true true has full is = refl
+    by true true false has full is = rw is refl
+    by true false closed has full is = refl
+    by false leads closed has full is = refl
+
+pub change-some : LeadsAreReadByNumber → {declared : SignatureShape} (calls : List AnsweredCall) (b : FunctionBuilder) (answers : List Answer) → IsReady declared calls b answers
+    → (branch from to : Name) (inst source target : ℕ) → inst_of answers branch ≡ Some inst → block_of answers from ≡ Some source → block_of answers to ≡ Some target
+    → allows (ledger_of calls) (ChangeJumpDestination (name_of branch) (name_of from) (name_of to)) ≡ can_change b inst source target
+change-some law {declared} calls b answers ready branch from to inst source target found_branch found_from found_to =
+    by (has_instruction (ledger_of calls) (name_of branch)) (leads_to (ledger_of calls) (name_of branch) (name_of from)) (is_sealed (ledger_of calls) (name_of from))
+    (has_block (ledger_of calls) (name_of to)) (is_sealed (ledger_of calls) (name_of to))
+    (stands_in inst (predecessors_of b.ctx.now.ssa source)) (is_yes (sealed_of b.ctx.now.ssa source)) (is_yes (sealed_of b.ctx.now.ssa target))
+    names_branch.is_instruction (law declared calls b (name_of branch) (name_of from) inst source ready.stands names_branch names_from)
+    (sealed-same calls b answers ready (name_of from) source ((read calls b answers ready).named (name_of from) source names_from))
+    names_to.is_block
+    (sealed-same calls b answers ready (name_of to) target ((read calls b answers ready).named (name_of to) target names_to))
+  where
+    names_branch : NamesInstruction calls (name_of branch) inst
+    names_branch = inst-found calls b answers ready branch inst found_branch
+
+    names_from : NamesBlock calls (name_of from) source
+    names_from = block-found calls b answers ready from source found_from
+
+    names_to : NamesBlock calls (name_of to) target
+    names_to = block-found calls b answers ready to target found_to
+
+    cases : (l s t : Bool) → ((((true && l) && not s) && true) && not t) ≡ ((l && not s) && not t)
+    cases true true t = refl
+    cases true false t = refl
+    cases false s t = refl
+
+    by : (there leads closed has full l s t : Bool) → there ≡ true → leads ≡ l → closed ≡ s → has ≡ true → full ≡ t
+        → ((((there && leads) && not closed) && has) && not full) ≡ ((l && not s) && not t)
+    by there leads closed has full l s t one two three four five = rw (one, two, three, four, five) (cases l s t)
+
+-- what the tests tell where the branch may be changed
+pub record MayChange (b : FunctionBuilder) (inst source target : ℕ) : Type 0 where
+  pub leads : Stands inst (predecessors_of b.ctx.now.ssa source)
+  pub source_open : is_yes (sealed_of b.ctx.now.ssa source) ≡ false
+  pub target_open : is_yes (sealed_of b.ctx.now.ssa target) ≡ false
+
+pub may-change : (b : FunctionBuilder) (inst source target : ℕ) → can_change b inst source target ≡ true → MayChange b inst source target
+may-change b inst source target may =
+    let both = and_parts (stands_in inst (predecessors_of b.ctx.now.ssa source) && can_seal b source) (can_seal b target) may in
+    let first = and_parts (stands_in inst (predecessors_of b.ctx.now.ssa source)) (can_seal b source) both.0 in
+    record {
+      leads = Stands-from_test inst (predecessors_of b.ctx.now.ssa source) first.0;
+      source_open = not-true (is_yes (sealed_of b.ctx.now.ssa source)) first.1;
+      target_open = not-true (is_yes (sealed_of b.ctx.now.ssa target)) both.1;
+    }

@@ -1,0 +1,233 @@
+//! The calls that build one function, as the parser makes them.
+use crate::error::{Fault, ToyError};
+use crate::parser::Parser;
+use crate::program::{Header, signature_of};
+use clif_calls::{Call, Edge, EntryCall, Name, OutsideCall, PlainInstruction};
+use clif_records::Variable;
+use clif_types::types::I64;
+use clif_types::{EntityRef, ExtFuncData, ExternalName, FuncRef, SigRef};
+use std::alloc::Global;
+
+/// A variable of the language, and the builder's that holds it.
+#[derive(Clone, Copy)]
+struct Local<'a> {
+    name: &'a str,
+    variable: Variable,
+}
+
+/// A function while it is read: the words, the calls so far, and what is in scope.
+#[derive(Drop)]
+pub(crate) struct Compiler<'t, 'a> {
+    pub(crate) alloc: Global,
+    pub(crate) parser: Parser<'t, 'a>,
+    // the functions of the program
+    headers: &'t [Header<'a>],
+    pub(crate) calls: Vec<Call>,
+    // the innermost last
+    locals: Vec<Local<'a>>,
+    // how many variables were declared
+    variables: usize,
+    // the functions that were called so far, each with a signature of its own
+    imported: Vec<&'a str>,
+    /// Whether there is a current block that has no terminator yet, so that what comes next can be reached.
+    pub(crate) is_open: bool,
+}
+
+impl<'t, 'a> Compiler<'t, 'a> {
+    /// Before the first call.
+    pub(crate) fn new(
+        alloc: Global,
+        parser: Parser<'t, 'a>,
+        headers: &'t [Header<'a>],
+    ) -> Compiler<'t, 'a> {
+        Compiler {
+            alloc,
+            parser,
+            headers,
+            calls: Vec::new(alloc),
+            locals: Vec::new(alloc),
+            variables: 0,
+            imported: Vec::new(alloc),
+            is_open: false,
+        }
+    }
+
+    // Makes a call; the name is that of its first answer.
+    fn call(&mut self, call: Call) -> Result<Name, ToyError<'a>> {
+        let place = self.calls.len();
+        self.calls.push(call)?;
+        Ok(Name { place, answer: 0 })
+    }
+
+    /// Makes an instruction; the name is that of its result.
+    pub(crate) fn plain(&mut self, instruction: PlainInstruction) -> Result<Name, ToyError<'a>> {
+        let place = self.call(Call::Plain(instruction))?.place;
+        Ok(Name { place, answer: 1 })
+    }
+
+    pub(crate) fn create_block(&mut self) -> Result<Name, ToyError<'a>> {
+        self.call(Call::CreateBlock)
+    }
+
+    pub(crate) fn seal(&mut self, block: Name) -> Result<(), ToyError<'a>> {
+        self.call(Call::SealBlock { block })?;
+        Ok(())
+    }
+
+    /// Goes on in this block, to which more branches may come.
+    pub(crate) fn switch_to(&mut self, block: Name) -> Result<(), ToyError<'a>> {
+        self.call(Call::SwitchToBlock { block })?;
+        self.is_open = true;
+        Ok(())
+    }
+
+    /// Goes on in this block, to which all branches were made.
+    pub(crate) fn enter(&mut self, block: Name) -> Result<(), ToyError<'a>> {
+        self.seal(block)?;
+        self.switch_to(block)
+    }
+
+    /// Adds the function's parameters to its entry block, and a variable for each.
+    pub(crate) fn enter_function(&mut self, parameters: &[&'a str]) -> Result<(), ToyError<'a>> {
+        let entry = self.create_block()?;
+        let call = Call::AppendBlockParamsForFunctionParams { block: entry };
+        let place = self.call(call)?.place;
+        self.enter(entry)?;
+        for (answer, name) in parameters.iter().enumerate() {
+            self.declare(*name, Name { place, answer })?;
+        }
+        Ok(())
+    }
+
+    fn edge_to(&self, block: Name) -> Edge {
+        let args = Vec::new(self.alloc);
+        Edge { block, args }
+    }
+
+    /// Ends the block with a jump to another one, if it has no end yet; answers whether it had none.
+    pub(crate) fn jump(&mut self, block: Name) -> Result<bool, ToyError<'a>> {
+        if !self.is_open {
+            return Ok(false);
+        }
+        let destination = self.edge_to(block);
+        self.call(Call::Jump { destination })?;
+        self.is_open = false;
+        Ok(true)
+    }
+
+    /// Ends the block: where the condition isn't 0, the first block comes next, and else the second.
+    pub(crate) fn branch(
+        &mut self,
+        condition: Name,
+        arm: Name,
+        other: Name,
+    ) -> Result<(), ToyError<'a>> {
+        let block_then = self.edge_to(arm);
+        let block_else = self.edge_to(other);
+        self.call(Call::Brif {
+            condition,
+            block_then,
+            block_else,
+        })?;
+        self.is_open = false;
+        Ok(())
+    }
+
+    /// Ends the block with a return.
+    pub(crate) fn return_value(&mut self, value: Name) -> Result<(), ToyError<'a>> {
+        let mut values = Vec::new(self.alloc);
+        values.push(value)?;
+        self.call(Call::Return { values })?;
+        self.is_open = false;
+        Ok(())
+    }
+
+    /// A new variable of this name, which holds the value. It hides one that has the name already.
+    pub(crate) fn declare(&mut self, name: &'a str, value: Name) -> Result<(), ToyError<'a>> {
+        if self.variables >= 0xffff_fffe {
+            return Err(self.parser.fault(Fault::Full));
+        }
+        let variable = Variable::new(self.variables);
+        self.variables += 1;
+        self.call(Call::DeclareVar { ty: I64 })?;
+        if self.locals.push(Local { name, variable }).is_err() {
+            return Err(ToyError::Memory);
+        }
+        self.assign(variable, value)
+    }
+
+    pub(crate) fn assign(&mut self, variable: Variable, value: Name) -> Result<(), ToyError<'a>> {
+        self.call(Call::DefVar { variable, value })?;
+        Ok(())
+    }
+
+    /// The value that a variable has here.
+    pub(crate) fn use_variable(&mut self, variable: Variable) -> Result<Name, ToyError<'a>> {
+        self.call(Call::UseVar { variable })
+    }
+
+    /// The variable of this name that was declared last, of those in scope.
+    pub(crate) fn find(&self, name: &str) -> Option<Variable> {
+        let local = self.locals.iter().rev().find(|local| local.name == name)?;
+        Some(local.variable)
+    }
+
+    /// How many parameters the function of this name has, if the program has it.
+    pub(crate) fn parameters_of(&self, name: &str) -> Option<usize> {
+        let header = self.headers.iter().find(|header| header.name == name)?;
+        Some(header.parameters.len())
+    }
+
+    /// Calls a function of the program, which is imported at its first call; the name is that of its result.
+    pub(crate) fn call_function(
+        &mut self,
+        name: &'a str,
+        args: Vec<Name>,
+    ) -> Result<Name, ToyError<'a>> {
+        let known = self.imported.iter().position(|other| *other == name);
+        let number = known.unwrap_or(self.imported.len());
+        if number >= 0xffff_fffe {
+            return Err(self.parser.fault(Fault::Full));
+        }
+        if known.is_none() {
+            self.import(name, args.len(), SigRef::new(number))?;
+        }
+        let function = FuncRef::new(number);
+        let place = self
+            .call(Call::Outside(OutsideCall::Call { function, args }))?
+            .place;
+        Ok(Name { place, answer: 1 })
+    }
+
+    // Imports a function with so many parameters, by a signature that has this number.
+    fn import(
+        &mut self,
+        name: &'a str,
+        parameters: usize,
+        signature: SigRef,
+    ) -> Result<(), ToyError<'a>> {
+        let shape = signature_of(self.alloc, parameters)?;
+        self.call(Call::Entry(EntryCall::ImportSignature(shape)))?;
+        let mut text = String::new(self.alloc);
+        text.push_str(name)?;
+        let function = ExtFuncData {
+            name: ExternalName::testcase(text),
+            signature,
+            colocated: false,
+            patchable: false,
+        };
+        self.call(Call::Entry(EntryCall::ImportFunction(function)))?;
+        self.imported.push(name)?;
+        Ok(())
+    }
+
+    /// How many variables are in scope.
+    pub(crate) fn scope(&self) -> usize {
+        self.locals.len()
+    }
+
+    /// Leaves a scope: so many variables stay.
+    pub(crate) fn leave_scope(&mut self, outer: usize) {
+        self.locals.truncate(outer);
+    }
+}
