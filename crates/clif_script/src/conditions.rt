@@ -486,7 +486,10 @@ impl<'a> Ledger<'a> {
     fn add_branch(&mut self, call: &'a Call) -> Result<(), AllocError> {
         let none: &[usize] = &[];
         let places = match call {
-            Call::BrTable { table, .. } => self.table(*table).unwrap_or(none),
+            Call::BrTable { table, .. } => match self.tables.get(table.index()) {
+                Some(Some(places)) => places.as_slice(),
+                _ => none,
+            },
             _ => none,
         };
         let edges = edges_of(self.alloc, self.calls, call, places)?;
