@@ -3,9 +3,12 @@
 
 use crate::support::{built, script_of, zeros};
 use clif_interpreter::{Callee, End, Ending, Event, Memory, Outside, World, function, script};
+use clif_ir::Function;
+use clif_text::Script;
 use clif_types::{EntityRef, ExternalName, SigRef};
 use cranelift_frontend::FunctionBuilderContext;
 use std::alloc::{AllocError, Global};
+use std::process::Abort;
 use std::test::Fail;
 
 // Answers at each place ten times what the call was passed first, and the place; and counts calls in the first byte of
@@ -86,7 +89,61 @@ fn at_address(alloc: Global, first: u128, second: u128) -> Result<Event, AllocEr
     })
 }
 
-/// Two rounds: `%f` gets 2 and gives 20 and 21, and then gets 1 and gives 10 and 11.
+// The calls of two rounds: `%f` gets 2 and gives 20 and 21, and then gets 1 and gives 10 and 11.
+fn rounds(alloc: Global) -> Result<Vec<Event>, AllocError> {
+    let mut events = Vec::new(alloc);
+    for (count, first, second) in [(2, 21, 20), (1, 11, 10)] {
+        let call = named(alloc, count)?;
+        if events.push(call).is_err() {
+            return Err(AllocError);
+        }
+        let call = at_address(alloc, first, second)?;
+        if events.push(call).is_err() {
+            return Err(AllocError);
+        }
+    }
+    Ok(events)
+}
+
+// How both runs end after two rounds, of which each call is counted in memory.
+fn ended(alloc: Global) -> Result<Ending, Fail> {
+    let mut memory = zeros(alloc)?;
+    memory.put(0, 4);
+    let events = rounds(alloc)?;
+    let values = vec![in alloc; 0, 11]?;
+    Ok(Ending {
+        events,
+        end: End::Returned(values),
+        memory,
+    })
+}
+
+// The script, run in a world, ends so.
+fn script_ends(
+    rt: &impl Abort,
+    alloc: Global,
+    text: &Script,
+    world: &World<'_, TenTimes>,
+    ending: &Ending,
+) -> Result<(), Fail> {
+    let shown = script::run(alloc, text.calls.as_slice(), &text.signature, world, 100)?;
+    assert!(rt; shown == *ending);
+    Ok(())
+}
+
+// The function, run in a world, ends so.
+fn function_ends(
+    rt: &impl Abort,
+    alloc: Global,
+    func: &Function,
+    world: &World<'_, TenTimes>,
+    ending: &Ending,
+) -> Result<(), Fail> {
+    let shown = function::run(alloc, func, world, 100)?;
+    assert!(rt; shown == *ending);
+    Ok(())
+}
+
 #[test]
 fn calling_loop(rt: HostRuntime) -> Result<(), Fail> {
     let alloc = rt.alloc();
@@ -94,18 +151,6 @@ fn calling_loop(rt: HostRuntime) -> Result<(), Fail> {
     let mut ctx = FunctionBuilderContext::new(alloc);
     let func = built(alloc, &text, &mut ctx)?;
     let before = zeros(alloc)?;
-    let mut after = zeros(alloc)?;
-    after.put(0, 4);
-    let ending = Ending {
-        events: vec![in alloc;
-            named(alloc, 2)?,
-            at_address(alloc, 21, 20)?,
-            named(alloc, 1)?,
-            at_address(alloc, 11, 10)?,
-        ]?,
-        end: End::Returned(vec![in alloc; 0, 11]?),
-        memory: after,
-    };
     let world = World {
         arguments: &[64, 2],
         memory: &before,
@@ -113,10 +158,7 @@ fn calling_loop(rt: HostRuntime) -> Result<(), Fail> {
         slots: before.start(),
         outside: &TenTimes,
     };
-    let calls = text.calls.as_slice();
-    let shown = script::run(alloc, calls, &text.signature, &world, 100)?;
-    assert!(rt; shown == ending);
-    let shown = function::run(alloc, &func, &world, 100)?;
-    assert!(rt; shown == ending);
-    Ok(())
+    let ending = ended(alloc)?;
+    script_ends(&rt, alloc, &text, &world, &ending)?;
+    function_ends(&rt, alloc, &func, &world, &ending)
 }
