@@ -1,4 +1,6 @@
 //! Programs: the functions of a text.
+ghost use Rattle.std.specs.Prelude.{◌<◌};
+
 use crate::error::{Fault, ToyError};
 use crate::function::Compiler;
 use crate::parser::Parser;
@@ -157,7 +159,9 @@ pub fn print<O: io::Write, E: io::Write>(
     bytes: &[u8],
     out: &mut O,
     err: &mut E,
-) -> u8 {
+) -> u8
+    ensures { result < 3 }
+{
     let Ok(text) = str::from_utf8(bytes) else {
         let _ = writeln!(err, "expected UTF-8 text");
         return 2;
@@ -173,7 +177,9 @@ pub fn print<O: io::Write, E: io::Write>(
 }
 
 // Tells an error, and answers its status.
-fn tell<E: io::Write>(error: ToyError<'_>, err: &mut E) -> u8 {
+fn tell<E: io::Write>(error: ToyError<'_>, err: &mut E) -> u8
+    ensures { result < 3 }
+{
     let _ = writeln!(err, "{error}");
     match error {
         ToyError::At(..) => 2,
