@@ -21,3 +21,5 @@ mod refusals;
 mod support;
 #[cfg(test)]
 mod tables;
+#[cfg(test)]
+mod tries;

@@ -1,4 +1,5 @@
 mod Taking
+mod TakingTables
 mod Scopes
 mod Headers
 pub mod Offsets

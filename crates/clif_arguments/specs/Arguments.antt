@@ -7,15 +7,21 @@ use Rattle.clif_types.specs.declared.extname.UserFuncName.TheVariants as func_na
 use Rattle.clif_words.specs.Spelling.{IsDecimal, IsOffset}
 use Rattle.clif_calls.specs.declared.call.Name.{Name}
 use Rattle.clif_calls.specs.declared.call.Edge.{Edge}
+use Rattle.clif_calls.specs.declared.table.Passed.{Passed}
+use Rattle.clif_calls.specs.declared.table.Passed.TheVariants as passed
+use Rattle.clif_calls.specs.declared.table.TableEdge.{TableEdge}
+use Rattle.clif_calls.specs.declared.table.TableItem.{TableItem}
+use Rattle.clif_calls.specs.declared.table.TableItem.TheVariants as item
 use Rattle.clif_arguments.specs.Header.{IsFunctionName}
 
 -- what names stand for: the answer that a given name stands for, and the number of the variable, of the stack slot, of the
--- jump table, of the signature, or of the function that an answer is
+-- jump table, of the exception table, of the signature, or of the function that an answer is
 pub record Names : Type 0 where
   pub given : List ℕ → Option Name
   pub variable : Name → ℕ
   pub slot : Name → ℕ
   pub jump_table : Name → ℕ
+  pub exception_table : Name → ℕ
   pub signature : Name → ℕ
   pub function : Name → ℕ
 
@@ -48,6 +54,10 @@ IsSlot names = IsNumbered (codes "ss") names.slot names
 abbrev pub IsJumpTable : Names → List ℕ → ℕ → Type 0
 IsJumpTable names = IsNumbered (codes "jt") names.jump_table names
 
+-- the exception table of this number: as the answer of the call that made it, or as `extableN`
+abbrev pub IsExceptionTable : Names → List ℕ → ℕ → Type 0
+IsExceptionTable names = IsNumbered (codes "extable") names.exception_table names
+
 -- the signature of this number: as the answer of the call that imported it, or as `sigN`
 abbrev pub IsSignatureName : Names → List ℕ → ℕ → Type 0
 IsSignatureName names = IsNumbered (codes "sig") names.signature names
@@ -70,6 +80,45 @@ AreClosed names words answers = (inner : List (List ℕ)) × (words ≡ codes "(
 -- the answers that end a line: in parentheses or not
 abbrev pub AreLast : Names → List (List ℕ) → List Name → Type 0
 AreLast names words answers = AreClosed names words answers ⊎ AreAnswers names words answers
+
+-- a word stands for a part of a call: `ret0` or `exn1`
+abbrev pub IsPart : List ℕ → Passed → Type 0
+IsPart word (passed.Value name) = ⊥
+IsPart word (passed.Returned place) = (digits : List ℕ) × (word ≡ codes "ret" ++ digits) × IsDecimal digits place
+IsPart word (passed.Thrown place) = (digits : List ℕ) × (word ≡ codes "exn" ++ digits) × IsDecimal digits place
+
+-- a word stands for what an edge of a table passes: for an answer, or for a part of a call where no such name was given
+abbrev pub IsPassed : Names → List ℕ → Passed → Type 0
+IsPassed names word (passed.Value name) = IsAnswer names word name
+IsPassed names word part = IsPart word part × (names.given word ≡ None)
+
+-- the words stand for it, one for one
+abbrev pub ArePassed : Names → List (List ℕ) → List Passed → Type 0
+ArePassed names [] [] = Unit {0}
+ArePassed names [] (one ∷ args) = ⊥
+ArePassed names (word ∷ words) [] = ⊥
+ArePassed names (word ∷ words) (one ∷ args) = IsPassed names word one × ArePassed names words args
+
+-- the words that end a line stand for it, in parentheses or not
+abbrev pub AreLastPassed : Names → List (List ℕ) → List Passed → Type 0
+AreLastPassed names words args = ((inner : List (List ℕ)) × (words ≡ codes "(" ∷ (inner ++ codes ")" ∷ [])) × ArePassed names inner args) ⊎ ArePassed names words args
+
+-- an edge of a table, which ends a line: the block, and what is passed, in parentheses or not
+abbrev pub IsTableEdge : Names → List (List ℕ) → TableEdge → Type 0
+IsTableEdge names words edge =
+    (block : List ℕ) × (rest : List (List ℕ)) × (words ≡ block ∷ rest) × IsAnswer names block edge.block × AreLastPassed names rest edge.args.items
+
+-- two words stand for an item of an exception table: `tag7 c`, `default c` or `context v`
+abbrev pub IsItem : Names → (kind what : List ℕ) → TableItem → Type 0
+IsItem names kind what (item.Tag tag edge) = (digits : List ℕ) × (kind ≡ codes "tag" ++ digits) × IsDecimal digits tag × IsAnswer names what edge
+IsItem names kind what (item.Default edge) = (kind ≡ codes "default") × IsAnswer names what edge
+IsItem names kind what (item.Context value) = (kind ≡ codes "context") × IsAnswer names what value
+
+-- the words stand for the items, two for each
+abbrev pub AreItems : Names → List (List ℕ) → List TableItem → Type 0
+AreItems names [] [] = Unit {0}
+AreItems names (kind ∷ what ∷ words) (one ∷ items) = IsItem names kind what one × AreItems names words items
+AreItems names _ _ = ⊥
 
 -- an edge: the block, and what is passed in parentheses, which may be left out where nothing is passed
 abbrev pub IsEdge : Names → List (List ℕ) → Edge → Type 0

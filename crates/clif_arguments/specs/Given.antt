@@ -18,6 +18,7 @@ numbered_kind (call.Entry (entry.CreateSizedStackSlot size align_shift)) = Some 
 numbered_kind (call.Entry (entry.ImportSignature signature)) = Some kind.Signature
 numbered_kind (call.Entry (entry.ImportFunction function)) = Some kind.Function
 numbered_kind (call.CreateJumpTable default entries) = Some kind.JumpTable
+numbered_kind (call.CreateExceptionTable signature normal items) = Some kind.ExceptionTable
 numbered_kind _ = None
 
 -- whether the call makes an instruction
@@ -30,19 +31,21 @@ is_instruction (call.Vconst ty bytes) = true
 is_instruction (call.Jump edge) = true
 is_instruction (call.Brif condition first second) = true
 is_instruction (call.BrTable index table) = true
+is_instruction (call.Throwing called) = true
 is_instruction (call.Return values) = true
 is_instruction (call.Trap code) = true
 is_instruction _ = false
 
 -- how many there are of each kind at first
 abbrev pub no_totals : Totals
-no_totals = record { variables = 0; stack_slots = 0; jump_tables = 0; signatures = 0; functions = 0 }
+no_totals = record { variables = 0; stack_slots = 0; jump_tables = 0; exception_tables = 0; signatures = 0; functions = 0 }
 
 -- how many there are of this kind
 abbrev pub total_of : Kind → Totals → ℕ
 total_of kind.Variable totals = totals.variables
 total_of kind.StackSlot totals = totals.stack_slots
 total_of kind.JumpTable totals = totals.jump_tables
+total_of kind.ExceptionTable totals = totals.exception_tables
 total_of kind.Signature totals = totals.signatures
 total_of kind.Function totals = totals.functions
 
@@ -52,6 +55,7 @@ totals_behind None totals = totals
 totals_behind (Some kind.Variable) totals = record totals { variables = totals.variables + 1 }
 totals_behind (Some kind.StackSlot) totals = record totals { stack_slots = totals.stack_slots + 1 }
 totals_behind (Some kind.JumpTable) totals = record totals { jump_tables = totals.jump_tables + 1 }
+totals_behind (Some kind.ExceptionTable) totals = record totals { exception_tables = totals.exception_tables + 1 }
 totals_behind (Some kind.Signature) totals = record totals { signatures = totals.signatures + 1 }
 totals_behind (Some kind.Function) totals = record totals { functions = totals.functions + 1 }
 
@@ -61,6 +65,7 @@ next_of None totals = numbered.Nothing
 next_of (Some kind.Variable) totals = numbered.Variable totals.variables
 next_of (Some kind.StackSlot) totals = numbered.StackSlot totals.stack_slots
 next_of (Some kind.JumpTable) totals = numbered.JumpTable totals.jump_tables
+next_of (Some kind.ExceptionTable) totals = numbered.ExceptionTable totals.exception_tables
 next_of (Some kind.Signature) totals = numbered.Signature totals.signatures
 next_of (Some kind.Function) totals = numbered.Function totals.functions
 
@@ -79,6 +84,7 @@ abbrev pub number_as : Kind → Numbered → Option ℕ
 number_as kind.Variable (numbered.Variable number) = Some number
 number_as kind.StackSlot (numbered.StackSlot number) = Some number
 number_as kind.JumpTable (numbered.JumpTable number) = Some number
+number_as kind.ExceptionTable (numbered.ExceptionTable number) = Some number
 number_as kind.Signature (numbered.Signature number) = Some number
 number_as kind.Function (numbered.Function number) = Some number
 number_as _ _ = None
@@ -99,6 +105,7 @@ names_with answered totals given = record {
   variable = number_in kind.Variable answered totals;
   slot = number_in kind.StackSlot answered totals;
   jump_table = number_in kind.JumpTable answered totals;
+  exception_table = number_in kind.ExceptionTable answered totals;
   signature = number_in kind.Signature answered totals;
   function = number_in kind.Function answered totals;
 }

@@ -1,5 +1,5 @@
 -- What header lines say of the function and of its target. Source: own; docs/SCRIPTS.md describes the same format.
-use Rattle.std.specs.Prelude.{◌≡◌, ◌<◌, ℕ, ◌⊎◌, ◌++◌, List, [], ◌∷◌, length, Option, Some, None, codes}
+use Rattle.std.specs.Prelude.{◌≡◌, ◌<◌, ℕ, ℤ, ◌⊎◌, ◌++◌, List, [], ◌∷◌, length, Option, Some, None, codes}
 use Rattle.clif_types.specs.Signature.{SignatureShape}
 use Rattle.clif_types.specs.Texts.{call_conv_text}
 use Rattle.clif_types.specs.declared.call_conv.CallConv.{CallConv}
@@ -10,8 +10,9 @@ use Rattle.clif_types.specs.declared.extname.UserFuncName.{UserFuncName}
 use Rattle.clif_types.specs.declared.extname.UserFuncName.TheVariants as name
 use Rattle.clif_types.specs.declared.target.PointerWidth.{PointerWidth}
 use Rattle.clif_types.specs.declared.target.PointerWidth.TheVariants.{U64}
+use Rattle.clif_calls.specs.declared.answer.OutsideAnswer.{OutsideAnswer}
 use Rattle.clif_arguments.specs.declared.header.Header.{Header}
-use Rattle.clif_words.specs.Spelling.{IsDecimal, IsTypeWord, pointer_text}
+use Rattle.clif_words.specs.Spelling.{IsDecimal, IsNumber, IsTypeWord, pointer_text}
 
 -- a name by two numbers, as `u0:0`
 abbrev pub IsUserName : List ℕ → UserExternalName → Type 0
@@ -49,26 +50,39 @@ NamedSignature = UserFuncName × SignatureShape
 abbrev pub IsFunction : List (List ℕ) → NamedSignature → Type 0
 IsFunction words function = (word : List ℕ) × (rest : List (List ℕ)) × (words ≡ word ∷ rest) × IsFunctionName word function.0 × IsSignature rest function.1
 
+-- the words are these numbers, one for one
+abbrev pub AreNumbers : List (List ℕ) → List ℤ → Type 0
+AreNumbers [] [] = Unit {0}
+AreNumbers (word ∷ words) (number ∷ numbers) = IsNumber word number × AreNumbers words numbers
+AreNumbers _ _ = ⊥
+
+-- the words behind `answer`: the name of a function, and what its calls return
+abbrev pub IsAnswerLine : List (List ℕ) → OutsideAnswer → Type 0
+IsAnswerLine words answer = (word : List ℕ) × (rest : List (List ℕ)) × (words ≡ word ∷ rest) × IsFunctionName word answer.callee × AreNumbers rest answer.values.items
+
 -- what header lines say
 pub record HeaderSaid : Type 0 where
   pub function : Option NamedSignature
   pub pointer_width : Option PointerWidth
   pub call_conv : Option CallConv
+  -- what outside calls return in a run, in the order of the lines
+  pub answers : List OutsideAnswer
 
 -- no header line
 abbrev pub no_header : HeaderSaid
-no_header = record { function = None; pointer_width = None; call_conv = None }
+no_header = record { function = None; pointer_width = None; call_conv = None; answers = [] }
 
 -- what the header lines so far said
 abbrev pub header_said : Header → HeaderSaid
-header_said header = record { function = header.function; pointer_width = header.pointer_width; call_conv = header.call_conv }
+header_said header = record { function = header.function; pointer_width = header.pointer_width; call_conv = header.call_conv; answers = header.answers.items }
 
--- the words are a header line, of a kind of which there was none
+-- the words are a header line, of a kind of which there was none, or one of `answer`
 abbrev pub IsHeader : List (List ℕ) → HeaderSaid → HeaderSaid → Type 0
 IsHeader words old new =
     ((rest : List (List ℕ)) × (function : NamedSignature) × (words ≡ codes "function" ∷ rest) × IsFunction rest function × (old.function ≡ None) × (new ≡ record old { function = Some function }))
     ⊎ (((width : PointerWidth) × (words ≡ codes "pointer" ∷ pointer_text width ∷ []) × (old.pointer_width ≡ None) × (new ≡ record old { pointer_width = Some width }))
-    ⊎ ((conv : CallConv) × (words ≡ codes "conv" ∷ call_conv_text conv ∷ []) × (old.call_conv ≡ None) × (new ≡ record old { call_conv = Some conv })))
+    ⊎ (((conv : CallConv) × (words ≡ codes "conv" ∷ call_conv_text conv ∷ []) × (old.call_conv ≡ None) × (new ≡ record old { call_conv = Some conv }))
+    ⊎ ((rest : List (List ℕ)) × (answer : OutsideAnswer) × (words ≡ codes "answer" ∷ rest) × IsAnswerLine rest answer × (new ≡ record old { answers = old.answers ++ answer ∷ [] }))))
 
 -- the function's name, `u0:0` where no line says it
 abbrev pub name_in : Option NamedSignature → UserFuncName

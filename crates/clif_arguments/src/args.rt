@@ -1,18 +1,20 @@
 //! What follows the name of a call.
 ghost use Rattle.std.specs.Prelude.{◌≡◌, ◌<◌, ◌-◌, ◌^◌, ◌++◌, ◌∷◌, [], ℕ, List, IfSome, codes};
 ghost use Rattle.clif_words.specs.Spelling.{IsDecimal};
+ghost use Rattle.clif_arguments.specs.Arguments.{IsPart};
 
 use crate::header::{function_name, last_signature};
-use crate::scope::{Kind, Scope, is_name};
-use clif_calls::{Edge, Name};
+use crate::refusals::{unknown_name, unknown_type};
+use crate::scope::{Kind, Scope};
+use clif_calls::{Edge, Name, Passed, TableEdge, TableItem};
 use clif_records::Variable;
 use clif_types::{
-    EntityRef, ExternalName, FuncRef, IntCC, JumpTable, MemFlagsData, SigRef, Signature, StackSlot,
-    TrapCode, Type, UserFuncName, ValueLabel,
+    EntityRef, ExceptionTable, ExternalName, FuncRef, IntCC, JumpTable, MemFlagsData, SigRef,
+    Signature, StackSlot, TrapCode, Type, UserFuncName, ValueLabel,
 };
 use clif_words::bytes::bytes;
 use clif_words::cursor::Cursor;
-use clif_words::error::{Expected, Fault, LineError};
+use clif_words::error::{Expected, LineError};
 use clif_words::number::{decimal, magnitude, number, offset};
 use clif_words::types::{condition_named, lib_call_named, trap_code_named, type_named};
 use std::alloc::Global;
@@ -32,7 +34,7 @@ impl<'w, 'a> Args<'w, 'a> {
     ghost use Rattle.clif_types.specs.Texts.{int_cc_text};
     ghost use Rattle.clif_words.specs.Cursor.{TakesFlags, texts, words_left};
     ghost use Rattle.clif_words.specs.Spelling.{IsBytes, IsMagnitude, IsNumber, IsTrapCode, IsTypeWord, flag_word};
-    ghost use Rattle.clif_arguments.specs.Arguments.{AreAnswers, AreLast, IsEdge, IsExternalName, IsFunctionRef, IsInst, IsJumpTable, IsLastEdge, IsLastOffset, IsNumbered, IsSignatureName, IsSlot, IsVariable};
+    ghost use Rattle.clif_arguments.specs.Arguments.{AreAnswers, AreClosed, AreItems, AreLast, AreLastPassed, ArePassed, IsEdge, IsExceptionTable, IsExternalName, IsFunctionRef, IsInst, IsItem, IsJumpTable, IsLastEdge, IsLastOffset, IsNumbered, IsPassed, IsSignatureName, IsSlot, IsTableEdge, IsVariable};
     ghost use Rattle.clif_arguments.specs.Header.{IsSignature};
     ghost use Rattle.clif_arguments.specs.Taking.{TakesAnswer, TakesAnswers, TakesWord, TakesWords, names_in, numbers_in};
 
@@ -63,7 +65,7 @@ impl<'w, 'a> Args<'w, 'a> {
         let word = self.words.take(expected)?;
         match self.scope.answer(word) {
             Some(name) => Ok(name),
-            None => Err(unknown(word, expected)),
+            None => Err(unknown_name(word, expected)),
         }
     }
 
@@ -95,7 +97,7 @@ impl<'w, 'a> Args<'w, 'a> {
         };
         match self.scope.answer(named) {
             Some(name) => Ok(name),
-            None => Err(unknown(named, Expected::Inst)),
+            None => Err(unknown_name(named, Expected::Inst)),
         }
     }
 
@@ -117,7 +119,7 @@ impl<'w, 'a> Args<'w, 'a> {
             Some(name) => self.scope.number(kind, name),
             None => match number_behind(prefix, word) {
                 Some(number) => number,
-                None => return Err(unknown(word, expected)),
+                None => return Err(unknown_name(word, expected)),
             },
         };
         if number < MOST_OF_A_KIND {
@@ -155,6 +157,17 @@ impl<'w, 'a> Args<'w, 'a> {
     {
         let number = self.numbered("jt", Kind::JumpTable, Expected::JumpTable)?;
         Ok(JumpTable::new(number))
+    }
+
+    /// An exception table: the one that a name or `$P.K` stands for, or `extableN`, which is table N unless that name
+    /// was given.
+    pub fn exception_table(&mut self) -> Result<ExceptionTable, LineError<'a>>
+        ensures scope { self.new.scope ≡ self.old.scope }
+        ensures ok { IfOk result (TakesWord self.old self.new
+            (IsExceptionTable (names_in self.old))) }
+    {
+        let number = self.numbered("extable", Kind::ExceptionTable, Expected::ExceptionTable)?;
+        Ok(ExceptionTable::new(number))
     }
 
     /// A signature: the one that a name or `$P.K` stands for, or `sigN`, which is signature N unless that name was
@@ -200,7 +213,7 @@ impl<'w, 'a> Args<'w, 'a> {
         ensures ok { IfOk result (TakesWord self.old self.new IsTypeWord) }
     {
         let word = self.words.take(Expected::Type)?;
-        type_named(word).ok_or(LineError::wanted(Expected::Type))
+        type_named(word).ok_or(unknown_type(word, Expected::Type))
     }
 
     /// A number.
@@ -441,20 +454,124 @@ impl<'w, 'a> Args<'w, 'a> {
         Ok(Edge { block, args })
     }
 
+    // What an edge of a table passes: a value, or `ret0` or `exn1`, unless that name was given.
+    fn passed(&mut self, expected: Expected) -> Result<Passed, LineError<'a>>
+        ensures scope { self.new.scope ≡ self.old.scope }
+        ensures ok { IfOk result (TakesWord self.old self.new (IsPassed (names_in self.old))) }
+    {
+        let word = self.words.take(expected)?;
+        match self.scope.answer(word) {
+            Some(name) => Ok(Passed::Value(name)),
+            None => match part_of_call(word) {
+                Some(part) => Ok(part),
+                None => Err(unknown_name(word, expected)),
+            },
+        }
+    }
+
+    // The same up to `)`.
+    #[tactic(auto, using(crate::proofs::TakingTables::table_rules))]
+    fn passed_to_close(&mut self, alloc: Global) -> Result<Vec<Passed>, LineError<'a>>
+        ensures scope { self.new.scope ≡ self.old.scope }
+        ensures ok { IfOk result (λ args. (words : List (List ℕ)) × (words_left self.old.words ≡
+            words ++ codes ")" ∷ words_left self.new.words) × ArePassed (names_in self.old) words
+            args.items) }
+    {
+        let mut args = Vec::new(alloc);
+        while !self.words.skips(")") {
+            args.push(self.passed(Expected::ValueOrClose)?)?;
+        }
+        Ok(args)
+    }
+
+    // The same up to the end of the line.
+    #[tactic(auto, using(crate::proofs::TakingTables::table_rules))]
+    fn passed_to_end(&mut self, alloc: Global) -> Result<Vec<Passed>, LineError<'a>>
+        ensures scope { self.new.scope ≡ self.old.scope }
+        ensures ok { IfOk result (λ args. (words_left self.new.words ≡ []) ×
+            ArePassed (names_in self.old) (words_left self.old.words) args.items) }
+    {
+        let mut args = Vec::new(alloc);
+        while !self.words.is_empty() {
+            args.push(self.passed(Expected::Value)?)?;
+        }
+        Ok(args)
+    }
+
+    // The same, ending the line, in parentheses or not.
+    fn last_passed(&mut self, alloc: Global) -> Result<Vec<Passed>, LineError<'a>>
+        ensures scope { self.new.scope ≡ self.old.scope }
+        ensures ok { IfOk result (λ args. TakesWords self.old self.new
+            (AreLastPassed (names_in self.old)) args.items) }
+    {
+        if self.words.skips("(") {
+            self.passed_to_close(alloc)
+        } else {
+            self.passed_to_end(alloc)
+        }
+    }
+
+    /// An edge of a table, which ends the line: the parentheses may be left out.
+    pub fn table_edge(&mut self, alloc: Global) -> Result<TableEdge, LineError<'a>>
+        ensures scope { self.new.scope ≡ self.old.scope }
+        ensures ok { IfOk result (TakesWords self.old self.new (IsTableEdge (names_in self.old))) }
+    {
+        let block = self.block()?;
+        let args = self.last_passed(alloc)?;
+        Ok(TableEdge { block, args })
+    }
+
+    // An item of an exception table.
+    fn item(&mut self) -> Result<TableItem, LineError<'a>>
+        ensures scope { self.new.scope ≡ self.old.scope }
+        ensures ok { IfOk result (λ item. (kind what : List ℕ) × (words_left self.old.words ≡
+            kind ∷ what ∷ words_left self.new.words) × IsItem (names_in self.old) kind what item) }
+    {
+        let word = self.words.take(Expected::TableItem)?;
+        if word == "default" {
+            return Ok(TableItem::Default(self.edge_name()?));
+        }
+        if word == "context" {
+            return Ok(TableItem::Context(self.value()?));
+        }
+        match small_behind("tag", word) {
+            Some(tag) => Ok(TableItem::Tag(tag, self.edge_name()?)),
+            None => Err(LineError::wanted(Expected::TableItem)),
+        }
+    }
+
+    /// The items of an exception table, up to the end of the line.
+    #[tactic(auto, using(crate::proofs::TakingTables::table_rules))]
+    pub fn last_items(&mut self, alloc: Global) -> Result<Vec<TableItem>, LineError<'a>>
+        ensures scope { self.new.scope ≡ self.old.scope }
+        ensures ok { IfOk result (λ items. (words_left self.new.words ≡ []) ×
+            AreItems (names_in self.old) (words_left self.old.words) items.items) }
+    {
+        let mut items = Vec::new(alloc);
+        while !self.words.is_empty() {
+            items.push(self.item()?)?;
+        }
+        Ok(items)
+    }
+
+    /// Values in parentheses.
+    pub fn closed_values(&mut self, alloc: Global) -> Result<Vec<Name>, LineError<'a>>
+        ensures scope { self.new.scope ≡ self.old.scope }
+        ensures ok { IfOk result (λ values. TakesWords self.old self.new
+            (AreClosed (names_in self.old)) values.items) }
+    {
+        if self.words.skips("(") {
+            self.values_to_close(alloc)
+        } else {
+            Err(LineError::wanted(Expected::Open))
+        }
+    }
+
     /// Nothing is left.
     pub fn end(&self) -> Result<(), LineError<'a>>
         ensures { OnOk result (words_left self.now.words ≡ []) }
     {
         self.words.end()
-    }
-}
-
-// The word stands for nothing.
-fn unknown(word: &str, expected: Expected) -> LineError<'_> {
-    if is_name(word) {
-        LineError::Fault(Fault::UnknownName(word))
-    } else {
-        LineError::wanted(expected)
     }
 }
 
@@ -464,4 +581,25 @@ fn number_behind(prefix: &str, word: &str) -> Option<usize>
         IsDecimal digits number) }
 {
     decimal(word.strip_prefix(prefix)?)
+}
+
+// The same, of 32 bits.
+fn small_behind(prefix: &str, word: &str) -> Option<u32>
+    ensures { IfSome result (λ number. (digits : List ℕ) × (word.now ≡ prefix.now ++ digits) ×
+        IsDecimal digits number) }
+{
+    u32::try_from(number_behind(prefix, word)?).ok()
+}
+
+// The part of a call that a word stands for, as `ret0` and `exn1` do.
+fn part_of_call(word: &str) -> Option<Passed>
+    ensures { IfSome result (IsPart word.now) }
+{
+    if let Some(place) = small_behind("ret", word) {
+        return Some(Passed::Returned(place));
+    }
+    match small_behind("exn", word) {
+        Some(place) => Some(Passed::Thrown(place)),
+        None => None,
+    }
 }

@@ -2,18 +2,21 @@
 ghost use Rattle.std.specs.Prelude.{◌≡◌, ◌++◌, ◌∷◌, [], ℕ, List, None, Some, IfOk, IfSome, OnOk, codes};
 ghost use Rattle.clif_types.specs.Texts.{call_conv_text};
 ghost use Rattle.clif_words.specs.Cursor.{texts, words_left};
-ghost use Rattle.clif_arguments.specs.Header.{AreReturned, AreTypes, IsFunction, IsFunctionName, IsSignature, IsUserName, name_in, signature_in};
+ghost use Rattle.clif_arguments.specs.Header.{AreNumbers, AreReturned, AreTypes, IsAnswerLine, IsFunction, IsFunctionName, IsSignature, IsUserName, name_in, signature_in};
 ghost use Rattle.clif_words.specs.Spelling.{pointer_text};
 
+use crate::refusals::unknown_type;
+use clif_calls::OutsideAnswer;
 use clif_types::{
     AbiParam, CallConv, PointerWidth, Signature, TargetFrontendConfig, UserExternalName,
     UserFuncName,
 };
 use clif_words::cursor::Cursor;
 use clif_words::error::{Expected, Fault, LineError};
-use clif_words::number::short_decimal;
+use clif_words::number::{number, short_decimal};
 use clif_words::types::{call_conv_named, pointer_width_named};
 use std::alloc::Global;
+use std::mem;
 
 /// What the header lines so far say.
 #[derive(Drop)]
@@ -21,23 +24,25 @@ pub struct Header {
     function: Option<(UserFuncName, Signature)>,
     pointer_width: Option<PointerWidth>,
     call_conv: Option<CallConv>,
+    answers: Vec<OutsideAnswer>,
 }
 
 /// Whether a line that begins with this word is a header line.
 pub fn is_header(word: &str) -> bool {
-    matches!(word, "function" | "pointer" | "conv" | "region")
+    matches!(word, "function" | "pointer" | "conv" | "region" | "answer")
 }
 
 impl Header {
     ghost use Rattle.clif_arguments.specs.Header.{IsHeader, call_conv_in, header_said, no_header, pointer_width_in};
 
-    pub fn new() -> Header
+    pub fn new(alloc: Global) -> Header
         ensures { header_said result ≡ no_header }
     {
         Header {
             function: None,
             pointer_width: None,
             call_conv: None,
+            answers: Vec::new(alloc),
         }
     }
 
@@ -55,6 +60,7 @@ impl Header {
             "function" => keep(&mut self.function, function_of(alloc, rest)?, head),
             "pointer" => keep(&mut self.pointer_width, pointer_width_of(rest)?, head),
             "conv" => keep(&mut self.call_conv, call_conv_of(rest)?, head),
+            "answer" => Ok(self.answers.push(answer_of(alloc, rest)?)?),
             _ => Err(LineError::Fault(Fault::NotSupported(head))),
         }
     }
@@ -71,13 +77,22 @@ impl Header {
         }
     }
 
+    /// What outside calls return, of those functions of which a line says it, in the order of the lines. It is taken out.
+    pub fn take_answers(&mut self, alloc: Global) -> Vec<OutsideAnswer>
+        ensures answers { result.items ≡ (header_said self.old).answers }
+        ensures rest { header_said self.new ≡ record (header_said self.old) { answers = [] } }
+    {
+        mem::replace(&mut self.answers, Vec::new(alloc))
+    }
+
     /// The name and the signature; `u0:0`, with nothing taken or returned and the convention `fast`, where no
     /// line says else.
     pub fn function(self, alloc: Global) -> (UserFuncName, Signature)
         ensures name { result.0 ≡ name_in (header_said self).function }
         ensures signature { result.1 ≡ signature_in (header_said self).function }
     {
-        match self.function {
+        let Header { function, .. } = self;
+        match function {
             Some(function) => function,
             None => (
                 UserFuncName::user(0, 0),
@@ -96,6 +111,32 @@ fn keep<'a, T: Drop>(kept: &mut Option<T>, said: T, head: &'a str) -> Result<(),
     }
     *kept = Some(said);
     Ok(())
+}
+
+// The name of a function, and what its calls return.
+fn answer_of<'a>(alloc: Global, rest: &[&'a str]) -> Result<OutsideAnswer, LineError<'a>>
+    ensures { IfOk result (IsAnswerLine (texts rest.now)) }
+{
+    let mut words = Cursor::new(rest);
+    let word = words.take(Expected::FunctionName)?;
+    let callee = function_name(alloc, word, Expected::FunctionName)?;
+    let values = numbers_to_end(alloc, &mut words)?;
+    Ok(OutsideAnswer { callee, values })
+}
+
+// Numbers that end a line.
+fn numbers_to_end<'a>(alloc: Global, words: &mut Cursor<'_, 'a>) -> Result<Vec<i64>, LineError<'a>>
+    ensures { IfOk result (λ values. AreNumbers (words_left words.old) values.items) }
+{
+    let mut values = Vec::new(alloc);
+    while !words.is_empty() {
+        let word = words.take(Expected::Number)?;
+        let Some(value) = number(word) else {
+            return Err(LineError::wanted(Expected::Number));
+        };
+        values.push(value)?;
+    }
+    Ok(values)
 }
 
 fn pointer_width_of<'a>(rest: &[&'a str]) -> Result<PointerWidth, LineError<'a>>
@@ -123,9 +164,21 @@ fn last_call_conv<'a>(
     ensures end { OnOk result (words_left words.new ≡ []) }
 {
     let word = words.take(expected)?;
-    let conv = call_conv_named(word).ok_or(LineError::wanted(expected))?;
+    let Some(conv) = call_conv_named(word) else {
+        return Err(no_call_conv(word, words.is_empty(), expected));
+    };
     words.end()?;
     Ok(conv)
+}
+
+// The refusal of a word that is no convention. Where a type may stand too, and the word isn't the last one, it should
+// have been a type.
+fn no_call_conv(word: &str, is_last: bool, expected: Expected) -> LineError<'_> {
+    if expected == Expected::TypeOrCallConv && !is_last {
+        unknown_type(word, expected)
+    } else {
+        LineError::wanted(expected)
+    }
 }
 
 // The name of a function, or of what `expected` says: `%` and a text, or `u0:0`.
@@ -170,6 +223,15 @@ fn take_types<'a>(alloc: Global, words: &mut Cursor<'_, 'a>) -> Result<Vec<AbiPa
     Ok(params)
 }
 
+// The refusal of the next word, which is no type, or of the end of the line. A convention is told as a type that is missing.
+fn no_type_next<'a>(words: &mut Cursor<'_, 'a>, expected: Expected) -> LineError<'a> {
+    match words.take(expected) {
+        Ok(word) if call_conv_named(word).is_none() => unknown_type(word, expected),
+        Ok(_) => LineError::wanted(expected),
+        Err(error) => error,
+    }
+}
+
 // The parameters in parentheses.
 fn take_params<'a>(
     alloc: Global,
@@ -185,7 +247,7 @@ fn take_params<'a>(
     if words.skips(")") {
         Ok(params)
     } else {
-        Err(LineError::wanted(Expected::TypeOrClose))
+        Err(no_type_next(words, Expected::TypeOrClose))
     }
 }
 
@@ -202,7 +264,7 @@ fn take_returns<'a>(
     }
     let returns = take_types(alloc, words)?;
     if returns.is_empty() {
-        Err(LineError::wanted(Expected::Type))
+        Err(no_type_next(words, Expected::Type))
     } else {
         Ok(returns)
     }

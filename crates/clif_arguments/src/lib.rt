@@ -5,4 +5,5 @@
 
 pub mod args;
 pub mod header;
+pub mod refusals;
 pub mod scope;

@@ -17,6 +17,8 @@ pub enum Kind {
     StackSlot,
     /// A jump table.
     JumpTable,
+    /// An exception table.
+    ExceptionTable,
     /// A signature.
     Signature,
     /// A function.
@@ -29,6 +31,7 @@ pub enum Numbered {
     Variable(usize),
     StackSlot(usize),
     JumpTable(usize),
+    ExceptionTable(usize),
     Signature(usize),
     Function(usize),
     Nothing,
@@ -40,6 +43,7 @@ pub struct Totals {
     variables: usize,
     stack_slots: usize,
     jump_tables: usize,
+    exception_tables: usize,
     signatures: usize,
     functions: usize,
 }
@@ -54,6 +58,7 @@ pub struct Scope<'a> {
     ghost variables_counted: { totals.variables ≤ vec_len numbered },
     ghost slots_counted: { totals.stack_slots ≤ vec_len numbered },
     ghost tables_counted: { totals.jump_tables ≤ vec_len numbered },
+    ghost exceptions_counted: { totals.exception_tables ≤ vec_len numbered },
     ghost signatures_counted: { totals.signatures ≤ vec_len numbered },
     ghost functions_counted: { totals.functions ≤ vec_len numbered },
 }
@@ -67,6 +72,7 @@ impl Numbered {
             (Numbered::Variable(number), Kind::Variable)
             | (Numbered::StackSlot(number), Kind::StackSlot)
             | (Numbered::JumpTable(number), Kind::JumpTable)
+            | (Numbered::ExceptionTable(number), Kind::ExceptionTable)
             | (Numbered::Signature(number), Kind::Signature)
             | (Numbered::Function(number), Kind::Function) => Some(number),
             _ => None,
@@ -83,6 +89,7 @@ impl Totals {
             Kind::Variable => self.variables,
             Kind::StackSlot => self.stack_slots,
             Kind::JumpTable => self.jump_tables,
+            Kind::ExceptionTable => self.exception_tables,
             Kind::Signature => self.signatures,
             Kind::Function => self.functions,
         }
@@ -131,6 +138,7 @@ impl<'a> Scope<'a> {
                 variables: 0,
                 stack_slots: 0,
                 jump_tables: 0,
+                exception_tables: 0,
                 signatures: 0,
                 functions: 0,
             },
@@ -187,6 +195,11 @@ impl<'a> Scope<'a> {
                 let number = self.totals.jump_tables;
                 self.numbered.push(Numbered::JumpTable(number))?;
                 self.totals.jump_tables += 1;
+            }
+            Some(Kind::ExceptionTable) => {
+                let number = self.totals.exception_tables;
+                self.numbered.push(Numbered::ExceptionTable(number))?;
+                self.totals.exception_tables += 1;
             }
             Some(Kind::Signature) => {
                 let number = self.totals.signatures;

@@ -1,9 +1,10 @@
 //! The calls of a script, and the names of their answers.
 use crate::entry::EntryCall;
 use crate::outside::OutsideCall;
+use crate::table::{TableEdge, TableItem, ThrowingCall};
 use clif_records::Variable;
 use clif_types::{
-    IntCC, JumpTable, MemFlagsData, SourceLoc, StackSlot, TrapCode, Type, ValueLabel,
+    IntCC, JumpTable, MemFlagsData, SigRef, SourceLoc, StackSlot, TrapCode, Type, ValueLabel,
 };
 
 /// An answer of an earlier call: which call, and which of its answers.
@@ -212,8 +213,8 @@ pub enum PlainInstruction {
 
 /// One call on a builder, with names in place of what earlier calls answered.
 ///
-/// Each variant but `Entry`, `Plain`, `Cursor` and `Outside` is the builder's method, or the instruction, of its name, and has its
-/// conditions. A variable is named by its number.
+/// Each variant but `Entry`, `Plain`, `Cursor`, `Outside` and `Throwing` is the builder's method, or the instruction, of its
+/// name, and has its conditions. A variable is named by its number.
 #[derive(Drop)]
 pub enum Call {
     /// `create_block()`: answers the block.
@@ -258,16 +259,24 @@ pub enum Call {
     },
     /// A call that makes an entry of a table: answers the entry.
     Entry(EntryCall),
-    /// `block_call(block, args)`: answers the edge, which a jump table may be made of. Its target exists, and what it
+    /// `block_call(block, args)`: answers the edge, which a table may be made of. Its target exists, and what it
     /// passes.
     BlockCall {
-        edge: Edge,
+        edge: TableEdge,
     },
     /// `create_jump_table(JumpTableData::new(default, entries))`: answers the table, which is numbered from 0 on. The
     /// names are answers of [`Call::BlockCall`].
     CreateJumpTable {
         default: Name,
         entries: Vec<Name>,
+    },
+    /// `create_exception_table(ExceptionTableData { sig, normal, items })`: answers the table, which is numbered from 0
+    /// on. The names of edges are answers of [`Call::BlockCall`]; whether the signature was imported is asked only by the
+    /// call that the table serves.
+    CreateExceptionTable {
+        signature: SigRef,
+        normal: Name,
+        items: Vec<TableItem>,
     },
     /// `declare_var(ty)`: answers the variable, which is numbered from 0 on. The type is any but `Invalid`.
     DeclareVar {
@@ -348,6 +357,8 @@ pub enum Call {
         index: Name,
         table: JumpTable,
     },
+    /// A call along the edges of an exception table, an instruction without results, which fills the block.
+    Throwing(ThrowingCall),
     /// `return values`, an instruction without results, which fills the block.
     Return {
         values: Vec<Name>,

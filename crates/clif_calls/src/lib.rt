@@ -1,12 +1,16 @@
 //! The calls of scripts, which `clif_replay` makes and `clif_text` reads and writes.
 #![tactic(auto)]
 
+mod answer;
 mod call;
 mod entry;
 mod outside;
 mod plan;
+mod table;
 
+pub use answer::OutsideAnswer;
 pub use call::{Call, Edge, Name, PlainInstruction};
 pub use entry::EntryCall;
 pub use outside::OutsideCall;
 pub use plan::Plan;
+pub use table::{Passed, TableEdge, TableItem, ThrowingCall};

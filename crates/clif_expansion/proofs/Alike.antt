@@ -15,7 +15,7 @@ use Rattle.clif_meaning.specs.ScriptMachine.{ScriptRun, ScriptState, blank_state
 use Rattle.clif_meaning.specs.Store.{assigned, memory_beside, shown_memory}
 use Rattle.clif_meaning.specs.World.{World}
 use Rattle.clif_expansion.specs.Code.{NameTypes}
-use Rattle.clif_expansion.specs.Expansion.{AreExpanded, IsExpandedProgram, IsReadEntry}
+use Rattle.clif_expansion.specs.Expansion.{AreExpanded, IsExpandedProgram, IsReadBlock}
 use Rattle.clif_expansion.specs.Reading.{Agree, IsOneToOne, IsReadAs, IsReadEdge, IsReadInstruction, IsReadItem, Reading}
 use Rattle.clif_expansion.proofs.Names.{arguments_read, assigned_read, each_read}
 
@@ -194,7 +194,7 @@ module _ (reading : Reading) (one_to_one : IsOneToOne reading) (world : World) (
   blank : Agrees reading (blank_state run') (blank_state run)
   blank = record { variables = refl; names = λ x name is. refl; memory = refl; events = refl }
 
-  started : (entry' entry : Option Name) → IsReadEntry reading entry' entry → Alike (start_at run' entry') (start_at run entry)
+  started : (entry' entry : Option Name) → IsReadBlock reading entry' entry → Alike (start_at run' entry') (start_at run entry)
   started None None is = record { agrees = blank; place = tt }
   started None (Some entry) is = absurd is
   started (Some entry') None is = absurd is

@@ -11,3 +11,17 @@ pub mod Constants
 pub mod Values
 pub mod Walking
 pub mod ScriptsAlone
+pub mod Placing
+pub mod LaidPaths
+pub mod LaidCodes
+pub mod LayingExamples
+pub mod JoinedStates
+pub mod Joins
+pub mod ReadConditions
+pub mod ScriptCalls
+pub mod Emissions
+pub mod JoinedCalls
+pub mod ConstantCalls
+pub mod JoinedPrograms
+pub mod CalledPrograms
+pub mod EmittedPrograms

@@ -11,9 +11,9 @@ use Rattle.clif_meaning.specs.Outcome.{Outcome, Gives, Goes, Returns, Traps, Cal
 use Rattle.clif_meaning.specs.Program.{Item, Instruct}
 use Rattle.clif_meaning.specs.Store.{assigned}
 use Rattle.clif_meaning.specs.World.{World}
-use Rattle.clif_expansion.specs.Code.{Performs, PerformsIn}
+use Rattle.clif_expansion.specs.Code.{Does, Performs, PerformsIn}
 use Rattle.clif_expansion.specs.Examples.{ExpansionExamples, all_32_bits, at_first, difference, of_32_bits, returning, negating, negation, of_items, reading, run_of, stands_at, subtracting}
-use Rattle.clif_expansion.specs.Expansion.{AreExpanded, IsExpandedRun}
+use Rattle.clif_expansion.specs.Expansion.{AreCut, AreExpanded, IsExpandedRun}
 use Rattle.clif_expansion.specs.Line.{Contents, RunsTo}
 use Rattle.clif_expansion.specs.Reading.{Agree, IsOneToOne, ScriptName}
 use Rattle.clif_expansion.proofs.Names.{assigned_elsewhere, same_script}
@@ -121,7 +121,7 @@ apart (suc (suc (suc p))) i (suc (suc (suc q))) j name first second =
     let same = same_script (answer_of (suc (suc p)) i) (answer_of (suc (suc q)) j) (first ∙ sym second) in
     ap (λ (n : Name). answer_of (suc n.place) n.index) same
 
-one_to_one : IsOneToOne reading
+pub one_to_one : IsOneToOne reading
 one_to_one x y name first second = apart x.place x.index y.place y.index name first second
 
 abbrev five : Item
@@ -129,6 +129,17 @@ five = Instruct 1 (of_32_bits (Compute (Iconst (pos 5))) []) (answer_of 1 1 ∷ 
 
 abbrev returns : Item
 returns = Instruct 4 (returning (answer_of 3 1)) []
+
+-- where the difference's items are cut for the negation's, each block's are
+pub cut_at : (Stands : List Item → Item → Type 0) → AreCut Stands (subtracting (pos 0)) negating → (p i : ℕ) (block : Name) → stands_at p i ≡ ScriptName block
+    → AreCut Stands (at_first p (subtracting (pos 0))) (at_first block.place negating)
+cut_at Stands whole zero i block is =
+    subst (λ (b : Name). AreCut Stands (subtracting (pos 0)) (at_first b.place negating)) (same_script (answer_of 0 i) block is) whole
+cut_at Stands whole (suc zero) i block is =
+    subst (λ (b : Name). AreCut Stands [] (at_first b.place negating)) (same_script (answer_of 1 i) block is) refl
+cut_at Stands whole (suc (suc zero)) i block is = cc
+cut_at Stands whole (suc (suc (suc p))) i block is =
+    subst (λ (b : Name). AreCut Stands [] (at_first b.place negating)) (same_script (answer_of (suc (suc p)) i) block is) refl
 
 module _ (world : World) where
   whole : AreExpanded world.pointer_width reading all_32_bits (of_items (subtracting (pos 0))) (subtracting (pos 0)) negating
@@ -146,20 +157,10 @@ module _ (world : World) where
     ),
   )
 
-  items_at : (p i : ℕ) (block : Name) → stands_at p i ≡ ScriptName block
-      → AreExpanded world.pointer_width reading all_32_bits (of_items (subtracting (pos 0))) (at_first p (subtracting (pos 0))) (at_first block.place negating)
-  items_at zero i block is =
-      subst (λ (b : Name). AreExpanded world.pointer_width reading all_32_bits (of_items (subtracting (pos 0))) (subtracting (pos 0)) (at_first b.place negating)) (same_script (answer_of 0 i) block is) whole
-  items_at (suc zero) i block is =
-      subst (λ (b : Name). AreExpanded world.pointer_width reading all_32_bits (of_items (subtracting (pos 0))) [] (at_first b.place negating)) (same_script (answer_of 1 i) block is) refl
-  items_at (suc (suc zero)) i block is = cc
-  items_at (suc (suc (suc p))) i block is =
-      subst (λ (b : Name). AreExpanded world.pointer_width reading all_32_bits (of_items (subtracting (pos 0))) [] (at_first b.place negating)) (same_script (answer_of (suc (suc p)) i) block is) refl
-
   expanded : IsExpandedRun reading (run_of (subtracting (pos 0)) world) (run_of negating world)
   expanded = record {
     one_to_one = one_to_one;
-    program = record { entry = refl; parameters = λ x block is. tt; items = λ x block is. items_at x.place x.index block is };
+    program = record { entry = refl; parameters = λ x block is. tt; items = λ x block is. cut_at (Does world.pointer_width reading all_32_bits (of_items (subtracting (pos 0)))) whole x.place x.index block is };
     variable_type = λ variable. refl;
     name_type = λ x name is. refl;
     is_marked = λ variable. refl;

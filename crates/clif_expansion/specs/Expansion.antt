@@ -8,23 +8,29 @@ use Rattle.clif_meaning.specs.ScriptMachine.{ScriptRun}
 use Rattle.clif_expansion.specs.Code.{Does, NameTypes}
 use Rattle.clif_expansion.specs.Reading.{Agree, IsOneToOne, IsReadAs, Reading}
 
+-- the first list is cut into lists, one for each element of the second one
+abbrev pub AreCut : {X Y : Type 0} → (List X → Y → Type 0) → List X → List Y → Type 0
+AreCut Stands plain [] = plain ≡ []
+AreCut {X} Stands plain (item ∷ items) = (code rest : List X) × (plain ≡ code ++ rest) × Stands code item × AreCut Stands rest items
+
 -- these items of the plain program are cut into codes that do what the items do
 abbrev pub AreExpanded : ℕ → Reading → NameTypes → Program → (plain items : List Item) → Type 0
-AreExpanded pointer_width reading types program plain [] = plain ≡ []
-AreExpanded pointer_width reading types program plain (item ∷ items) =
-    (code rest : List Item) × (plain ≡ code ++ rest) × Does pointer_width reading types program code item
-    × AreExpanded pointer_width reading types program rest items
+AreExpanded pointer_width reading types program plain items = AreCut (Does pointer_width reading types program) plain items
 
--- the entry is the one that is read as the script's
-abbrev pub IsReadEntry : Reading → (plain entry : Option Name) → Type 0
-IsReadEntry reading None None = Unit {0}
-IsReadEntry reading (Some plain) (Some entry) = IsReadAs reading plain entry
-IsReadEntry reading _ _ = ⊥
+-- there is a block, the one that is read as the script's, or there is none in either
+abbrev pub IsReadBlock : Reading → (plain block : Option Name) → Type 0
+IsReadBlock reading None None = Unit {0}
+IsReadBlock reading (Some plain) (Some block) = IsReadAs reading plain block
+IsReadBlock reading _ _ = ⊥
 
-pub record IsExpandedProgram (pointer_width : ℕ) (reading : Reading) (types : NameTypes) (plain program : Program) : Type 0 where
-  pub entry : IsReadEntry reading plain.entry program.entry
+-- The plain program is read as the script's, and each block's items are cut into codes that stand so to the items.
+pub record IsCutProgram (reading : Reading) (Stands : List Item → Item → Type 0) (plain program : Program) : Type 0 where
+  pub entry : IsReadBlock reading plain.entry program.entry
   pub parameters : (x block : Name) → IsReadAs reading x block → AllZip (IsReadAs reading) (plain.parameters x) (program.parameters block)
-  pub items : (x block : Name) → IsReadAs reading x block → AreExpanded pointer_width reading types plain (plain.items x) (program.items block)
+  pub items : (x block : Name) → IsReadAs reading x block → AreCut Stands (plain.items x) (program.items block)
+
+abbrev pub IsExpandedProgram : ℕ → Reading → NameTypes → (plain program : Program) → Type 0
+IsExpandedProgram pointer_width reading types plain program = IsCutProgram reading (Does pointer_width reading types plain) plain program
 
 abbrev pub types_in : (plain script : ScriptRun) → NameTypes
 types_in plain script = record { plain = plain.name_type; script = script.name_type }

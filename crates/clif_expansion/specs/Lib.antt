@@ -9,3 +9,12 @@ pub mod WalkExamples
 pub mod Constants
 pub mod WalkLaws
 pub mod ScriptsAlone
+pub mod Laying
+pub mod LayingExamples
+pub mod ScriptCall
+pub mod Joining
+pub mod ScriptCallExamples
+pub mod Emission
+pub mod JoinedCalls
+pub mod ConstantCalls
+pub mod JoinedPrograms

@@ -2,6 +2,8 @@
 
 ghost use Rattle.clif_expansion.specs.Constants.{ConstantExamples};
 ghost use Rattle.clif_expansion.specs.Examples.{ExpansionExamples};
+ghost use Rattle.clif_expansion.specs.LayingExamples.{LayingExamples};
+ghost use Rattle.clif_expansion.specs.ScriptCallExamples.{ScriptCallExamples};
 ghost use Rattle.clif_expansion.specs.WalkExamples.{WalkExamples};
 ghost use Rattle.clif_meaning.specs.World.{World};
 
@@ -18,4 +20,15 @@ pub fn walk_examples()
 /// Sums with constants and comparisons with them.
 pub fn constant_examples()
     ensures { ConstantExamples }
+{}
+
+/// Code that names what was given is laid, and code that names what nothing gave, or leads elsewhere, isn't.
+pub fn laying_examples()
+    ensures { LayingExamples }
+{}
+
+/// A sum with a constant is emitted, its ledger is joined to that of its plain calls, and another one isn't. So it is with an
+/// exception table whose context is the sum, and isn't with another tag or context.
+pub fn script_call_examples()
+    ensures { ScriptCallExamples }
 {}

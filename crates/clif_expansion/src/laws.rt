@@ -1,7 +1,14 @@
 //! The laws.
 
+ghost use Rattle.clif_expansion.specs.ConstantCalls.{ConstantsAreEmitted};
 ghost use Rattle.clif_expansion.specs.Constants.{ConstantsAreOperands, ConstantsArePerformed};
+ghost use Rattle.clif_expansion.specs.Emission.{EmittingKeepsJoins};
+ghost use Rattle.clif_expansion.specs.JoinedCalls.{JoinedCallsHaveJoinedLedgers};
+ghost use Rattle.clif_expansion.specs.JoinedPrograms.{JoinedCallsHaveJoinedPrograms};
+ghost use Rattle.clif_expansion.specs.Joining.{AskingKeepsJoins, ConditionsAreRead};
+ghost use Rattle.clif_expansion.specs.Laying.{CodesAreLaid, LayingKeepsPlaces};
 ghost use Rattle.clif_expansion.specs.Laws.{ExpandingKeepsPremises, ExpandingMeansTheSame, ValuesAreTaken};
+ghost use Rattle.clif_expansion.specs.ScriptCall.{AskingStays};
 ghost use Rattle.clif_expansion.specs.ScriptsAlone.{ScriptsAlone};
 ghost use Rattle.clif_expansion.specs.WalkLaws.{WalksGoOn};
 
@@ -40,4 +47,50 @@ pub fn walks_go_on()
 /// No function has an instruction that only scripts have, and no call builds one.
 pub fn scripts_alone()
     ensures { ScriptsAlone }
+{}
+
+/// Where each item of a script's program is laid out as code that names what was given before or what the item names, all that the
+/// plain program names was given before, on every path from the entry, if it is so in the script's program.
+pub fn laying_keeps_places()
+    ensures { LayingKeepsPlaces }
+{}
+
+/// Code that is the item is laid out so, and so is the code of a sum with a constant or of a comparison with one.
+pub fn codes_are_laid()
+    ensures { CodesAreLaid }
+{}
+
+/// A call of the builder's on both sides, with its names read, keeps the ledger of a script's plain calls joined to the script's.
+pub fn asking_keeps_joins()
+    ensures { AskingKeepsJoins }
+{}
+
+/// What a script may call the builder, and what it is refused for, is the same for its plain calls.
+pub fn conditions_are_read()
+    ensures { ConditionsAreRead }
+{}
+
+/// A script that emits nothing has the ledger and the program of its calls of the builder.
+pub fn asking_stays()
+    ensures { AskingStays }
+{}
+
+/// Code in a line keeps the ledger of a script's plain calls joined to that of a script that emits an instruction with such results.
+pub fn emitting_keeps_joins()
+    ensures { EmittingKeepsJoins }
+{}
+
+/// So the calls of a script and its plain calls have joined ledgers.
+pub fn joined_calls_have_joined_ledgers()
+    ensures { JoinedCallsHaveJoinedLedgers }
+{}
+
+/// Where a script may emit a sum with a constant or a comparison with one, its plain calls may be made, and they keep its ledger joined.
+pub fn constants_are_emitted()
+    ensures { ConstantsAreEmitted }
+{}
+
+/// And the items of the plain program are cut into the script's items with their names read, and into the code of each emission.
+pub fn joined_calls_have_joined_programs()
+    ensures { JoinedCallsHaveJoinedPrograms }
 {}

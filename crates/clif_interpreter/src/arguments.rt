@@ -1,4 +1,6 @@
 //! The arguments of a run, as words.
+ghost use Rattle.std.specs.Prelude.{◌<◌};
+
 use clif_operations::arithmetic::greatest;
 use clif_types::{AbiParam, Type};
 use std::alloc::{AllocError, AllocFailed, Global};
@@ -23,6 +25,18 @@ pub enum ArgumentError<'a> {
         /// The word.
         found: &'a str,
     },
+}
+
+impl ArgumentError<'_> {
+    /// The exit status of a program that runs: 1 where memory was refused, and else 2.
+    pub fn status(&self) -> u8
+        ensures { result < 6 }
+    {
+        match self {
+            ArgumentError::Memory => 1,
+            ArgumentError::Count { .. } | ArgumentError::Number { .. } => 2,
+        }
+    }
 }
 
 impl fmt::Display for ArgumentError<'_> {

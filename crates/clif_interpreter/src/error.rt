@@ -1,4 +1,6 @@
 //! Why a run can't go on.
+ghost use Rattle.std.specs.Prelude.{◌<◌};
+
 use clif_calls::Name;
 use clif_operations::Fault;
 use clif_types::{Inst, Value};
@@ -69,6 +71,14 @@ impl Cause {
         }
     }
 
+    /// The exit status of a program that runs: 1 where the interpreters have reached a limit, and 4 where nothing is promised of
+    /// what is run.
+    pub fn status(self) -> u8
+        ensures { result < 6 }
+    {
+        if self.is_limit() { 1 } else { 4 }
+    }
+
     /// The same, at a place.
     pub(crate) fn at(self, place: Place) -> RunError {
         RunError { cause: self, place }
@@ -119,6 +129,24 @@ impl From<AllocError> for Cause {
 impl<T: Drop> From<AllocFailed<T>> for Cause {
     fn from(_error: AllocFailed<T>) -> Cause {
         Cause::Fault(Fault::Memory)
+    }
+}
+
+/// Why there is no run to show. It prints as `no memory`, `can't run this: ..` at a limit of the interpreters, or
+/// `the promise doesn't cover this: ..`.
+#[derive(Clone, Copy)]
+pub struct Told(pub Cause);
+
+impl fmt::Display for Told {
+    fn fmt<W: fmt::Write>(&self, f: &mut fmt::Formatter<W>) -> fmt::Result {
+        let cause = self.0;
+        if let Cause::Fault(Fault::Memory) = cause {
+            write!(f, "{cause}")
+        } else if cause.is_limit() {
+            write!(f, "can't run this: {cause}")
+        } else {
+            write!(f, "the promise doesn't cover this: {cause}")
+        }
     }
 }
 

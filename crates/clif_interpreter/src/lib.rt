@@ -16,9 +16,10 @@ pub mod script;
 pub mod shown;
 
 pub use arguments::{ArgumentError, arguments_of};
+pub use clif_calls::OutsideAnswer;
 pub use clif_operations::{Fault, Memory};
-pub use comparison::{Comparison, Verdict, compare};
-pub use error::{Cause, Operand, Place, RunError};
-pub use outside::{Callee, Event, Outside};
-pub use run::{End, Ending, World};
+pub use comparison::{Comparison, Given, Report, Verdict, compare};
+pub use error::{Cause, Operand, Place, RunError, Told};
+pub use outside::{Answers, Callee, Event, Outside};
+pub use run::{End, Ending, STEPS, World};
 pub use shown::Shown;

@@ -1,9 +1,13 @@
 //! Outside calls: what is shown of them, and who answers them.
 use crate::error::Cause;
+use clif_calls::OutsideAnswer;
 use clif_operations::arithmetic::greatest;
 use clif_operations::{Fault, LibraryCall, Memory, Typed, is_library_signature, library_result};
-use clif_types::{AbiParam, ExternalName, LibCall, PointerWidth, SigRef, Signature, Type, types};
+use clif_types::{
+    AbiParam, ExternalName, LibCall, PointerWidth, SigRef, Signature, Type, UserFuncName, types,
+};
 use std::alloc::Global;
+use std::fmt;
 
 /// What is called.
 #[derive(PartialEq, Eq, Drop)]
@@ -14,13 +18,35 @@ pub enum Callee {
     AtAddress(u128, SigRef),
 }
 
-/// An outside call as it is shown. What is in memory then isn't kept.
+impl fmt::Display for Callee {
+    fn fmt<W: fmt::Write>(&self, f: &mut fmt::Formatter<W>) -> fmt::Result {
+        match self {
+            Callee::Named(name) => write!(f, "{name}"),
+            Callee::AtAddress(address, signature) => write!(f, "{signature}, {address:#x}"),
+        }
+    }
+}
+
+/// An outside call as it is shown. What is in memory then isn't kept. It prints as `%f(64, 3)`, or as `sig0, 0x1000(64)`,
+/// with the bits of the arguments as numbers.
 #[derive(PartialEq, Eq, Drop)]
 pub struct Event {
     /// What is called.
     pub callee: Callee,
     /// The bits of the arguments.
     pub arguments: Vec<u128>,
+}
+
+impl fmt::Display for Event {
+    fn fmt<W: fmt::Write>(&self, f: &mut fmt::Formatter<W>) -> fmt::Result {
+        let callee = &self.callee;
+        write!(f, "{callee}(")?;
+        for (index, bits) in self.arguments.iter().enumerate() {
+            let comma = if index == 0 { "" } else { ", " };
+            write!(f, "{comma}{bits}")?;
+        }
+        f.write_str(")")
+    }
 }
 
 /// What lies outside. It answers each call by the events so far, of which the call itself is the last.
@@ -50,6 +76,49 @@ impl Outside for Zeros {
     }
 
     fn change(&self, _events: &[Event], _memory: &mut Memory) {}
+}
+
+/// Answers a call of a named function by the first entry of its name, and with zeros what no entry says; leaves memory as it
+/// is.
+#[derive(Clone, Copy)]
+pub struct Answers<'a>(pub &'a [OutsideAnswer]);
+
+impl Outside for Answers<'_> {
+    fn thrown(&self, _events: &[Event], _items: usize) -> Option<usize> {
+        None
+    }
+
+    fn value(&self, events: &[Event], place: usize) -> u128 {
+        match events.last() {
+            Some(event) => answered(self.0, &event.callee, place),
+            None => 0,
+        }
+    }
+
+    fn change(&self, _events: &[Event], _memory: &mut Memory) {}
+}
+
+// What a table says that a call returns at a place.
+fn answered(table: &[OutsideAnswer], callee: &Callee, place: usize) -> u128 {
+    for answer in table {
+        if is_named(callee, &answer.callee) {
+            return match answer.values.get(place) {
+                Some(value) => i128::from(*value).cast_unsigned(),
+                None => 0,
+            };
+        }
+    }
+    0
+}
+
+fn is_named(callee: &Callee, name: &UserFuncName) -> bool {
+    match (callee, name) {
+        (Callee::Named(ExternalName::User(called)), UserFuncName::User(name)) => called == name,
+        (Callee::Named(ExternalName::TestCase(called)), UserFuncName::Testcase(name)) => {
+            called == name
+        }
+        _ => false,
+    }
 }
 
 /// How a call was answered: what the parts `ret0` or `exn0` of its edges hold.

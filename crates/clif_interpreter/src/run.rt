@@ -6,6 +6,9 @@ use clif_operations::{Memory, Slots, Store, Typed, kept};
 use clif_types::{PointerWidth, TrapCode, Type};
 use std::alloc::Global;
 
+/// How many steps a run has at most if nobody says it.
+pub const STEPS: u64 = 1_000_000;
+
 /// What a run is given.
 #[derive(Clone, Copy)]
 pub struct World<'a, O> {

@@ -1,15 +1,17 @@
 //! The interpreter of scripts, written from the script machine: it runs the variable program of a script. It has
 //! variables and names of answers, and no aliases and no parameters of variables.
 use crate::error::{Cause, Operand, Place, RunError};
-use crate::outside::{Callee, Event, Outside, call_library, cut, show};
+use crate::outside::{Callee, Event, Outside, Payload, call_library, cut, show};
 use crate::run::{End, Ending, World};
-use clif_calls::{Call, Edge, Name, OutsideCall};
+use clif_calls::{Call, Edge, Name, OutsideCall, Passed, TableEdge, ThrowingCall};
 use clif_operations::{Fault, Operation, Outcome, Store, Typed, bits_of, carry_out, kept};
 use clif_script_program::instruction::{
     Edges, Instruction, branch_by_table, constant_of, edge_of, instruction_of, plan_of,
 };
 use clif_script_program::program::{Program, ProgramBlock};
-use clif_types::{AbiParam, EntityRef, ExternalName, JumpTable, PointerWidth, Signature, Type};
+use clif_types::{
+    AbiParam, EntityRef, ExceptionTable, ExternalName, PointerWidth, Signature, Type,
+};
 use std::alloc::{AllocError, Global};
 
 /// What comes behind an item.
@@ -37,6 +39,8 @@ struct State<'s, 'p, 'o, O> {
     pointer_width: PointerWidth,
     outside: &'o O,
     events: Vec<Event>,
+    // what a function of the C library gave a try call, for its normal edge
+    given: Option<Typed>,
 }
 
 impl<O: Outside> State<'_, '_, '_, O> {
@@ -123,6 +127,68 @@ impl<O: Outside> State<'_, '_, '_, O> {
         Ok(Next::Block(number))
     }
 
+    // What the last call returned or threw at a place, of this type.
+    fn part(&self, ty: Option<Type>, place: u32) -> Result<Typed, Cause> {
+        let Some(ty) = ty else {
+            return Err(Cause::Edge);
+        };
+        let bits = self.outside.value(self.events.as_slice(), place as usize);
+        Ok(kept(ty, cut(ty, bits))?)
+    }
+
+    // What a call returned at a place. A function of the C library returns one value.
+    fn returned(&self, payload: Payload<'_>, place: u32) -> Result<Typed, Cause> {
+        match payload {
+            Payload::Gave if place == 0 => self.given.ok_or(Cause::Edge),
+            other => self.part(other.returned(place as usize), place),
+        }
+    }
+
+    // What an edge of a table passes.
+    fn passed(&self, args: &[Passed], payload: Payload<'_>) -> Result<Vec<Typed>, Cause> {
+        let mut passed = Vec::new(self.alloc);
+        for arg in args {
+            let value = match arg {
+                Passed::Value(name) => self.value(*name)?,
+                Passed::Returned(place) => self.returned(payload, *place)?,
+                Passed::Thrown(place) => self.part(payload.thrown(*place as usize), *place)?,
+            };
+            passed.push(value)?;
+        }
+        Ok(passed)
+    }
+
+    // Goes along an edge of a table, in the same way.
+    fn follow_table(
+        &mut self,
+        target: Option<usize>,
+        edge: Option<&TableEdge>,
+        payload: Payload<'_>,
+    ) -> Result<Next, Cause> {
+        let Some(edge) = edge else {
+            return Err(Cause::NoTarget);
+        };
+        let Some(number) = target else {
+            return Err(Cause::NoTarget);
+        };
+        let values = self.passed(edge.args.as_slice(), payload)?;
+        self.enter(number, values.as_slice())?;
+        Ok(Next::Block(number))
+    }
+
+    // Goes along the edge of an exception table with this number.
+    fn follow_exception(
+        &mut self,
+        place: usize,
+        table: ExceptionTable,
+        number: usize,
+        payload: Payload<'_>,
+    ) -> Result<Next, Cause> {
+        let program = self.program;
+        let edge = program.exception_edge(self.calls, table, number);
+        self.follow_table(program.target(place, number), edge, payload)
+    }
+
     // Gives bits to the results of the instruction at a place, which are its answers from 1 on.
     fn give_results(
         &mut self,
@@ -164,12 +230,15 @@ impl<O: Outside> State<'_, '_, '_, O> {
             }
             (_, Outcome::Went(number)) => {
                 let program = self.program;
-                let edge = match edges {
-                    Edges::None => None,
-                    Edges::Own(plan) => edge_of(plan, number),
-                    Edges::Table(table) => program.table_edge(self.calls, table, number),
-                };
-                self.follow(program.target(place, number), edge)
+                let target = program.target(place, number);
+                match edges {
+                    Edges::None => self.follow(target, None),
+                    Edges::Own(plan) => self.follow(target, edge_of(plan, number)),
+                    Edges::Table(table) => {
+                        let edge = program.table_edge(self.calls, table, number);
+                        self.follow_table(target, edge, Payload::None)
+                    }
+                }
             }
             (_, Outcome::Returned) => Ok(Next::Ended(End::Returned(bits_of(alloc, operands)?))),
             (_, Outcome::Trapped(code)) => Ok(Next::Ended(End::Trapped(code))),
@@ -267,10 +336,91 @@ impl<O: Outside> State<'_, '_, '_, O> {
         self.answered(place, Event { callee, arguments }, signature)
     }
 
-    // Makes what a call makes: the outside call, the pooled constant, the branch by a table, or the other instruction.
+    // Shows a try call at a place, which goes along the normal edge of its table or along that of an item.
+    fn tried(
+        &mut self,
+        place: usize,
+        event: Event,
+        signature: &Signature,
+        table: ExceptionTable,
+    ) -> Result<Next, Cause> {
+        let items = self.program.exceptions.edges(table).len().saturating_sub(1);
+        let thrown = show(
+            self.outside,
+            &mut self.events,
+            event,
+            items,
+            &mut self.store.memory,
+        )?;
+        match thrown {
+            Some(item) => {
+                self.follow_exception(place, table, item.saturating_add(1), Payload::Thrown)
+            }
+            None => {
+                let returns = signature.returns.as_slice();
+                self.follow_exception(place, table, 0, Payload::Returned(returns))
+            }
+        }
+    }
+
+    // Tries to call the function of this name. One of the C library returns, and is no outside call.
+    fn try_named(
+        &mut self,
+        place: usize,
+        name: &ExternalName,
+        signature: &Signature,
+        arguments: Vec<u128>,
+        table: ExceptionTable,
+    ) -> Result<Next, Cause> {
+        if let ExternalName::LibCall(callee) = name {
+            let value = call_library(
+                self.alloc,
+                *callee,
+                self.pointer_width,
+                signature,
+                arguments.as_slice(),
+                &mut self.store.memory,
+            )?;
+            self.given = Some(value);
+            return self.follow_exception(place, table, 0, Payload::Gave);
+        }
+        let callee = Callee::Named(name.clone()?);
+        self.tried(place, Event { callee, arguments }, signature, table)
+    }
+
+    // Makes the try call at a place, by the signature of its table.
+    fn try_call(&mut self, place: usize, called: &ThrowingCall) -> Result<Next, Cause> {
+        let (program, calls, table) = (self.program, self.calls, called.table());
+        let (Some(held), Some(signature)) = (
+            program.exceptions.get(table),
+            program.exception_signature(calls, table),
+        ) else {
+            return Err(Cause::NoFunction);
+        };
+        match called {
+            ThrowingCall::TryCall { function, args, .. } => {
+                let Some(data) = program.imports.function(calls, *function) else {
+                    return Err(Cause::NoFunction);
+                };
+                let arguments = self.arguments(signature, args.as_slice())?;
+                self.try_named(place, &data.name, signature, arguments, table)
+            }
+            ThrowingCall::TryCallIndirect { callee, args, .. } => {
+                let callee = Callee::AtAddress(self.value(*callee)?.bits, held.signature);
+                let arguments = self.arguments(signature, args.as_slice())?;
+                self.tried(place, Event { callee, arguments }, signature, table)
+            }
+        }
+    }
+
+    // Makes what a call makes: the outside call, the try call, the pooled constant, the branch by a table, or the other
+    // instruction.
     fn call(&mut self, place: usize, call: &Call) -> Result<Next, Cause> {
         if let Call::Outside(called) = call {
             return self.call_outside(place, called);
+        }
+        if let Call::Throwing(called) = call {
+            return self.try_call(place, called);
         }
         if let Some(constant) = constant_of(call) {
             return self.instruct(place, &constant, Edges::None);
@@ -482,5 +632,6 @@ fn begin<'s, 'p, 'o, O: Outside>(
         pointer_width: world.pointer_width,
         outside: world.outside,
         events: Vec::new(alloc),
+        given: None,
     })
 }

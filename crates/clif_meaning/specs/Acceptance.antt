@@ -24,11 +24,12 @@ use Rattle.clif_types.specs.Types.{bytes_of, is_int, is_type}
 use Rattle.clif_tables.specs.Callees.{function_at, signature_at}
 use Rattle.clif_tables.specs.Entries.{TableEntry, AStackSlot, AFunction}
 use Rattle.clif_tables.specs.Lists.{TableLists}
+use Rattle.clif_meaning.specs.Event.{CallShape}
 use Rattle.clif_meaning.specs.SameType.{same_type}
 use Rattle.clif_meaning.specs.Instruction.{Iconst, FloatConst, PooledConst, Unary, Binary, Compare, Concat, Split, Convert, Select, AddConstant, CompareConstant, Operation, operation_entries, Instruction, Compute, Load, Store, Stack, StackStore, Trap, CondTrap, Jump, Brif, BrTable, Return, Call, CallIndirect, TryCall, TryCallIndirect, Argument, Known, CallResult, CallPayload, Edge}
 use Rattle.clif_meaning.specs.Name.{Name}
-use Rattle.clif_meaning.specs.Request.{Request, CreateBlock, SwitchToBlock, SealBlock, SealAllBlocks, InsertBlockAfter, SetColdBlock, EnsureInsertedBlock, AppendBlockParams, AppendFunctionParams, DeclareVar, DefVar, UseVar, MakeEntry, MakeEdge, MakeJumpTable, Annotate, GivenEntry, ServedBy, Imported, Build, ChangeJumpDestination, Finalize, Script, Attempt, outright}
-use Rattle.clif_meaning.specs.Ledger.{BlockState, Ledger, empty_ledger, type_of, or_invalid, has_value, has_block, has_instruction, leads_to, edge_named, unserved_edges, is_filled, is_sealed, is_inserted, is_pristine, has_predecessors, is_unreachable, variable_type, ledger_with}
+use Rattle.clif_meaning.specs.Request.{Request, CreateBlock, SwitchToBlock, SealBlock, SealAllBlocks, InsertBlockAfter, SetColdBlock, EnsureInsertedBlock, AppendBlockParams, AppendFunctionParams, DeclareVar, DefVar, UseVar, MakeEntry, MakeEdge, MakeJumpTable, MakeExceptionTable, Annotate, GivenEntry, ServedBy, TriedBy, Imported, TableItem, TagTo, DefaultTo, InContext, Build, ChangeJumpDestination, Finalize, Script, Attempt, outright}
+use Rattle.clif_meaning.specs.Ledger.{BlockState, ExceptionTable, Ledger, empty_ledger, unserved_exceptions, type_of, or_invalid, has_value, has_block, has_instruction, leads_to, edge_named, unserved_edges, is_filled, is_sealed, is_inserted, is_pristine, has_predecessors, is_unreachable, variable_type, ledger_with}
 
 -- there is a current block, and it isn't filled
 abbrev pub is_open : Ledger → Option Name → Bool
@@ -60,8 +61,7 @@ abbrev pub has_bytes : PooledConstOpcode → «Type» → List ℕ → Bool
 has_bytes F128const ty bytes = length bytes == 16
 has_bytes Vconst ty bytes = is_met AVector ty && (length bytes == bytes_of ty)
 
--- What an operation asks beside its operands: the table of operations. No script makes a try call so far, and what only
--- scripts have isn't built as an instruction.
+-- What an operation asks beside its operands: the table of operations. What only scripts have isn't built as an instruction.
 abbrev pub can_operate : Operation → «Type» → Bool
 can_operate (Compute (Iconst number)) ty = is_int ty
 can_operate (Compute (PooledConst opcode bytes)) ty = has_bytes opcode ty bytes
@@ -73,8 +73,6 @@ can_operate (Compute (CompareConstant condition number)) ty = false
 can_operate (Load flags offset) ty = is_type ty
 can_operate (Stack StackAddr slot offset) ty = is_int ty
 can_operate (Stack StackLoad slot offset) ty = is_type ty
-can_operate (TryCall name call) ty = false
-can_operate (TryCallIndirect call) ty = false
 can_operate _ ty = true
 
 -- an entry that an operation names was made
@@ -84,10 +82,17 @@ has_entry tables (AConstant number) = nat_lt number (length tables.constants)
 has_entry tables (ASignatureRef number) = nat_lt number (length tables.signatures)
 has_entry tables (AFunctionRef number) = nat_lt number (length tables.functions)
 
--- an entry may be given to an instruction: it was made, and a jump table serves none so far
+-- an entry may be given to an instruction: it was made, and a jump table or an exception table serves none so far
 abbrev pub may_give : Ledger → GivenEntry → Bool
 may_give ledger (ServedBy table) = is_some (unserved_edges ledger table)
+may_give ledger (TriedBy table) = is_some (unserved_exceptions ledger table)
 may_give ledger (Imported entry) = has_entry ledger.tables entry
+
+-- an item of an exception table names an edge that was made, or a value
+abbrev pub has_item : Ledger → TableItem → Bool
+has_item ledger (TagTo tag edge) = is_some (edge_named ledger edge)
+has_item ledger (DefaultTo edge) = is_some (edge_named ledger edge)
+has_item ledger (InContext value) = has_value ledger value
 
 -- an entry may be made: a stack slot is aligned to at most 2^31 bytes, and the signature of a function was imported
 abbrev pub can_make : TableLists → TableEntry → Bool
@@ -112,6 +117,8 @@ allows ledger (UseVar variable) = is_open ledger ledger.current && is_some (vari
 allows ledger (MakeEntry entry) = can_make ledger.tables entry
 allows ledger (MakeEdge edge) = has_block ledger edge.target && list_all (has_argument ledger) edge.arguments
 allows ledger (MakeJumpTable default entries) = list_all (λ name. is_some (edge_named ledger name)) (default ∷ entries)
+allows ledger (MakeExceptionTable signature normal items) =
+    is_some (edge_named ledger normal) && list_all (has_item ledger) items
 allows ledger (Annotate values) = list_all (has_value ledger) values
 allows ledger (Build entries instruction) =
     list_all (may_give ledger) entries && is_open ledger ledger.current && list_all (has_value ledger) instruction.operands && list_all (can_lead ledger) instruction.edges
@@ -265,6 +272,45 @@ call_indirect ledger signature callee arguments =
       operands = callee ∷ arguments;
       edges = [];
     })
+
+-- a table that holds nothing
+abbrev pub no_exceptions : ExceptionTable
+no_exceptions = record { signature = 0; edges = []; items = []; contexts = [] }
+
+-- what the exception table with this number holds; nothing where there is none that serves no instruction so far
+abbrev pub exceptions_at : Ledger → ℕ → ExceptionTable
+exceptions_at ledger table = unwrap_or (unserved_exceptions ledger table) no_exceptions
+
+-- what the answer to a call by such a table depends on: the signature is the table's
+abbrev pub tried_shape : Ledger → ExceptionTable → CallShape
+tried_shape ledger held = record { signature = signature_at ledger.tables held.signature; items = held.items }
+
+-- The same calls along the edges of an exception table, which serves it: where the call returns along the normal edge, and
+-- where it throws along that of an item. What the table holds is given here,
+abbrev pub tried_function : Ledger → ℕ → List Name → (table : ℕ) → ExceptionTable → Request
+tried_function ledger function arguments table held =
+    Build (TriedBy table ∷ Imported (AFunctionRef function) ∷ Imported (ASignatureRef held.signature) ∷ []) (record {
+      operation = TryCall (function_at ledger.tables function).name (tried_shape ledger held);
+      controlling = type.Invalid;
+      operands = arguments;
+      edges = held.edges;
+    })
+
+abbrev pub tried_address : Ledger → Name → List Name → (table : ℕ) → ExceptionTable → Request
+tried_address ledger callee arguments table held =
+    Build (TriedBy table ∷ Imported (ASignatureRef held.signature) ∷ []) (record {
+      operation = TryCallIndirect (tried_shape ledger held);
+      controlling = type.Invalid;
+      operands = callee ∷ arguments;
+      edges = held.edges;
+    })
+
+-- and told by the ledger here
+abbrev pub try_call : Ledger → ℕ → List Name → ℕ → Request
+try_call ledger function arguments table = tried_function ledger function arguments table (exceptions_at ledger table)
+
+abbrev pub try_call_indirect : Ledger → Name → List Name → ℕ → Request
+try_call_indirect ledger callee arguments table = tried_address ledger callee arguments table (exceptions_at ledger table)
 
 abbrev pub return_ : List Name → Request
 return_ values = Build [] (record { operation = Return; controlling = type.Invalid; operands = values; edges = [] })

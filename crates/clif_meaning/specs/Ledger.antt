@@ -1,15 +1,16 @@
 -- The ledger of a script: what its calls alone tell. Which answers there are and of which kind and type, the state of
 -- each block, the layout, variables with their types, and which tables serve. The conditions on calls speak of it.
 -- After the documentation of Cranelift's `FunctionBuilder`.
-use Rattle.std.specs.Prelude.{ℕ, zero, suc, not, ◌&&◌, if◌then◌else◌, Bool, true, false, List, [], ◌∷◌, ◌++◌, length, map, fold, find, slice_get, slice_set, filter, filter_map, Option, Some, None, option_and_then, option_map, is_some}
+use Rattle.std.specs.Prelude.{ℕ, zero, suc, not, ◌&&◌, if◌then◌else◌, Bool, true, false, List, [], ◌∷◌, ◌++◌, length, map, fold, find, slice_get, slice_set, filter, filter_map, flat_map, Option, Some, None, option_and_then, option_map, is_some}
 use Rattle.std.specs.List.{list_any}
 use Rattle.clif_types.specs.declared.types.«Type».{«Type»}
 use Rattle.clif_types.specs.declared.types.«Type».TheVariants as type
 use Rattle.clif_tables.specs.Entries.{TableEntry, count_for, with_entry}
 use Rattle.clif_tables.specs.Lists.{TableLists, no_entries}
+use Rattle.clif_meaning.specs.Event.{CallItem, Context, Default, Tag}
 use Rattle.clif_meaning.specs.Instruction.{Operation, operation_typing, Edge, Instruction}
 use Rattle.clif_meaning.specs.Name.{Name, answer_of, same_name}
-use Rattle.clif_meaning.specs.Request.{Request, CreateBlock, SwitchToBlock, SealBlock, SealAllBlocks, InsertBlockAfter, SetColdBlock, EnsureInsertedBlock, AppendBlockParams, AppendFunctionParams, DeclareVar, DefVar, UseVar, MakeEntry, MakeEdge, MakeJumpTable, Annotate, GivenEntry, ServedBy, Imported, Build, ChangeJumpDestination, Finalize, Script}
+use Rattle.clif_meaning.specs.Request.{Request, CreateBlock, SwitchToBlock, SealBlock, SealAllBlocks, InsertBlockAfter, SetColdBlock, EnsureInsertedBlock, AppendBlockParams, AppendFunctionParams, DeclareVar, DefVar, UseVar, MakeEntry, MakeEdge, MakeJumpTable, MakeExceptionTable, Annotate, GivenEntry, ServedBy, TriedBy, Imported, TableItem, TagTo, DefaultTo, InContext, Build, ChangeJumpDestination, Finalize, Script}
 use Rattle.clif_meaning.specs.Program.{result_types}
 
 -- what an answer is
@@ -23,6 +24,8 @@ pub data Answered : Type 0 where
   AnEdge : Edge Name Name → Answered
   -- a jump table, with this number
   AJumpTable : (number : ℕ) → Answered
+  -- an exception table, with this number
+  AnExceptionTable : (number : ℕ) → Answered
 
 -- a block: pristine until something is made in it, filled once it has its terminator, sealed once it was told that no
 -- more branches to it come
@@ -45,6 +48,13 @@ pub record VariableState : Type 0 where
   -- used or assigned so far
   pub is_touched : Bool
 
+-- an exception table: the number of its signature, its edges, the normal one first, its items, and the names of its contexts
+pub record ExceptionTable : Type 0 where
+  pub signature : ℕ
+  pub edges : List (Edge Name Name)
+  pub items : List CallItem
+  pub contexts : List Name
+
 pub record Ledger : Type 0 where
   -- the answers to each call, by its place
   pub answers : List (List Answered)
@@ -57,12 +67,14 @@ pub record Ledger : Type 0 where
   pub variables : List VariableState
   -- the edges of each jump table, by number: none once it serves an instruction
   pub jump_tables : List (Option (List (Edge Name Name)))
+  -- the exception tables, by number: none once it serves an instruction
+  pub exception_tables : List (Option ExceptionTable)
   -- stack slots, signatures, functions and so on
   pub tables : TableLists
 
 -- before the first call
 abbrev pub empty_ledger : Ledger
-empty_ledger = record { answers = []; blocks = []; current = None; layout = []; variables = []; jump_tables = []; tables = no_entries }
+empty_ledger = record { answers = []; blocks = []; current = None; layout = []; variables = []; jump_tables = []; exception_tables = []; tables = no_entries }
 
 -- how many stack slots the calls created: those with higher numbers are spill slots
 abbrev pub slot_count : Ledger → ℕ
@@ -104,6 +116,41 @@ edges_named ledger names = filter_map (edge_named ledger) names
 -- the edges of the jump table with this number, if there is one that serves no instruction so far
 abbrev pub unserved_edges : Ledger → ℕ → Option (List (Edge Name Name))
 unserved_edges ledger table = option_and_then (λ edges. edges) (slice_get ledger.jump_tables table)
+
+-- the exception table with this number, if there is one that serves no instruction so far
+abbrev pub unserved_exceptions : Ledger → ℕ → Option ExceptionTable
+unserved_exceptions ledger table = option_and_then (λ held. held) (slice_get ledger.exception_tables table)
+
+-- the name of an item's edge, if it has one
+abbrev pub item_edge : TableItem → List Name
+item_edge (TagTo tag edge) = edge ∷ []
+item_edge (DefaultTo edge) = edge ∷ []
+item_edge (InContext value) = []
+
+-- an item as the answer to a call depends on it
+abbrev pub item_kind : TableItem → CallItem
+item_kind (TagTo tag edge) = Tag tag
+item_kind (DefaultTo edge) = Default
+item_kind (InContext value) = Context
+
+-- the value that an item names, if it is a context
+abbrev pub item_context : TableItem → List Name
+item_context (TagTo tag edge) = []
+item_context (DefaultTo edge) = []
+item_context (InContext value) = value ∷ []
+
+-- the names of a table's edges, the normal one first
+abbrev pub edges_of_items : Name → List TableItem → List Name
+edges_of_items normal items = normal ∷ flat_map item_edge items
+
+-- the table of these parts, with the edges that they name
+abbrev pub exception_table : Ledger → ℕ → Name → List TableItem → ExceptionTable
+exception_table ledger signature normal items = record {
+  signature = signature;
+  edges = edges_named ledger (edges_of_items normal items);
+  items = map item_kind items;
+  contexts = flat_map item_context items;
+}
 
 -- the state of the block with this name, if there is one
 abbrev pub block_state : Ledger → Name → Option BlockState
@@ -236,6 +283,7 @@ answers_to ledger (UseVar variable) = AValue (or_invalid (variable_type ledger v
 answers_to ledger (MakeEntry entry) = AnEntry entry (count_for ledger.tables entry) ∷ []
 answers_to ledger (MakeEdge edge) = AnEdge edge ∷ []
 answers_to ledger (MakeJumpTable default entries) = AJumpTable (length ledger.jump_tables) ∷ []
+answers_to ledger (MakeExceptionTable signature normal items) = AnExceptionTable (length ledger.exception_tables) ∷ []
 answers_to ledger (Annotate values) = []
 answers_to ledger (Build entries instruction) = AnInstruction ∷ map AValue (result_types instruction.operation instruction.controlling)
 answers_to ledger (ChangeJumpDestination branch from to) = []
@@ -289,7 +337,15 @@ redirected_state branch from to state =
 abbrev pub with_served : List (Option (List (Edge Name Name))) → List GivenEntry → List (Option (List (Edge Name Name)))
 with_served tables [] = tables
 with_served tables (ServedBy table ∷ entries) = with_served (slice_set tables table None) entries
+with_served tables (TriedBy table ∷ entries) = with_served tables entries
 with_served tables (Imported entry ∷ entries) = with_served tables entries
+
+-- and each exception table
+abbrev pub with_tried : List (Option ExceptionTable) → List GivenEntry → List (Option ExceptionTable)
+with_tried tables [] = tables
+with_tried tables (ServedBy table ∷ entries) = with_tried tables entries
+with_tried tables (TriedBy table ∷ entries) = with_tried (slice_set tables table None) entries
+with_tried tables (Imported entry ∷ entries) = with_tried tables entries
 
 -- What each kind of call changes, its answers aside.
 abbrev pub changed_by : Ledger → Request → Ledger
@@ -309,9 +365,14 @@ changed_by ledger (MakeEntry entry) = record ledger { tables = with_entry ledger
 changed_by ledger (MakeEdge edge) = ledger
 changed_by ledger (MakeJumpTable default entries) =
     record ledger { jump_tables = ledger.jump_tables ++ Some (edges_named ledger (default ∷ entries)) ∷ [] }
+changed_by ledger (MakeExceptionTable signature normal items) =
+    record ledger { exception_tables = ledger.exception_tables ++ Some (exception_table ledger signature normal items) ∷ [] }
 changed_by ledger (Annotate values) = ledger
 changed_by ledger (Build entries instruction) =
-    record (with_instruction ledger instruction) { jump_tables = with_served ledger.jump_tables entries }
+    record (with_instruction ledger instruction) {
+      jump_tables = with_served ledger.jump_tables entries;
+      exception_tables = with_tried ledger.exception_tables entries;
+    }
 changed_by ledger (ChangeJumpDestination branch from to) =
     record ledger { blocks = map (redirected_state branch from to) ledger.blocks }
 changed_by ledger Finalize = ledger

@@ -29,6 +29,7 @@ pub mod Headline
 pub mod Laws
 pub mod Examples
 pub mod CallExamples
+pub mod TryExamples
 pub mod ScriptExamples
 pub mod BranchExamples
 pub mod ChangeExamples

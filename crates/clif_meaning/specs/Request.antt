@@ -7,11 +7,19 @@ use Rattle.clif_tables.specs.Entries.{TableEntry}
 use Rattle.clif_meaning.specs.Instruction.{Edge, Instruction}
 use Rattle.clif_meaning.specs.Name.{Name}
 
--- an entry of a table that an instruction is given by its number: a jump table, which serves it from then on, or a function
--- or a signature that was imported, which it calls, or calls by
+-- An entry of a table that an instruction is given by its number. A jump table or an exception table serves it from then on, and
+-- no other; a function, a signature or another entry may be given to any number of them.
 pub data GivenEntry : Type 0 where
   ServedBy : (table : ℕ) → GivenEntry
+  TriedBy : (table : ℕ) → GivenEntry
   Imported : EntryRef → GivenEntry
+
+-- an item of an exception table: the edge that an exception with a tag takes, or any other exception, or the context of the
+-- tags that follow
+pub data TableItem : Type 0 where
+  TagTo : (tag : ℕ) (edge : Name) → TableItem
+  DefaultTo : (edge : Name) → TableItem
+  InContext : (value : Name) → TableItem
 
 pub data Request : Type 0 where
   CreateBlock : Request
@@ -35,6 +43,9 @@ pub data Request : Type 0 where
   MakeEdge : Edge Name Name → Request
   -- a jump table of edges that were made. It is known by its number among the jump tables.
   MakeJumpTable : (default : Name) (entries : List Name) → Request
+  -- an exception table of a signature that is known by its number, and of edges that were made: the one along which a call
+  -- returns, and those of the items. It is known by its number among the exception tables.
+  MakeExceptionTable : (signature : ℕ) (normal : Name) (items : List TableItem) → Request
   -- a note on these values, or on none, for a debugger: a place in the source, or a label. The function means the same with it.
   Annotate : (values : List Name) → Request
   -- an instruction at the end of the current block, with the entries that it is given. It answers its number, and then its

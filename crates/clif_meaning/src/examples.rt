@@ -8,6 +8,7 @@ ghost use Rattle.clif_meaning.specs.Examples.{ArithmeticExamples, ByteExamples, 
 ghost use Rattle.clif_meaning.specs.ParameterExamples.{ParameterExamples};
 ghost use Rattle.clif_meaning.specs.SampleExamples.{SampleExamples};
 ghost use Rattle.clif_meaning.specs.ScriptExamples.{LedgerExamples, PathExamples};
+ghost use Rattle.clif_meaning.specs.TryExamples.{TryExamples};
 ghost use Rattle.clif_meaning.specs.ViewExamples.{ViewExamples};
 
 /// Constants and sums.
@@ -90,6 +91,11 @@ pub fn view_examples()
 /// An outside call under a collector that moves, on both machines.
 pub fn call_examples()
     ensures { CallExamples }
+{}
+
+/// A script with an exception table and the try call that it serves, and scripts that misuse one.
+pub fn try_examples()
+    ensures { TryExamples }
 {}
 
 /// What may stand on the edges of a try call.

@@ -8,7 +8,7 @@ use Rattle.clif_tables.specs.Lists.{TableLists}
 use Rattle.clif_meaning.specs.Instruction.{Edge, Operation}
 use Rattle.clif_meaning.specs.Ledger.{Answered, or_invalid, Ledger, VariableState, answer_at, answers_to, changed_by, empty_ledger, is_inserted, is_terminator, ledger_after, ledger_with, new_variable, next_answer, touched_at, with_begun, with_begun_at, with_filled_at, with_predecessor, with_terminator, value_answer_type}
 use Rattle.clif_meaning.specs.Name.{Name}
-use Rattle.clif_meaning.specs.Request.{Request, CreateBlock, SwitchToBlock, SealBlock, SealAllBlocks, InsertBlockAfter, SetColdBlock, EnsureInsertedBlock, AppendBlockParams, AppendFunctionParams, DeclareVar, DefVar, UseVar, MakeEntry, MakeEdge, MakeJumpTable, Annotate, Build, ChangeJumpDestination, Finalize, Script}
+use Rattle.clif_meaning.specs.Request.{Request, CreateBlock, SwitchToBlock, SealBlock, SealAllBlocks, InsertBlockAfter, SetColdBlock, EnsureInsertedBlock, AppendBlockParams, AppendFunctionParams, DeclareVar, DefVar, UseVar, MakeEntry, MakeEdge, MakeJumpTable, MakeExceptionTable, Annotate, Build, ChangeJumpDestination, Finalize, Script}
 use Rattle.clif_renaming.specs.Renaming.{renamed_edge}
 use Rattle.clif_renaming.specs.Sealing.{is_sealing, name_left, place_left, renamed_request, unsealed, without_seals}
 use Rattle.clif_renaming.proofs.Places.{left_at, place_of_left, place_of_sealing, rank, rank_next}
@@ -74,6 +74,7 @@ sealing_keeps ledger (UseVar variable) is = let none : ⊥ = cc in absurd none
 sealing_keeps ledger (MakeEntry entry) is = let none : ⊥ = cc in absurd none
 sealing_keeps ledger (MakeEdge edge) is = let none : ⊥ = cc in absurd none
 sealing_keeps ledger (MakeJumpTable default entries) is = let none : ⊥ = cc in absurd none
+sealing_keeps ledger (MakeExceptionTable signature normal items) is = let none : ⊥ = cc in absurd none
 sealing_keeps ledger (Annotate values) is = let none : ⊥ = cc in absurd none
 sealing_keeps ledger (Build entries instruction) is = let none : ⊥ = cc in absurd none
 sealing_keeps ledger (ChangeJumpDestination branch from to) is = let none : ⊥ = cc in absurd none
@@ -103,6 +104,7 @@ module _ (rename : Name → Name) (l l' : Ledger) (same : SameTables l l') where
   both_changed (MakeEntry entry) = record { variables = same.variables; tables = ap (λ (tables : TableLists). with_entry tables entry) same.tables }
   both_changed (MakeEdge edge) = record { variables = same.variables; tables = same.tables }
   both_changed (MakeJumpTable default entries) = record { variables = same.variables; tables = same.tables }
+  both_changed (MakeExceptionTable signature normal items) = record { variables = same.variables; tables = same.tables }
   both_changed (Annotate values) = record { variables = same.variables; tables = same.tables }
   both_changed (Build entries instruction) =
       let both = both_kept l l' _ _ same (built (next_answer l) l instruction.operation instruction.edges)
@@ -131,6 +133,7 @@ module _ (rename : Name → Name) (l l' : Ledger) (same : SameTables l l') where
   answered_alike (MakeEntry entry) = refl
   answered_alike (MakeEdge edge) = refl
   answered_alike (MakeJumpTable default entries) = refl
+  answered_alike (MakeExceptionTable signature normal items) = refl
   answered_alike (Annotate values) = refl
   answered_alike (Build entries instruction) = refl
   answered_alike (ChangeJumpDestination branch from to) = refl
@@ -222,6 +225,7 @@ no_answer (request ∷ script) ledger zero index sealing = by request sealing
     by (MakeEntry entry) is = let none : ⊥ = cc in absurd none
     by (MakeEdge edge) is = let none : ⊥ = cc in absurd none
     by (MakeJumpTable default entries) is = let none : ⊥ = cc in absurd none
+    by (MakeExceptionTable signature normal items) is = let none : ⊥ = cc in absurd none
     by (Annotate values) is = let none : ⊥ = cc in absurd none
     by (Build entries instruction) is = let none : ⊥ = cc in absurd none
     by (ChangeJumpDestination branch from to) is = let none : ⊥ = cc in absurd none

@@ -35,7 +35,7 @@ use Rattle.clif_calls.specs.declared.call.Edge.{Edge}
 use Rattle.clif_calls.specs.declared.call.Name.{Name}
 use Rattle.clif_replay.specs.declared.script.Answer.{Answer}
 use Rattle.clif_replay.specs.Requests.{edge_of, name_of}
-use Rattle.clif_replay.specs.Ready.{IsEdge, IsReady, IsFound, all_values, argument_of, block_of, can_append, can_append_function_params, can_define, can_seal, can_switch, can_use, is_open, is_open_at, is_target, may_lead, value_of}
+use Rattle.clif_replay.specs.Ready.{IsReady, IsFound, all_values, argument_of, block_of, can_append, can_append_function_params, can_define, can_seal, can_switch, can_use, is_open, is_open_at, is_target, may_lead, value_of}
 use Rattle.clif_replay.proofs.Options.{get-below, map-some, name-of-none, name-of-some, some-is}
 use Rattle.clif_replay.proofs.ReadyLaws.{block-found, block-missing, block-there, read, value-exists, value-found, value-missing}
 
@@ -480,19 +480,15 @@ passed-named calls b answers ready (name ∷ names) (value ∷ values) found =
     let rest : map (value_of b.func.now answers) names ≡ map Some values = cc in
     (value-found calls b answers ready name value here, passed-named calls b answers ready names values rest)
 
-pub edge-names : {declared : SignatureShape} (calls : List AnsweredCall) (b : FunctionBuilder) (answers : List Answer) → IsReady declared calls b answers
-    → (edge : Edge) (call : BlockCall) → IsEdge b answers edge call → NamesEdge calls (edge_of edge) call
-edge-names calls b answers ready edge call found =
+pub found-names : {declared : SignatureShape} (calls : List AnsweredCall) (b : FunctionBuilder) (answers : List Answer) → IsReady declared calls b answers
+    → (edge : Edge) (call : BlockCall) → IsFound b answers edge call → NamesEdge calls (edge_of edge) call
+found-names calls b answers ready edge call found =
     let passed = passed-values b.func.now answers edge.args.items call.args found.passed in
     record {
       target = block-found calls b answers ready edge.block call.block found.target;
       arguments = subst (λ (xs : List BlockArg). NamesArguments calls (map (λ name. Known (name_of name)) edge.args.items) xs) (sym passed.2)
           (passed-named calls b answers ready edge.args.items passed.0 passed.1);
     }
-
-pub found-names : {declared : SignatureShape} (calls : List AnsweredCall) (b : FunctionBuilder) (answers : List Answer) → IsReady declared calls b answers
-    → (edge : Edge) (call : BlockCall) → IsFound b answers edge call → NamesEdge calls (edge_of edge) call
-found-names calls b answers ready edge call found = edge-names calls b answers ready edge call (record { target = found.target; passed = found.passed })
 
 -- and exists
 passed-exist : (f : Body) (values : List ℕ) → ((k : ℕ) → k < length values → slice_index values k < length f.values) → All (PassedExists f) (map arg.Value values)

@@ -18,9 +18,9 @@ use Rattle.clif_meaning.specs.Instruction.{Compute, PooledConst}
 use Rattle.clif_meaning.specs.Request.{AnsweredCall}
 use Rattle.clif_meaning.specs.View.{made_at}
 use Rattle.cranelift_frontend.specs.declared.builder.FunctionBuilder.{FunctionBuilder}
-use Rattle.cranelift_frontend.specs.Ledger.{HasShape, ledger_of}
+use Rattle.cranelift_frontend.specs.Ledger.{HasShape, NamesEdges, NamesExceptions, ledger_of}
 use Rattle.cranelift_frontend.specs.StandsFor.{StandsFor}
-use Rattle.clif_replay.specs.Ready.{IsReady, TablesAgree, is_open, is_open_at}
+use Rattle.clif_replay.specs.Ready.{IsReady, KeepsTables, TablesAgree, is_open, is_open_at}
 use Rattle.clif_replay.specs.declared.script.Answer.{Answer}
 use Rattle.clif_replay.proofs.Conditions.{pooled-same}
 use Rattle.clif_replay.proofs.Making.{Judges}
@@ -56,14 +56,15 @@ constant-allowed b answers opcode ty bytes opens fits declared calls ready =
 
 -- a builder that pooled a constant stands for the same calls, and its block is open where it was
 pub pooled-ready : {declared : SignatureShape} (calls : List AnsweredCall) (old new : FunctionBuilder) (answers : List Answer) → StandsFor declared calls new
-    → new.func.now.tables.jump_tables ≡ old.func.now.tables.jump_tables → IsReady declared calls old answers → IsReady declared calls new answers
+    → KeepsTables old new → IsReady declared calls old answers → IsReady declared calls new answers
 pooled-ready calls old new answers stands tables ready = record {
   reads = ready.reads;
   stands = stands;
   count = ready.count;
   answered = ready.answered;
   edges = ready.edges;
-  tables = subst (TablesAgree calls (ledger_of calls).jump_tables) (sym tables) ready.tables;
+  tables = subst (TablesAgree (NamesEdges calls) (ledger_of calls).jump_tables) (sym tables.0) ready.tables;
+  exceptions = subst (TablesAgree (NamesExceptions calls) (ledger_of calls).exception_tables) (sym tables.1) ready.exceptions;
 }
 
 pub pooled-open : (old new : FunctionBuilder) → new.position ≡ old.position → new.ctx.now ≡ old.ctx.now → is_open old ≡ true → is_open new ≡ true

@@ -1,9 +1,9 @@
 -- Edges, jump tables and branches by them: when they are allowed, and what a builder stands for afterwards.
 use Rattle.std.proofs.Common.{◌≡◌, ℕ, zero, suc, ◌<◌, List, [], ◌∷◌, ◌++◌, length, refl, ap, arith, sym, ◌∙◌, subst, ◌⊎◌, inl, inr}
-use Rattle.std.specs.Prelude.{◌↔◌, IfOk, IsTrue, map, slice_get, slice_set, Option, Some, None, is_some, option_and_then, Bool, true, false, not, ◌&&◌, Result, Ok, Err}
+use Rattle.std.specs.Prelude.{◌↔◌, IfOk, IsTrue, map, slice_get, slice_set, Option, Some, None, is_some, option_and_then, option_map, Bool, true, false, not, ◌&&◌, Result, Ok, Err}
 use Rattle.std.specs.List.{All, cons_option, list_all}
 use Rattle.std.proofs.lemmas.Bool.{and_from, and_parts, and_right, not-true}
-use Rattle.std.proofs.lemmas.Option.{slice_get_within}
+use Rattle.std.proofs.lemmas.Option.{same_Some, slice_get_within}
 use Rattle.clif_types.specs.declared.error.BuildError.{BuildError}
 use Rattle.clif_types.specs.declared.error.BuildError.TheVariants.{Failed, Full}
 use Rattle.clif_types.specs.declared.types.«Type».TheVariants.{Invalid}
@@ -11,7 +11,7 @@ use Rattle.clif_types.specs.Signature.{SignatureShape}
 use Rattle.clif_instructions.specs.declared.block_call.BlockArg.{BlockArg}
 use Rattle.clif_instructions.specs.declared.block_call.BlockArg.TheVariants as arg
 use Rattle.clif_instructions.specs.declared.block_call.BlockCall.{BlockCall}
-use Rattle.clif_tables.specs.Lists.{unserved, with_jump_table}
+use Rattle.clif_tables.specs.Lists.{with_jump_table}
 use Rattle.clif_nodes.specs.declared.nodes.ValueNode.{ValueNode}
 use Rattle.clif_ir.specs.Body.{Body, inst_at}
 use Rattle.clif_ir.specs.Consistent.{EdgeExists, PassedExists}
@@ -19,7 +19,7 @@ use Rattle.clif_inst_builder.specs.Shapes.{TakesThenBuilds, branch_table}
 use Rattle.clif_meaning.specs.Acceptance.{allows, br_table, can_lead, has_argument}
 use Rattle.clif_meaning.specs.Instruction.{Argument, CallPayload, CallResult, Known}
 use Rattle.clif_meaning.specs.Instruction as meaning
-use Rattle.clif_meaning.specs.Ledger.{AJumpTable, AnEdge, Answered, Ledger, answered_edge, edge_named, edges_named, has_block, ledger_with, unserved_edges}
+use Rattle.clif_meaning.specs.Ledger.{AJumpTable, AnEdge, Answered, Ledger, answered_edge, edge_named, edges_named, has_block, has_value, ledger_with, unserved_edges}
 use Rattle.clif_meaning.specs.Name as named
 use Rattle.clif_meaning.specs.Request.{AnsweredCall, MakeEdge, MakeJumpTable, Request}
 use Rattle.clif_ssa.specs.Limits.{IsFull}
@@ -30,17 +30,19 @@ use Rattle.cranelift_frontend.specs.Entries.{CreatesJumpTable, MakesEdge, MaySer
 use Rattle.cranelift_frontend.specs.Ledger.{NamesArgument, NamesArguments, NamesEdge, NamesEdges, ledger_of}
 use Rattle.cranelift_frontend.specs.LedgerLaws.{RequestsAskForTheirShapes, TableCallsAddNothing}
 use Rattle.cranelift_frontend.specs.StandsFor.{StandsFor}
-use Rattle.clif_calls.specs.declared.call.Edge.{Edge}
 use Rattle.clif_calls.specs.declared.call.Name.{Name}
+use Rattle.clif_calls.specs.declared.table.Passed.{Passed}
+use Rattle.clif_calls.specs.declared.table.Passed.TheVariants as passed
+use Rattle.clif_calls.specs.declared.table.TableEdge.{TableEdge}
 use Rattle.clif_replay.specs.declared.script.Answer.{Answer}
 use Rattle.clif_replay.specs.declared.script.Answer.TheVariants as answer
-use Rattle.clif_replay.specs.Requests.{edge_of, name_of}
-use Rattle.clif_replay.specs.Ready.{IsEdge, IsReady, IsReadyAfter, TableAgrees, TablesAgree, all_values, block_of, can_seal, edge_at, has_edge, is_open, serves, serves_at, value_of}
-use Rattle.clif_replay.proofs.Conditions.{all-found, arguments-same, edge-names, open-same, passed-values, sealed-same, values-same}
-use Rattle.clif_replay.proofs.Lasting.{as-many, edge-stays, edges-stay, ledger-more, one-table-more, table-serves, tables-stay}
+use Rattle.clif_replay.specs.Requests.{name_of, passed_of, table_edge_of}
+use Rattle.clif_replay.specs.Ready.{IsEdge, IsReady, IsReadyAfter, TableAgrees, TablesAgree, all_passed, block_of, can_seal, edge_at, has_edge, is_open, passed_in, serves, serves_at, value_of}
+use Rattle.clif_replay.proofs.Conditions.{open-same, sealed-same, values-same}
+use Rattle.clif_replay.proofs.Lasting.{as-many, edge-stays, edges-stay, held-missing, held-there, ledger-more, one-table-more, table-at, table-serves, tables-stay}
 use Rattle.clif_replay.proofs.Making.{full-either}
 use Rattle.clif_replay.proofs.Options.{get-last, map-some}
-use Rattle.clif_replay.proofs.ReadyLaws.{block-found, block-missing, edge-found, edge-missing, read, ready-answered, value-found}
+use Rattle.clif_replay.proofs.ReadyLaws.{block-found, block-missing, edge-found, edge-missing, exceptions-still, read, ready-answered, tables-still, value-found, value-missing}
 
 -- EDGES -----------------------------------------------------------------------------------------------------------------
 
@@ -52,20 +54,68 @@ block-same calls b answers ready name = by (block_of answers name) refl
     by None at = block-missing calls b answers ready name at ∙ ap is_some (sym at)
     by (Some block) at = (block-found calls b answers ready name block at).is_block ∙ ap is_some (sym at)
 
+-- what an edge of a table passes is there in the ledger where it is here
+passed-same : {declared : SignatureShape} (calls : List AnsweredCall) (b : FunctionBuilder) (answers : List Answer) → IsReady declared calls b answers
+    → (args : List Passed) → list_all (has_argument (ledger_of calls)) (map passed_of args) ≡ all_passed b.func.now answers args
+passed-same calls b answers ready [] = refl
+passed-same calls b answers ready (one ∷ args) =
+    ap (λ (test : Bool). test && list_all (has_argument (ledger_of calls)) (map passed_of args)) (by one)
+    ∙ ap (λ (rest : Bool). is_some (passed_in b.func.now answers one) && rest) (passed-same calls b answers ready args)
+  where
+    of_value : (name : Name) (o : Option ℕ) → value_of b.func.now answers name ≡ o → has_value (ledger_of calls) (name_of name) ≡ is_some (option_map arg.Value (value_of b.func.now answers name))
+    of_value name None is = value-missing calls b answers ready name is ∙ ap (λ (v : Option ℕ). is_some (option_map arg.Value v)) (sym is)
+    of_value name (Some value) is = (value-found calls b answers ready name value is).is_value ∙ ap (λ (v : Option ℕ). is_some (option_map arg.Value v)) (sym is)
+
+    by : (other : Passed) → has_argument (ledger_of calls) (passed_of other) ≡ is_some (passed_in b.func.now answers other)
+    by (passed.Value name) = of_value name (value_of b.func.now answers name) refl
+    by (passed.Returned place) = refl
+    by (passed.Thrown place) = refl
+
 -- an edge is there in the ledger where it is here
 pub edge-same : {declared : SignatureShape} (calls : List AnsweredCall) (b : FunctionBuilder) (answers : List Answer) → IsReady declared calls b answers
-    → (edge : Edge) → allows (ledger_of calls) (MakeEdge (edge_of edge)) ≡ has_edge b answers edge
+    → (edge : TableEdge) → allows (ledger_of calls) (MakeEdge (table_edge_of edge)) ≡ has_edge b answers edge
 edge-same calls b answers ready edge =
-    ap (λ (test : Bool). test && list_all (has_argument (ledger_of calls)) (map (λ name. Known (name_of name)) edge.args.items)) (block-same calls b answers ready edge.block)
-    ∙ ap (λ (all : Bool). is_some (block_of answers edge.block) && all)
-    (arguments-same (ledger_of calls) edge.args.items ∙ values-same calls b answers ready edge.args.items)
+    ap (λ (test : Bool). test && list_all (has_argument (ledger_of calls)) (map passed_of edge.args.items)) (block-same calls b answers ready edge.block)
+    ∙ ap (λ (all : Bool). is_some (block_of answers edge.block) && all) (passed-same calls b answers ready edge.args.items)
 
--- one that was found is there
-pub edge-there : (b : FunctionBuilder) (answers : List Answer) (edge : Edge) (call : BlockCall) → IsEdge b answers edge call → has_edge b answers edge ≡ true
+-- what was found is there
+passed-found : (f : Body) (answers : List Answer) (args : List Passed) (made : List BlockArg) → map (passed_in f answers) args ≡ map Some made → all_passed f answers args ≡ true
+passed-found f answers [] made found = refl
+passed-found f answers (one ∷ args) [] found = let no_way : ⊥ = cc in absurd no_way
+passed-found f answers (one ∷ args) (a ∷ made) found =
+    let here : passed_in f answers one ≡ Some a = cc in
+    let rest : map (passed_in f answers) args ≡ map Some made = cc in
+    and_from (is_some (passed_in f answers one)) (all_passed f answers args) (ap is_some here) (passed-found f answers args made rest)
+
+pub edge-there : (b : FunctionBuilder) (answers : List Answer) (edge : TableEdge) (call : BlockCall) → IsEdge b answers edge call → has_edge b answers edge ≡ true
 edge-there b answers edge call is =
-    let passed = passed-values b.func.now answers edge.args.items call.args is.passed in
-    and_from (is_some (block_of answers edge.block)) (all_values b.func.now answers edge.args.items) (ap is_some is.target)
-    (all-found b.func.now answers edge.args.items passed.0 passed.1)
+    and_from (is_some (block_of answers edge.block)) (all_passed b.func.now answers edge.args.items) (ap is_some is.target)
+    (passed-found b.func.now answers edge.args.items call.args is.passed)
+
+-- it is named
+passed-names : {declared : SignatureShape} (calls : List AnsweredCall) (b : FunctionBuilder) (answers : List Answer) → IsReady declared calls b answers
+    → (args : List Passed) (made : List BlockArg) → map (passed_in b.func.now answers) args ≡ map Some made → NamesArguments calls (map passed_of args) made
+passed-names calls b answers ready [] [] found = tt
+passed-names calls b answers ready [] (a ∷ made) found = let no_way : ⊥ = cc in absurd no_way
+passed-names calls b answers ready (one ∷ args) [] found = let no_way : ⊥ = cc in absurd no_way
+passed-names calls b answers ready (one ∷ args) (a ∷ made) found =
+    let here : passed_in b.func.now answers one ≡ Some a = cc in
+    let rest : map (passed_in b.func.now answers) args ≡ map Some made = cc in
+    (by one here, passed-names calls b answers ready args made rest)
+  where
+    by : (other : Passed) → passed_in b.func.now answers other ≡ Some a → NamesArgument calls (passed_of other) a
+    by (passed.Value name) is =
+        let value = map-some arg.Value (value_of b.func.now answers name) a is in
+        subst (NamesArgument calls (Known (name_of name))) value.2 (value-found calls b answers ready name value.0 value.1)
+    by (passed.Returned place) is = subst (NamesArgument calls (CallResult place)) (same_Some (arg.TryCallRet place) a is) refl
+    by (passed.Thrown place) is = subst (NamesArgument calls (CallPayload place)) (same_Some (arg.TryCallExn place) a is) refl
+
+edge-names : {declared : SignatureShape} (calls : List AnsweredCall) (b : FunctionBuilder) (answers : List Answer) → IsReady declared calls b answers
+    → (edge : TableEdge) (call : BlockCall) → IsEdge b answers edge call → NamesEdge calls (table_edge_of edge) call
+edge-names calls b answers ready edge call found = record {
+  target = block-found calls b answers ready edge.block call.block found.target;
+  arguments = passed-names calls b answers ready edge.args.items call.args found.passed;
+}
 
 -- names lead to edges where they name edges
 pub edges-same : {declared : SignatureShape} (calls : List AnsweredCall) (b : FunctionBuilder) (answers : List Answer) → IsReady declared calls b answers
@@ -101,38 +151,21 @@ all-there answers (name ∷ names) (other ∷ made) found =
 
 -- TABLES ----------------------------------------------------------------------------------------------------------------
 
--- a table of the ledger and the function's table of the same number agree
-table-at : (calls : List AnsweredCall) (tables : List (Option (List (meaning.Edge named.Name named.Name)))) (made : List (Option (List BlockCall))) (table : ℕ)
-    → TablesAgree calls tables made → TableAgrees calls (option_and_then (λ edges. edges) (slice_get tables table)) (unserved (slice_get made table))
-table-at calls [] [] table agrees = tt
-table-at calls [] (other ∷ made) table agrees = absurd agrees
-table-at calls (t ∷ tables) [] table agrees = absurd agrees
-table-at calls (t ∷ tables) (other ∷ made) zero agrees = agrees.0
-table-at calls (t ∷ tables) (other ∷ made) (suc table) agrees = table-at calls tables made table agrees.1
-
 -- the edges of a table that serves nothing so far
 pub table-named : {declared : SignatureShape} (calls : List AnsweredCall) (b : FunctionBuilder) (answers : List Answer) → IsReady declared calls b answers
     → (table : ℕ) (made : List BlockCall) → table_edges b table ≡ Some made
     → (edges : List (meaning.Edge named.Name named.Name)) × (unserved_edges (ledger_of calls) table ≡ Some edges) × NamesEdges calls edges made
 table-named calls b answers ready table made found =
-    by (unserved_edges (ledger_of calls) table) refl
-    (subst (TableAgrees calls (unserved_edges (ledger_of calls) table)) found (table-at calls (ledger_of calls).jump_tables b.func.now.tables.jump_tables table ready.tables))
-  where
-    by : (o : Option (List (meaning.Edge named.Name named.Name))) → unserved_edges (ledger_of calls) table ≡ o → TableAgrees calls (unserved_edges (ledger_of calls) table) (Some made)
-        → (edges : List (meaning.Edge named.Name named.Name)) × (unserved_edges (ledger_of calls) table ≡ Some edges) × NamesEdges calls edges made
-    by None is agrees = absurd (subst (λ o. TableAgrees calls o (Some made)) is agrees)
-    by (Some edges) is agrees = (edges, is, subst (λ o. TableAgrees calls o (Some made)) is agrees)
+    held-there (NamesEdges calls) (unserved_edges (ledger_of calls) table) made
+    (subst (TableAgrees (NamesEdges calls) (unserved_edges (ledger_of calls) table)) found
+    (table-at (NamesEdges calls) (ledger_of calls).jump_tables b.func.now.tables.jump_tables table ready.tables))
 
 table-missing : {declared : SignatureShape} (calls : List AnsweredCall) (b : FunctionBuilder) (answers : List Answer) → IsReady declared calls b answers
     → (table : ℕ) → table_edges b table ≡ None → unserved_edges (ledger_of calls) table ≡ None
 table-missing calls b answers ready table missing =
-    by (unserved_edges (ledger_of calls) table) refl
-    (subst (TableAgrees calls (unserved_edges (ledger_of calls) table)) missing (table-at calls (ledger_of calls).jump_tables b.func.now.tables.jump_tables table ready.tables))
-  where
-    by : (o : Option (List (meaning.Edge named.Name named.Name))) → unserved_edges (ledger_of calls) table ≡ o → TableAgrees calls (unserved_edges (ledger_of calls) table) None
-        → unserved_edges (ledger_of calls) table ≡ None
-    by None is agrees = is
-    by (Some edges) is agrees = absurd (subst (λ o. TableAgrees calls o None) is agrees)
+    held-missing (NamesEdges calls) (unserved_edges (ledger_of calls) table)
+    (subst (TableAgrees (NamesEdges calls) (unserved_edges (ledger_of calls) table)) missing
+    (table-at (NamesEdges calls) (ledger_of calls).jump_tables b.func.now.tables.jump_tables table ready.tables))
 
 -- what edges pass is there
 passed-there : (calls : List AnsweredCall) (arguments : List (Argument named.Name)) (args : List BlockArg) → NamesArguments calls arguments args
@@ -151,7 +184,7 @@ passed-there calls (argument ∷ arguments) (a ∷ args) names =
     by (CallPayload index) made is = refl
 
 -- an edge may be made where its target isn't sealed
-leads-same : {declared : SignatureShape} (calls : List AnsweredCall) (b : FunctionBuilder) (answers : List Answer) → IsReady declared calls b answers
+pub leads-same : {declared : SignatureShape} (calls : List AnsweredCall) (b : FunctionBuilder) (answers : List Answer) → IsReady declared calls b answers
     → (edges : List (meaning.Edge named.Name named.Name)) (made : List BlockCall) → NamesEdges calls edges made
     → list_all (can_lead (ledger_of calls)) edges ≡ list_all (λ edge. can_seal b edge.block) made
 leads-same calls b answers ready [] [] names = refl
@@ -222,7 +255,7 @@ argument-exists calls b answers ready argument (arg.TryCallExn place) is = tt
 argument-exists calls b answers ready (CallResult index) (arg.Value value) is = absurd is
 argument-exists calls b answers ready (CallPayload index) (arg.Value value) is = absurd is
 
-arguments-exist : {declared : SignatureShape} (calls : List AnsweredCall) (b : FunctionBuilder) (answers : List Answer) → IsReady declared calls b answers
+pub arguments-exist : {declared : SignatureShape} (calls : List AnsweredCall) (b : FunctionBuilder) (answers : List Answer) → IsReady declared calls b answers
     → (arguments : List (Argument named.Name)) (made : List BlockArg) → NamesArguments calls arguments made → All (PassedExists b.func.now) made
 arguments-exist calls b answers ready arguments [] names k d below = absurd (omega (arith, below))
 arguments-exist calls b answers ready [] (a ∷ made) names k d below = absurd names
@@ -230,7 +263,7 @@ arguments-exist calls b answers ready (argument ∷ arguments) (a ∷ made) name
 arguments-exist calls b answers ready (argument ∷ arguments) (a ∷ made) names (suc k) d below =
     arguments-exist calls b answers ready arguments made names.1 k d (omega (arith, below))
 
-edges-lead : {declared : SignatureShape} (calls : List AnsweredCall) (b : FunctionBuilder) (answers : List Answer) → IsReady declared calls b answers
+pub edges-lead : {declared : SignatureShape} (calls : List AnsweredCall) (b : FunctionBuilder) (answers : List Answer) → IsReady declared calls b answers
     → (edges : List (meaning.Edge named.Name named.Name)) (made : List BlockCall) → NamesEdges calls edges made → list_all (λ edge. can_seal b edge.block) made ≡ true → All (CanLead b) made
 edges-lead calls b answers ready edges [] names opens k d below = absurd (omega (arith, below))
 edges-lead calls b answers ready [] (other ∷ made) names opens k d below = absurd names
@@ -284,41 +317,40 @@ branched old new index table answer sound (inr (error, takes, is)) =
 -- AFTER THE CALLS ---------------------------------------------------------------------------------------------------------
 
 -- an edge was made
-pub edge-ready : TableCallsAddNothing → {declared : SignatureShape} (calls : List AnsweredCall) (old new : FunctionBuilder) (answers : List Answer) (edge : Edge) (found made : BlockCall)
+pub edge-ready : TableCallsAddNothing → {declared : SignatureShape} (calls : List AnsweredCall) (old new : FunctionBuilder) (answers : List Answer) (edge : TableEdge) (found made : BlockCall)
     → IsReady declared calls old answers → IsEdge old answers edge found → made ≡ found → MakesEdge found.block found.args old new (Ok made)
-    → IsReadyAfter declared calls (MakeEdge (edge_of edge)) new answers (answer.Edge made)
-edge-ready law {declared} calls old new answers edge found made ready is same makes =
-    (0 ∷ [], ready-answered calls call old new answers (answer.Edge made) ready stands (edge_of edge, refl, refl) there tables)
+    → IsReadyAfter declared calls (MakeEdge (table_edge_of edge)) new answers (answer.Edge made)
+edge-ready law {declared} calls old new answers edge found made ready is same makes = (
+  0 ∷ [],
+  ready-answered calls call old new answers (answer.Edge made) ready stands (table_edge_of edge, refl, refl) there tables
+      (exceptions-still calls call old new answers ready stands refl makes.grows.8),
+)
   where
     call : AnsweredCall
-    call = record { request = MakeEdge (edge_of edge); numbers = 0 ∷ [] }
+    call = record { request = MakeEdge (table_edge_of edge); numbers = 0 ∷ [] }
 
     stands : StandsFor declared (calls ++ call ∷ []) new
-    stands = law.edge declared calls new (edge_of edge) 0 (makes.sets.stands declared calls ready.stands)
+    stands = law.edge declared calls new (table_edge_of edge) 0 (makes.sets.stands declared calls ready.stands)
 
     there : (other : BlockCall) → ◌≡◌ {A = Answer} (answer.Edge made) (answer.Edge other)
         → (e : meaning.Edge named.Name named.Name) × (edge_named (ledger_of (calls ++ call ∷ [])) (named.answer_of (length answers) 0) ≡ Some e) × NamesEdge (calls ++ call ∷ []) e other
     there other is_other =
         let one : made ≡ other = cc in (
-          edge_of edge,
+          table_edge_of edge,
           new_edge,
-          subst (NamesEdge (calls ++ call ∷ []) (edge_of edge)) (sym same ∙ one)
-              (edge-stays ready.reads calls call old new ready.stands stands (edge_of edge) found (edge-names calls old answers ready edge found is)),
+          subst (NamesEdge (calls ++ call ∷ []) (table_edge_of edge)) (sym same ∙ one)
+              (edge-stays ready.reads calls call old new ready.stands stands (table_edge_of edge) found (edge-names calls old answers ready edge found is)),
         )
       where
-        new_edge : edge_named (ledger_of (calls ++ call ∷ [])) (named.answer_of (length answers) 0) ≡ Some (edge_of edge)
+        new_edge : edge_named (ledger_of (calls ++ call ∷ [])) (named.answer_of (length answers) 0) ≡ Some (table_edge_of edge)
         new_edge =
             ap (λ (l : Ledger). edge_named l (named.answer_of (length answers) 0)) (ledger-more calls call)
-            ∙ ap (λ (k : ℕ). edge_named (ledger_with (ledger_of calls) (MakeEdge (edge_of edge))) (named.answer_of k 0)) (ready.count ∙ sym ready.stands.ledger.places)
+            ∙ ap (λ (k : ℕ). edge_named (ledger_with (ledger_of calls) (MakeEdge (table_edge_of edge))) (named.answer_of k 0)) (ready.count ∙ sym ready.stands.ledger.places)
             ∙ ap (λ (o : Option (List Answered)). answered_edge (option_and_then (λ (xs : List Answered). slice_get xs 0) o))
-            (get-last (ledger_of calls).answers (AnEdge (edge_of edge) ∷ []))
+            (get-last (ledger_of calls).answers (AnEdge (table_edge_of edge) ∷ []))
 
-    tables : TablesAgree (calls ++ call ∷ []) (ledger_of (calls ++ call ∷ [])).jump_tables new.func.now.tables.jump_tables
-    tables =
-        subst (TablesAgree (calls ++ call ∷ []) (ledger_of (calls ++ call ∷ [])).jump_tables) (sym makes.grows.6)
-        (subst (λ (entries : List (Option (List (meaning.Edge named.Name named.Name)))). TablesAgree (calls ++ call ∷ []) entries old.func.now.tables.jump_tables)
-        (sym (ap (λ (l : Ledger). l.jump_tables) (ledger-more calls call)))
-        (tables-stay ready.reads calls call old new ready.stands stands (ledger_of calls).jump_tables old.func.now.tables.jump_tables ready.tables))
+    tables : TablesAgree (NamesEdges (calls ++ call ∷ [])) (ledger_of (calls ++ call ∷ [])).jump_tables new.func.now.tables.jump_tables
+    tables = tables-still calls call old new answers ready stands refl makes.grows.6
 
 -- a table was made
 pub table-ready : TableCallsAddNothing → {declared : SignatureShape} (calls : List AnsweredCall) (old new : FunctionBuilder) (answers : List Answer) (default : Name) (entries : List Name)
@@ -327,24 +359,25 @@ pub table-ready : TableCallsAddNothing → {declared : SignatureShape} (calls : 
 table-ready law {declared} calls old new answers default entries edges number ready found creates = (
   number ∷ [],
   ready-answered calls call old new answers answer.Table ready stands (number, ap (λ (n : ℕ). AJumpTable n ∷ []) (sym counts), refl)
-      (λ made same. let no_way : ⊥ = cc in absurd no_way) tables,
+      (λ made same. let no_way : ⊥ = cc in absurd no_way) tables
+      (exceptions-still calls call old new answers ready stands refl (ap (λ (f : Body). f.tables.exception_tables) creates.sets.function)),
 )
   where
     call : AnsweredCall
     call = record { request = MakeJumpTable (name_of default) (map name_of entries); numbers = number ∷ [] }
 
     counts : number ≡ length (ledger_of calls).jump_tables
-    counts = creates.number ∙ sym (as-many calls (ledger_of calls).jump_tables old.func.now.tables.jump_tables ready.tables)
+    counts = creates.number ∙ sym (as-many (NamesEdges calls) (ledger_of calls).jump_tables old.func.now.tables.jump_tables ready.tables)
 
     stands : StandsFor declared (calls ++ call ∷ []) new
     stands = law.table declared calls new (name_of default) (map name_of entries) number counts (creates.sets.stands declared calls ready.stands)
 
-    tables : TablesAgree (calls ++ call ∷ []) (ledger_of (calls ++ call ∷ [])).jump_tables new.func.now.tables.jump_tables
+    tables : TablesAgree (NamesEdges (calls ++ call ∷ [])) (ledger_of (calls ++ call ∷ [])).jump_tables new.func.now.tables.jump_tables
     tables =
-        subst (TablesAgree (calls ++ call ∷ []) (ledger_of (calls ++ call ∷ [])).jump_tables) (sym (ap (λ (f : Body). f.tables.jump_tables) creates.sets.function))
-        (subst (λ (lists : List (Option (List (meaning.Edge named.Name named.Name)))). TablesAgree (calls ++ call ∷ []) lists (with_jump_table old.func.now.tables edges).jump_tables)
+        subst (TablesAgree (NamesEdges (calls ++ call ∷ [])) (ledger_of (calls ++ call ∷ [])).jump_tables) (sym (ap (λ (f : Body). f.tables.jump_tables) creates.sets.function))
+        (subst (λ (lists : List (Option (List (meaning.Edge named.Name named.Name)))). TablesAgree (NamesEdges (calls ++ call ∷ [])) lists (with_jump_table old.func.now.tables edges).jump_tables)
         (sym (ap (λ (l : Ledger). l.jump_tables) (ledger-more calls call)))
-        (one-table-more (calls ++ call ∷ []) (ledger_of calls).jump_tables old.func.now.tables.jump_tables (edges_named (ledger_of calls) (map name_of (default ∷ entries))) edges
+        (one-table-more (NamesEdges (calls ++ call ∷ [])) (ledger_of calls).jump_tables old.func.now.tables.jump_tables (edges_named (ledger_of calls) (map name_of (default ∷ entries))) edges
         (tables-stay ready.reads calls call old new ready.stands stands (ledger_of calls).jump_tables old.func.now.tables.jump_tables ready.tables)
         (edges-stay ready.reads calls call old new ready.stands stands (edges_named (ledger_of calls) (map name_of (default ∷ entries))) edges
         (edges-names calls old answers ready (default ∷ entries) edges found))))
@@ -353,8 +386,11 @@ table-ready law {declared} calls old new answers default entries edges number re
 pub branch-ready : RequestsAskForTheirShapes → {declared : SignatureShape} (calls : List AnsweredCall) (old new : FunctionBuilder) (answers : List Answer) (index : Name) (value table inst : ℕ)
     → IsReady declared calls old answers → value_of old.func.now answers index ≡ Some value → Branched old new value table (Ok inst)
     → IsReadyAfter declared calls (br_table (ledger_of calls) (name_of index) table) new answers (answer.Inst inst)
-branch-ready shapes {declared} calls old new answers index value table inst ready found branch =
-    (numbers_of new inst, ready-answered calls call old new answers (answer.Inst inst) ready stands ([], (inst_at new.func.now inst).results, refl, refl) (λ made same. let no_way : ⊥ = cc in absurd no_way) tables)
+branch-ready shapes {declared} calls old new answers index value table inst ready found branch = (
+  numbers_of new inst,
+  ready-answered calls call old new answers (answer.Inst inst) ready stands ([], (inst_at new.func.now inst).results, refl, refl) (λ made same. let no_way : ⊥ = cc in absurd no_way) tables
+      (exceptions-still calls call old new answers ready stands exceptions-left (branch.builds.grows.8 ∙ ap (λ (f : Body). f.tables.exception_tables) branch.takes.sets.function)),
+)
   where
     call : AnsweredCall
     call = record { request = br_table (ledger_of calls) (name_of index) table; numbers = numbers_of new inst }
@@ -375,11 +411,14 @@ branch-ready shapes {declared} calls old new answers index value table inst read
         subst (λ (r : Request). StandsFor declared (calls ++ record { request = r; numbers = numbers_of new inst } ∷ []) new) (sym asked.2)
         (branch.builds.stands declared calls asked.0 asked.1 taken asked.3)
 
-    tables : TablesAgree (calls ++ call ∷ []) (ledger_of (calls ++ call ∷ [])).jump_tables new.func.now.tables.jump_tables
+    exceptions-left : (ledger_with (ledger_of calls) call.request).exception_tables ≡ (ledger_of calls).exception_tables
+    exceptions-left = refl
+
+    tables : TablesAgree (NamesEdges (calls ++ call ∷ [])) (ledger_of (calls ++ call ∷ [])).jump_tables new.func.now.tables.jump_tables
     tables =
-        subst (TablesAgree (calls ++ call ∷ []) (ledger_of (calls ++ call ∷ [])).jump_tables)
+        subst (TablesAgree (NamesEdges (calls ++ call ∷ [])) (ledger_of (calls ++ call ∷ [])).jump_tables)
         (sym (branch.builds.grows.6 ∙ ap (λ (f : Body). f.tables.jump_tables) branch.takes.sets.function))
-        (subst (λ (lists : List (Option (List (meaning.Edge named.Name named.Name)))). TablesAgree (calls ++ call ∷ []) lists (slice_set old.func.now.tables.jump_tables table None))
+        (subst (λ (lists : List (Option (List (meaning.Edge named.Name named.Name)))). TablesAgree (NamesEdges (calls ++ call ∷ [])) lists (slice_set old.func.now.tables.jump_tables table None))
         (sym (ap (λ (l : Ledger). l.jump_tables) (ledger-more calls call)))
-        (table-serves (calls ++ call ∷ []) (ledger_of calls).jump_tables old.func.now.tables.jump_tables table
+        (table-serves (NamesEdges (calls ++ call ∷ [])) (ledger_of calls).jump_tables old.func.now.tables.jump_tables table
         (tables-stay ready.reads calls call old new ready.stands stands (ledger_of calls).jump_tables old.func.now.tables.jump_tables ready.tables)))

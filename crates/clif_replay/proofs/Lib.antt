@@ -10,6 +10,7 @@ pub mod Placements
 pub mod Constants
 pub mod Making
 pub mod JumpTables
+pub mod Throwing
 pub mod Replays
 pub mod Notes
 pub mod Changes

@@ -14,13 +14,13 @@ use Rattle.cranelift_frontend.specs.StandsFor.{StandsFor}
 use Rattle.clif_calls.specs.declared.call.Name.{Name}
 use Rattle.clif_replay.specs.declared.script.Answer.{Answer}
 use Rattle.clif_replay.specs.declared.script.Answer.TheVariants as answer
-use Rattle.clif_replay.specs.Ready.{IsReady, IsReadyAfter, value_of}
+use Rattle.clif_replay.specs.Ready.{IsReady, IsReadyAfter, KeepsTables, value_of}
 use Rattle.clif_replay.specs.Requests.{name_of}
 use Rattle.clif_replay.proofs.ReadyLaws.{ready-more, value-found, value-missing}
 
 -- the note answers nothing
 pub note-ready : NotesAddNothing → {declared : SignatureShape} (calls : List AnsweredCall) (old new : FunctionBuilder) (answers : List Answer) (values : List meaning.Name)
-    → IsReady declared calls old answers → StandsFor declared calls new → new.func.now.tables.jump_tables ≡ old.func.now.tables.jump_tables
+    → IsReady declared calls old answers → StandsFor declared calls new → KeepsTables old new
     → IsReadyAfter declared calls (Annotate values) new answers answer.Nothing
 note-ready law {declared} calls old new answers values ready stands tables =
     ([], ready-more calls _ old new answers answer.Nothing ready tt tables (law.stands declared calls new values stands) (refl, refl))

@@ -141,7 +141,7 @@ pub outside-ready : RequestsAskForTheirShapes → {declared : SignatureShape} (c
     → IsReadyAfter declared calls (outside_request (ledger_of calls) called) new answers (answer.Inst inst)
 outside-ready shapes {declared} calls old new answers called shape inst ready found done = (
   numbers_of new inst,
-  ready-more calls call old new answers (answer.Inst inst) ready (leaves-tables (ledger_of calls) called) done.grows.6 stands
+  ready-more calls call old new answers (answer.Inst inst) ready (leaves-tables (ledger_of calls) called) (done.grows.6, done.grows.8) stands
       (is-answered (ledger_of calls) called inst (inst_at new.func.now inst).results),
 )
   where

@@ -17,7 +17,7 @@ use Rattle.cranelift_frontend.specs.declared.builder.FunctionBuilder.{FunctionBu
 use Rattle.cranelift_frontend.specs.Ledger.{ledger_of}
 use Rattle.cranelift_frontend.specs.StandsFor.{StandsFor}
 use Rattle.clif_replay.specs.declared.script.Answer.{Answer}
-use Rattle.clif_replay.specs.Ready.{AnswerIs, IsReady, IsReadyAfter, last_params, values_from}
+use Rattle.clif_replay.specs.Ready.{AnswerIs, IsReady, IsReadyAfter, KeepsTables, last_params, values_from}
 use Rattle.clif_replay.proofs.Lasting.{LeavesTables}
 use Rattle.clif_replay.proofs.ReadyLaws.{ready-more}
 
@@ -81,7 +81,7 @@ are-answers n (ty ∷ types) count same = (ty ∷ types, refl, refl, same)
 
 -- one more call was answered, which appended parameters
 pub params-ready : {declared : SignatureShape} (calls : List AnsweredCall) (old new : FunctionBuilder) (answers : List Answer) (request : Request) (b : ℕ) (params : List AbiParam) (count : ℕ) (a : Answer)
-    → IsReady declared calls old answers → LeavesTables request → new.func.now.tables.jump_tables ≡ old.func.now.tables.jump_tables
+    → IsReady declared calls old answers → LeavesTables request → KeepsTables old new
     → b < length old.func.now.blocks → new.func.now ≡ with_params old.func.now b (types_of params)
     → StandsFor declared (calls ++ record { request = request; numbers = numbers_from (length old.func.now.values) (types_of params) } ∷ []) new
     → answers_to (ledger_of calls) request ≡ map AValue (types_of params) → count ≡ length params → a ≡ last_params (block_at new.func.now b).params count

@@ -12,11 +12,11 @@ use Rattle.clif_nodes.specs.declared.nodes.ValueNode.{ValueNode}
 use Rattle.clif_ir.specs.Body.{inst_at}
 use Rattle.clif_nodes.specs.Nodes.{no_inst}
 use Rattle.clif_meaning.specs.Request.{AnsweredCall, number_of, script_of}
-use Rattle.clif_meaning.specs.Ledger.{Answered, ABlock, AVariable, AValue, AnInstruction, AnEntry, AnEdge, AJumpTable, Ledger, answer_at, answered_edge, answers_to, edge_named, has_block, has_instruction, is_instruction_answer, ledger_with, has_value, type_of, value_answer_type}
+use Rattle.clif_meaning.specs.Ledger.{Answered, ABlock, AVariable, AValue, AnInstruction, AnEntry, AnEdge, AJumpTable, AnExceptionTable, ExceptionTable, Ledger, answer_at, answered_edge, answers_to, edge_named, has_block, has_instruction, is_instruction_answer, ledger_with, has_value, type_of, value_answer_type}
 use Rattle.clif_simulation.specs.Carries.{numbers_from}
 use Rattle.cranelift_frontend.specs.declared.builder.FunctionBuilder.{FunctionBuilder}
 use Rattle.cranelift_frontend.specs.StandsFor.{StandsFor}
-use Rattle.cranelift_frontend.specs.Ledger.{AnswersAgree, ResultsFollow, NamesBlock, NamesEdge, NamesInstruction, NamesValue, block_name, value_type, ledger_of}
+use Rattle.cranelift_frontend.specs.Ledger.{AnswersAgree, ResultsFollow, NamesBlock, NamesEdge, NamesEdges, NamesExceptions, NamesInstruction, NamesValue, block_name, value_type, ledger_of}
 use Rattle.cranelift_frontend.specs.LedgerLaws.{IsReadByNumber}
 use Rattle.clif_calls.specs.declared.call.Name.{Name}
 use Rattle.clif_replay.specs.declared.script.Answer.{Answer}
@@ -25,8 +25,8 @@ use Rattle.clif_instructions.specs.declared.block_call.BlockCall.{BlockCall}
 use Rattle.clif_meaning.specs.Instruction as meaning
 use Rattle.clif_meaning.specs.Name as named
 use Rattle.clif_replay.specs.Requests.{name_of}
-use Rattle.clif_replay.specs.Ready.{AnswerIs, AnswerExists, IsReady, TablesAgree, edge_at, edge_in, block_in, block_of, inst_in, inst_of, value_in, value_of}
-use Rattle.clif_replay.proofs.Lasting.{LeavesTables, answer-stays, edge-stays, ledger-more, no-edge, tables-kept, tables-stay}
+use Rattle.clif_replay.specs.Ready.{AnswerIs, AnswerExists, IsReady, KeepsTables, TablesAgree, edge_at, edge_in, block_in, block_of, inst_in, inst_of, value_in, value_of}
+use Rattle.clif_replay.proofs.Lasting.{LeavesTables, answer-stays, edge-stays, exceptions-kept, exceptions-stay, ledger-more, no-edge, tables-kept, tables-stay}
 use Rattle.clif_replay.proofs.Options.{get-push, get-below, map-some, some-is, if-no, name-of-some}
 
 -- what the ledger says of a name, the builder says of its number
@@ -134,6 +134,7 @@ block-found calls b answers ready name block found = by (slice_get answers name.
     by (Some answer.Entry) at found = absurd (none-some block found)
     by (Some (answer.Edge edge)) at found = absurd (none-some block found)
     by (Some answer.Table) at found = absurd (none-some block found)
+    by (Some answer.Exceptions) at found = absurd (none-some block found)
     by (Some (answer.Values first count)) at found = absurd (none-some block found)
     by (Some (answer.Inst i)) at found = absurd (none-some block found)
     by (Some (answer.Block x)) at found = by_block x at name.answer refl found
@@ -175,6 +176,11 @@ block-missing calls b answers ready name missing =
         let one = one-answer e.given (AJumpTable e.is.0) name.answer ABlock e.is.1 (sym (answer-at calls b name.place name.answer answer.Table e) ∙ answered) in
         let wrong : AJumpTable e.is.0 ≡ ABlock = one.1 in
         cc
+    by (Some answer.Exceptions) at missing answered =
+        let e = entry calls b answers ready name.place answer.Exceptions at in
+        let one = one-answer e.given (AnExceptionTable e.is.0) name.answer ABlock e.is.1 (sym (answer-at calls b name.place name.answer answer.Exceptions e) ∙ answered) in
+        let wrong : AnExceptionTable e.is.0 ≡ ABlock = one.1 in
+        cc
     by (Some (answer.Values first count)) at missing answered =
         let e = entry calls b answers ready name.place (answer.Values first count) at in
         let one = values-answer e.given e.is.0 name.answer ABlock e.is.1 (sym (answer-at calls b name.place name.answer (answer.Values first count) e) ∙ answered) in
@@ -208,6 +214,7 @@ inst-at answers name inst found = by (slice_get answers name.place) refl found
     by (Some answer.Entry) at found = absurd (none-some inst found)
     by (Some (answer.Edge edge)) at found = absurd (none-some inst found)
     by (Some answer.Table) at found = absurd (none-some inst found)
+    by (Some answer.Exceptions) at found = absurd (none-some inst found)
     by (Some (answer.Values first count)) at found = absurd (none-some inst found)
     by (Some (answer.Inst i)) at found = by_inst i at name.answer refl found
 
@@ -240,6 +247,7 @@ inst-missing calls b answers ready name missing =
     instruction-is (Some (AnEntry entry place)) is = absurd (false≢true is)
     instruction-is (Some (AnEdge edge)) is = absurd (false≢true is)
     instruction-is (Some (AJumpTable place)) is = absurd (false≢true is)
+    instruction-is (Some (AnExceptionTable place)) is = absurd (false≢true is)
 
     by_inst : (i index : ℕ) → index ≡ 0 → (if index == 0 then Some i else None) ≡ None → ⊥
     by_inst i zero is missing = none-some i (sym missing)
@@ -272,6 +280,10 @@ inst-missing calls b answers ready name missing =
     by (Some answer.Table) at missing answered =
         let e = entry calls b answers ready name.place answer.Table at in
         let wrong : AJumpTable e.is.0 ≡ AnInstruction = one-wrong answer.Table (AJumpTable e.is.0) e e.is.1 answered in
+        cc
+    by (Some answer.Exceptions) at missing answered =
+        let e = entry calls b answers ready name.place answer.Exceptions at in
+        let wrong : AnExceptionTable e.is.0 ≡ AnInstruction = one-wrong answer.Exceptions (AnExceptionTable e.is.0) e e.is.1 answered in
         cc
     by (Some (answer.Values first count)) at missing answered =
         let e = entry calls b answers ready name.place (answer.Values first count) at in
@@ -368,6 +380,7 @@ value-found calls b answers ready name value found = by (slice_get answers name.
     by (Some answer.Entry) at found = absurd (none-some value found)
     by (Some (answer.Edge edge)) at found = absurd (none-some value found)
     by (Some answer.Table) at found = absurd (none-some value found)
+    by (Some answer.Exceptions) at found = absurd (none-some value found)
     by (Some (answer.Block x)) at found = absurd (none-some value found)
     by (Some (answer.Values first count)) at found = by_values first count at (nat_lt name.answer count) refl found
     by (Some (answer.Inst i)) at found = by_inst i at name.answer refl found
@@ -388,6 +401,7 @@ value-missing calls b answers ready name missing =
     answer_is (Some (AnEntry entry place)) ty is = absurd (none-some ty is)
     answer_is (Some (AnEdge edge)) ty is = absurd (none-some ty is)
     answer_is (Some (AJumpTable place)) ty is = absurd (none-some ty is)
+    answer_is (Some (AnExceptionTable place)) ty is = absurd (none-some ty is)
     answer_is (Some AnInstruction) ty is = absurd (none-some ty is)
 
     by_values : (first count index : ℕ) → index < count → (test : Bool) → nat_lt index count ≡ test → (if test then Some (first + index) else None) ≡ None → ⊥
@@ -418,6 +432,11 @@ value-missing calls b answers ready name missing =
         let e = entry calls b answers ready name.place answer.Table at in
         let one = one-answer e.given (AJumpTable e.is.0) name.answer (AValue ty) e.is.1 (sym (answer-at calls b name.place name.answer answer.Table e) ∙ answered) in
         let wrong : AJumpTable e.is.0 ≡ AValue ty = one.1 in
+        cc
+    by ty (Some answer.Exceptions) at missing answered =
+        let e = entry calls b answers ready name.place answer.Exceptions at in
+        let one = one-answer e.given (AnExceptionTable e.is.0) name.answer (AValue ty) e.is.1 (sym (answer-at calls b name.place name.answer answer.Exceptions e) ∙ answered) in
+        let wrong : AnExceptionTable e.is.0 ≡ AValue ty = one.1 in
         cc
     by ty (Some (answer.Block x)) at missing answered =
         let e = entry calls b answers ready name.place (answer.Block x) at in
@@ -461,6 +480,7 @@ answers-exist calls b answers ready k inside =
     by answer.Entry at = tt
     by (answer.Edge edge) at = tt
     by answer.Table at = tt
+    by answer.Exceptions at = tt
     by (answer.Values first count) at = λ j below.
         let e = entry calls b answers ready k (answer.Values first count) at in
         let there : j < length e.is.0 = omega (arith, below, e.is.3) in
@@ -516,15 +536,17 @@ edge-is (Some AnInstruction) edge is = absurd (none-some edge is)
 edge-is (Some (AnEntry entry place)) edge is = absurd (none-some edge is)
 edge-is (Some (AnEdge other)) edge is = ap (λ (e : meaning.Edge named.Name named.Name). Some (AnEdge e)) (same_Some other edge is)
 edge-is (Some (AJumpTable place)) edge is = absurd (none-some edge is)
+edge-is (Some (AnExceptionTable place)) edge is = absurd (none-some edge is)
 
 -- one more call was answered
 pub ready-answered : {declared : SignatureShape} (calls : List AnsweredCall) (call : AnsweredCall) (old new : FunctionBuilder) (answers : List Answer) (a : Answer)
     → IsReady declared calls old answers → StandsFor declared (calls ++ call ∷ []) new → AnswerIs a (answers_to (ledger_of calls) call.request) call.numbers
     → ((made : BlockCall) → a ≡ answer.Edge made
     → (edge : meaning.Edge named.Name named.Name) × (edge_named (ledger_of (calls ++ call ∷ [])) (named.answer_of (length answers) 0) ≡ Some edge) × NamesEdge (calls ++ call ∷ []) edge made)
-    → TablesAgree (calls ++ call ∷ []) (ledger_of (calls ++ call ∷ [])).jump_tables new.func.now.tables.jump_tables
+    → TablesAgree (NamesEdges (calls ++ call ∷ [])) (ledger_of (calls ++ call ∷ [])).jump_tables new.func.now.tables.jump_tables
+    → TablesAgree (NamesExceptions (calls ++ call ∷ [])) (ledger_of (calls ++ call ∷ [])).exception_tables new.func.now.tables.exception_tables
     → IsReady declared (calls ++ call ∷ []) new (answers ++ a ∷ [])
-ready-answered calls call old new answers a ready stands is edge_there tables =
+ready-answered calls call old new answers a ready stands is edge_there tables exceptions =
     record {
       reads = ready.reads;
       stands = stands;
@@ -540,6 +562,7 @@ ready-answered calls call old new answers a ready stands is edge_there tables =
             (there.0, ap (λ (k : ℕ). edge_named (ledger_of (calls ++ call ∷ [])) (named.answer_of k 0)) last.0 ∙ there.1, there.2)
       ];
       tables = tables;
+      exceptions = exceptions;
     }
   where
     more : (ledger_of (calls ++ call ∷ [])).answers ≡ (ledger_of calls).answers ++ answers_to (ledger_of calls) call.request ∷ []
@@ -576,9 +599,31 @@ ready-answered calls call old new answers a ready stands is edge_there tables =
               ]
         ]
 
--- one that makes no edge, and makes and serves no jump table
+-- tables that a call leaves agree behind it
+pub tables-still : {declared : SignatureShape} (calls : List AnsweredCall) (call : AnsweredCall) (old new : FunctionBuilder) (answers : List Answer)
+    → IsReady declared calls old answers → StandsFor declared (calls ++ call ∷ []) new → (ledger_with (ledger_of calls) call.request).jump_tables ≡ (ledger_of calls).jump_tables
+    → new.func.now.tables.jump_tables ≡ old.func.now.tables.jump_tables
+    → TablesAgree (NamesEdges (calls ++ call ∷ [])) (ledger_of (calls ++ call ∷ [])).jump_tables new.func.now.tables.jump_tables
+tables-still calls call old new answers ready stands kept same =
+    subst (TablesAgree (NamesEdges (calls ++ call ∷ [])) (ledger_of (calls ++ call ∷ [])).jump_tables) (sym same)
+    (subst (λ (tables : List (Option (List (meaning.Edge named.Name named.Name)))). TablesAgree (NamesEdges (calls ++ call ∷ [])) tables old.func.now.tables.jump_tables)
+    (sym (ap (λ (l : Ledger). l.jump_tables) (ledger-more calls call) ∙ kept))
+    (tables-stay ready.reads calls call old new ready.stands stands (ledger_of calls).jump_tables old.func.now.tables.jump_tables ready.tables))
+
+pub exceptions-still : {declared : SignatureShape} (calls : List AnsweredCall) (call : AnsweredCall) (old new : FunctionBuilder) (answers : List Answer)
+    → IsReady declared calls old answers → StandsFor declared (calls ++ call ∷ []) new
+    → (ledger_with (ledger_of calls) call.request).exception_tables ≡ (ledger_of calls).exception_tables
+    → new.func.now.tables.exception_tables ≡ old.func.now.tables.exception_tables
+    → TablesAgree (NamesExceptions (calls ++ call ∷ [])) (ledger_of (calls ++ call ∷ [])).exception_tables new.func.now.tables.exception_tables
+exceptions-still calls call old new answers ready stands kept same =
+    subst (TablesAgree (NamesExceptions (calls ++ call ∷ [])) (ledger_of (calls ++ call ∷ [])).exception_tables) (sym same)
+    (subst (λ (tables : List (Option ExceptionTable)). TablesAgree (NamesExceptions (calls ++ call ∷ [])) tables old.func.now.tables.exception_tables)
+    (sym (ap (λ (l : Ledger). l.exception_tables) (ledger-more calls call) ∙ kept))
+    (exceptions-stay ready.reads calls call old new ready.stands stands (ledger_of calls).exception_tables old.func.now.tables.exception_tables ready.exceptions))
+
+-- one that makes no edge, and makes no table of edges and lets none serve
 pub ready-more : {declared : SignatureShape} (calls : List AnsweredCall) (call : AnsweredCall) (old new : FunctionBuilder) (answers : List Answer) (a : Answer)
-    → IsReady declared calls old answers → LeavesTables call.request → new.func.now.tables.jump_tables ≡ old.func.now.tables.jump_tables
+    → IsReady declared calls old answers → LeavesTables call.request → KeepsTables old new
     → StandsFor declared (calls ++ call ∷ []) new → AnswerIs a (answers_to (ledger_of calls) call.request) call.numbers
     → IsReady declared (calls ++ call ∷ []) new (answers ++ a ∷ [])
 ready-more calls call old new answers a ready leaves tables stands is =
@@ -586,10 +631,8 @@ ready-more calls call old new answers a ready leaves tables stands is =
     (λ made same.
     let answered = subst (λ (x : Answer). AnswerIs x (answers_to (ledger_of calls) call.request) call.numbers) same is in
     absurd (no-edge (ledger_of calls) call.request leaves answered.0 answered.1))
-    (subst (TablesAgree (calls ++ call ∷ []) (ledger_of (calls ++ call ∷ [])).jump_tables) (sym tables)
-    (subst (λ (entries : List (Option (List (meaning.Edge named.Name named.Name)))). TablesAgree (calls ++ call ∷ []) entries old.func.now.tables.jump_tables)
-    (sym (ap (λ (l : Ledger). l.jump_tables) (ledger-more calls call) ∙ tables-kept (ledger_of calls) call.request leaves))
-    (tables-stay ready.reads calls call old new ready.stands stands (ledger_of calls).jump_tables old.func.now.tables.jump_tables ready.tables)))
+    (tables-still calls call old new answers ready stands (tables-kept (ledger_of calls) call.request leaves) tables.0)
+    (exceptions-still calls call old new answers ready stands (exceptions-kept (ledger_of calls) call.request leaves) tables.1)
 
 -- EDGES -----------------------------------------------------------------------------------------------------------------
 
@@ -617,6 +660,7 @@ edge-found calls b answers ready name made found = by (slice_get answers name.pl
     by (Some (answer.Variable v)) at found = absurd (none-some made found)
     by (Some answer.Entry) at found = absurd (none-some made found)
     by (Some answer.Table) at found = absurd (none-some made found)
+    by (Some answer.Exceptions) at found = absurd (none-some made found)
     by (Some (answer.Values first count)) at found = absurd (none-some made found)
     by (Some (answer.Inst i)) at found = absurd (none-some made found)
     by (Some (answer.Block x)) at found = absurd (none-some made found)
@@ -666,6 +710,10 @@ edge-missing calls b answers ready name missing =
     by edge (Some answer.Table) at missing answered =
         let e = entry calls b answers ready name.place answer.Table at in
         let wrong : AJumpTable e.is.0 ≡ AnEdge edge = (one-answer e.given (AJumpTable e.is.0) name.answer (AnEdge edge) e.is.1 (sym (answer-at calls b name.place name.answer answer.Table e) ∙ answered)).1 in
+        cc
+    by edge (Some answer.Exceptions) at missing answered =
+        let e = entry calls b answers ready name.place answer.Exceptions at in
+        let wrong : AnExceptionTable e.is.0 ≡ AnEdge edge = (one-answer e.given (AnExceptionTable e.is.0) name.answer (AnEdge edge) e.is.1 (sym (answer-at calls b name.place name.answer answer.Exceptions e) ∙ answered)).1 in
         cc
     by edge (Some (answer.Edge made)) at missing answered =
         let e = entry calls b answers ready name.place (answer.Edge made) at in

@@ -17,6 +17,7 @@ use Rattle.cranelift_frontend.specs.Ledger.{RefusalAgrees, ledger_of}
 use Rattle.clif_calls.specs.declared.call.Call.{Call}
 use Rattle.clif_calls.specs.declared.call.Call.TheVariants as call
 use Rattle.clif_calls.specs.declared.outside.OutsideCall.TheVariants as outside
+use Rattle.clif_calls.specs.declared.table.ThrowingCall.TheVariants as throwing
 use Rattle.clif_replay.specs.declared.script.CallError.{CallError}
 use Rattle.clif_replay.specs.declared.script.CallError.TheVariants as error
 use Rattle.clif_replay.specs.declared.script.ReplayError.{ReplayError}
@@ -32,6 +33,8 @@ no-refusal : (declared : SignatureShape) (ledger : Ledger) (c : Call) → refusa
 no-refusal declared ledger call.CreateBlock = refl
 no-refusal declared ledger (call.Outside (outside.Call function args)) = refl
 no-refusal declared ledger (call.Outside (outside.CallIndirect signature callee args)) = refl
+no-refusal declared ledger (call.Throwing (throwing.TryCall function args table)) = refl
+no-refusal declared ledger (call.Throwing (throwing.TryCallIndirect callee args table)) = refl
 no-refusal declared ledger _ = refl
 
 -- the requests of a list with one more call

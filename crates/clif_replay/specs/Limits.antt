@@ -58,6 +58,7 @@ abbrev pub MeetsFullTable : Call → Body → ContextState → Type 0
 MeetsFullTable call.CreateBlock f c = length f.blocks ≡ 2 ^ 32 - 1
 MeetsFullTable (call.Entry entry) f c = count_for f.tables (entry_in entry) ≡ 2 ^ 32 - 1
 MeetsFullTable (call.CreateJumpTable default entries) f c = length f.tables.jump_tables ≡ 2 ^ 32 - 1
+MeetsFullTable (call.CreateExceptionTable signature normal items) f c = length f.tables.exception_tables ≡ 2 ^ 32 - 1
 MeetsFullTable (call.DeclareVar ty) f c = length c.variables ≡ 2 ^ 32 - 1
 MeetsFullTable (call.AppendBlockParam block ty) f c = length f.values ≡ 2 ^ 32 - 1
 MeetsFullTable (call.AppendBlockParamsForFunctionParams block) f c = NoRoomFor f (length f.signature.params)
@@ -70,6 +71,7 @@ MeetsFullTable (call.Vconst ty bytes) f c = ConstantMeetsFullTable bytes.items f
 MeetsFullTable (call.Jump destination) f c = IsFull f
 MeetsFullTable (call.Brif condition block_then block_else) f c = IsFull f
 MeetsFullTable (call.BrTable index table) f c = IsFull f
+MeetsFullTable (call.Throwing called) f c = IsFull f
 MeetsFullTable (call.Return values) f c = IsFull f
 MeetsFullTable (call.Trap code) f c = IsFull f
 MeetsFullTable (call.UseVar variable) f c = UseMeetsFullTable variable f c

@@ -1,5 +1,5 @@
 -- What the functions that make calls do. Own.
-use Rattle.std.specs.Prelude.{◌≡◌, ◌≢◌, ◌<◌, ◌-◌, ◌^◌, ℕ, ◌&&◌, length, List, [], ◌∷◌, map, Bool, true, false, Some, Option, None, OnOk, IfOk, Result, Err}
+use Rattle.std.specs.Prelude.{◌≡◌, ◌≢◌, ◌<◌, ◌-◌, ◌^◌, ℕ, ◌&&◌, length, nat_lt, List, [], ◌∷◌, map, Bool, true, false, Some, Option, None, OnOk, IfOk, Result, Err}
 use Rattle.std.specs.List.{list_all}
 use Rattle.clif_types.specs.Signature.{SignatureShape}
 use Rattle.clif_types.specs.declared.types.«Type».{«Type»}
@@ -9,18 +9,23 @@ use Rattle.clif_ir.specs.Changes.{with_tables}
 use Rattle.clif_opcodes.specs.declared.opcodes.PooledConstOpcode.{PooledConstOpcode}
 use Rattle.clif_instructions.specs.Instruction.{destinations, entries_of, operands, result_types}
 use Rattle.clif_instructions.specs.declared.block_call.BlockCall.{BlockCall}
+use Rattle.clif_instructions.specs.ExceptionTables.{ExceptionShape}
 use Rattle.clif_instructions.specs.declared.instructions.InstructionData.{InstructionData}
 use Rattle.clif_instructions.specs.declared.instructions.InstructionData.TheVariants as shape
 use Rattle.clif_meaning.specs.Acceptance.{allows, blames_variable, can_operate, has_entry, pooled_const}
 use Rattle.clif_meaning.specs.Instruction.{operation_entries}
 use Rattle.clif_meaning.specs.Ledger.{Ledger}
-use Rattle.clif_meaning.specs.Request.{AnsweredCall, MakeJumpTable, Request}
+use Rattle.clif_meaning.specs.Request.{AnsweredCall, MakeExceptionTable, MakeJumpTable, Request}
 use Rattle.clif_meaning.specs.View.{made_at, operation_of}
 use Rattle.cranelift_frontend.specs.declared.builder.FunctionBuilder.{FunctionBuilder}
 use Rattle.cranelift_frontend.specs.Builder.{SameLoans}
 use Rattle.cranelift_frontend.specs.Labels.{labelled}
 use Rattle.cranelift_frontend.specs.Ledger.{ledger_of}
 use Rattle.clif_calls.specs.Outside.{operands_of}
+use Rattle.clif_calls.specs.Tables.{table_of, tried_operands}
+use Rattle.clif_calls.specs.declared.table.TableItem.{TableItem}
+use Rattle.clif_calls.specs.declared.table.ThrowingCall.{ThrowingCall}
+use Rattle.clif_calls.specs.declared.table.ThrowingCall.TheVariants as throwing
 use Rattle.clif_calls.specs.Plan.{edges_in, operands_in}
 use Rattle.clif_calls.specs.declared.outside.OutsideCall.{OutsideCall}
 use Rattle.clif_calls.specs.declared.outside.OutsideCall.TheVariants as outside
@@ -33,8 +38,8 @@ use Rattle.clif_replay.specs.declared.script.Answer.{Answer}
 use Rattle.clif_replay.specs.declared.script.CallError.{CallError}
 use Rattle.clif_replay.specs.declared.script.CallError.TheVariants as error
 use Rattle.clif_replay.specs.Limits.{ConstantMeetsFullTable, MeetsFullTable, PlanMeetsFullTable}
-use Rattle.clif_replay.specs.Ready.{IsFound, IsJudged, IsReady, IsReadyAfter, all_values, is_open, may_lead, types_after, value_of}
-use Rattle.clif_replay.specs.Requests.{controlling_in, is_tried, name_of, operation_in, request_in, request_of}
+use Rattle.clif_replay.specs.Ready.{IsFound, IsJudged, IsReady, IsReadyAfter, all_values, is_open, may_lead, tries, types_after, value_of}
+use Rattle.clif_replay.specs.Requests.{controlling_in, is_tried, item_of, name_of, operation_in, request_in, request_of}
 
 -- A call was made, which asked this, or wasn't. It is refused only if it is only tried. `Full` is told only where `Meets`
 -- holds, and variables have these types afterwards.
@@ -82,6 +87,27 @@ is_imported f called = list_all (has_entry f.tables) (entries_of (outside_shape 
 -- it may be made: in an open block, where its names lead to values
 abbrev pub can_call : FunctionBuilder → List Answer → OutsideCall → Bool
 can_call b answers called = (is_open b && all_values b.func.now answers (operands_of called)) && is_imported b.func.now called
+
+-- the instruction of a call along the edges of an exception table, with these values and what the table held
+abbrev pub throwing_shape : ThrowingCall → List ℕ → ExceptionShape → InstructionData
+throwing_shape (throwing.TryCall function args table) values held = shape.TryCall function values held
+throwing_shape (throwing.TryCallIndirect callee args table) values held = shape.TryCallIndirect values held
+
+-- what it calls was imported, where it isn't an address
+abbrev pub has_callee : Body → ThrowingCall → Bool
+has_callee f (throwing.TryCall function args table) = nat_lt function (length f.tables.functions)
+has_callee f (throwing.TryCallIndirect callee args table) = true
+
+-- a call along the edges of an exception table may be made: in an open block, where its names lead to values and the table serves
+abbrev pub can_try : FunctionBuilder → List Answer → ThrowingCall → Bool
+can_try b answers called =
+    (is_open b && all_values b.func.now answers (tried_operands called)) && (has_callee b.func.now called && tries b (table_of called))
+
+-- for an exception table of this signature, normal edge and items
+abbrev pub MakesExceptions : ℕ → Name → List TableItem → FunctionBuilder → FunctionBuilder → List Answer → Result Answer CallError → Type 0
+MakesExceptions signature normal items old new answers result =
+    Makes (λ declared ledger. MakeExceptionTable signature (name_of normal) (map item_of items)) false (length old.func.now.tables.exception_tables ≡ 2 ^ 32 - 1)
+    old.ctx.now.variables old new answers result
 
 -- for a jump table of the edges with these names
 abbrev pub MakesTable : Name → List Name → FunctionBuilder → FunctionBuilder → List Answer → Result Answer CallError → Type 0

@@ -6,12 +6,16 @@ use Rattle.clif_types.specs.declared.types.«Type».{«Type»}
 use Rattle.clif_ir.specs.Body.{Body, inst_at, value_at}
 use Rattle.clif_instructions.specs.Members.{stands_in}
 use Rattle.clif_instructions.specs.declared.block_call.BlockArg.{BlockArg}
-use Rattle.clif_instructions.specs.declared.block_call.BlockArg.TheVariants.{Value}
+use Rattle.clif_instructions.specs.declared.block_call.BlockArg.TheVariants.{TryCallExn, TryCallRet, Value}
 use Rattle.clif_instructions.specs.declared.block_call.BlockCall.{BlockCall}
+use Rattle.clif_instructions.specs.declared.exception_table.ExceptionTableItem.{ExceptionTableItem}
+use Rattle.clif_instructions.specs.declared.exception_table.ExceptionTableItem.TheVariants as kept
+use Rattle.clif_instructions.specs.ExceptionTables.{ExceptionShape}
+use Rattle.clif_inst_builder.specs.Served.{exception_tables}
 use Rattle.clif_tables.specs.Entries.{TableEntry}
 use Rattle.clif_meaning.specs.SameType.{same_type}
 use Rattle.clif_meaning.specs.Request.{AnsweredCall, Request}
-use Rattle.clif_meaning.specs.Ledger.{Answered, ABlock, AVariable, AValue, AnInstruction, AnEntry, AnEdge, AJumpTable, edge_named}
+use Rattle.clif_meaning.specs.Ledger.{Answered, ABlock, AVariable, AValue, AnInstruction, AnEntry, AnEdge, AJumpTable, AnExceptionTable, ExceptionTable, edge_named}
 use Rattle.clif_meaning.specs.Instruction as meaning
 use Rattle.clif_meaning.specs.Name as name
 use Rattle.clif_simulation.specs.Carries.{numbers_from}
@@ -21,12 +25,17 @@ use Rattle.cranelift_frontend.specs.declared.builder.FunctionBuilder.{FunctionBu
 use Rattle.cranelift_frontend.specs.Context.{ContextState, status_of}
 use Rattle.cranelift_frontend.specs.Builder.{is_empty_status, is_filled_status, is_free, is_nothing}
 use Rattle.clif_types.specs.Signature.{SignatureShape}
-use Rattle.cranelift_frontend.specs.Entries.{table_edges}
-use Rattle.cranelift_frontend.specs.Ledger.{NamesEdge, NamesEdges, ledger_of}
+use Rattle.cranelift_frontend.specs.Entries.{table_edges, table_held}
+use Rattle.cranelift_frontend.specs.Ledger.{NamesEdge, NamesEdges, NamesExceptions, ledger_of}
 use Rattle.cranelift_frontend.specs.StandsFor.{StandsFor}
 use Rattle.cranelift_frontend.specs.LedgerLaws.{LedgerIsReadByNumber}
 use Rattle.clif_calls.specs.declared.call.Edge.{Edge}
 use Rattle.clif_calls.specs.declared.call.Name.{Name}
+use Rattle.clif_calls.specs.declared.table.Passed.{Passed}
+use Rattle.clif_calls.specs.declared.table.Passed.TheVariants as passed
+use Rattle.clif_calls.specs.declared.table.TableEdge.{TableEdge}
+use Rattle.clif_calls.specs.declared.table.TableItem.{TableItem}
+use Rattle.clif_calls.specs.declared.table.TableItem.TheVariants as item
 use Rattle.clif_calls.specs.declared.call.Call.{Call}
 use Rattle.clif_calls.specs.declared.call.Call.TheVariants as call
 use Rattle.clif_replay.specs.declared.script.Answer.{Answer}
@@ -45,18 +54,20 @@ AnswerIs (answer.Inst i) answered numbers =
     (types : List «Type») × (results : List ℕ) × (answered ≡ AnInstruction ∷ map AValue types) × (numbers ≡ i ∷ results)
 AnswerIs (answer.Edge made) answered numbers = (edge : meaning.Edge name.Name name.Name) × (answered ≡ AnEdge edge ∷ []) × (numbers ≡ 0 ∷ [])
 AnswerIs answer.Table answered numbers = (number : ℕ) × (answered ≡ AJumpTable number ∷ []) × (numbers ≡ number ∷ [])
+AnswerIs answer.Exceptions answered numbers = (number : ℕ) × (answered ≡ AnExceptionTable number ∷ []) × (numbers ≡ number ∷ [])
 AnswerIs answer.Entry answered numbers = (entry : TableEntry) × (number : ℕ) × (answered ≡ AnEntry entry number ∷ []) × (numbers ≡ number ∷ [])
 
--- a jump table of the function has the edges of the ledger's, or both serve an instruction
-abbrev pub TableAgrees : List AnsweredCall → Option (List (meaning.Edge name.Name name.Name)) → Option (List BlockCall) → Type 0
-TableAgrees calls None None = Unit {0}
-TableAgrees calls (Some edges) (Some made) = NamesEdges calls edges made
-TableAgrees calls _ _ = ⊥
+-- two tables hold what agrees, or both serve an instruction
+abbrev pub TableAgrees : {A B : Type 0} → (A → B → Type 0) → Option A → Option B → Type 0
+TableAgrees {A} {B} Agree None None = Unit {0}
+TableAgrees {A} {B} Agree (Some held) (Some made) = Agree held made
+TableAgrees {A} {B} Agree _ _ = ⊥
 
-abbrev pub TablesAgree : List AnsweredCall → List (Option (List (meaning.Edge name.Name name.Name))) → List (Option (List BlockCall)) → Type 0
-TablesAgree calls [] [] = Unit {0}
-TablesAgree calls (table ∷ tables) (made ∷ others) = TableAgrees calls table made × TablesAgree calls tables others
-TablesAgree calls _ _ = ⊥
+-- as many tables do, each with its number
+abbrev pub TablesAgree : {A B : Type 0} → (A → B → Type 0) → List (Option A) → List (Option B) → Type 0
+TablesAgree {A} {B} Agree [] [] = Unit {0}
+TablesAgree {A} {B} Agree (table ∷ tables) (made ∷ others) = TableAgrees Agree table made × TablesAgree Agree tables others
+TablesAgree {A} {B} Agree _ _ = ⊥
 
 -- the builder stands for these calls, on a function of this signature, and these are their answers; and it is known how a
 -- ledger is read
@@ -67,10 +78,16 @@ pub record IsReady (declared : SignatureShape) (calls : List AnsweredCall) (b : 
   pub answered : (place : ℕ) (answer : Answer) (call : AnsweredCall) (answered : List Answered)
       → slice_get answers place ≡ Some answer → slice_get calls place ≡ Some call → slice_get (ledger_of calls).answers place ≡ Some answered
       → AnswerIs answer answered call.numbers
-  -- an edge that was answered is that of the ledger, and so are those of the jump tables
+  -- an edge that was answered is that of the ledger, and so is what jump tables and exception tables hold
   pub edges : (place : ℕ) (made : BlockCall) → slice_get answers place ≡ Some (answer.Edge made)
       → (edge : meaning.Edge name.Name name.Name) × (edge_named (ledger_of calls) (name.answer_of place 0) ≡ Some edge) × NamesEdge calls edge made
-  pub tables : TablesAgree calls (ledger_of calls).jump_tables b.func.now.tables.jump_tables
+  pub tables : TablesAgree (NamesEdges calls) (ledger_of calls).jump_tables b.func.now.tables.jump_tables
+  pub exceptions : TablesAgree (NamesExceptions calls) (ledger_of calls).exception_tables b.func.now.tables.exception_tables
+
+-- the function's jump tables and exception tables are as before
+abbrev pub KeepsTables : FunctionBuilder → FunctionBuilder → Type 0
+KeepsTables old new =
+    (new.func.now.tables.jump_tables ≡ old.func.now.tables.jump_tables) × (new.func.now.tables.exception_tables ≡ old.func.now.tables.exception_tables)
 
 -- it stands for some calls, and hasn't failed
 pub record IsSound (b : FunctionBuilder) (answers : List Answer) : Type 0 where
@@ -102,6 +119,7 @@ block_in index (Some (answer.Inst i)) = None
 block_in index (Some answer.Entry) = None
 block_in index (Some (answer.Edge edge)) = None
 block_in index (Some answer.Table) = None
+block_in index (Some answer.Exceptions) = None
 block_in index None = None
 
 abbrev pub block_of : List Answer → Name → Option ℕ
@@ -125,6 +143,7 @@ value_in f index (Some (answer.Variable v)) = None
 value_in f index (Some answer.Entry) = None
 value_in f index (Some (answer.Edge edge)) = None
 value_in f index (Some answer.Table) = None
+value_in f index (Some answer.Exceptions) = None
 value_in f index None = None
 
 abbrev pub value_of : Body → List Answer → Name → Option ℕ
@@ -139,6 +158,7 @@ AnswerExists f (answer.Variable v) = Unit {0}
 AnswerExists f answer.Entry = Unit {0}
 AnswerExists f (answer.Edge edge) = Unit {0}
 AnswerExists f answer.Table = Unit {0}
+AnswerExists f answer.Exceptions = Unit {0}
 AnswerExists f (answer.Values first count) = (k : ℕ) → k < count → first + k < length f.values
 
 -- what each answer names exists
@@ -225,14 +245,34 @@ edge_in index _ = None
 abbrev pub edge_at : List Answer → Name → Option BlockCall
 edge_at answers name = edge_in name.answer (slice_get answers name.place)
 
--- an edge is there: its target, and what it passes
-abbrev pub has_edge : FunctionBuilder → List Answer → Edge → Bool
-has_edge b answers edge = is_some (block_of answers edge.block) && all_values b.func.now answers edge.args.items
+-- what an edge of a table passes, if its name leads to a value
+abbrev pub passed_in : Body → List Answer → Passed → Option BlockArg
+passed_in f answers (passed.Value name) = argument_of f answers name
+passed_in f answers (passed.Returned place) = Some (TryCallRet place)
+passed_in f answers (passed.Thrown place) = Some (TryCallExn place)
+
+-- each of these is there
+abbrev pub all_passed : Body → List Answer → List Passed → Bool
+all_passed f answers args = list_all (λ one. is_some (passed_in f answers one)) args
+
+-- an edge of a table is there: its target, and what it passes
+abbrev pub has_edge : FunctionBuilder → List Answer → TableEdge → Bool
+has_edge b answers edge = is_some (block_of answers edge.block) && all_passed b.func.now answers edge.args.items
 
 -- the edge to which the names of such an edge lead, whether its target is sealed or not
-pub record IsEdge (b : FunctionBuilder) (answers : List Answer) (edge : Edge) (call : BlockCall) : Type 0 where
+pub record IsEdge (b : FunctionBuilder) (answers : List Answer) (edge : TableEdge) (call : BlockCall) : Type 0 where
   pub target : block_of answers edge.block ≡ Some call.block
-  pub passed : map (argument_of b.func.now answers) edge.args.items ≡ map Some call.args
+  pub passed : map (passed_in b.func.now answers) edge.args.items ≡ map Some call.args
+
+-- an item of an exception table, with what its name leads to
+abbrev pub item_in : Body → List Answer → TableItem → Option ExceptionTableItem
+item_in f answers (item.Tag tag edge) = option_map (kept.Tag tag) (edge_at answers edge)
+item_in f answers (item.Default edge) = option_map kept.Default (edge_at answers edge)
+item_in f answers (item.Context value) = option_map kept.Context (value_of f answers value)
+
+-- each item of these names what is there
+abbrev pub all_items : Body → List Answer → List TableItem → Bool
+all_items f answers items = list_all (λ one. is_some (item_in f answers one)) items
 
 -- there is such a jump table, it serves no instruction so far, and no target of its edges is sealed
 abbrev pub serves_at : FunctionBuilder → Option (List BlockCall) → Bool
@@ -241,6 +281,15 @@ serves_at b (Some edges) = list_all (λ edge. can_seal b edge.block) edges
 
 abbrev pub serves : FunctionBuilder → ℕ → Bool
 serves b table = serves_at b (table_edges b table)
+
+-- there is such an exception table, it serves no instruction so far, no target of its edges is sealed, and its signature was
+-- imported
+abbrev pub tries_at : FunctionBuilder → Option ExceptionShape → Bool
+tries_at b None = false
+tries_at b (Some held) = list_all (λ edge. can_seal b edge.block) held.edges && nat_lt held.sig (length b.func.now.tables.signatures)
+
+abbrev pub tries : FunctionBuilder → ℕ → Bool
+tries b table = tries_at b (table_held exception_tables b table)
 
 -- the types of the variables after a call that succeeded
 abbrev pub types_after : Call → List «Type» → List «Type»

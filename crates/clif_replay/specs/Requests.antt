@@ -3,10 +3,11 @@ use Rattle.std.specs.Prelude.{◌≡◌, ◌⊎◌, ℕ, List, [], ◌∷◌, �
 use Rattle.clif_ir.specs.Body.{Body}
 use Rattle.clif_tables.specs.Callees.{types_of}
 use Rattle.clif_meaning.specs.Name.{Name}
-use Rattle.clif_meaning.specs.Instruction.{Binary, Brif, Compare, Compute, Concat, CondTrap, Convert, Edge, FloatConst, Iconst, Jump, Known, Load, Operation, Return, Select, Split, Stack, StackStore, Store, Trap, Unary}
-use Rattle.clif_meaning.specs.Request.{Request, CreateBlock, SwitchToBlock, SealBlock, SealAllBlocks, InsertBlockAfter, SetColdBlock, EnsureInsertedBlock, AppendBlockParams, AppendFunctionParams, DeclareVar, DefVar, UseVar, MakeEntry, MakeEdge, MakeJumpTable, Annotate, Build, ChangeJumpDestination, Finalize, Script, AnsweredCall, script_of, Attempt, outright}
+use Rattle.clif_meaning.specs.Instruction.{Argument, CallPayload, CallResult, Binary, Brif, Compare, Compute, Concat, CondTrap, Convert, Edge, FloatConst, Iconst, Jump, Known, Load, Operation, Return, Select, Split, Stack, StackStore, Store, Trap, Unary}
+use Rattle.clif_meaning.specs.Request.{Request, CreateBlock, SwitchToBlock, SealBlock, SealAllBlocks, InsertBlockAfter, SetColdBlock, EnsureInsertedBlock, AppendBlockParams, AppendFunctionParams, DeclareVar, DefVar, UseVar, MakeEntry, MakeEdge, MakeExceptionTable, MakeJumpTable, Annotate, Build, ChangeJumpDestination, Finalize, Script, AnsweredCall, script_of, Attempt, outright}
+use Rattle.clif_meaning.specs.Request as asked
 use Rattle.clif_meaning.specs.Ledger.{Ledger, empty_ledger, ledger_after, ledger_with, or_invalid, type_of}
-use Rattle.clif_meaning.specs.Acceptance.{Verdict, Accepted, Misuse, Refused, pooled_const, jump, brif, br_table, call_function, call_indirect, return_, trap, allows, verdict_from, verdict_on_attempts}
+use Rattle.clif_meaning.specs.Acceptance.{Verdict, Accepted, Misuse, Refused, pooled_const, jump, brif, br_table, call_function, call_indirect, try_call, try_call_indirect, return_, trap, allows, verdict_from, verdict_on_attempts}
 use Rattle.clif_opcodes.specs.declared.opcodes.PooledConstOpcode.TheVariants.{F128const, Vconst}
 use Rattle.clif_types.specs.declared.types.«Type».{«Type»}
 use Rattle.clif_types.specs.declared.types.«Type».TheVariants.{Invalid}
@@ -20,6 +21,13 @@ use Rattle.clif_calls.specs.declared.call.Call.{Call}
 use Rattle.clif_calls.specs.declared.call.Call.TheVariants as call
 use Rattle.clif_calls.specs.declared.outside.OutsideCall.{OutsideCall}
 use Rattle.clif_calls.specs.declared.outside.OutsideCall.TheVariants as outside
+use Rattle.clif_calls.specs.declared.table.Passed.{Passed}
+use Rattle.clif_calls.specs.declared.table.Passed.TheVariants as passed
+use Rattle.clif_calls.specs.declared.table.TableEdge.{TableEdge}
+use Rattle.clif_calls.specs.declared.table.TableItem.{TableItem}
+use Rattle.clif_calls.specs.declared.table.TableItem.TheVariants as item
+use Rattle.clif_calls.specs.declared.table.ThrowingCall.{ThrowingCall}
+use Rattle.clif_calls.specs.declared.table.ThrowingCall.TheVariants as throwing
 use Rattle.clif_calls.specs.Plan.{edges_in, operands_in, plan_of}
 use Rattle.clif_calls.specs.declared.plan.Plan.{Plan}
 use Rattle.clif_calls.specs.declared.plan.Plan.TheVariants as plan
@@ -35,6 +43,21 @@ name_of name = record { place = name.place; index = name.answer }
 -- an edge, and what it passes
 abbrev pub edge_of : script.Edge → Edge Name Name
 edge_of destination = record { target = name_of destination.block; arguments = map (λ name. Known (name_of name)) destination.args.items }
+
+-- what an edge of a table passes
+abbrev pub passed_of : Passed → Argument Name
+passed_of (passed.Value name) = Known (name_of name)
+passed_of (passed.Returned place) = CallResult place
+passed_of (passed.Thrown place) = CallPayload place
+
+abbrev pub table_edge_of : TableEdge → Edge Name Name
+table_edge_of edge = record { target = name_of edge.block; arguments = map passed_of edge.args.items }
+
+-- an item of an exception table
+abbrev pub item_of : TableItem → asked.TableItem
+item_of (item.Tag tag edge) = asked.TagTo tag (name_of edge)
+item_of (item.Default edge) = asked.DefaultTo (name_of edge)
+item_of (item.Context value) = asked.InContext (name_of value)
 
 -- what an instruction of a plan does
 abbrev pub operation_in : Plan → Operation
@@ -90,6 +113,11 @@ abbrev pub outside_request : Ledger → OutsideCall → Request
 outside_request ledger (outside.Call function args) = call_function ledger function (map name_of args.items)
 outside_request ledger (outside.CallIndirect signature callee args) = call_indirect ledger signature (name_of callee) (map name_of args.items)
 
+-- the request of a call along the edges of an exception table, of what the ledger's tables hold
+abbrev pub throwing_request : Ledger → ThrowingCall → Request
+throwing_request ledger (throwing.TryCall function args table) = try_call ledger function (map name_of args.items) table
+throwing_request ledger (throwing.TryCallIndirect callee args table) = try_call_indirect ledger (name_of callee) (map name_of args.items) table
+
 -- the request of a call, on a function of this signature. `brif` is made at the type of its condition, which the ledger
 -- tells.
 abbrev pub request_of : SignatureShape → Ledger → Call → Request
@@ -104,8 +132,9 @@ request_of signature ledger (call.AppendBlockParam block ty) = AppendBlockParams
 request_of signature ledger (call.AppendBlockParamsForFunctionParams block) = AppendFunctionParams (name_of block) (types_of signature.params)
 request_of signature ledger (call.AppendBlockParamsForFunctionReturns block) = AppendBlockParams (name_of block) (types_of signature.returns)
 request_of signature ledger (call.Entry entry) = MakeEntry (entry_in entry)
-request_of signature ledger (call.BlockCall edge) = MakeEdge (edge_of edge)
+request_of signature ledger (call.BlockCall edge) = MakeEdge (table_edge_of edge)
 request_of signature ledger (call.CreateJumpTable default entries) = MakeJumpTable (name_of default) (map name_of entries.items)
+request_of signature ledger (call.CreateExceptionTable callee normal items) = MakeExceptionTable callee (name_of normal) (map item_of items.items)
 request_of signature ledger (call.DeclareVar ty) = DeclareVar ty
 request_of signature ledger (call.DefVar variable value) = DefVar variable (name_of value)
 request_of signature ledger (call.UseVar variable) = UseVar variable
@@ -123,6 +152,7 @@ request_of signature ledger (call.Vconst ty bytes) = pooled_const Vconst ty byte
 request_of signature ledger (call.Jump destination) = jump (edge_of destination)
 request_of signature ledger (call.Brif condition block_then block_else) = brif ledger (name_of condition) (edge_of block_then) (edge_of block_else)
 request_of signature ledger (call.BrTable index table) = br_table ledger (name_of index) table
+request_of signature ledger (call.Throwing called) = throwing_request ledger called
 request_of signature ledger (call.Return values) = return_ (map name_of values.items)
 request_of signature ledger (call.Trap code) = trap code
 

@@ -6,6 +6,7 @@ mod make_blocks;
 mod make_branches;
 mod make_constants;
 mod make_entities;
+mod make_exceptions;
 mod make_instructions;
 mod make_notes;
 mod make_outside;

@@ -10,6 +10,7 @@ use crate::make_blocks::{
 use crate::make_branches::change_jump_destination;
 use crate::make_constants::make_constant;
 use crate::make_entities::make_entry;
+use crate::make_exceptions::{create_exception_table, make_throwing_call};
 use crate::make_instructions::{Lender, make_instruction};
 use crate::make_notes::{collect_debug_info, set_srcloc, set_val_label};
 use crate::make_outside::make_outside_call;
@@ -59,6 +60,11 @@ pub(crate) fn make_call(
         Call::CreateJumpTable { default, entries } => {
             create_jump_table(builder, answers, *default, entries.as_slice())
         }
+        Call::CreateExceptionTable {
+            signature,
+            normal,
+            items,
+        } => create_exception_table(builder, answers, *signature, *normal, items.as_slice()),
         Call::DeclareVar { ty } => declare_var(builder, answers, *ty),
         Call::DefVar { variable, value } => def_var(builder, answers, types, *variable, *value),
         Call::UseVar { variable } => use_var(builder, answers, types, *variable),
@@ -102,6 +108,7 @@ pub(crate) fn make_call(
             make_instruction(builder, answers, Lender::Ins, &plan)
         }
         Call::BrTable { index, table } => br_table(builder, answers, *index, *table),
+        Call::Throwing(called) => make_throwing_call(builder, answers, called),
         Call::Return { values } => {
             let args = values.as_slice();
             make_instruction(builder, answers, Lender::Ins, &Plan::MultiAry { args })

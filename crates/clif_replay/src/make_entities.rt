@@ -45,7 +45,7 @@ fn may_make(builder: &FunctionBuilder<'_>, call: &EntryCall) -> bool
 }
 
 // Whether a signature was imported.
-fn has_signature(builder: &FunctionBuilder<'_>, signature: SigRef) -> bool
+pub(crate) fn has_signature(builder: &FunctionBuilder<'_>, signature: SigRef) -> bool
     ensures { result ≡ nat_lt signature (length builder.now.func.now.tables.signatures) }
 {
     builder.signature(signature).is_some()

@@ -10,9 +10,9 @@ ghost use Rattle.clif_replay.specs.Ready.{IsEdge, IsSound, AnswersExist, can_sea
 
 use crate::make::has_current;
 use crate::make_blocks::may_seal;
-use crate::names::{arguments_named, block_named, edge_answered, value_named};
+use crate::names::{block_named, edge_answered, passed_named, value_named};
 use crate::script::{Answer, CallError};
-use clif_calls::{Call, Edge, Name};
+use clif_calls::{Call, Name, TableEdge};
 use clif_ir::{BlockCall, JumpTableData};
 use clif_types::{BuildError, Inst, JumpTable, Type, Value};
 use cranelift_frontend::laws::{requests_ask_for_their_shapes, table_calls_add_nothing};
@@ -23,7 +23,7 @@ use std::alloc::Global;
 fn edge_found(
     builder: &FunctionBuilder<'_>,
     answers: &[Answer],
-    edge: &Edge,
+    edge: &TableEdge,
 ) -> Result<BlockCall, CallError>
     requires { AnswersExist builder.now.func.now answers.now }
     ensures { Finds (IsEdge builder.now answers.now edge.now)
@@ -32,7 +32,7 @@ fn edge_found(
     let Some(block) = block_named(answers, edge.block) else {
         return Err(CallError::Misuse);
     };
-    let args = arguments_named(builder.func(), answers, edge.args.as_slice())?;
+    let args = passed_named(builder.func(), answers, edge.args.as_slice())?;
     Ok(BlockCall { block, args })
 }
 
@@ -40,7 +40,7 @@ fn edge_found(
 pub(crate) fn block_call(
     builder: &mut FunctionBuilder<'_>,
     answers: &[Answer],
-    edge: &Edge,
+    edge: &TableEdge,
 ) -> Result<Answer, CallError>
     requires { IsSound builder.old answers.now }
     ensures { MakesCall (Call.BlockCall edge.now) builder.old builder.new answers.now result }
@@ -52,7 +52,11 @@ pub(crate) fn block_call(
 }
 
 // A copy of the edge that a name leads to.
-fn edge_copied(alloc: Global, answers: &[Answer], name: Name) -> Result<BlockCall, CallError>
+pub(crate) fn edge_copied(
+    alloc: Global,
+    answers: &[Answer],
+    name: Name,
+) -> Result<BlockCall, CallError>
     ensures { Finds (λ made. edge_at answers.now name ≡ Some made)
         (is_some (edge_at answers.now name)) result }
 {
@@ -153,7 +157,7 @@ fn may_serve(builder: &FunctionBuilder<'_>, table: JumpTable) -> bool
 }
 
 // Whether no target of these edges is sealed.
-fn are_open(builder: &FunctionBuilder<'_>, edges: &[BlockCall]) -> bool
+pub(crate) fn are_open(builder: &FunctionBuilder<'_>, edges: &[BlockCall]) -> bool
     ensures { result ≡ list_all (λ edge. can_seal builder.now edge.block) edges.now }
 {
     for edge in edges.iter() {

@@ -2,11 +2,11 @@
 ghost use Rattle.std.specs.Prelude.{◌≡◌, ◌≢◌, option_copied, ◌<◌, ◌+◌, ◌-◌, ◌∷◌, [], ℕ, map, length, Some, None, nat_lt, if◌then◌else◌, IfOk, Err, false};
 ghost use Rattle.std.specs.List.{list_all};
 ghost use Rattle.clif_replay.specs.Makes.{AreFound, Finds};
-ghost use Rattle.clif_replay.specs.Ready.{IsFound, AnswerExists, AnswersExist, all_values, argument_of, block_of, edge_at, inst_of, may_lead, value_in, value_of};
+ghost use Rattle.clif_replay.specs.Ready.{IsFound, AnswerExists, AnswersExist, all_passed, all_values, argument_of, block_of, edge_at, inst_of, may_lead, passed_in, value_in, value_of};
 
 use crate::make_blocks::may_seal;
 use crate::script::{Answer, CallError};
-use clif_calls::{Edge, Name};
+use clif_calls::{Edge, Name, Passed};
 use clif_ir::{BlockArg, BlockArgs, BlockCall, Function, ValueList};
 use clif_types::{Block, EntityRef, Inst, Value};
 use cranelift_frontend::FunctionBuilder;
@@ -67,7 +67,8 @@ fn value_in(func: &Function, answer: &Answer, place: usize) -> Option<Value>
         | Answer::Variable(_)
         | Answer::Entry
         | Answer::Edge(_)
-        | Answer::Table => None,
+        | Answer::Table
+        | Answer::Exceptions => None,
     }
 }
 
@@ -122,6 +123,43 @@ pub(crate) fn arguments_named(
         args.push(BlockArg::Value(value))?;
     }
     Ok(args)
+}
+
+// What an edge of a table passes, where its name leads to a value.
+fn argument_passed(func: &Function, answers: &[Answer], passed: Passed) -> Option<BlockArg>
+    requires { AnswersExist func.now answers.now }
+    ensures { result ≡ passed_in func.now answers.now passed }
+{
+    match passed {
+        Passed::Value(name) => match value_named(func, answers, name) {
+            Some(value) => Some(BlockArg::Value(value)),
+            None => None,
+        },
+        Passed::Returned(place) => Some(BlockArg::TryCallRet(place)),
+        Passed::Thrown(place) => Some(BlockArg::TryCallExn(place)),
+    }
+}
+
+// What an edge of a table passes, with what its names lead to.
+pub(crate) fn passed_named(
+    func: &Function,
+    answers: &[Answer],
+    args: &[Passed],
+) -> Result<BlockArgs, CallError>
+    requires { AnswersExist func.now answers.now }
+    ensures passed { IfOk result (λ made.
+        map (passed_in func.now answers.now) args.now ≡ map Some made) }
+    ensures misuse { result ≡ Err CallError.Misuse →
+        all_passed func.now answers.now args.now ≡ false }
+    ensures never_full { result ≢ Err CallError.Full }
+    ensures never_refused { result ≢ Err CallError.Refused }
+{
+    let mut made = BlockArgs::new(func.allocator());
+    for one in args.iter() {
+        let arg = argument_passed(func, answers, *one).ok_or(CallError::Misuse)?;
+        made.push(arg)?;
+    }
+    Ok(made)
 }
 
 // The edge that names lead to, where its target isn't sealed.

@@ -72,10 +72,12 @@ pub(crate) enum Answer {
     Inst(Inst),
     // an entry of a table, which calls name by its number
     Entry,
-    // an edge, of which jump tables get copies
+    // an edge, of which tables get copies
     Edge(BlockCall),
     // a jump table, which calls name by its number
     Table,
+    // an exception table, which calls name by its number
+    Exceptions,
 }
 
 // Why one call didn't succeed.
@@ -206,6 +208,7 @@ fn make_calls(
     requires ready { StandsFor builder.old.func.now.signature [] builder.old }
     requires types { builder.old.ctx.now.variables ≡ [] }
     requires tables { builder.old.func.now.tables.jump_tables ≡ [] }
+    requires exceptions { builder.old.func.now.tables.exception_tables ≡ [] }
     requires sound { builder.old.failed ≡ false }
     ensures loans { SameLoans builder.old builder.new }
     ensures name { OnOk result (builder.new.func.now.name ≡ builder.old.func.now.name) }

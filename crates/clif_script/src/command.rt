@@ -1,4 +1,5 @@
 //! What the program `clif_build` is asked for.
+use clif_interpreter::STEPS;
 
 /// A run: the words of its arguments, and how many steps it has at most.
 #[derive(Clone, Copy)]
@@ -26,9 +27,6 @@ pub enum Command<'a> {
         run: Run<'a>,
     },
 }
-
-/// How many steps a run has at most if no option says it.
-pub const STEPS: u64 = 1_000_000;
 
 /// What the program answers to words that ask for nothing.
 pub const USAGE: &str =

@@ -23,12 +23,16 @@ pub enum Condition {
     NoSlot(usize),
     /// The jump table isn't there.
     NoTable(usize),
+    /// The exception table isn't there.
+    NoExceptions(usize),
     /// The signature isn't there.
     NoSignature(usize),
     /// The function isn't there.
     NoFunction(usize),
     /// The jump table serves another instruction.
     Served(usize),
+    /// The exception table does.
+    ExceptionsServed(usize),
     /// No block is current.
     NoCurrent,
     /// The block has a terminator.
@@ -70,9 +74,13 @@ impl fmt::Display for Condition {
             Condition::NoVariable(number) => write!(f, "var{number} isn't declared"),
             Condition::NoSlot(number) => write!(f, "ss{number} isn't there"),
             Condition::NoTable(number) => write!(f, "jt{number} isn't there"),
+            Condition::NoExceptions(number) => write!(f, "extable{number} isn't there"),
             Condition::NoSignature(number) => write!(f, "sig{number} isn't there"),
             Condition::NoFunction(number) => write!(f, "fn{number} isn't there"),
             Condition::Served(number) => write!(f, "jt{number} serves another instruction"),
+            Condition::ExceptionsServed(number) => {
+                write!(f, "extable{number} serves another instruction")
+            }
             Condition::NoCurrent => f.write_str("no block is current"),
             Condition::Filled(number) => write_block(f, *number, "is filled"),
             Condition::Unfilled(number) => write_block(f, *number, "isn't filled yet"),

@@ -1,132 +1,18 @@
 //! Which condition of a call doesn't hold, by what the calls before it alone tell.
 use crate::condition::Condition;
-use clif_calls::{Call, Edge, EntryCall, Name, OutsideCall};
-use clif_opcodes::{Control, Demand, Opcode, PooledConstOpcode};
-use clif_operations::Operation;
-use clif_script_program::branches::Branches;
-use clif_script_program::imports::Imports;
-use clif_script_program::instruction::{edge_count, edge_of, edges_of, instruction_of, plan_of};
-use clif_types::types::F128;
-use clif_types::{AbiParam, EntityRef, JumpTable, SigRef, Signature, StackSlot, Type};
-use std::alloc::{AllocError, Global};
-
-/// An answer of a call.
-#[derive(Clone, Copy)]
-enum Answer {
-    Block(usize),
-    Value(Type),
-    Edge,
-    Inst,
-    Other,
-}
-
-/// What is known of a block.
-#[derive(Clone, Copy)]
-struct BlockState {
-    is_begun: bool,
-    is_filled: bool,
-    is_sealed: bool,
-    is_placed: bool,
-    // how many edges lead to it
-    edges: usize,
-}
-
-/// What may come to be known of a block.
-#[derive(Clone, Copy)]
-enum Mark {
-    Begun,
-    Filled,
-    Sealed,
-    Placed,
-}
-
-const NEW_BLOCK: BlockState = BlockState {
-    is_begun: false,
-    is_filled: false,
-    is_sealed: false,
-    is_placed: false,
-    edges: 0,
+use crate::ledger::Ledger;
+use clif_calls::{
+    Call, Edge, EntryCall, Name, OutsideCall, Passed, TableEdge, TableItem, ThrowingCall,
 };
-
-/// What the calls so far tell.
-#[derive(Drop)]
-struct Ledger<'a> {
-    alloc: Global,
-    calls: &'a [Call],
-    signature: &'a Signature,
-    answers: Vec<Vec<Answer>>,
-    blocks: Vec<BlockState>,
-    variables: Vec<Type>,
-    slots: usize,
-    imports: Imports,
-    // for each jump table the places of the calls that answered its edges, until it serves an instruction
-    tables: Vec<Option<Vec<usize>>>,
-    branches: Branches,
-    current: Option<usize>,
-    entry: Option<usize>,
-}
+use clif_opcodes::{Demand, Opcode, PooledConstOpcode};
+use clif_operations::Operation;
+use clif_script_program::instruction::{edge_count, edge_of, instruction_of, plan_of};
+use clif_types::{EntityRef, FuncRef, JumpTable, SigRef, Signature, StackSlot, Type};
+use std::alloc::{AllocError, Global};
 
 // TESTS: each answers the first condition that doesn't hold.
 
-impl<'a> Ledger<'a> {
-    fn answer(&self, name: Name) -> Answer {
-        match self.answers.get(name.place) {
-            Some(answers) => answers.get(name.answer).copied().unwrap_or(Answer::Other),
-            None => Answer::Other,
-        }
-    }
-
-    fn block(&self, name: Name) -> Result<usize, Condition> {
-        match self.answer(name) {
-            Answer::Block(number) => Ok(number),
-            Answer::Value(_) | Answer::Edge | Answer::Inst | Answer::Other => {
-                Err(Condition::NoBlock(name))
-            }
-        }
-    }
-
-    // The place of an instruction.
-    fn inst(&self, name: Name) -> Result<usize, Condition> {
-        match self.answer(name) {
-            Answer::Inst => Ok(name.place),
-            _ => Err(Condition::NoInst(name)),
-        }
-    }
-
-    fn value(&self, name: Name) -> Result<Type, Condition> {
-        match self.answer(name) {
-            Answer::Value(ty) => Ok(ty),
-            Answer::Block(_) | Answer::Edge | Answer::Inst | Answer::Other => {
-                Err(Condition::NoValue(name))
-            }
-        }
-    }
-
-    fn edge(&self, name: Name) -> Result<&'a Edge, Condition> {
-        match (self.answer(name), self.calls.get(name.place)) {
-            (Answer::Edge, Some(Call::BlockCall { edge })) => Ok(edge),
-            _ => Err(Condition::NoEdge(name)),
-        }
-    }
-
-    // The edges of a jump table that serves no instruction so far, by the places of the calls that answered them.
-    fn table(&self, table: JumpTable) -> Result<&[usize], Condition> {
-        match self.tables.get(table.index()) {
-            Some(Some(places)) => Ok(places.as_slice()),
-            Some(None) => Err(Condition::Served(table.index())),
-            None => Err(Condition::NoTable(table.index())),
-        }
-    }
-
-    fn variable(&self, number: usize) -> Result<Type, Condition> {
-        let declared = self.variables.get(number).copied();
-        declared.ok_or(Condition::NoVariable(number))
-    }
-
-    fn state(&self, number: usize) -> BlockState {
-        self.blocks.get(number).copied().unwrap_or(NEW_BLOCK)
-    }
-
+impl Ledger<'_> {
     // There is a current block without a terminator.
     fn is_open(&self) -> Result<(), Condition> {
         match self.current {
@@ -209,10 +95,37 @@ impl<'a> Ledger<'a> {
         Ok(())
     }
 
-    fn has_edge(&self, edge: &Edge) -> Result<(), Condition> {
+    fn has_edge(&self, edge: &TableEdge) -> Result<(), Condition> {
         self.block(edge.block)?;
-        for name in edge.args.iter() {
-            self.value(*name)?;
+        for passed in edge.args.iter() {
+            if let Passed::Value(name) = passed {
+                self.value(*name)?;
+            }
+        }
+        Ok(())
+    }
+
+    fn has_item(&self, item: &TableItem) -> Result<(), Condition> {
+        match item {
+            TableItem::Tag(_, edge) | TableItem::Default(edge) => self.edge(*edge).map(|_| ()),
+            TableItem::Context(value) => self.value(*value).map(|_| ()),
+        }
+    }
+
+    fn have_items(&self, normal: Name, items: &[TableItem]) -> Result<(), Condition> {
+        self.edge(normal)?;
+        for item in items {
+            self.has_item(item)?;
+        }
+        Ok(())
+    }
+
+    // No target of the edges is sealed that the calls at these places answered.
+    fn can_serve(&self, places: &[usize]) -> Result<(), Condition> {
+        for place in places {
+            let (place, answer) = (*place, 0);
+            let edge = self.edge(Name { place, answer })?;
+            self.is_unsealed(self.block(edge.block)?)?;
         }
         Ok(())
     }
@@ -228,14 +141,7 @@ impl<'a> Ledger<'a> {
     fn can_branch(&self, index: Name, table: JumpTable) -> Result<(), Condition> {
         self.is_open()?;
         self.value(index)?;
-        for place in self.table(table)? {
-            let edge = self.edge(Name {
-                place: *place,
-                answer: 0,
-            })?;
-            self.can_lead(edge)?;
-        }
-        Ok(())
+        self.can_serve(self.table(table)?)
     }
 
     fn has_signature(&self, signature: SigRef) -> Result<(), Condition> {
@@ -245,14 +151,40 @@ impl<'a> Ledger<'a> {
         }
     }
 
+    fn has_function(&self, function: FuncRef) -> Result<(), Condition> {
+        match self.imports.function(self.calls, function) {
+            Some(_) => Ok(()),
+            None => Err(Condition::NoFunction(function.index())),
+        }
+    }
+
+    // A call may be made along the edges of an exception table.
+    fn can_try(&self, called: &ThrowingCall) -> Result<(), Condition> {
+        self.is_open()?;
+        let args = match called {
+            ThrowingCall::TryCall { function, args, .. } => {
+                self.has_function(*function)?;
+                args
+            }
+            ThrowingCall::TryCallIndirect { callee, args, .. } => {
+                self.value(*callee)?;
+                args
+            }
+        };
+        for name in args.iter() {
+            self.value(*name)?;
+        }
+        let held = self.exceptions(called.table())?;
+        self.has_signature(held.signature)?;
+        self.can_serve(held.edges.as_slice())
+    }
+
     // An outside call may be made.
     fn can_call(&self, called: &OutsideCall) -> Result<(), Condition> {
         self.is_open()?;
         let args = match called {
             OutsideCall::Call { function, args } => {
-                if self.imports.function(self.calls, *function).is_none() {
-                    return Err(Condition::NoFunction(function.index()));
-                }
+                self.has_function(*function)?;
                 args
             }
             OutsideCall::CallIndirect {
@@ -309,18 +241,6 @@ impl<'a> Ledger<'a> {
         }
     }
 
-    // The type that an instruction is made at.
-    fn controlling(&self, operation: &Operation, given: Type, operands: &[Name]) -> Type {
-        match operation.opcode().typing().control {
-            Control::Absent => Type::Invalid,
-            Control::Given => given,
-            Control::Operand(place) => match operands.get(place) {
-                Some(name) => self.value(*name).unwrap_or(Type::Invalid),
-                None => Type::Invalid,
-            },
-        }
-    }
-
     // The conditions of a call: a row for each.
     fn test(&self, call: &Call) -> Result<(), Condition> {
         match call {
@@ -363,7 +283,11 @@ impl<'a> Ledger<'a> {
                 self.have_edges(*default, entries.as_slice())
             }
             Call::BrTable { index, table } => self.can_branch(*index, *table),
+            Call::CreateExceptionTable { normal, items, .. } => {
+                self.have_items(*normal, items.as_slice())
+            }
             Call::Outside(called) => self.can_call(called),
+            Call::Throwing(called) => self.can_try(called),
             Call::DeclareVar { ty } => can_declare(*ty),
             Call::DefVar { variable, value } => self.can_define(variable.index(), *value),
             Call::UseVar { variable } => {
@@ -442,268 +366,6 @@ fn slot_of(operation: &Operation) -> Option<usize> {
         _ => return None,
     };
     Some(slot.index())
-}
-
-// CHANGES: what each call that may be made changes.
-
-impl<'a> Ledger<'a> {
-    fn new(alloc: Global, calls: &'a [Call], signature: &'a Signature) -> Ledger<'a> {
-        Ledger {
-            alloc,
-            calls,
-            signature,
-            answers: Vec::new(alloc),
-            blocks: Vec::new(alloc),
-            variables: Vec::new(alloc),
-            slots: 0,
-            imports: Imports::new(alloc),
-            tables: Vec::new(alloc),
-            branches: Branches::new(alloc),
-            current: None,
-            entry: None,
-        }
-    }
-
-    fn mark(&mut self, number: usize, mark: Mark) {
-        let Some(state) = self.blocks.get_mut(number) else {
-            return;
-        };
-        match mark {
-            Mark::Begun => state.is_begun = true,
-            Mark::Filled => state.is_filled = true,
-            Mark::Sealed => state.is_sealed = true,
-            Mark::Placed => state.is_placed = true,
-        }
-    }
-
-    fn mark_named(&mut self, name: Name, mark: Mark) {
-        if let Ok(number) = self.block(name) {
-            self.mark(number, mark);
-        }
-    }
-
-    // Adds where the edges of a call lead, before anything else of it changes.
-    fn add_branch(&mut self, call: &'a Call) -> Result<(), AllocError> {
-        let none: &[usize] = &[];
-        let places = match call {
-            Call::BrTable { table, .. } => match self.tables.get(table.index()) {
-                Some(Some(places)) => places.as_slice(),
-                _ => none,
-            },
-            _ => none,
-        };
-        let edges = edges_of(self.alloc, self.calls, call, places)?;
-        let mut targets = Vec::new(self.alloc);
-        for edge in edges.iter() {
-            let target = match edge {
-                Some(edge) => self.block(edge.block).ok(),
-                None => None,
-            };
-            self.reach(target, 1);
-            targets.push(target)?;
-        }
-        self.branches.push(targets)
-    }
-
-    // So many edges more lead to a block.
-    fn reach(&mut self, target: Option<usize>, edges: usize) {
-        let Some(number) = target else {
-            return;
-        };
-        if let Some(state) = self.blocks.get_mut(number) {
-            state.edges = state.edges.saturating_add(edges);
-        }
-    }
-
-    // A branch leads to one block in place of another one.
-    fn change_branch(&mut self, branch: Name, from: Name, to: Name) {
-        let (Ok(source), Ok(target)) = (self.block(from), self.block(to)) else {
-            return;
-        };
-        let changed = self.branches.change(branch.place, source, target);
-        if let Some(state) = self.blocks.get_mut(source) {
-            state.edges = state.edges.saturating_sub(changed);
-        }
-        self.reach(Some(target), changed);
-    }
-
-    // Something is made in the current block, which puts it into the layout.
-    fn begin(&mut self) {
-        if let Some(number) = self.current {
-            self.mark(number, Mark::Begun);
-            self.mark(number, Mark::Placed);
-            if self.entry.is_none() {
-                self.entry = Some(number);
-            }
-        }
-    }
-
-    // Appends the answers of a call, which are values of these types.
-    fn push_values(&mut self, params: &[AbiParam]) -> Result<(), AllocError> {
-        let mut answers = Vec::new(self.alloc);
-        for param in params {
-            answers.push(Answer::Value(param.value_type))?;
-        }
-        self.answers.push(answers)?;
-        Ok(())
-    }
-
-    // Appends the one answer of a call.
-    fn push(&mut self, answer: Answer) -> Result<(), AllocError> {
-        let mut answers = Vec::new(self.alloc);
-        answers.push(answer)?;
-        self.answers.push(answers)?;
-        Ok(())
-    }
-
-    // A constant of a type is made, which answers itself and its result.
-    fn pool(&mut self, ty: Type) -> Result<(), AllocError> {
-        self.begin();
-        let mut answers = Vec::new(self.alloc);
-        answers.push(Answer::Inst)?;
-        answers.push(Answer::Value(ty))?;
-        self.answers.push(answers)?;
-        Ok(())
-    }
-
-    // The instruction of a call is made, which answers itself and its results.
-    fn make(&mut self, call: &Call) -> Result<(), AllocError> {
-        let mut answers = Vec::new(self.alloc);
-        answers.push(Answer::Inst)?;
-        if let Some(plan) = plan_of(call) {
-            self.begin();
-            let instruction = instruction_of(&plan);
-            let operation = &instruction.operation;
-            let ty = self.controlling(operation, instruction.given, instruction.operands);
-            let typing = operation.opcode().typing();
-            for kind in typing.results {
-                answers.push(Answer::Value(kind.at(ty)))?;
-            }
-            if let Some(number) = self.current.filter(|_| typing.ends) {
-                self.mark(number, Mark::Filled);
-            }
-        }
-        self.answers.push(answers)?;
-        Ok(())
-    }
-
-    // An outside call is made, which answers itself and its results.
-    fn call_outside(&mut self, called: &OutsideCall) -> Result<(), AllocError> {
-        self.begin();
-        let mut answers = Vec::new(self.alloc);
-        answers.push(Answer::Inst)?;
-        if let Some(signature) = self.imports.called_by(self.calls, called) {
-            for param in signature.returns.iter() {
-                answers.push(Answer::Value(param.value_type))?;
-            }
-        }
-        self.answers.push(answers)?;
-        Ok(())
-    }
-
-    // An entry of a table is made.
-    fn add(&mut self, entry: &EntryCall) -> Result<(), AllocError> {
-        match entry {
-            EntryCall::CreateSizedStackSlot { .. } => self.slots = self.slots.saturating_add(1),
-            _ => self.imports.add(self.answers.len(), entry)?,
-        }
-        self.push(Answer::Other)
-    }
-
-    // A jump table of these edges is made.
-    fn add_table(&mut self, default: Name, entries: &[Name]) -> Result<(), AllocError> {
-        let mut places = Vec::new(self.alloc);
-        places.push(default.place)?;
-        for entry in entries {
-            places.push(entry.place)?;
-        }
-        self.tables.push(Some(places))?;
-        self.push(Answer::Other)
-    }
-
-    // A branch by a jump table is made, which serves it from now on.
-    fn branch(&mut self, table: JumpTable) -> Result<(), AllocError> {
-        self.begin();
-        if let Some(places) = self.tables.get_mut(table.index()) {
-            *places = None;
-        }
-        if let Some(number) = self.current {
-            self.mark(number, Mark::Filled);
-        }
-        self.push(Answer::Inst)
-    }
-
-    // A call is made: a row for each.
-    fn change(&mut self, call: &Call) -> Result<(), AllocError> {
-        let signature = self.signature;
-        match call {
-            Call::CreateBlock => {
-                let number = self.blocks.len();
-                self.blocks.push(NEW_BLOCK)?;
-                self.push(Answer::Block(number))
-            }
-            Call::DeclareVar { ty } => {
-                self.variables.push(*ty)?;
-                self.push(Answer::Other)
-            }
-            Call::Entry(entry) => self.add(entry),
-            Call::BlockCall { .. } => self.push(Answer::Edge),
-            Call::CreateJumpTable { default, entries } => {
-                self.add_table(*default, entries.as_slice())
-            }
-            Call::BrTable { table, .. } => self.branch(*table),
-            Call::Outside(called) => self.call_outside(called),
-            Call::UseVar { variable } | Call::TryUseVar { variable } => {
-                self.begin();
-                let ty = self.variable(variable.index()).unwrap_or(Type::Invalid);
-                self.push(Answer::Value(ty))
-            }
-            Call::AppendBlockParam { ty, .. } => self.push(Answer::Value(*ty)),
-            Call::F128const { .. } => self.pool(F128),
-            Call::Vconst { ty, .. } => self.pool(*ty),
-            Call::AppendBlockParamsForFunctionParams { .. } => {
-                self.push_values(signature.params.as_slice())
-            }
-            Call::AppendBlockParamsForFunctionReturns { .. } => {
-                self.push_values(signature.returns.as_slice())
-            }
-            Call::SwitchToBlock { .. }
-            | Call::SealBlock { .. }
-            | Call::SealAllBlocks
-            | Call::InsertBlockAfter { .. }
-            | Call::SetColdBlock { .. }
-            | Call::SetSrcloc { .. }
-            | Call::CollectDebugInfo
-            | Call::SetValLabel { .. }
-            | Call::ChangeJumpDestination { .. }
-            | Call::EnsureInsertedBlock
-            | Call::DefVar { .. }
-            | Call::TryDefVar { .. } => {
-                self.change_blocks(call);
-                self.push_values(&[])
-            }
-            _ => self.make(call),
-        }
-    }
-
-    // The same of a call that answers nothing.
-    fn change_blocks(&mut self, call: &Call) {
-        match call {
-            Call::SwitchToBlock { block } => self.current = self.block(*block).ok(),
-            Call::SealBlock { block } => self.mark_named(*block, Mark::Sealed),
-            Call::SealAllBlocks => {
-                for number in 0..self.blocks.len() {
-                    self.mark(number, Mark::Sealed);
-                }
-            }
-            Call::InsertBlockAfter { block, .. } => self.mark_named(*block, Mark::Placed),
-            Call::EnsureInsertedBlock => self.begin(),
-            Call::ChangeJumpDestination { branch, from, to } => {
-                self.change_branch(*branch, *from, *to);
-            }
-            _ => {}
-        }
-    }
 }
 
 /// The first condition of the call at a place that doesn't hold, if the calls before it were made, for a function of

@@ -5,7 +5,7 @@ ghost use Rattle.std.specs.Prelude.{◌<◌, IfOk};
 use crate::command::Run;
 use crate::program::{tell_call, tell_no_text, tell_unbuilt, tell_unread};
 use clif_interpreter::{
-    ArgumentError, Cause, Comparison, Fault, Place, RunError, Shown, Verdict, arguments_of, compare,
+    ArgumentError, Comparison, Given, Place, Report, RunError, Told, Verdict, arguments_of, compare,
 };
 use clif_replay::{ReplayError, replay};
 use clif_text::{ReadError, Script, read};
@@ -15,11 +15,12 @@ use std::alloc::{AllocError, Global};
 use std::{io, str};
 
 /// Builds the function of a script, for the bytes of a file, runs the script's variable program and the function with
-/// the same arguments and the same memory, and prints to `out` how each ends, as `script: returned 7` and
-/// `function: returned 7`. Answers the exit status.
+/// the same arguments and the same memory, and prints to `out` what each calls and how it ends, as `script: called %f(64)`,
+/// `script: returned 7` and `function: returned 7` (see [`Report`]). Answers the exit status.
 ///
 /// The bytes from address 0x1000 up to 0xffff are accessible, and no others. Each is the low byte of its address at
-/// first. Stack slots lie from 0x8000 on, in order, each at the next address that its alignment allows.
+/// first. Stack slots lie from 0x8000 on, in order, each at the next address that its alignment allows. Outside calls
+/// return what the script's `answer` lines say, zeros where none says it, and leave memory as it is.
 ///
 /// | Status | When |
 /// |---|---|
@@ -93,13 +94,7 @@ fn execute_script<O: io::Write, E: io::Write>(
         Err(error) => return tell_arguments(error, err),
     };
     match both_run(alloc, script, arguments.as_slice(), run.steps) {
-        Ok(runs) => tell_runs(
-            &runs,
-            script.signature.returns.as_slice(),
-            run.steps,
-            out,
-            err,
-        ),
+        Ok(runs) => tell_runs(&runs, script.signature.returns.as_slice(), out, err),
         Err(Unrun::Unbuilt(error)) => tell_unbuilt(
             alloc,
             error,
@@ -151,60 +146,32 @@ fn both_run(
     let calls = script.calls.as_slice();
     let config = script.config;
     let func = replay(alloc, calls, name, signature, &mut ctx, config)?;
-    let (signature, width) = (&script.signature, config.pointer_width);
-    Ok(compare(alloc, calls, signature, &func, width, arguments, steps)?)
+    let given = Given {
+        arguments,
+        answers: script.answers.as_slice(),
+        pointer_width: config.pointer_width,
+        steps,
+    };
+    Ok(compare(alloc, calls, &script.signature, &func, &given)?)
 }
 
-// Prints how both runs end, and tells whether they are equal.
+// Prints what both runs show, and tells it where they aren't equal.
 fn tell_runs<O: io::Write, E: io::Write>(
     runs: &Comparison,
     returns: &[AbiParam],
-    steps: u64,
     out: &mut O,
     err: &mut E,
 ) -> io::Result<u8>
     ensures { IfOk result (λ status. status < 6) }
 {
-    let end = &runs.script.end;
-    let shown = Shown {
-        end,
-        returns,
-        steps,
-    };
-    writeln!(out, "script: {shown}")?;
-    match &runs.function {
-        Ok(ending) => {
-            let end = &ending.end;
-            let shown = Shown {
-                end,
-                returns,
-                steps,
-            };
-            writeln!(out, "function: {shown}")?;
-        }
-        Err(error) => writeln!(out, "function: {error}")?,
+    let report = Report { runs, returns };
+    write!(out, "{report}")?;
+    let verdict = runs.verdict();
+    if let Verdict::Equal = verdict {
+        return Ok(0);
     }
-    tell_verdict(runs.verdict(), steps, err)
-}
-
-fn tell_verdict<E: io::Write>(verdict: Verdict, steps: u64, err: &mut E) -> io::Result<u8>
-    ensures { IfOk result (λ status. status < 6) }
-{
-    match verdict {
-        Verdict::Equal => Ok(0),
-        Verdict::Unknown => {
-            writeln!(err, "stopped after {steps} steps: --steps N allows more")?;
-            Ok(5)
-        }
-        Verdict::Differ => {
-            writeln!(err, "the runs differ")?;
-            Ok(3)
-        }
-        Verdict::DifferInMemory(address) => {
-            writeln!(err, "the runs differ in memory at address {address:#x}")?;
-            Ok(3)
-        }
-    }
+    writeln!(err, "{verdict}")?;
+    Ok(verdict.status())
 }
 
 // Tells why words aren't the arguments of the function.
@@ -212,10 +179,7 @@ fn tell_arguments<E: io::Write>(error: ArgumentError<'_>, err: &mut E) -> io::Re
     ensures { IfOk result (λ status. status < 6) }
 {
     writeln!(err, "{error}")?;
-    match error {
-        ArgumentError::Memory => Ok(1),
-        ArgumentError::Count { .. } | ArgumentError::Number { .. } => Ok(2),
-    }
+    Ok(error.status())
 }
 
 // Tells why the script can't be run, and the line of the call.
@@ -227,19 +191,10 @@ fn tell_unrun<E: io::Write>(
 ) -> io::Result<u8>
     ensures { IfOk result (λ status. status < 6) }
 {
-    let cause = error.cause;
-    let status = if let Cause::Fault(Fault::Memory) = cause {
-        writeln!(err, "{cause}")?;
-        1
-    } else if cause.is_limit() {
-        writeln!(err, "can't run this: {cause}")?;
-        1
-    } else {
-        writeln!(err, "the promise doesn't cover this: {cause}")?;
-        4
-    };
+    let told = Told(error.cause);
+    writeln!(err, "{told}")?;
     if let Place::Call(place) = error.place {
         tell_call(place, text, lines, err)?;
     }
-    Ok(status)
+    Ok(error.cause.status())
 }

@@ -6,13 +6,18 @@ mod command;
 mod condition;
 mod conditions;
 mod execution;
+mod ledger;
 mod program;
 mod row_texts;
 mod rows;
 
-pub use clif_calls::{Call, Edge, EntryCall, Name, PlainInstruction, Plan};
+pub use clif_calls::{
+    Call, Edge, EntryCall, Name, OutsideAnswer, OutsideCall, Passed, PlainInstruction, Plan,
+    TableEdge, TableItem, ThrowingCall,
+};
+pub use clif_interpreter::STEPS;
 pub use clif_replay::{ReplayError, replay};
-pub use command::{Command, Run, STEPS, USAGE};
+pub use command::{Command, Run, USAGE};
 pub use condition::Condition;
 pub use conditions::broken_condition;
 pub use execution::execute;

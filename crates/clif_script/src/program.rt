@@ -105,6 +105,7 @@ fn build_script<O: io::Write, E: io::Write>(
         name,
         signature,
         config,
+        answers: _,
         calls,
         lines,
     } = script;

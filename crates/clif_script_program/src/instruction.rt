@@ -1,5 +1,5 @@
 //! The instructions of scripts, by their parts.
-use clif_calls::{Call, Edge, Name, Plan};
+use clif_calls::{Call, Edge, Name, Plan, TableEdge};
 use clif_opcodes::PooledConstOpcode;
 use clif_operations::Operation;
 use clif_operations::arithmetic::bits_of_bytes;
@@ -191,29 +191,38 @@ pub fn edge_of<'a>(plan: &Plan<'a>, number: usize) -> Option<&'a Edge> {
     }
 }
 
-/// The edges of the instruction of a call, in order; those of a branch by a jump table are of the calls at these places.
-pub fn edges_of<'c>(
+/// Where the edges of the instruction of a call lead, in order; those of one that a table serves are of the calls at these
+/// places.
+pub fn targets_of(
     alloc: Global,
-    calls: &'c [Call],
-    call: &'c Call,
+    calls: &[Call],
+    call: &Call,
     places: &[usize],
-) -> Result<Vec<Option<&'c Edge>>, AllocError> {
-    let mut edges = Vec::new(alloc);
-    if let Call::BrTable { .. } = call {
-        for place in places {
-            edges.push(edge_made(calls, *place))?;
-        }
-    }
+) -> Result<Vec<Option<Name>>, AllocError> {
+    let mut targets = tabled_targets(alloc, calls, places)?;
     if let Some(plan) = plan_of(call) {
         for number in 0..edge_count(&plan) {
-            edges.push(edge_of(&plan, number))?;
+            targets.push(edge_of(&plan, number).map(|edge| edge.block))?;
         }
     }
-    Ok(edges)
+    Ok(targets)
+}
+
+// Where the edges lead that the calls at these places answer.
+fn tabled_targets(
+    alloc: Global,
+    calls: &[Call],
+    places: &[usize],
+) -> Result<Vec<Option<Name>>, AllocError> {
+    let mut targets = Vec::new(alloc);
+    for place in places {
+        targets.push(edge_made(calls, *place).map(|edge| edge.block))?;
+    }
+    Ok(targets)
 }
 
 /// The edge that the call at a place answers.
-pub fn edge_made(calls: &[Call], place: usize) -> Option<&Edge> {
+pub fn edge_made(calls: &[Call], place: usize) -> Option<&TableEdge> {
     match calls.get(place)? {
         Call::BlockCall { edge } => Some(edge),
         _ => None,

@@ -4,6 +4,7 @@
 #![tactic(auto)]
 
 pub mod branches;
+pub mod exceptions;
 pub mod imports;
 pub mod instruction;
 pub mod program;

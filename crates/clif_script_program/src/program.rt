@@ -1,9 +1,10 @@
 //! The variable program of a script: for each block the calls that run in it, in order, and the caller's parameters.
 use crate::branches::Branches;
+use crate::exceptions::{ExceptionTables, Exceptions};
 use crate::imports::Imports;
-use crate::instruction::{edge_made, edges_of, result_count};
-use clif_calls::{Call, Edge, EntryCall, Name};
-use clif_types::{AbiParam, EntityRef, JumpTable, Signature, Type};
+use crate::instruction::{edge_made, result_count, targets_of};
+use clif_calls::{Call, EntryCall, Name, TableEdge};
+use clif_types::{AbiParam, EntityRef, ExceptionTable, JumpTable, Signature, Type};
 use std::alloc::{AllocError, Global};
 
 /// A block of a variable program.
@@ -34,6 +35,8 @@ pub struct Program {
     pub slots: Vec<(u32, u8)>,
     // for each jump table the places of the calls that answered its edges, the default first
     tables: Vec<Vec<usize>>,
+    /// The exception tables.
+    pub exceptions: ExceptionTables,
     branches: Branches,
     /// The signatures and functions that the script imports.
     pub imports: Imports,
@@ -53,6 +56,7 @@ impl Program {
             variables: Vec::new(alloc),
             slots: Vec::new(alloc),
             tables: Vec::new(alloc),
+            exceptions: ExceptionTables::new(alloc),
             branches: Branches::new(alloc),
             imports: Imports::new(alloc),
             answers: Vec::new(alloc),
@@ -98,9 +102,42 @@ impl Program {
         calls: &'c [Call],
         table: JumpTable,
         number: usize,
-    ) -> Option<&'c Edge> {
+    ) -> Option<&'c TableEdge> {
         let place = self.tables.get(table.index())?.get(number)?;
         edge_made(calls, *place)
+    }
+
+    /// The edge of an exception table with this number, the normal one first, in the calls of the script.
+    pub fn exception_edge<'c>(
+        &self,
+        calls: &'c [Call],
+        table: ExceptionTable,
+        number: usize,
+    ) -> Option<&'c TableEdge> {
+        let place = self.exceptions.edges(table).get(number)?;
+        edge_made(calls, *place)
+    }
+
+    /// The signature by which an exception table has its call made, in the calls of the script.
+    pub fn exception_signature<'c>(
+        &self,
+        calls: &'c [Call],
+        table: ExceptionTable,
+    ) -> Option<&'c Signature> {
+        self.imports
+            .signature(calls, self.exceptions.get(table)?.signature)
+    }
+
+    // The places of the calls that answered the edges of the table that serves a call's instruction.
+    fn served_by(&self, call: &Call) -> &[usize] {
+        match call {
+            Call::BrTable { table, .. } => match self.tables.get(table.index()) {
+                Some(places) => places.as_slice(),
+                None => &[],
+            },
+            Call::Throwing(called) => self.exceptions.edges(called.table()),
+            _ => &[],
+        }
     }
 
     /// The numbers of the blocks that the edges of the call at a place lead to, in order, once all calls were made; none
@@ -116,19 +153,11 @@ impl Program {
 
     // Adds where the edges of a call lead.
     fn add_branch(&mut self, calls: &[Call], call: &Call) -> Result<(), AllocError> {
-        let none: &[usize] = &[];
-        let places = match call {
-            Call::BrTable { table, .. } => match self.tables.get(table.index()) {
-                Some(places) => places.as_slice(),
-                None => none,
-            },
-            _ => none,
-        };
-        let edges = edges_of(self.alloc, calls, call, places)?;
+        let blocks = targets_of(self.alloc, calls, call, self.served_by(call))?;
         let mut targets = Vec::new(self.alloc);
-        for edge in edges.iter() {
-            let target = match edge {
-                Some(edge) => self.number(edge.block),
+        for block in blocks.iter() {
+            let target = match block {
+                Some(block) => self.number(*block),
                 None => None,
             };
             targets.push(target)?;
@@ -185,9 +214,19 @@ impl Program {
             Call::CreateJumpTable { default, entries } => {
                 self.add_table(*default, entries.as_slice())
             }
+            Call::CreateExceptionTable {
+                signature,
+                normal,
+                items,
+            } => {
+                let (alloc, items) = (self.alloc, items.as_slice());
+                let table = Exceptions::new(alloc, *signature, *normal, items)?;
+                self.exceptions.push(table)
+            }
             Call::Jump { .. }
             | Call::Brif { .. }
             | Call::BrTable { .. }
+            | Call::Throwing(_)
             | Call::Return { .. }
             | Call::Trap { .. } => {
                 self.put_into_layout();

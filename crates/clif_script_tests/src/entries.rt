@@ -105,10 +105,11 @@ fn misuses(rt: HostRuntime) -> Result<(), Fail> {
     Ok(())
 }
 
-const FAULTS: [(&str, &str); 17] = [
+const FAULTS: [(&str, &str); 18] = [
     ("import_signature", "expected ("),
     ("import_signature (i32", "expected a type or )"),
     ("import_signature ()", "expected -> or a convention"),
+    ("import_signature (i33) fast", "unknown type: i33"),
     ("import_signature () -> fast", "expected a type"),
     (
         "import_signature () -> i32",

@@ -4,7 +4,7 @@
 use crate::support::{faults, gives};
 use std::test::Fail;
 
-const CALLS: [(&str, &str); 30] = [
+const CALLS: [(&str, &str); 31] = [
     ("jmp b", "unknown call: jmp"),
     ("iadd.i32 $0.0 $0.0", "unknown call: iadd.i32"),
     ("(", "unknown call: ("),
@@ -18,8 +18,9 @@ const CALLS: [(&str, &str); 30] = [
     ("seal_block $+1.0", "expected a block"),
     ("seal_block c", "unknown name: c"),
     ("declare_var", "expected a type"),
-    ("declare_var i7", "expected a type"),
-    ("declare_var i128x8", "expected a type"),
+    ("declare_var 7", "expected a type"),
+    ("declare_var i7", "unknown type: i7"),
+    ("declare_var i128x8", "unknown type: i128x8"),
     ("use_var", "expected a variable"),
     ("use_var var4294967295", "expected a variable"),
     ("use_var y", "unknown name: y"),
@@ -48,7 +49,7 @@ fn of_calls(rt: HostRuntime) -> Result<(), Fail> {
     faults(&rt, rt.alloc(), &CALLS)
 }
 
-const INSTRUCTIONS: [(&str, &str); 56] = [
+const INSTRUCTIONS: [(&str, &str); 62] = [
     ("f16const", "expected the bits of an f16"),
     ("f16const 65536", "expected the bits of an f16"),
     ("f32const 4294967296", "expected the bits of an f32"),
@@ -67,7 +68,13 @@ const INSTRUCTIONS: [(&str, &str); 56] = [
     ("icmp eq $0.0", "expected a value"),
     ("iconcat $0.0", "expected a value"),
     ("sextend $0.0", "expected a type"),
-    ("sextend.i7 $0.0", "expected a type"),
+    ("sextend.i7 $0.0", "unknown type: i7"),
+    ("iconst.int 1", "unknown type: int"),
+    ("iconst. 1", "expected a type"),
+    ("load.I32 $0.0", "unknown type: I32"),
+    ("vconst.i8x17 0x00", "unknown type: i8x17"),
+    ("stack_load.i256 ss0", "unknown type: i256"),
+    ("append_block_param $0.0 word", "unknown type: word"),
     ("load $0.0", "expected a type"),
     ("load.i32", "expected a value"),
     ("load.i32 notrap", "expected a value"),
@@ -140,7 +147,7 @@ fn of_names(rt: HostRuntime) -> Result<(), Fail> {
     faults(&rt, rt.alloc(), &NAMES)
 }
 
-const HEADER_LINES: [(&str, &str); 15] = [
+const HEADER_LINES: [(&str, &str); 25] = [
     ("region slot", "not supported yet: region"),
     ("pointer", "expected 16, 32 or 64"),
     ("pointer 8", "expected 16, 32 or 64"),
@@ -154,11 +161,27 @@ const HEADER_LINES: [(&str, &str); 15] = [
     ),
     ("function %f", "expected ("),
     ("function %f (i32", "expected a type or )"),
+    ("function %f (i32 (", "expected a type or )"),
+    ("function %f (i7) fast", "unknown type: i7"),
+    ("function %f (i32, int) fast", "unknown type: int"),
     ("function %f (i32) i32", "expected -> or a convention"),
     ("function %f () ->", "expected a type"),
+    ("function %f () -> )", "expected a type"),
     ("function %f () -> fast", "expected a type"),
     ("function %f () -> i32", "expected a type or a convention"),
+    (
+        "function %f () -> i32 cold",
+        "expected a type or a convention",
+    ),
+    ("function %f () -> i32, i7 fast", "unknown type: i7"),
     ("function %f () fast fast", "expected the end of the line"),
+    ("answer", "expected the name of a function"),
+    ("answer g 7", "expected the name of a function"),
+    ("answer %g x", "expected a number of 64 bits"),
+    (
+        "answer %g 7 18446744073709551616",
+        "expected a number of 64 bits",
+    ),
 ];
 
 #[test]
@@ -169,12 +192,9 @@ fn of_header_lines(rt: HostRuntime) -> Result<(), Fail> {
     gives(&rt, rt.alloc(), twice.as_bytes(), 2, "", err)
 }
 
-const CALLS_TO_COME: [(&str, &str); 2] = [
-    ("switch x b 1:c", "not supported yet: switch"),
-    ("try_call f (x) t", "not supported yet: try_call"),
-];
+const CALLS_TO_COME: [(&str, &str); 1] = [("switch x b 1:c", "not supported yet: switch")];
 
-// Each call of the format that isn't understood so far.
+// A call of the format that isn't understood so far.
 #[test]
 fn of_calls_to_come(rt: HostRuntime) -> Result<(), Fail> {
     faults(&rt, rt.alloc(), &CALLS_TO_COME)

@@ -34,3 +34,5 @@ mod support;
 mod tables;
 #[cfg(test)]
 mod texts;
+#[cfg(test)]
+mod tries;

@@ -147,7 +147,7 @@ fn numbers(rt: HostRuntime) -> Result<(), Fail> {
 }
 
 /// Scripts without parameters, and what they give in each status but 3.
-const SCRIPTS: [(&str, Given); 14] = [
+const SCRIPTS: [(&str, Given); 17] = [
     (
         "b = create_block\nswitch_to_block b\nseal_block b\nreturn",
         (
@@ -200,7 +200,37 @@ const SCRIPTS: [(&str, Given); 14] = [
     // an outside call gives 0
     (
         "function %f () -> i32 system_v\ns = import_signature (i32) -> i32 system_v\nf = import_function %g s\nb = create_block\nswitch_to_block b\nseal_block b\nx = iconst.i32 5\n@c, r = call f (x)\nreturn r",
-        (0, "script: returned 0\nfunction: returned 0\n", ""),
+        (
+            0,
+            "script: called %g(5)\nscript: returned 0\nfunction: called %g(5)\nfunction: returned 0\n",
+            "",
+        ),
+    ),
+    // or what the first line for its name says, with 0 for what the line doesn't say, cut to the types
+    (
+        "answer %h 1\nfunction %f () -> i32, i8 system_v\nanswer %g -1\ns = import_signature () -> i32, i8 system_v\nf = import_function %g s\nb = create_block\nswitch_to_block b\nseal_block b\n@c, r, q = call f ()\nreturn r q\nanswer %g 7 7",
+        (
+            0,
+            "script: called %g()\nscript: returned 4294967295 (-1), 0\nfunction: called %g()\nfunction: returned 4294967295 (-1), 0\n",
+            "",
+        ),
+    ),
+    (
+        "function %f () -> i8, i8 system_v\nanswer u0:7 0x1ff -2\ns = import_signature (i8, i8) -> i8, i8 system_v\nf = import_function u0:7 s\nb = create_block\nswitch_to_block b\nseal_block b\nx = iconst.i8 -1\ny = iconst.i8 2\n@c, r, q = call f (x y)\nreturn r q",
+        (
+            0,
+            "script: called u0:7(255, 2)\nscript: returned 255 (-1), 254 (-2)\nfunction: called u0:7(255, 2)\nfunction: returned 255 (-1), 254 (-2)\n",
+            "",
+        ),
+    ),
+    // what is called at an address gives 0, whatever lines say
+    (
+        "function %f () -> i8 system_v\nanswer %g 7\ns = import_signature (i8) -> i8 system_v\nb = create_block\nswitch_to_block b\nseal_block b\nx = iconst.i8 3\np = iconst.i64 0x1000\n@c, r = call_indirect s p (x)\nreturn r",
+        (
+            0,
+            "script: called sig0, 0x1000(3)\nscript: returned 0\nfunction: called sig0, 0x1000(3)\nfunction: returned 0\n",
+            "",
+        ),
     ),
     (
         "function %f () -> i32 system_v\ns = import_signature (i32) -> i32 system_v\nf = import_function %g s\nb = create_block\nswitch_to_block b\nseal_block b\nx = iconst.i64 5\n@c, r = call f (x)\nreturn r",

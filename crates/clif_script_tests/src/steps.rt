@@ -6,7 +6,9 @@ ghost use Rattle.cranelift_frontend.specs.Context.{empty_context};
 
 use clif_ir::Function;
 use clif_records::Variable;
-use clif_script::{Call, Edge, Name, PlainInstruction, ReplayError, broken_condition, replay};
+use clif_script::{
+    Call, Edge, Name, Passed, PlainInstruction, ReplayError, TableEdge, broken_condition, replay,
+};
 use clif_types::{
     AbiParam, CallConv, EntityRef, JumpTable, LaneType, PointerWidth, Signature,
     TargetFrontendConfig, Type, UserFuncName,
@@ -127,10 +129,10 @@ pub fn call_of(alloc: Global, step: Step) -> Result<Call, AllocError> {
             block_else: edge(alloc, block_else),
         },
         Step::EdgeTo(place, answer) => Call::BlockCall {
-            edge: edge(alloc, (place, answer)),
+            edge: table_edge(alloc, (place, answer)),
         },
         Step::EdgeWith(block, value) => Call::BlockCall {
-            edge: edge_with(alloc, block, value)?,
+            edge: table_edge_with(alloc, block, value)?,
         },
         Step::Table(default, entry) => Call::CreateJumpTable {
             default: name(default.0, default.1),
@@ -165,6 +167,24 @@ fn edge_with(
 ) -> Result<Edge, AllocError> {
     let mut passing = edge(alloc, block);
     passing.args.push(name(value.0, value.1))?;
+    Ok(passing)
+}
+
+// The same, of a table.
+fn table_edge(alloc: Global, block: (usize, usize)) -> TableEdge {
+    TableEdge {
+        block: name(block.0, block.1),
+        args: Vec::new(alloc),
+    }
+}
+
+fn table_edge_with(
+    alloc: Global,
+    block: (usize, usize),
+    value: (usize, usize),
+) -> Result<TableEdge, AllocError> {
+    let mut passing = table_edge(alloc, block);
+    passing.args.push(Passed::Value(name(value.0, value.1)))?;
     Ok(passing)
 }
 

@@ -92,7 +92,7 @@ current_of_ledger ledger request = by (ledger_effect request)
 
     by : LedgerEffect request → (ledger_with ledger request).current ≡ first_block (switch_of request) ledger.current
     by (Keeps stays is) = of_ledger _ (is ledger) refl stays
-    by (Lays layout tables jump_tables stays is) = of_ledger _ (is ledger) refl stays
+    by (Lays layout tables jump_tables exception_tables stays is) = of_ledger _ (is ledger) refl stays
     by (Changes block change keeps stays is) = of_ledger _ (is ledger) refl stays
     by (Begins stays is) = of_ledger _ (is ledger) (current-begun ledger ledger.current) stays
     by (Creates is) = of_request _ is refl

@@ -8,9 +8,9 @@ use Rattle.clif_tables.specs.Entries.{with_entry}
 use Rattle.clif_tables.specs.Lists.{TableLists}
 use Rattle.clif_meaning.specs.Name.{Name, same_name}
 use Rattle.clif_meaning.specs.Instruction.{Edge, Instruction}
-use Rattle.clif_meaning.specs.Request.{Request, CreateBlock, SwitchToBlock, SealBlock, SealAllBlocks, InsertBlockAfter, SetColdBlock, EnsureInsertedBlock, AppendBlockParams, AppendFunctionParams, DeclareVar, DefVar, UseVar, MakeEntry, MakeEdge, MakeJumpTable, Annotate, Build, GivenEntry, ChangeJumpDestination, Finalize}
+use Rattle.clif_meaning.specs.Request.{Request, CreateBlock, SwitchToBlock, SealBlock, SealAllBlocks, InsertBlockAfter, SetColdBlock, EnsureInsertedBlock, AppendBlockParams, AppendFunctionParams, DeclareVar, DefVar, UseVar, MakeEntry, MakeEdge, MakeJumpTable, MakeExceptionTable, Annotate, Build, GivenEntry, ChangeJumpDestination, Finalize}
 use Rattle.clif_meaning.specs.Program.{Program, answers_from, extended, with_inserted, with_parameters, with_redirected}
-use Rattle.clif_meaning.specs.Ledger.{BlockState, Ledger, changed_by, edges_named, left_by, put_after, redirected_state, sealed, with_begun, with_cold_mark, with_parameter_types, with_state}
+use Rattle.clif_meaning.specs.Ledger.{BlockState, Ledger, changed_by, edges_named, left_by, put_after, redirected_state, sealed, with_begun, with_cold_mark, with_parameter_types, with_state, ExceptionTable, exception_table}
 
 -- the call makes no block
 abbrev pub MakesNoBlock : Request → Type 0
@@ -63,6 +63,7 @@ program_effect (UseVar variable) = Uses variable refl
 program_effect (MakeEntry entry) = Leaves refl (λ program. refl)
 program_effect (MakeEdge edge) = Leaves refl (λ program. refl)
 program_effect (MakeJumpTable default entries) = Leaves refl (λ program. refl)
+program_effect (MakeExceptionTable signature normal items) = Leaves refl (λ program. refl)
 program_effect (Annotate values) = Leaves refl (λ program. refl)
 program_effect (Build entries instruction) = Builds entries instruction refl
 program_effect (ChangeJumpDestination branch from to) = Redirects branch from to refl (λ program. refl)
@@ -80,8 +81,8 @@ pub data LedgerEffect (request : Request) : Type 0 where
   Keeps : switch_of request ≡ None → ((ledger : Ledger) → changed_by ledger request ≡ ledger) → LedgerEffect request
   -- the order of the layout, or the tables
   Lays : (layout : Ledger → List Name) (tables : Ledger → TableLists) (jump_tables : Ledger → List (Option (List (Edge Name Name))))
-      → switch_of request ≡ None
-      → ((ledger : Ledger) → changed_by ledger request ≡ record ledger { layout = layout ledger; tables = tables ledger; jump_tables = jump_tables ledger })
+      (exception_tables : Ledger → List (Option ExceptionTable)) → switch_of request ≡ None
+      → ((ledger : Ledger) → changed_by ledger request ≡ record ledger { layout = layout ledger; tables = tables ledger; jump_tables = jump_tables ledger; exception_tables = exception_tables ledger })
       → LedgerEffect request
   -- the state of one block
   Changes : (block : Name) (change : BlockState → BlockState) → KeepsFilled change → switch_of request ≡ None
@@ -138,7 +139,7 @@ ledger_effect CreateBlock = Creates refl
 ledger_effect (SwitchToBlock block) = Enters block refl
 ledger_effect (SealBlock block) = Changes block sealed seals refl (λ ledger. refl)
 ledger_effect SealAllBlocks = ChangesEach sealed seals refl (λ ledger. refl)
-ledger_effect (InsertBlockAfter block after) = Lays (λ ledger. put_after block after ledger.layout) (λ ledger. ledger.tables) (λ ledger. ledger.jump_tables) refl (λ ledger. refl)
+ledger_effect (InsertBlockAfter block after) = Lays (λ ledger. put_after block after ledger.layout) (λ ledger. ledger.tables) (λ ledger. ledger.jump_tables) (λ ledger. ledger.exception_tables) refl (λ ledger. refl)
 ledger_effect (SetColdBlock block) = Changes block with_cold_mark marks refl (λ ledger. refl)
 ledger_effect EnsureInsertedBlock = Begins refl (λ ledger. refl)
 ledger_effect (AppendBlockParams block types) = Changes block (with_parameter_types types) (takes types) refl (λ ledger. refl)
@@ -146,11 +147,14 @@ ledger_effect (AppendFunctionParams block types) = Changes block (with_parameter
 ledger_effect (DeclareVar ty) = Declares ty refl
 ledger_effect (DefVar variable value) = Touches variable value refl
 ledger_effect (UseVar variable) = Reads variable refl
-ledger_effect (MakeEntry entry) = Lays (λ ledger. ledger.layout) (λ ledger. with_entry ledger.tables entry) (λ ledger. ledger.jump_tables) refl (λ ledger. refl)
+ledger_effect (MakeEntry entry) = Lays (λ ledger. ledger.layout) (λ ledger. with_entry ledger.tables entry) (λ ledger. ledger.jump_tables) (λ ledger. ledger.exception_tables) refl (λ ledger. refl)
 ledger_effect (MakeEdge edge) = Keeps refl (λ ledger. refl)
 ledger_effect (MakeJumpTable default entries) =
-    Lays (λ ledger. ledger.layout) (λ ledger. ledger.tables) (λ ledger. ledger.jump_tables ++ Some (edges_named ledger (default ∷ entries)) ∷ []) refl
-    (λ ledger. refl)
+    Lays (λ ledger. ledger.layout) (λ ledger. ledger.tables) (λ ledger. ledger.jump_tables ++ Some (edges_named ledger (default ∷ entries)) ∷ [])
+    (λ ledger. ledger.exception_tables) refl (λ ledger. refl)
+ledger_effect (MakeExceptionTable signature normal items) =
+    Lays (λ ledger. ledger.layout) (λ ledger. ledger.tables) (λ ledger. ledger.jump_tables)
+    (λ ledger. ledger.exception_tables ++ Some (exception_table ledger signature normal items) ∷ []) refl (λ ledger. refl)
 ledger_effect (Annotate values) = Keeps refl (λ ledger. refl)
 ledger_effect (Build entries instruction) = Appends entries instruction refl
 ledger_effect (ChangeJumpDestination branch from to) = ChangesEach (redirected_state branch from to) (redirects branch from to) refl (λ ledger. refl)

@@ -118,7 +118,7 @@ module _ (name : Name) where
 
       by : LedgerEffect request → IsTrue (is_filled (ledger_with ledger request) name)
       by (Keeps stays is) = of_ledger _ (is ledger) filled
-      by (Lays layout tables jump_tables stays is) = of_ledger _ (is ledger) filled
+      by (Lays layout tables jump_tables exception_tables stays is) = of_ledger _ (is ledger) filled
       by (Changes block change keeps stays is) = of_ledger _ (is ledger) (filled-with_state ledger block change keeps filled)
       by (Begins stays is) = of_ledger _ (is ledger) (filled-with_begun_at ledger ledger.current filled)
       by (Creates is) = of_request _ is (filled_longer ledger.blocks _ name filled)
@@ -240,7 +240,7 @@ type_with ledger request x ty typed = by (ledger_effect request)
 
     by : LedgerEffect request → variable_type (ledger_with ledger request) x ≡ Some ty
     by (Keeps stays is) = of_ledger _ (is ledger) typed
-    by (Lays layout tables jump_tables stays is) = of_ledger _ (is ledger) typed
+    by (Lays layout tables jump_tables exception_tables stays is) = of_ledger _ (is ledger) typed
     by (Changes block change keeps stays is) = of_ledger _ (is ledger) typed
     by (Begins stays is) = of_ledger _ (is ledger) begun
     by (Creates is) = of_request _ is typed

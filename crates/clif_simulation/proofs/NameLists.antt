@@ -112,7 +112,7 @@ names_after ledger request made = by (ledger_effect request)
 
     by : LedgerEffect request → names_of (ledger_with ledger request).blocks ≡ names_of ledger.blocks
     by (Keeps stays is) = ap (λ (l : Ledger). names_of l.blocks) (is ledger)
-    by (Lays layout tables jump_tables stays is) = ap (λ (l : Ledger). names_of l.blocks) (is ledger)
+    by (Lays layout tables jump_tables exception_tables stays is) = ap (λ (l : Ledger). names_of l.blocks) (is ledger)
     by (Changes block change keeps stays is) = ap (λ (l : Ledger). names_of l.blocks) (is ledger) ∙ names-with_state block change keeps.name ledger
     by (Begins stays is) = ap (λ (l : Ledger). names_of l.blocks) (is ledger) ∙ names-with_begun_at ledger ledger.current
     by (Creates is) = absurd (subst MakesNoBlock is made)

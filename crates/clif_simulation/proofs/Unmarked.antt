@@ -39,7 +39,7 @@ unmarked_with ledger request all = by (ledger_effect request)
 
     by : LedgerEffect request → AreUnmarked (ledger_with ledger request).variables
     by (Keeps stays is) = of_ledger _ (is ledger) all
-    by (Lays layout tables jump_tables stays is) = of_ledger _ (is ledger) all
+    by (Lays layout tables jump_tables exception_tables stays is) = of_ledger _ (is ledger) all
     by (Changes block change keeps stays is) = of_ledger _ (is ledger) all
     by (Begins stays is) = of_ledger _ (is ledger) begun
     by (Creates is) = of_request _ is all

@@ -12,10 +12,12 @@ use Rattle.clif_calls.specs.declared.entry.EntryCall.{EntryCall}
 use Rattle.clif_calls.specs.declared.entry.EntryCall.TheVariants as entry
 use Rattle.clif_calls.specs.declared.outside.OutsideCall.{OutsideCall}
 use Rattle.clif_calls.specs.declared.outside.OutsideCall.TheVariants as outside
+use Rattle.clif_calls.specs.declared.table.ThrowingCall.{ThrowingCall}
+use Rattle.clif_calls.specs.declared.table.ThrowingCall.TheVariants as throwing
 use Rattle.clif_calls.specs.Plan.{plan_of}
 use Rattle.clif_calls.specs.declared.plan.Plan.{Plan}
 use Rattle.clif_calls.specs.declared.plan.Plan.TheVariants as plan
-use Rattle.clif_arguments.specs.Arguments.{AreAnswers, AreLast, IsAnswer, IsEdge, IsExternalName, IsFunctionRef, IsInst, IsJumpTable, IsLastEdge, IsLastOffset, IsSignatureName, IsSlot, IsVariable, Names}
+use Rattle.clif_arguments.specs.Arguments.{AreAnswers, AreClosed, AreItems, AreLast, IsAnswer, IsEdge, IsExceptionTable, IsExternalName, IsFunctionRef, IsInst, IsJumpTable, IsLastEdge, IsLastOffset, IsSignatureName, IsSlot, IsTableEdge, IsVariable, Names}
 use Rattle.clif_arguments.specs.Header.{IsSignature}
 
 -- The words stand for an instruction of this plan, which neither branches nor ends its block.
@@ -71,6 +73,15 @@ IsOutside names words (outside.CallIndirect signature callee args) =
     (s p : List ℕ) × (v : List (List ℕ)) × (words ≡ codes "call_indirect" ∷ s ∷ p ∷ v)
     × IsSignatureName names s signature × IsAnswer names p callee × AreLast names v args.items
 
+-- The words stand for a call along the edges of an exception table: its name, what it calls, what is passed, and the table.
+abbrev pub IsThrowing : Names → List (List ℕ) → ThrowingCall → Type 0
+IsThrowing names words (throwing.TryCall function args table) =
+    (f t : List ℕ) × (v : List (List ℕ)) × (words ≡ codes "try_call" ∷ f ∷ (v ++ t ∷ []))
+    × IsFunctionRef names f function × AreClosed names v args.items × IsExceptionTable names t table
+IsThrowing names words (throwing.TryCallIndirect callee args table) =
+    (p t : List ℕ) × (v : List (List ℕ)) × (words ≡ codes "try_call_indirect" ∷ p ∷ (v ++ t ∷ []))
+    × IsAnswer names p callee × AreClosed names v args.items × IsExceptionTable names t table
+
 -- The words stand for the call: its name, and then what it takes, in order.
 abbrev pub IsCall : Names → List (List ℕ) → Call → Type 0
 IsCall names words call.CreateBlock = words ≡ codes "create_block" ∷ []
@@ -84,9 +95,12 @@ IsCall names words (call.AppendBlockParam block ty) = (b t : List ℕ) × (words
 IsCall names words (call.AppendBlockParamsForFunctionParams block) = (b : List ℕ) × (words ≡ codes "append_block_params_for_function_params" ∷ b ∷ []) × IsAnswer names b block
 IsCall names words (call.AppendBlockParamsForFunctionReturns block) = (b : List ℕ) × (words ≡ codes "append_block_params_for_function_returns" ∷ b ∷ []) × IsAnswer names b block
 IsCall names words (call.Entry entry) = IsEntry names words entry
-IsCall names words (call.BlockCall edge) = (e : List (List ℕ)) × (words ≡ codes "block_call" ∷ e) × IsLastEdge names e edge
+IsCall names words (call.BlockCall edge) = (e : List (List ℕ)) × (words ≡ codes "block_call" ∷ e) × IsTableEdge names e edge
 IsCall names words (call.CreateJumpTable default entries) =
     (d : List ℕ) × (e : List (List ℕ)) × (words ≡ codes "create_jump_table" ∷ d ∷ e) × IsAnswer names d default × AreAnswers names e entries.items
+IsCall names words (call.CreateExceptionTable signature normal items) =
+    (s n : List ℕ) × (i : List (List ℕ)) × (words ≡ codes "create_exception_table" ∷ s ∷ n ∷ i)
+    × IsSignatureName names s signature × IsAnswer names n normal × AreItems names i items.items
 IsCall names words (call.DeclareVar ty) = (t : List ℕ) × (words ≡ codes "declare_var" ∷ t ∷ []) × IsTypeWord t ty
 IsCall names words (call.DefVar variable value) = (a b : List ℕ) × (words ≡ codes "def_var" ∷ a ∷ b ∷ []) × IsVariable names a variable × IsAnswer names b value
 IsCall names words (call.UseVar variable) = (a : List ℕ) × (words ≡ codes "use_var" ∷ a ∷ []) × IsVariable names a variable
@@ -105,5 +119,6 @@ IsCall names words (call.Vconst ty bytes) = (t n : List ℕ) × (words ≡ (code
 IsCall names words (call.Jump edge) = (e : List (List ℕ)) × (words ≡ codes "jump" ∷ e) × IsLastEdge names e edge
 IsCall names words (call.Brif condition first second) = (a : List ℕ) × (e f : List (List ℕ)) × (words ≡ codes "brif" ∷ a ∷ (e ++ f)) × IsAnswer names a condition × IsEdge names e first × IsLastEdge names f second
 IsCall names words (call.BrTable index table) = (a t : List ℕ) × (words ≡ codes "br_table" ∷ a ∷ t ∷ []) × IsAnswer names a index × IsJumpTable names t table
+IsCall names words (call.Throwing called) = IsThrowing names words called
 IsCall names words (call.Return values) = (v : List (List ℕ)) × (words ≡ codes "return" ∷ v) × AreLast names v values.items
 IsCall names words (call.Trap code) = (reason : List ℕ) × (words ≡ codes "trap" ∷ reason ∷ []) × IsTrapCode reason code

@@ -2,7 +2,7 @@
 use Rattle.std.specs.Prelude.{List, [], ◌++◌, ℕ, codes}
 use Rattle.std.specs.Fmt.{decimal}
 use Rattle.clif_types.specs.Texts.{bytes_text, type_text}
-use Rattle.clif_text.specs.Texts.{answer_text, answers_text, edge_text, entry_text, outside_text, plan_text, variable_text}
+use Rattle.clif_text.specs.Texts.{answer_text, answers_text, entry_text, items_text, outside_text, plan_text, table_edge_text, throwing_text, variable_text}
 use Rattle.clif_text.specs.declared.writer.Operands.{Operands}
 use Rattle.clif_text.specs.declared.writer.Operands.TheVariants as operands
 
@@ -20,10 +20,13 @@ operands_text (operands.Definition variable x) = codes " " ++ (variable_text var
 operands_text (operands.Variable variable) = codes " " ++ variable_text variable
 operands_text (operands.Bytes bytes) = codes " " ++ bytes_text bytes.now
 operands_text (operands.TypedBytes ty bytes) = codes "." ++ (type_text ty ++ (codes " " ++ bytes_text bytes.now))
-operands_text (operands.Edge edge) = codes " " ++ edge_text edge.now
+operands_text (operands.Edge edge) = codes " " ++ table_edge_text edge.now
 operands_text (operands.Table default entries) = codes " " ++ (answer_text default ++ answers_text entries.now)
+operands_text (operands.Exceptions signature normal items) =
+    codes " sig" ++ (decimal signature ++ (codes " " ++ (answer_text normal ++ items_text items.now)))
 operands_text (operands.Branch index table) = codes " " ++ (answer_text index ++ (codes " jt" ++ decimal table))
 operands_text (operands.Outside called) = outside_text called.now
+operands_text (operands.Throwing called) = throwing_text called.now
 operands_text (operands.Number number) = codes " " ++ decimal number
 operands_text (operands.Label x label) = codes " " ++ (answer_text x ++ (codes " " ++ decimal label))
 operands_text (operands.Instruction plan) = plan_text plan

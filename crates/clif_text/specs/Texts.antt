@@ -20,6 +20,13 @@ use Rattle.clif_calls.specs.declared.entry.EntryCall.{EntryCall}
 use Rattle.clif_calls.specs.declared.entry.EntryCall.TheVariants as entry
 use Rattle.clif_calls.specs.declared.outside.OutsideCall.{OutsideCall}
 use Rattle.clif_calls.specs.declared.outside.OutsideCall.TheVariants as outside
+use Rattle.clif_calls.specs.declared.table.Passed.{Passed}
+use Rattle.clif_calls.specs.declared.table.Passed.TheVariants as passed
+use Rattle.clif_calls.specs.declared.table.TableEdge.{TableEdge}
+use Rattle.clif_calls.specs.declared.table.TableItem.{TableItem}
+use Rattle.clif_calls.specs.declared.table.TableItem.TheVariants as item
+use Rattle.clif_calls.specs.declared.table.ThrowingCall.{ThrowingCall}
+use Rattle.clif_calls.specs.declared.table.ThrowingCall.TheVariants as throwing
 use Rattle.clif_calls.specs.Plan.{plan_of}
 use Rattle.clif_calls.specs.declared.plan.Plan.{Plan}
 use Rattle.clif_calls.specs.declared.plan.Plan.TheVariants as plan
@@ -35,6 +42,30 @@ answers_text names = flat_map (λ name. codes " " ++ answer_text name) names
 -- `$1.0( $5.1)`
 abbrev pub edge_text : Edge → List ℕ
 edge_text edge = answer_text edge.block ++ (codes "(" ++ (answers_text edge.args.items ++ codes ")"))
+
+-- `$5.1`, `ret0` or `exn1`
+abbrev pub argument_text : Passed → List ℕ
+argument_text (passed.Value name) = answer_text name
+argument_text (passed.Returned place) = codes "ret" ++ decimal place
+argument_text (passed.Thrown place) = codes "exn" ++ decimal place
+
+-- ` $5.1 ret0`
+abbrev pub arguments_text : List Passed → List ℕ
+arguments_text args = flat_map (λ one. codes " " ++ argument_text one) args
+
+-- `$1.0( $5.1 ret0)`
+abbrev pub table_edge_text : TableEdge → List ℕ
+table_edge_text edge = answer_text edge.block ++ (codes "(" ++ (arguments_text edge.args.items ++ codes ")"))
+
+-- `tag7 $8.0`, `default $8.0` or `context $5.1`
+abbrev pub item_text : TableItem → List ℕ
+item_text (item.Tag tag edge) = codes "tag" ++ (decimal tag ++ (codes " " ++ answer_text edge))
+item_text (item.Default edge) = codes "default " ++ answer_text edge
+item_text (item.Context value) = codes "context " ++ answer_text value
+
+-- ` tag7 $8.0 default $9.0`
+abbrev pub items_text : List TableItem → List ℕ
+items_text items = flat_map (λ one. codes " " ++ item_text one) items
 
 -- `var0`
 abbrev pub variable_text : ℕ → List ℕ
@@ -104,6 +135,12 @@ outside_text (outside.Call function args) = codes "call fn" ++ (decimal function
 outside_text (outside.CallIndirect signature callee args) =
     codes "call_indirect sig" ++ (decimal signature ++ (codes " " ++ (answer_text callee ++ passed_text args.items)))
 
+-- a call along the edges of an exception table
+abbrev pub throwing_text : ThrowingCall → List ℕ
+throwing_text (throwing.TryCall function args table) = codes "try_call fn" ++ (decimal function ++ (passed_text args.items ++ (codes " extable" ++ decimal table)))
+throwing_text (throwing.TryCallIndirect callee args table) =
+    codes "try_call_indirect " ++ (answer_text callee ++ (passed_text args.items ++ (codes " extable" ++ decimal table)))
+
 abbrev pub call_text : Call → List ℕ
 call_text call.CreateBlock = codes "create_block"
 call_text (call.SwitchToBlock block) = codes "switch_to_block " ++ answer_text block
@@ -116,8 +153,10 @@ call_text (call.AppendBlockParam block ty) = codes "append_block_param " ++ (ans
 call_text (call.AppendBlockParamsForFunctionParams block) = codes "append_block_params_for_function_params " ++ answer_text block
 call_text (call.AppendBlockParamsForFunctionReturns block) = codes "append_block_params_for_function_returns " ++ answer_text block
 call_text (call.Entry entry) = entry_text entry
-call_text (call.BlockCall edge) = codes "block_call " ++ edge_text edge
+call_text (call.BlockCall edge) = codes "block_call " ++ table_edge_text edge
 call_text (call.CreateJumpTable default entries) = codes "create_jump_table " ++ (answer_text default ++ answers_text entries.items)
+call_text (call.CreateExceptionTable signature normal items) =
+    codes "create_exception_table sig" ++ (decimal signature ++ (codes " " ++ (answer_text normal ++ items_text items.items)))
 call_text (call.DeclareVar ty) = codes "declare_var " ++ type_text ty
 call_text (call.DefVar variable value) = codes "def_var " ++ (variable_text variable ++ (codes " " ++ answer_text value))
 call_text (call.UseVar variable) = codes "use_var " ++ variable_text variable
@@ -136,6 +175,7 @@ call_text (call.Vconst ty bytes) = codes "vconst." ++ (type_text ty ++ (codes " 
 call_text (call.Jump edge) = codes "jump " ++ edge_text edge
 call_text (call.Brif condition first second) = codes "brif " ++ (answer_text condition ++ (codes " " ++ (edge_text first ++ (codes " " ++ edge_text second))))
 call_text (call.BrTable index table) = codes "br_table " ++ (answer_text index ++ (codes " jt" ++ decimal table))
+call_text (call.Throwing called) = throwing_text called
 call_text (call.Return values) = codes "return" ++ answers_text values.items
 call_text (call.Trap code) = codes "trap " ++ trap_code_text code
 

@@ -15,7 +15,9 @@ use crate::instructions::{
     stack_named, unary_named,
 };
 use crate::outside::read_outside_call;
+use crate::throwing::read_throwing_call;
 use clif_arguments::args::Args;
+use clif_arguments::refusals::unknown_type;
 use clif_arguments::scope::Scope;
 use clif_calls::{Call, PlainInstruction};
 use clif_types::SourceLoc;
@@ -24,10 +26,9 @@ use clif_words::types::type_named;
 use std::alloc::Global;
 
 // The calls of the format that aren't understood so far, without the type that may follow their name.
-const NOT_SUPPORTED: [&str; 15] = [
+const NOT_SUPPORTED: [&str; 12] = [
     "declare_var_needs_stack_map",
     "declare_value_needs_stack_map",
-    "create_exception_table",
     "switch",
     "call_memcpy",
     "call_memmove",
@@ -38,8 +39,6 @@ const NOT_SUPPORTED: [&str; 15] = [
     "emit_small_memory_compare",
     "iadd_imm_s",
     "icmp_imm_s",
-    "try_call",
-    "try_call_indirect",
 ];
 
 // The call of this name, with what follows it; not all of that may be taken.
@@ -57,7 +56,7 @@ fn read_call<'a>(
         | "import_signature"
         | "import_function" => read_entry_call(alloc, head, args),
         "block_call" => Ok(Call::BlockCall {
-            edge: args.last_edge(alloc)?,
+            edge: args.table_edge(alloc)?,
         }),
         "create_jump_table" => Ok(Call::CreateJumpTable {
             default: args.edge_name()?,
@@ -97,6 +96,9 @@ fn read_call<'a>(
             code: args.trap_code()?,
         }),
         "call" | "call_indirect" => read_outside_call(alloc, head, args),
+        "create_exception_table" | "try_call" | "try_call_indirect" => {
+            read_throwing_call(alloc, head, args)
+        }
         "set_srcloc" | "collect_debug_info" | "set_val_label" => read_note_call(head, args),
         "change_jump_destination" => read_change_call(head, args),
         "cursor" => read_cursor_call(alloc, head, args),
@@ -270,7 +272,7 @@ fn read_typed_call<'a>(
     match name {
         "iconst" => {
             let Some(ty) = type_named(suffix) else {
-                return Err(LineError::wanted(Expected::Type));
+                return Err(unknown_type(suffix, Expected::Type));
             };
             let imm = args.number()?;
             Ok(Call::Plain(PlainInstruction::Iconst { ty, imm }))
@@ -345,6 +347,7 @@ pub(crate) fn answers_of(call: &Call) -> Answers
         | Call::Entry(_)
         | Call::BlockCall { .. }
         | Call::CreateJumpTable { .. }
+        | Call::CreateExceptionTable { .. }
         | Call::DeclareVar { .. }
         | Call::UseVar { .. }
         | Call::TryUseVar { .. } => (false, 1),
@@ -366,6 +369,7 @@ pub(crate) fn answers_of(call: &Call) -> Answers
         Call::Jump { .. }
         | Call::Brif { .. }
         | Call::BrTable { .. }
+        | Call::Throwing(_)
         | Call::Return { .. }
         | Call::Trap { .. } => (true, 0),
         Call::F128const { .. } | Call::Vconst { .. } => (true, 1),

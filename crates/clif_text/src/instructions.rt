@@ -4,6 +4,7 @@ ghost use Rattle.clif_opcodes.specs.Names.{binary_name, cond_trap_name, convert_
 ghost use Rattle.clif_text.specs.Reading.{ReadsCall};
 
 use clif_arguments::args::Args;
+use clif_arguments::refusals::unknown_type;
 use clif_calls::{Call, PlainInstruction};
 use clif_opcodes::{
     BinaryOpcode, CondTrapOpcode, ConvertOpcode, FloatConstOpcode, StackOpcode, UnaryOpcode,
@@ -179,7 +180,7 @@ pub(crate) fn read_convert_call<'a>(
     ensures { IfOk result (ReadsCall args.old args.new head.now) }
 {
     let Some(ty) = type_named(suffix) else {
-        return Err(LineError::wanted(Expected::Type));
+        return Err(unknown_type(suffix, Expected::Type));
     };
     let x = args.value()?;
     Ok(Call::Plain(PlainInstruction::convert(opcode, ty, x)))
@@ -235,7 +236,7 @@ pub(crate) fn read_vconst_call<'a>(
     ensures { IfOk result (ReadsCall args.old args.new head.now) }
 {
     let Some(ty) = type_named(suffix) else {
-        return Err(LineError::wanted(Expected::Type));
+        return Err(unknown_type(suffix, Expected::Type));
     };
     let bytes = args.bytes(alloc)?;
     Ok(Call::Vconst { ty, bytes })
@@ -251,7 +252,7 @@ pub(crate) fn read_load_call<'a>(
     ensures { IfOk result (ReadsCall args.old args.new head.now) }
 {
     let Some(ty) = type_named(suffix) else {
-        return Err(LineError::wanted(Expected::Type));
+        return Err(unknown_type(suffix, Expected::Type));
     };
     let flags = args.flags();
     let p = args.value()?;
@@ -294,7 +295,7 @@ pub(crate) fn read_stack_call<'a>(
     ensures { IfOk result (ReadsCall args.old args.new head.now) }
 {
     let Some(ty) = type_named(suffix) else {
-        return Err(LineError::wanted(Expected::Type));
+        return Err(unknown_type(suffix, Expected::Type));
     };
     let slot = args.slot()?;
     let offset = args.last_offset()?;

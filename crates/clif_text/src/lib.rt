@@ -6,6 +6,7 @@ mod entries;
 mod instructions;
 mod outside;
 mod reader;
+mod throwing;
 mod writer;
 
 pub use clif_words::error::{Expected, Fault, ReadError};

@@ -9,7 +9,7 @@ ghost use Rattle.clif_text.specs.Script as script;
 use crate::calls::{Answers, answers_of, call_of};
 use clif_arguments::header::{Header, is_header};
 use clif_arguments::scope::{Kind, Scope, is_name};
-use clif_calls::{Call, EntryCall, Name};
+use clif_calls::{Call, EntryCall, Name, OutsideAnswer};
 use clif_types::{Signature, TargetFrontendConfig, UserFuncName};
 use clif_words::error::{Expected, Fault, LineError, ReadError};
 use clif_words::words::words_of;
@@ -24,6 +24,8 @@ pub struct Script {
     pub signature: Signature,
     /// The target.
     pub config: TargetFrontendConfig,
+    /// What outside calls return in a run, for each function of which the text says it.
+    pub answers: Vec<OutsideAnswer>,
     /// The calls, in order.
     pub calls: Vec<Call>,
     /// For each call the number of its line; lines are numbered from 1 on.
@@ -50,7 +52,7 @@ impl<'a> Reader<'a> {
     {
         Reader {
             alloc,
-            header: Header::new(),
+            header: Header::new(alloc),
             scope: Scope::new(alloc),
             calls: Vec::new(alloc),
             lines: Vec::new(alloc),
@@ -64,16 +66,18 @@ impl<'a> Reader<'a> {
         let config = self.header.config();
         let Reader {
             alloc,
-            header,
+            mut header,
             scope: _,
             calls,
             lines,
         } = self;
+        let answers = header.take_answers(alloc);
         let (name, signature) = header.function(alloc);
         Script {
             name,
             signature,
             config,
+            answers,
             calls,
             lines,
         }
@@ -128,6 +132,7 @@ fn kind_answered(call: &Call) -> Option<Kind>
         Call::Entry(EntryCall::ImportSignature(_)) => Some(Kind::Signature),
         Call::Entry(EntryCall::ImportFunction(_)) => Some(Kind::Function),
         Call::CreateJumpTable { .. } => Some(Kind::JumpTable),
+        Call::CreateExceptionTable { .. } => Some(Kind::ExceptionTable),
         _ => None,
     }
 }

@@ -1,13 +1,15 @@
 //! Scripts as text, written.
 ghost use Rattle.std.specs.Prelude.{◌≡◌, ◌++◌, Some, IfOk, string_bytes};
-ghost use Rattle.clif_text.specs.Texts.{answer_text, answers_text, edge_text, entry_text, global_text, imported_name_text, imported_text, offset_text, outside_text, passed_text, plan_text, call_text, calls_text, header_text};
+ghost use Rattle.clif_text.specs.Texts.{answer_text, answers_text, argument_text, arguments_text, edge_text, entry_text, global_text, imported_name_text, imported_text, item_text, items_text, offset_text, outside_text, passed_text, plan_text, table_edge_text, throwing_text, call_text, calls_text, header_text};
 ghost use Rattle.clif_text.specs.Operands.{operands_text};
 
-use clif_calls::{Call, Edge, EntryCall, Name, OutsideCall, Plan};
+use clif_calls::{
+    Call, Edge, EntryCall, Name, OutsideCall, Passed, Plan, TableEdge, TableItem, ThrowingCall,
+};
 use clif_records::Variable;
 use clif_types::{
-    ExtFuncData, ExternalName, GlobalValueData, HexBytes, JumpTable, PointerWidth, Signature,
-    TargetFrontendConfig, Type, UserFuncName,
+    ExtFuncData, ExternalName, GlobalValueData, HexBytes, JumpTable, PointerWidth, SigRef,
+    Signature, TargetFrontendConfig, Type, UserFuncName,
 };
 use std::alloc::{AllocError, Global};
 use std::fmt;
@@ -52,6 +54,84 @@ impl fmt::Display for EdgeText<'_> {
         let block = AnswerText(self.0.block);
         let args = AnswersText(self.0.args.as_slice());
         write!(f, "{block}({args})")
+    }
+}
+
+// What an edge of a table passes, as `$P.K`, `ret0` or `exn1`.
+#[derive(Clone, Copy)]
+struct ArgumentText(Passed);
+
+impl fmt::Display for ArgumentText {
+    ghost output = { λ text. Some (argument_text text.0) };
+
+    fn fmt<W: fmt::Write>(&self, f: &mut fmt::Formatter<W>) -> fmt::Result {
+        match self.0 {
+            Passed::Value(name) => write!(f, "{}", AnswerText(name)),
+            Passed::Returned(place) => write!(f, "ret{place}"),
+            Passed::Thrown(place) => write!(f, "exn{place}"),
+        }
+    }
+}
+
+// All of it, each behind a space.
+#[derive(Clone, Copy)]
+struct ArgumentsText<'a>(&'a [Passed]);
+
+impl fmt::Display for ArgumentsText<'_> {
+    ghost output = { λ text. Some (arguments_text text.0.now) };
+
+    fn fmt<W: fmt::Write>(&self, f: &mut fmt::Formatter<W>) -> fmt::Result {
+        for passed in self.0 {
+            let argument = ArgumentText(*passed);
+            write!(f, " {argument}")?;
+        }
+        Ok(())
+    }
+}
+
+// An edge of a table, as `$P.K( $P.K ret0)`.
+#[derive(Clone, Copy)]
+struct TableEdgeText<'a>(&'a TableEdge);
+
+impl fmt::Display for TableEdgeText<'_> {
+    ghost output = { λ text. Some (table_edge_text text.0.now) };
+
+    fn fmt<W: fmt::Write>(&self, f: &mut fmt::Formatter<W>) -> fmt::Result {
+        let block = AnswerText(self.0.block);
+        let args = ArgumentsText(self.0.args.as_slice());
+        write!(f, "{block}({args})")
+    }
+}
+
+// An item of an exception table.
+#[derive(Clone, Copy)]
+struct ItemText(TableItem);
+
+impl fmt::Display for ItemText {
+    ghost output = { λ text. Some (item_text text.0) };
+
+    fn fmt<W: fmt::Write>(&self, f: &mut fmt::Formatter<W>) -> fmt::Result {
+        match self.0 {
+            TableItem::Tag(tag, edge) => write!(f, "tag{tag} {}", AnswerText(edge)),
+            TableItem::Default(edge) => write!(f, "default {}", AnswerText(edge)),
+            TableItem::Context(value) => write!(f, "context {}", AnswerText(value)),
+        }
+    }
+}
+
+// Items, each behind a space.
+#[derive(Clone, Copy)]
+struct ItemsText<'a>(&'a [TableItem]);
+
+impl fmt::Display for ItemsText<'_> {
+    ghost output = { λ text. Some (items_text text.0.now) };
+
+    fn fmt<W: fmt::Write>(&self, f: &mut fmt::Formatter<W>) -> fmt::Result {
+        for one in self.0 {
+            let item = ItemText(*one);
+            write!(f, " {item}")?;
+        }
+        Ok(())
     }
 }
 
@@ -254,6 +334,36 @@ impl fmt::Display for OutsideText<'_> {
     }
 }
 
+// A call along the edges of an exception table.
+#[derive(Clone, Copy)]
+struct ThrowingText<'a>(&'a ThrowingCall);
+
+impl fmt::Display for ThrowingText<'_> {
+    ghost output = { λ text. Some (throwing_text text.0.now) };
+
+    fn fmt<W: fmt::Write>(&self, f: &mut fmt::Formatter<W>) -> fmt::Result {
+        match self.0 {
+            ThrowingCall::TryCall {
+                function,
+                args,
+                table,
+            } => write!(
+                f,
+                "try_call {function}{} {table}",
+                PassedText(args.as_slice())
+            ),
+            ThrowingCall::TryCallIndirect {
+                callee,
+                args,
+                table,
+            } => {
+                let (callee, passed) = (AnswerText(*callee), PassedText(args.as_slice()));
+                write!(f, "try_call_indirect {callee}{passed} {table}")
+            }
+        }
+    }
+}
+
 // What is written behind the name of a call, or, of an instruction, an entry or an outside call, with its name.
 #[derive(Clone, Copy)]
 enum Operands<'a> {
@@ -268,10 +378,12 @@ enum Operands<'a> {
     Variable(Variable),
     Bytes(&'a [u8]),
     TypedBytes(Type, &'a [u8]),
-    Edge(&'a Edge),
+    Edge(&'a TableEdge),
     Table(Name, &'a [Name]),
+    Exceptions(SigRef, Name, &'a [TableItem]),
     Branch(Name, JumpTable),
     Outside(&'a OutsideCall),
+    Throwing(&'a ThrowingCall),
     Number(u32),
     Label(Name, u32),
     Instruction(Plan<'a>),
@@ -296,12 +408,17 @@ impl fmt::Display for Operands<'_> {
             Operands::Variable(variable) => write!(f, " {variable}"),
             Operands::Bytes(bytes) => write!(f, " {}", HexBytes(bytes)),
             Operands::TypedBytes(ty, bytes) => write!(f, ".{ty} {}", HexBytes(bytes)),
-            Operands::Edge(edge) => write!(f, " {}", EdgeText(edge)),
+            Operands::Edge(edge) => write!(f, " {}", TableEdgeText(edge)),
             Operands::Table(default, entries) => {
                 write!(f, " {}{}", AnswerText(*default), AnswersText(entries))
             }
+            Operands::Exceptions(signature, normal, items) => {
+                let (normal, items) = (AnswerText(*normal), ItemsText(items));
+                write!(f, " {signature} {normal}{items}")
+            }
             Operands::Branch(index, table) => write!(f, " {} {table}", AnswerText(*index)),
             Operands::Outside(called) => write!(f, "{}", OutsideText(called)),
+            Operands::Throwing(called) => write!(f, "{}", ThrowingText(called)),
             Operands::Number(number) => write!(f, " {number}"),
             Operands::Label(x, label) => write!(f, " {} {label}", AnswerText(*x)),
             Operands::Instruction(plan) => write!(f, "{}", PlanText(plan)),
@@ -341,6 +458,15 @@ fn parts(call: &Call) -> (&'static str, Operands<'_>)
             "create_jump_table",
             Operands::Table(*default, entries.as_slice()),
         ),
+        Call::CreateExceptionTable {
+            signature,
+            normal,
+            items,
+        } => {
+            let items = items.as_slice();
+            let operands = Operands::Exceptions(*signature, *normal, items);
+            ("create_exception_table", operands)
+        }
         Call::DeclareVar { ty } => ("declare_var", Operands::Type(*ty)),
         Call::DefVar { variable, value } => ("def_var", Operands::Definition(*variable, *value)),
         Call::UseVar { variable } => ("use_var", Operands::Variable(*variable)),
@@ -379,6 +505,7 @@ fn parts(call: &Call) -> (&'static str, Operands<'_>)
             ("", Operands::Instruction(plan))
         }
         Call::BrTable { index, table } => ("br_table", Operands::Branch(*index, *table)),
+        Call::Throwing(called) => ("", Operands::Throwing(called)),
         Call::Return { values } => {
             let args = values.as_slice();
             ("", Operands::Instruction(Plan::MultiAry { args }))
@@ -388,8 +515,8 @@ fn parts(call: &Call) -> (&'static str, Operands<'_>)
 }
 
 /// A call as a line of a script, without the line's end. It is printed with `$P.K` for each answer, `varN` for
-/// each variable, `ssN` for each stack slot, `jtN` for each jump table, `sigN` for each signature and `fnN` for each
-/// function, so it needs no names. The region of a load or a store is written as it is printed, though no script can name it.
+/// each variable, `ssN` for each stack slot, `jtN` for each jump table, `extableN` for each exception table, `sigN` for each
+/// signature and `fnN` for each function, so it needs no names. The region of a load or a store is written as it is printed, though no script can name it.
 #[derive(Clone, Copy)]
 pub struct CallText<'a>(pub &'a Call);
 
@@ -402,7 +529,7 @@ impl fmt::Display for CallText<'_> {
     }
 }
 
-/// A script of these calls, for a function with this name and signature on this target.
+/// A script of these calls, for a function with this name and signature on this target. It has no line `answer`.
 ///
 /// The name is written as it is. So a name that is a text is read back only if it isn't empty and has no blank
 /// (a space, a comma, a tab, a carriage return or a form feed), no `(`, `)`, `=` or `#`, and no end of a line.

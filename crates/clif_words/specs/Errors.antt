@@ -27,6 +27,8 @@ expected_text expected.Variable = codes "a variable"
 expected_text expected.StackSlot = codes "a stack slot"
 expected_text expected.Edge = codes "a block call"
 expected_text expected.JumpTable = codes "a jump table"
+expected_text expected.ExceptionTable = codes "an exception table"
+expected_text expected.TableItem = codes "tag7, default or context"
 expected_text expected.Signature = codes "a signature"
 expected_text expected.Function = codes "a function"
 expected_text expected.SlotSize = codes "a size of 32 bits"
@@ -67,6 +69,7 @@ fault_text (fault.Expected what) = codes "expected " ++ expected_text what
 fault_text (fault.UnknownCall name) = codes "unknown call: " ++ name.now
 fault_text (fault.NotSupported name) = codes "not supported yet: " ++ name.now
 fault_text (fault.UnknownName name) = codes "unknown name: " ++ name.now
+fault_text (fault.UnknownType name) = codes "unknown type: " ++ name.now
 fault_text (fault.TooManyNames count) = codes "expected " ++ names_text count
 fault_text (fault.Repeated name) = codes "expected no second line: " ++ name.now
 

@@ -30,6 +30,10 @@ pub enum Expected {
     Edge,
     /// A jump table.
     JumpTable,
+    /// An exception table.
+    ExceptionTable,
+    /// An item of an exception table.
+    TableItem,
     /// A signature that was imported.
     Signature,
     /// A function that was imported.
@@ -105,6 +109,8 @@ impl fmt::Display for Expected {
             Expected::StackSlot => "a stack slot",
             Expected::Edge => "a block call",
             Expected::JumpTable => "a jump table",
+            Expected::ExceptionTable => "an exception table",
+            Expected::TableItem => "tag7, default or context",
             Expected::Signature => "a signature",
             Expected::Function => "a function",
             Expected::SlotSize => "a size of 32 bits",
@@ -149,6 +155,8 @@ pub enum Fault<'a> {
     NotSupported(&'a str),
     /// No line before gave this name.
     UnknownName(&'a str),
+    /// No type has this name.
+    UnknownType(&'a str),
     /// More names are given than the call has answers, which are so many.
     TooManyNames(usize),
     /// A header line of this kind stands above.
@@ -164,6 +172,7 @@ impl fmt::Display for Fault<'_> {
             Fault::UnknownCall(name) => write!(f, "unknown call: {name}"),
             Fault::NotSupported(name) => write!(f, "not supported yet: {name}"),
             Fault::UnknownName(name) => write!(f, "unknown name: {name}"),
+            Fault::UnknownType(name) => write!(f, "unknown type: {name}"),
             Fault::TooManyNames(0) => write!(f, "expected no names"),
             Fault::TooManyNames(1) => write!(f, "expected at most 1 name"),
             Fault::TooManyNames(count) => write!(f, "expected at most {count} names"),

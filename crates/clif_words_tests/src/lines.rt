@@ -3,7 +3,7 @@
 
 use clif_types::types;
 use clif_words::cursor::Cursor;
-use clif_words::error::{Expected, LineError};
+use clif_words::error::{Expected, Fault, LineError};
 use clif_words::words::words_of;
 use std::alloc::Global;
 use std::process::Abort;
@@ -90,6 +90,21 @@ fn refusals(rt: HostRuntime) -> Result<(), Fail> {
     let error = LineError::wanted(Expected::Block).at(12);
     let text = format!(in rt.alloc(); "{error}")?;
     assert!(rt; text.as_str() == "script error at line 12: expected a block");
+    Ok(())
+}
+
+/// A word that stands for nothing is told.
+#[test]
+fn unknown_words(rt: HostRuntime) -> Result<(), Fail> {
+    let rows = [
+        (Fault::UnknownCall("jmp"), "unknown call: jmp"),
+        (Fault::UnknownName("x"), "unknown name: x"),
+        (Fault::UnknownType("i7"), "unknown type: i7"),
+    ];
+    for (fault, text) in rows.iter() {
+        let told = format!(in rt.alloc(); "{fault}")?;
+        assert!(rt; told.as_str() == *text);
+    }
     Ok(())
 }
 

@@ -22,7 +22,7 @@ use Rattle.clif_meaning.specs.Name.{Name}
 use Rattle.clif_meaning.specs.Instruction.{Instruction, Operation}
 use Rattle.clif_meaning.specs.Request.{AnsweredCall, Build, GivenEntry, Request, number_of}
 use Rattle.clif_meaning.specs.Program as program
-use Rattle.clif_meaning.specs.Ledger.{Answered, AValue, AnInstruction, BlockState, Ledger, is_terminator, ledger_with, next_answer, with_begun, with_filled_at, with_predecessor, with_served, with_state}
+use Rattle.clif_meaning.specs.Ledger.{Answered, AValue, AnInstruction, BlockState, Ledger, is_terminator, ledger_with, next_answer, with_begun, with_filled_at, with_predecessor, with_served, with_tried, with_state}
 use Rattle.clif_meaning.proofs.CallLists as earlier
 use Rattle.clif_ssa.specs.Own.{Own}
 use Rattle.clif_records.specs.Tables.{is_yes}
@@ -150,7 +150,7 @@ agrees-plain place calls ledger f g c d p block shape entries operation controll
   where
     begun_by : (ends : Bool) → ends ≡ false → (x : Name) → ledger.current ≡ Some x
         → MadeLedger ledger (record (if ends then with_filled_at (with_begun ledger) (with_begun ledger).current else with_begun ledger)
-        { answers = ledger.answers ++ (AnInstruction ∷ map AValue (program.result_types operation controlling)) ∷ []; jump_tables = with_served ledger.jump_tables entries }) x unpristine
+        { answers = ledger.answers ++ (AnInstruction ∷ map AValue (program.result_types operation controlling)) ∷ []; jump_tables = with_served ledger.jump_tables entries; exception_tables = with_tried ledger.exception_tables entries }) x unpristine
     begun_by true is x at = let no_way : ⊥ = cc in absurd no_way
     begun_by false is x at =
         let begins = begun-ledger ledger x at in
@@ -312,15 +312,15 @@ module _ (place : ℕ) (calls : List AnsweredCall) (f g : Body) (c d : ContextSt
       (appended-structured _ types agrees.own f c.ssa block shape [] consistent exists
       (agrees.structured types (subst (λ (xs : List «Type»). AreTypesOf xs types) variables are))))
 
-  led : LedLedger (record ended_ledger { answers = answered }) (record (fold (with_predecessor (next_answer ledger)) ended_ledger instruction.edges) { answers = answered; jump_tables = with_served ledger.jump_tables entries })
+  led : LedLedger (record ended_ledger { answers = answered }) (record (fold (with_predecessor (next_answer ledger)) ended_ledger instruction.edges) { answers = answered; jump_tables = with_served ledger.jump_tables entries; exception_tables = with_tried ledger.exception_tables entries })
       (next_answer ledger) instruction.edges
   led =
       let all = led-ledger (next_answer ledger) instruction.edges ended_ledger in
       record { answers = refl; blocks = all.blocks; layout = all.layout; current = all.current; variables = all.variables; tables = all.tables }
 
-  declares : LedgerAgrees (calls ++ call ∷ []) (record (fold (with_predecessor (next_answer ledger)) ended_ledger instruction.edges) { answers = answered; jump_tables = with_served ledger.jump_tables entries }) g d p
+  declares : LedgerAgrees (calls ++ call ∷ []) (record (fold (with_predecessor (next_answer ledger)) ended_ledger instruction.edges) { answers = answered; jump_tables = with_served ledger.jump_tables entries; exception_tables = with_tried ledger.exception_tables entries }) g d p
   declares =
-      agrees-led (calls ++ call ∷ []) (record ended_ledger { answers = answered }) (record (fold (with_predecessor (next_answer ledger)) ended_ledger instruction.edges) { answers = answered; jump_tables = with_served ledger.jump_tables entries })
+      agrees-led (calls ++ call ∷ []) (record ended_ledger { answers = answered }) (record (fold (with_predecessor (next_answer ledger)) ended_ledger instruction.edges) { answers = answered; jump_tables = with_served ledger.jump_tables entries; exception_tables = with_tried ledger.exception_tables entries })
       g undeclared d p (next_answer ledger) inst instruction.edges (destinations shape) ended number is_new led
       (lead-still ledger (record ended_ledger { answers = answered }) instruction.edges (destinations shape)
       (λ k x is. changed-names ledger (record ended_ledger { answers = answered }) current.0 (λ (t : BlockState). filled (unpristine t)) (λ s. refl) changed.blocks k ∙ is)
@@ -332,9 +332,9 @@ module _ (place : ℕ) (calls : List AnsweredCall) (f g : Body) (c d : ContextSt
       → LedgerAgrees (calls ++ call ∷ []) (ledger_with ledger (Build entries instruction)) g d p
   agrees-ended ends none =
       subst (λ (types : List «Type»). LedgerAgrees (calls ++ call ∷ [])
-      (record (fold (with_predecessor (next_answer ledger)) (if is_terminator instruction.operation then ended_ledger else with_begun ledger) instruction.edges) { answers = ledger.answers ++ (AnInstruction ∷ map AValue types) ∷ []; jump_tables = with_served ledger.jump_tables entries }) g d p)
+      (record (fold (with_predecessor (next_answer ledger)) (if is_terminator instruction.operation then ended_ledger else with_begun ledger) instruction.edges) { answers = ledger.answers ++ (AnInstruction ∷ map AValue types) ∷ []; jump_tables = with_served ledger.jump_tables entries; exception_tables = with_tried ledger.exception_tables entries }) g d p)
       (sym none)
       (subst (λ (t : Bool). LedgerAgrees (calls ++ call ∷ [])
       (record (fold (with_predecessor (next_answer ledger)) (if t then ended_ledger else with_begun ledger) instruction.edges)
-      { answers = answered; jump_tables = with_served ledger.jump_tables entries }) g d p)
+      { answers = answered; jump_tables = with_served ledger.jump_tables entries; exception_tables = with_tried ledger.exception_tables entries }) g d p)
       (sym ends) declares)

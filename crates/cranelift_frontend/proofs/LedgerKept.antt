@@ -20,7 +20,7 @@ use Rattle.clif_ir.specs.Reading.{param_home, home_of_node}
 use Rattle.clif_instructions.specs.Members.{stands_in}
 use Rattle.clif_meaning.specs.Name.{Name, answer_of}
 use Rattle.clif_meaning.specs.Request.{AnsweredCall, script_of, number_of}
-use Rattle.clif_meaning.specs.Ledger.{Answered, ABlock, AVariable, AValue, AnInstruction, AnEntry, AnEdge, AJumpTable, Ledger, ledger_with, empty_ledger, answer_at, value_answer_type, type_of, has_value}
+use Rattle.clif_meaning.specs.Ledger.{Answered, ABlock, AVariable, AValue, AnInstruction, AnEntry, AnEdge, AJumpTable, AnExceptionTable, Ledger, ledger_with, empty_ledger, answer_at, value_answer_type, type_of, has_value}
 use Rattle.clif_ssa.specs.Zeros.{ZeroStep, zero_steps, with_pooled, zero_size}
 use Rattle.clif_ssa.proofs.Pooled.{zeros_pooled}
 use Rattle.clif_records.specs.declared.tables.Pending.{Pending}
@@ -402,6 +402,7 @@ answer-kept old new f g names extends name (AValue ty) number is = extends.value
 answer-kept old new f g names extends name (AnEntry entry place) number is = is
 answer-kept old new f g names extends name (AnEdge edge) number is = is
 answer-kept old new f g names extends name (AJumpTable place) number is = is
+answer-kept old new f g names extends name (AnExceptionTable place) number is = is
 answer-kept old new f g names extends name AnInstruction number is =
     let node = extends.insts number is.0 is.1 in
     (node.kept, node.there)
@@ -414,6 +415,7 @@ results-kept f g extends (AValue ty ∷ answers) numbers follow = tt
 results-kept f g extends (AnEntry entry place ∷ answers) numbers follow = tt
 results-kept f g extends (AnEdge edge ∷ answers) numbers follow = tt
 results-kept f g extends (AJumpTable place ∷ answers) numbers follow = tt
+results-kept f g extends (AnExceptionTable place ∷ answers) numbers follow = tt
 results-kept f g extends (AnInstruction ∷ answers) [] follow = tt
 results-kept f g extends (AnInstruction ∷ answers) (inst ∷ numbers) follow =
     let node = extends.insts inst follow.0 follow.1 in
@@ -525,6 +527,7 @@ named-value calls ledger f c p agrees name value number is_value =
     by (Some (AnEntry entry place)) ty is = absurd (none-some ty is)
     by (Some (AnEdge edge)) ty is = absurd (none-some ty is)
     by (Some (AJumpTable place)) ty is = absurd (none-some ty is)
+    by (Some (AnExceptionTable place)) ty is = absurd (none-some ty is)
     by (Some AnInstruction) ty is = absurd (none-some ty is)
 
 -- from the ledger with one more call to the ledger of all calls

@@ -25,30 +25,32 @@ use Rattle.clif_opcodes.specs.declared.opcodes.StackOpcode.{StackOpcode}
 use Rattle.clif_opcodes.specs.declared.opcodes.StackOpcode.TheVariants as stack
 use Rattle.clif_opcodes.specs.declared.opcodes.UnaryOpcode.{UnaryOpcode}
 use Rattle.clif_instructions.specs.declared.instructions.InstructionData.{InstructionData}
-use Rattle.clif_instructions.specs.declared.instructions.InstructionData.TheVariants.{UnaryImm, UnaryIeee, UnaryConst, Unary, Binary, IntCompare, Concat, Split, Convert, Ternary, Load, Store, StackLoad, StackStore, Jump, Brif, BranchTable, MultiAry, Trap, CondTrap, Call, CallIndirect}
+use Rattle.clif_instructions.specs.declared.instructions.InstructionData.TheVariants.{UnaryImm, UnaryIeee, UnaryConst, Unary, Binary, IntCompare, Concat, Split, Convert, Ternary, Load, Store, StackLoad, StackStore, Jump, Brif, BranchTable, MultiAry, Trap, CondTrap, Call, CallIndirect, TryCall, TryCallIndirect}
+use Rattle.clif_instructions.specs.ExceptionTables.{ExceptionShape}
 use Rattle.clif_ir.specs.Body.{Body, inst_at, value_at}
 use Rattle.clif_nodes.specs.Nodes.{no_inst, no_value}
 use Rattle.clif_ir.specs.Changes.{inserted_in, with_inst, inst_node}
 use Rattle.clif_ir.specs.Consistent.{IsConsistent}
 use Rattle.clif_instructions.specs.Instruction.{destinations, is_branch, is_terminator, result_types}
-use Rattle.clif_tables.specs.Callees.{given_by_call, types_of, types_of_results}
+use Rattle.clif_tables.specs.Callees.{function_at, given_by_call, types_of, types_of_results}
 use Rattle.clif_tables.specs.Lists.{TableLists}
 use Rattle.clif_instructions.specs.Edges.{targets}
 use Rattle.clif_meaning.specs.Name.{Name}
 use Rattle.clif_meaning.specs.Instruction.{Edge, Instruction, Operation, Iconst, Compute}
 use Rattle.clif_meaning.specs.Instruction as operation
-use Rattle.clif_meaning.specs.Acceptance.{table_branch}
+use Rattle.clif_meaning.specs.Acceptance.{table_branch, tried_shape}
+use Rattle.clif_meaning.specs.Event.{CallItem, CallShape}
 use Rattle.clif_meaning.specs.Program as program
 use Rattle.clif_meaning.specs.Request.{AnsweredCall, Build, GivenEntry, number_of}
-use Rattle.clif_meaning.specs.Ledger.{or_invalid, type_of}
+use Rattle.clif_meaning.specs.Ledger.{ExceptionTable, or_invalid, type_of}
 use Rattle.clif_meaning.specs.Ledger as meaning
-use Rattle.clif_meaning.specs.View.{operation_of}
+use Rattle.clif_meaning.specs.View.{operation_of, try_call_of}
 use Rattle.cranelift_frontend.specs.declared.context.BlockStatus.TheVariants.{Filled}
 use Rattle.cranelift_frontend.specs.declared.builder.FunctionBuilder.{FunctionBuilder}
 use Rattle.cranelift_frontend.specs.Context.{ContextState, SetsStatus, begun, status_of}
 use Rattle.cranelift_frontend.specs.Builder.{AppendsIn, CanLeadIn, HasCurrent}
 use Rattle.cranelift_frontend.specs.Construction.{IsDeclared}
-use Rattle.cranelift_frontend.specs.Ledger.{HasShape, LedgerAgrees, NamesEdge, NamesEdges, NamesValue, ledger_of}
+use Rattle.cranelift_frontend.specs.Ledger.{HasShape, LedgerAgrees, NamesEdge, NamesEdges, NamesExceptions, NamesValue, ledger_of}
 use Rattle.cranelift_frontend.proofs.LedgerLists.{map-some}
 use Rattle.cranelift_frontend.proofs.LedgerKept.{concluded, named-value}
 use Rattle.cranelift_frontend.proofs.LedgerBuilt.{agrees-built, agrees-ended, node-there}
@@ -372,4 +374,37 @@ call_indirect-shape calls f c p agrees signature callee address names values cal
   typed = refl;
   operands_numbered = ap₂ (λ (o : Option ℕ) (os : List (Option ℕ)). o ∷ os) called.number numbered;
   edges = tt;
+}
+
+-- the table's signature and items are those of the ledger's table
+same-tried : (calls : List AnsweredCall) (f : Body) (c : ContextState) (p : Option ℕ) → LedgerAgrees calls (ledger_of calls) f c p
+    → (held : ExceptionTable) (table : ExceptionShape) → NamesExceptions calls held table → tried_shape (ledger_of calls) held ≡ try_call_of f.tables table
+same-tried calls f c p agrees held table named =
+    ap₂ (λ (number : ℕ) (items : List CallItem). tried_shape (ledger_of calls) (record held { signature = number; items = items })) named.signature named.items
+    ∙ ap (λ (tables : TableLists). try_call_of tables table) agrees.tables
+
+pub try_call-shape : (calls : List AnsweredCall) (f : Body) (c : ContextState) (p : Option ℕ) → LedgerAgrees calls (ledger_of calls) f c p
+    → (function : ℕ) (names : List Name) (values : List ℕ) (held : ExceptionTable) (table : ExceptionShape) → map (number_of calls) names ≡ map Some values
+    → NamesExceptions calls held table
+    → HasShape calls f (record { operation = operation.TryCall (function_at (ledger_of calls).tables function).name (tried_shape (ledger_of calls) held); controlling = type.Invalid; operands = names; edges = held.edges })
+    (TryCall function values table) type.Invalid
+try_call-shape calls f c p agrees function names values held table numbered named = record {
+  operation = ap₂ (λ (tables : TableLists) (call : CallShape). operation.TryCall (function_at tables function).name call) agrees.tables (same-tried calls f c p agrees held table named);
+  controlling = refl;
+  typed = refl;
+  operands_numbered = numbered;
+  edges = named.edges;
+}
+
+pub try_call_indirect-shape : (calls : List AnsweredCall) (f : Body) (c : ContextState) (p : Option ℕ) → LedgerAgrees calls (ledger_of calls) f c p
+    → (callee : Name) (address : ℕ) (names : List Name) (values : List ℕ) (held : ExceptionTable) (table : ExceptionShape) → NamesValue calls callee address
+    → map (number_of calls) names ≡ map Some values → NamesExceptions calls held table
+    → HasShape calls f (record { operation = operation.TryCallIndirect (tried_shape (ledger_of calls) held); controlling = type.Invalid; operands = callee ∷ names; edges = held.edges })
+    (TryCallIndirect (address ∷ values) table) type.Invalid
+try_call_indirect-shape calls f c p agrees callee address names values held table called numbered named = record {
+  operation = ap operation.TryCallIndirect (same-tried calls f c p agrees held table named);
+  controlling = refl;
+  typed = refl;
+  operands_numbered = ap₂ (λ (o : Option ℕ) (os : List (Option ℕ)). o ∷ os) called.number numbered;
+  edges = named.edges;
 }

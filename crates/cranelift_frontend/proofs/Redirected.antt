@@ -27,7 +27,7 @@ use Rattle.clif_ssa.proofs.Leading.{once_first}
 use Rattle.clif_ssa.proofs.Moved.{moves}
 use Rattle.clif_ssa.proofs.MovedState.{branch_structured, contained, led_before, leads_moved}
 use Rattle.clif_ssa.proofs.StructuredLaws.{append_none, none_complete}
-use Rattle.clif_meaning.specs.Ledger.{ABlock, AJumpTable, AnEdge, AnEntry, AnInstruction, Answered, AValue, AVariable, BlockState, Ledger, answer_at, block_state, is_instruction_answer, leads_to, led_by, ledger_with, left_by, redirected_state, state_has}
+use Rattle.clif_meaning.specs.Ledger.{ABlock, AJumpTable, AnExceptionTable, AnEdge, AnEntry, AnInstruction, Answered, AValue, AVariable, BlockState, Ledger, answer_at, block_state, is_instruction_answer, leads_to, led_by, ledger_with, left_by, redirected_state, state_has}
 use Rattle.clif_meaning.specs.Name.{Name, same_name}
 use Rattle.clif_meaning.specs.Request.{AnsweredCall, ChangeJumpDestination, number_of}
 use Rattle.clif_meaning.proofs.CallLists as earlier
@@ -331,6 +331,7 @@ instruction_is (Some (AValue ty)) is = let no_way : ⊥ = cc in absurd no_way
 instruction_is (Some (AnEntry entry number)) is = let no_way : ⊥ = cc in absurd no_way
 instruction_is (Some (AnEdge edge)) is = let no_way : ⊥ = cc in absurd no_way
 instruction_is (Some (AJumpTable number)) is = let no_way : ⊥ = cc in absurd no_way
+instruction_is (Some (AnExceptionTable number)) is = let no_way : ⊥ = cc in absurd no_way
 
 -- the predecessors of a block are instructions
 built_in : (calls : List AnsweredCall) (many : List BlockState) (k : ℕ) (s : BlockState) → AllByRecursion (λ (state : BlockState). AllByRecursion (IsInstruction calls) state.predecessors) many

@@ -1,13 +1,13 @@
--- A list makes an edge, a jump table or a note: nothing of what a builder stands for changes.
+-- A list makes an edge, a table of edges or a note: nothing of what a builder stands for changes.
 use Rattle.std.proofs.Common.{◌≡◌, ℕ, zero, suc, List, [], ◌∷◌, ◌++◌, length, refl}
 use Rattle.std.specs.Prelude.{Option, false}
 use Rattle.clif_types.specs.Signature.{SignatureShape}
 use Rattle.clif_ir.specs.Body.{Body}
 use Rattle.clif_meaning.specs.Instruction.{Edge}
 use Rattle.clif_meaning.specs.Name.{Name}
-use Rattle.clif_meaning.specs.Request.{AnsweredCall, Annotate, MakeEdge, MakeJumpTable, script_of}
+use Rattle.clif_meaning.specs.Request.{AnsweredCall, Annotate, MakeEdge, MakeExceptionTable, MakeJumpTable, TableItem, script_of}
 use Rattle.clif_meaning.specs.Program.{Program, extended}
-use Rattle.clif_meaning.specs.Ledger.{AnEdge, AJumpTable, Answered, Ledger, answers_to, ledger_after, ledger_with}
+use Rattle.clif_meaning.specs.Ledger.{AnEdge, AJumpTable, AnExceptionTable, Answered, Ledger, answers_to, ledger_after, ledger_with}
 use Rattle.clif_simulation.proofs.Values.{is_value_at}
 use Rattle.clif_simulation.proofs.Numbering.{MakesNoInstruction}
 use Rattle.clif_simulation.proofs.Further.{carries_still}
@@ -38,6 +38,18 @@ module _ (calls : List AnsweredCall) (f : Body) (c : ContextState) (p : Option �
       let call : AnsweredCall = answered (MakeJumpTable default entries) (number ∷ []) in
       let new : Ledger = ledger_with (ledger_of calls) (MakeJumpTable default entries) in
       let answer : Answered = AJumpTable (length (ledger_of calls).jump_tables) in
+      concluded calls call f c p
+      (agrees-kept calls call (ledger_of calls) new f c c p p (answer ∷ []) agrees refl refl refl refl agrees.current agrees.variables (λ b. refl) (λ b. refl) (λ b. refl)
+      agrees.structured (answers-one new f (length calls) answer number counts tt))
+
+  pub exceptions_agree : (signature : ℕ) (normal : Name) (items : List TableItem) (number : ℕ) → number ≡ length (ledger_of calls).exception_tables
+      → LedgerAgrees calls (ledger_of calls) f c p
+      → LedgerAgrees (calls ++ answered (MakeExceptionTable signature normal items) (number ∷ []) ∷ [])
+      (ledger_of (calls ++ answered (MakeExceptionTable signature normal items) (number ∷ []) ∷ [])) f c p
+  exceptions_agree signature normal items number counts agrees =
+      let call : AnsweredCall = answered (MakeExceptionTable signature normal items) (number ∷ []) in
+      let new : Ledger = ledger_with (ledger_of calls) (MakeExceptionTable signature normal items) in
+      let answer : Answered = AnExceptionTable (length (ledger_of calls).exception_tables) in
       concluded calls call f c p
       (agrees-kept calls call (ledger_of calls) new f c c p p (answer ∷ []) agrees refl refl refl refl agrees.current agrees.variables (λ b. refl) (λ b. refl) (λ b. refl)
       agrees.structured (answers-one new f (length calls) answer number counts tt))
@@ -83,6 +95,16 @@ module _ (declared : SignatureShape) (calls : List AnsweredCall) (f : Body) (c :
       (table_agrees calls f c p default entries number counts stands.ledger)
     where
       no_value : (index : ℕ) → is_value_at (AJumpTable (length (ledger_of calls).jump_tables) ∷ []) index ≡ false
+      no_value zero = refl
+      no_value (suc index) = refl
+
+  pub exceptions_stand : (signature : ℕ) (normal : Name) (items : List TableItem) (number : ℕ) → number ≡ length (ledger_of calls).exception_tables
+      → StandsIn declared calls f c p → StandsIn declared (calls ++ answered (MakeExceptionTable signature normal items) (number ∷ []) ∷ []) f c p
+  exceptions_stand signature normal items number counts stands =
+      stands_still declared calls f c p (answered (MakeExceptionTable signature normal items) (number ∷ [])) tt tt tt (λ program. refl) no_value tt stands
+      (exceptions_agree calls f c p signature normal items number counts stands.ledger)
+    where
+      no_value : (index : ℕ) → is_value_at (AnExceptionTable (length (ledger_of calls).exception_tables) ∷ []) index ≡ false
       no_value zero = refl
       no_value (suc index) = refl
 

@@ -6,16 +6,17 @@ use Rattle.clif_instructions.specs.declared.instructions.InstructionData.{Instru
 use Rattle.clif_instructions.specs.declared.block_call.BlockArg.{BlockArg}
 use Rattle.clif_instructions.specs.declared.block_call.BlockArg.TheVariants as arg
 use Rattle.clif_instructions.specs.declared.block_call.BlockCall.{BlockCall}
+use Rattle.clif_instructions.specs.ExceptionTables.{ExceptionShape, contexts_of}
 use Rattle.clif_instructions.specs.Instruction.{destinations, operands, result_types}
 use Rattle.clif_meaning.specs.Instruction.{Argument, CallPayload, CallResult, Edge, Instruction, Known}
-use Rattle.clif_meaning.specs.View.{made_at, operation_of}
+use Rattle.clif_meaning.specs.View.{call_item_of, made_at, operation_of}
 use Rattle.clif_tables.specs.Lists.{TableLists}
 use Rattle.clif_nodes.specs.declared.nodes.ValueNode.{ValueNode}
 use Rattle.clif_nodes.specs.declared.nodes.InstNode.{InstNode}
 use Rattle.clif_ir.specs.Body.{Body, block_at}
 use Rattle.clif_meaning.specs.Name.{Name, answer_of}
 use Rattle.clif_meaning.specs.Request.{AnsweredCall, script_of, number_of}
-use Rattle.clif_meaning.specs.Ledger.{Answered, ABlock, AVariable, AValue, AnInstruction, AnEntry, AnEdge, AJumpTable, BlockState, Ledger, ledger_after, answer_at, has_block, has_instruction, has_value}
+use Rattle.clif_meaning.specs.Ledger.{Answered, ABlock, AVariable, AValue, AnInstruction, AnEntry, AnEdge, AJumpTable, AnExceptionTable, BlockState, ExceptionTable, Ledger, ledger_after, answer_at, has_block, has_instruction, has_value}
 use Rattle.clif_meaning.specs.Acceptance.{Refusal}
 use Rattle.clif_meaning.specs.Acceptance as refusal
 use Rattle.clif_records.specs.Tables.{is_yes}
@@ -79,6 +80,13 @@ NamesEdges calls [] [] = Unit {0}
 NamesEdges calls (edge ∷ edges) (made ∷ others) = NamesEdge calls edge made × NamesEdges calls edges others
 NamesEdges calls _ _ = ⊥
 
+-- names of what an exception table holds: of its edges, and of its contexts like those of what an edge passes
+pub record NamesExceptions (calls : List AnsweredCall) (held : ExceptionTable) (table : ExceptionShape) : Type 0 where
+  pub signature : held.signature ≡ table.sig
+  pub items : held.items ≡ map call_item_of table.items
+  pub edges : NamesEdges calls held.edges table.edges
+  pub contexts : NamesArguments calls (map Known held.contexts) (map arg.Value (contexts_of table))
+
 -- the instruction, with the numbers that answered the names in it, is of this shape and made at this type
 pub record HasShape (calls : List AnsweredCall) (f : Body) (instruction : Instruction Name Name) (shape : InstructionData) (ty : «Type») : Type 0 where
   pub operation : instruction.operation ≡ operation_of f.tables shape
@@ -100,8 +108,8 @@ pub record BlockAgrees (calls : List AnsweredCall) (f : Body) (c : ContextState)
   pub predecessors : map (number_of calls) state.predecessors ≡ map Some (predecessors_of c.ssa k)
 
 -- an answer of the ledger with this name is the builder's answer with this number: the block that the ledger has
--- under the name, the variable, the entry of a table, the jump table, an existing value of the type, an existing instruction. An edge has no number
--- of the builder's: any will do.
+-- under the name, the variable, the entry of a table, the jump table or exception table, an existing value of the type, an existing instruction. An
+-- edge has no number of the builder's: any will do.
 abbrev pub AnswerAgrees : Ledger → Body → Name → Answered → ℕ → Type 0
 AnswerAgrees ledger f name ABlock number = block_name ledger number ≡ Some name
 AnswerAgrees ledger f name (AVariable variable) number = number ≡ variable
@@ -109,6 +117,7 @@ AnswerAgrees ledger f name (AValue ty) number = value_type f number ≡ Some ty
 AnswerAgrees ledger f name (AnEntry entry place) number = number ≡ place
 AnswerAgrees ledger f name (AnEdge edge) number = Unit {0}
 AnswerAgrees ledger f name (AJumpTable place) number = number ≡ place
+AnswerAgrees ledger f name (AnExceptionTable place) number = number ≡ place
 AnswerAgrees ledger f name AnInstruction number = (node : InstNode) × (slice_get f.insts number ≡ Some node)
 
 -- what follows the number of an instruction are its results, all of them and in order

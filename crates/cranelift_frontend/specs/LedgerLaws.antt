@@ -13,6 +13,7 @@ use Rattle.clif_opcodes.specs.declared.opcodes.UnaryOpcode.{UnaryOpcode}
 use Rattle.clif_types.specs.declared.types.«Type».TheVariants.{Invalid}
 use Rattle.clif_instructions.specs.declared.block_call.BlockArg.{BlockArg}
 use Rattle.clif_instructions.specs.declared.block_call.BlockCall.{BlockCall}
+use Rattle.clif_instructions.specs.ExceptionTables.{ExceptionShape}
 use Rattle.clif_instructions.specs.declared.instructions.InstructionData.{InstructionData}
 use Rattle.clif_meaning.specs.Acceptance as request
 use Rattle.clif_meaning.specs.Instruction.{Edge, Instruction}
@@ -22,14 +23,14 @@ use Rattle.clif_types.specs.declared.types.«Type».{«Type»}
 use Rattle.clif_ir.specs.Body.{Body, value_at}
 use Rattle.clif_instructions.specs.Members.{stands_in}
 use Rattle.clif_meaning.specs.Name.{Name, same_name}
-use Rattle.clif_meaning.specs.Request.{AnsweredCall, Annotate, Build, GivenEntry, MakeEdge, MakeJumpTable, Request, number_of}
-use Rattle.clif_meaning.specs.Ledger.{BlockState, block_state, has_block, is_inserted, type_of, unserved_edges, variable_type}
+use Rattle.clif_meaning.specs.Request.{AnsweredCall, Annotate, Build, GivenEntry, MakeEdge, MakeExceptionTable, MakeJumpTable, Request, TableItem, number_of}
+use Rattle.clif_meaning.specs.Ledger.{BlockState, ExceptionTable, block_state, has_block, is_inserted, type_of, unserved_edges, unserved_exceptions, variable_type}
 use Rattle.clif_types.specs.Signature.{SignatureShape}
 use Rattle.cranelift_frontend.specs.declared.builder.FunctionBuilder.{FunctionBuilder}
 use Rattle.cranelift_frontend.specs.Calls.{answered}
 use Rattle.cranelift_frontend.specs.Context.{ContextState}
 use Rattle.cranelift_frontend.specs.StandsFor.{StandsFor}
-use Rattle.cranelift_frontend.specs.Ledger.{AgreesWithLedger, BlockAgrees, HasShape, LedgerAgrees, NamesBlock, NamesEdge, NamesEdges, NamesValue, block_name, ledger_of, value_type}
+use Rattle.cranelift_frontend.specs.Ledger.{AgreesWithLedger, BlockAgrees, HasShape, LedgerAgrees, NamesBlock, NamesEdge, NamesEdges, NamesExceptions, NamesValue, block_name, ledger_of, value_type}
 
 -- this request asks for an instruction of this shape, made at this type
 abbrev pub AsksForShape : List AnsweredCall → Body → Request → InstructionData → «Type» → Type 0
@@ -84,11 +85,18 @@ pub record AskForTheirShapes (calls : List AnsweredCall) (f : Body) : Type 0 whe
   pub call_indirect : (signature : ℕ) (callee : Name) (address : ℕ) (names : List Name) (values : List ℕ)
       → NamesValue calls callee address → map (number_of calls) names ≡ map Some values
       → AsksForShape calls f (request.call_indirect (ledger_of calls) signature callee names) (shape.call_indirect signature address values) Invalid
+  pub try_call : (function number : ℕ) (names : List Name) (values : List ℕ) (held : ExceptionTable) (table : ExceptionShape)
+      → map (number_of calls) names ≡ map Some values → unserved_exceptions (ledger_of calls) number ≡ Some held → NamesExceptions calls held table
+      → AsksForShape calls f (request.try_call (ledger_of calls) function names number) (shape.try_call function values table) Invalid
+  pub try_call_indirect : (number : ℕ) (callee : Name) (address : ℕ) (names : List Name) (values : List ℕ) (held : ExceptionTable) (table : ExceptionShape)
+      → NamesValue calls callee address → map (number_of calls) names ≡ map Some values → unserved_exceptions (ledger_of calls) number ≡ Some held
+      → NamesExceptions calls held table
+      → AsksForShape calls f (request.try_call_indirect (ledger_of calls) callee names number) (shape.try_call_indirect address values table) Invalid
   pub return_ : (names : List Name) (values : List ℕ) → map (number_of calls) names ≡ map Some values
       → AsksForShape calls f (request.return_ names) (multi_ary values) Invalid
 
--- Edges and jump tables that a list makes add nothing to what a builder stands for: they reach the function with the
--- instruction that they serve. The numbers of jump tables count those of the list.
+-- Edges, jump tables and exception tables that a list makes add nothing to what a builder stands for: they reach the function
+-- with the instruction that they serve. The numbers of tables count those of the list.
 pub record TableCallsAddNothing : Type 0 where
   pub edge_ledger : (calls : List AnsweredCall) (b : FunctionBuilder) (edge : Edge Name Name) (number : ℕ)
       → AgreesWithLedger calls b → AgreesWithLedger (calls ++ answered (MakeEdge edge) (number ∷ []) ∷ []) b
@@ -100,6 +108,12 @@ pub record TableCallsAddNothing : Type 0 where
   pub table : (signature : SignatureShape) (calls : List AnsweredCall) (b : FunctionBuilder) (default : Name) (entries : List Name) (number : ℕ)
       → number ≡ length (ledger_of calls).jump_tables → StandsFor signature calls b
       → StandsFor signature (calls ++ answered (MakeJumpTable default entries) (number ∷ []) ∷ []) b
+  pub exceptions_ledger : (calls : List AnsweredCall) (b : FunctionBuilder) (callee : ℕ) (normal : Name) (items : List TableItem) (number : ℕ)
+      → number ≡ length (ledger_of calls).exception_tables → AgreesWithLedger calls b
+      → AgreesWithLedger (calls ++ answered (MakeExceptionTable callee normal items) (number ∷ []) ∷ []) b
+  pub exceptions : (signature : SignatureShape) (calls : List AnsweredCall) (b : FunctionBuilder) (callee : ℕ) (normal : Name) (items : List TableItem) (number : ℕ)
+      → number ≡ length (ledger_of calls).exception_tables → StandsFor signature calls b
+      → StandsFor signature (calls ++ answered (MakeExceptionTable callee normal items) (number ∷ []) ∷ []) b
 
 -- Nor do the notes that a list makes.
 pub record NotesAddNothing : Type 0 where

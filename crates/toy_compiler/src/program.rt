@@ -1,11 +1,16 @@
-//! Programs: the functions of a text.
-ghost use Rattle.std.specs.Prelude.{◌<◌};
+//! Programs: the functions of a text, and what is said of outside calls.
+//!
+//! ```text
+//! program = {"fn" name "(" [name {"," name}] ")" block | "answer" name ["-"] number ";"}
+//! ```
+ghost use Rattle.std.specs.Prelude.{◌≡◌, ◌<◌, IfOk};
+ghost use Rattle.toy_compiler.specs.Meaning.{MeansItsCalls, toy_signature};
 
 use crate::error::{Fault, ToyError};
 use crate::function::Compiler;
 use crate::parser::Parser;
 use crate::tokens::{Token, tokens_of};
-use clif_calls::Call;
+use clif_calls::{Call, OutsideAnswer};
 use clif_ir::Function;
 use clif_replay::replay;
 use clif_types::types::I64;
@@ -35,40 +40,87 @@ pub struct CompiledFunction<'a> {
     pub calls: Vec<Call>,
 }
 
-/// The functions of a program, in order.
+/// A program.
+#[derive(Drop)]
+pub struct Program<'a> {
+    /// Its functions, in order.
+    pub functions: Vec<CompiledFunction<'a>>,
+    /// What outside calls of its functions return, where one of them is run. `answer gcd 12;` says that of `gcd`.
+    pub answers: Vec<OutsideAnswer>,
+}
+
+/// The program of a text.
 ///
 /// # Errors
 ///
 /// What is wrong with the text, and refused memory.
-pub fn compile<'a>(
-    alloc: Global,
-    text: &'a str,
-) -> Result<Vec<CompiledFunction<'a>>, ToyError<'a>> {
+pub fn compile<'a>(alloc: Global, text: &'a str) -> Result<Program<'a>, ToyError<'a>> {
     let tokens = tokens_of(alloc, text)?;
     let headers = headers_of(alloc, tokens.as_slice())?;
     let mut parser = Parser::new(tokens.as_slice());
     let mut functions = Vec::new(alloc);
+    let mut answers = Vec::new(alloc);
     for _ in 0..tokens.len() {
         if parser.left() == 0 {
-            return Ok(functions);
+            return Ok(Program { functions, answers });
         }
-        let header = take_header(alloc, &mut parser)?;
-        let mut compiler = Compiler::new(alloc, parser, headers.as_slice());
-        compiler.enter_function(header.parameters.as_slice())?;
-        compiler.block(DEPTH)?;
-        if compiler.is_open {
-            return Err(compiler.parser.fault(Fault::MissingReturn));
+        if parser.skips("answer") {
+            answers.push(take_answer(alloc, &mut parser, headers.as_slice())?)?;
+        } else if parser.peek() == "fn" {
+            functions.push(take_function(alloc, &mut parser, headers.as_slice())?)?;
+        } else {
+            return Err(parser.wanted("fn or answer"));
         }
-        parser = compiler.parser;
-        let (name, parameters) = (header.name, header.parameters.len());
-        let calls = compiler.calls;
-        functions.push(CompiledFunction {
-            name,
-            parameters,
-            calls,
-        })?;
     }
-    Ok(functions)
+    Ok(Program { functions, answers })
+}
+
+// A function, with its header.
+fn take_function<'t, 'a>(
+    alloc: Global,
+    parser: &mut Parser<'t, 'a>,
+    headers: &'t [Header<'a>],
+) -> Result<CompiledFunction<'a>, ToyError<'a>> {
+    let header = take_header(alloc, parser)?;
+    let mut compiler = Compiler::new(alloc, *parser, headers);
+    compiler.enter_function(header.parameters.as_slice())?;
+    compiler.block(DEPTH)?;
+    if compiler.is_open {
+        return Err(compiler.parser.fault(Fault::MissingReturn));
+    }
+    *parser = compiler.parser;
+    Ok(CompiledFunction {
+        name: header.name,
+        parameters: header.parameters.len(),
+        calls: compiler.calls,
+    })
+}
+
+// What the calls of a function return: its name, and a number.
+fn take_answer<'a>(
+    alloc: Global,
+    parser: &mut Parser<'_, 'a>,
+    headers: &[Header<'a>],
+) -> Result<OutsideAnswer, ToyError<'a>> {
+    let place = parser.place();
+    let name = parser.name()?;
+    if !headers.iter().any(|header| header.name == name) {
+        return Err(ToyError::at(place, Fault::Unknown(name)));
+    }
+    let is_negative = parser.skips("-");
+    let Ok(size) = parser.peek().parse::<i64>() else {
+        return Err(parser.fault(Fault::Number));
+    };
+    parser.take();
+    parser.expect(";")?;
+    let mut values = Vec::new(alloc);
+    values.push(if is_negative {
+        size.wrapping_neg()
+    } else {
+        size
+    })?;
+    let callee = UserFuncName::testcase(String::from_str(alloc, name)?);
+    Ok(OutsideAnswer { callee, values })
 }
 
 // The headers of all functions, so that each function may call each other.
@@ -116,24 +168,32 @@ fn take_header<'a>(alloc: Global, parser: &mut Parser<'_, 'a>) -> Result<Header<
 }
 
 /// The signature of a function with so many parameters.
-pub(crate) fn signature_of(alloc: Global, parameters: usize) -> Result<Signature, AllocError> {
-    let mut signature = Signature::new(alloc, CallConv::SystemV);
+pub(crate) fn signature_of(alloc: Global, parameters: usize) -> Result<Signature, AllocError>
+    ensures { IfOk result (λ signature. signature ≡ toy_signature parameters) }
+{
+    let mut params = Vec::new(alloc);
     for _ in 0..parameters {
-        signature.params.push(AbiParam::new(I64))?;
+        params.push(AbiParam::new(I64))?;
     }
-    signature.returns.push(AbiParam::new(I64))?;
-    Ok(signature)
+    let mut returns = Vec::new(alloc);
+    returns.push(AbiParam::new(I64))?;
+    Ok(Signature {
+        params,
+        returns,
+        call_conv: CallConv::SystemV,
+    })
 }
 
 impl CompiledFunction<'_> {
-    /// Builds the function.
+    /// Builds the function. It means what the calls mean that the compiler made, in every world that meets the premises.
     ///
     /// # Errors
     ///
     /// Those of [`replay`].
-    pub fn build(&self, alloc: Global) -> Result<Function, ToyError<'static>> {
-        let mut name = String::new(alloc);
-        name.push_str(self.name)?;
+    pub fn build(&self, alloc: Global) -> Result<Function, ToyError<'static>>
+        ensures { IfOk result (MeansItsCalls self.now) }
+    {
+        let name = String::from_str(alloc, self.name)?;
         let signature = signature_of(alloc, self.parameters)?;
         let mut ctx = FunctionBuilderContext::new(alloc);
         let config = TargetFrontendConfig {
@@ -167,7 +227,7 @@ pub fn print<O: io::Write, E: io::Write>(
         return 2;
     };
     let printed = match compile(alloc, text) {
-        Ok(functions) => print_functions(alloc, functions.as_slice(), out),
+        Ok(program) => print_functions(alloc, program.functions.as_slice(), out),
         Err(error) => Err(error),
     };
     match printed {

@@ -21,7 +21,7 @@ fn refuses(rt: &impl Abort, alloc: Global, text: &str, reason: &str) -> Result<(
 // Each with the place and the reason that is told.
 const REFUSED: [(&str, &str); 23] = [
     ("fn f() { return 1; } $", "1:22: a program has no `$`"),
-    ("let", "1:1: expected fn"),
+    ("let", "1:1: expected fn or answer"),
     ("fn 1() {}", "1:4: expected a name"),
     ("fn f {}", "1:6: expected ("),
     ("fn f(a {}", "1:8: expected ,"),

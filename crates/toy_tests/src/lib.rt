@@ -5,6 +5,8 @@
 #[cfg(test)]
 mod errors;
 #[cfg(test)]
+mod executions;
+#[cfg(test)]
 mod runs;
 #[cfg(test)]
 mod texts;

@@ -1,7 +1,7 @@
 //! Runs of what the compiler builds: the variable program and the function end alike, with what the program computes.
 #![tactic(auto)]
 
-use clif_interpreter::{End, Verdict, compare};
+use clif_interpreter::{End, Given, Verdict, compare};
 use clif_types::PointerWidth;
 use std::alloc::Global;
 use std::process::Abort;
@@ -16,10 +16,10 @@ fn returns(
     arguments: &[u128],
     wanted: u128,
 ) -> Result<(), Fail> {
-    let Ok(functions) = compile(alloc, program) else {
+    let Ok(program) = compile(alloc, program) else {
         return Err("no program")?;
     };
-    let Some(function) = functions.first() else {
+    let Some(function) = program.functions.first() else {
         return Err("no function")?;
     };
     let Ok(built) = function.build(alloc) else {
@@ -27,8 +27,13 @@ fn returns(
     };
     let signature = built.signature();
     let calls = function.calls.as_slice();
-    let width = PointerWidth::U64;
-    let Ok(runs) = compare(alloc, calls, signature, &built, width, arguments, 100_000) else {
+    let given = Given {
+        arguments,
+        answers: &[],
+        pointer_width: PointerWidth::U64,
+        steps: 100_000,
+    };
+    let Ok(runs) = compare(alloc, calls, signature, &built, &given) else {
         return Err("no run")?;
     };
     assert!(rt; matches!(runs.verdict(), Verdict::Equal));

@@ -27,4 +27,4 @@ returns c =
     (λ declared calls ready. sym c.is_valid.ensures ∙ c.if-not-is_valid.false)
     (λ declared calls ready.
     let number : length (ledger_of calls).variables ≡ c.in_ok-variable.variable = (read calls c.args.builder.now c.args.answers.now ready).variable_count ∙ sym done.number in
-    (c.in_ok-variable.variable ∷ [], ready-more calls _ c.args.builder.now c.declare_var.new.self _ (answer.Variable c.in_ok-variable.variable) ready tt done.grows.6 (done.told.stands declared calls ready.stands tt) (ap (λ (n : ℕ). AVariable n ∷ []) number, refl)))
+    (c.in_ok-variable.variable ∷ [], ready-more calls _ c.args.builder.now c.declare_var.new.self _ (answer.Variable c.in_ok-variable.variable) ready tt (done.grows.6, done.grows.8) (done.told.stands declared calls ready.stands tt) (ap (λ (n : ℕ). AVariable n ∷ []) number, refl)))

@@ -60,4 +60,4 @@ returns c =
     (λ declared calls ready. Conditions.define-some calls c.args.builder.now c.args.answers.now ready c.args.variable c.args.name c.in-Some.value c.in-Some-type_of.ty (ap (λ (f : Body). value_of f c.args.answers.now c.args.name) (sym c.func.ensures) ∙ sym c.value_named.ensures ∙ c.in-Some.is) (ap (λ (types : List «Type»). slice_get types c.args.variable) (sym c.requires.types) ∙ sym c.type_of.ensures ∙ c.in-Some-type_of.is) ∙ sym c.may_define.ensures ∙ c.if-not-may_define.false)
     (λ declared calls ready.
     let names = value-found calls c.args.builder.now c.args.answers.now ready c.args.name c.in-Some.value (ap (λ (f : Body). value_of f c.args.answers.now c.args.name) (sym c.func.ensures) ∙ sym c.value_named.ensures ∙ c.in-Some.is) in
-    ([], ready-more calls _ c.args.builder.now c.def_var.new.self _ answer.Nothing ready tt done.grows.6 ((done.told (name_of c.args.name)).stands declared calls ready.stands names) (refl, refl)))
+    ([], ready-more calls _ c.args.builder.now c.def_var.new.self _ answer.Nothing ready tt (done.grows.6, done.grows.8) ((done.told (name_of c.args.name)).stands declared calls ready.stands names) (refl, refl)))

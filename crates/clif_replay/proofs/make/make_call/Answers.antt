@@ -5,9 +5,10 @@ use Rattle.clif_opcodes.specs.declared.opcodes.PooledConstOpcode.TheVariants.{F1
 use Rattle.clif_ssa.specs.Limits.{IsFull}
 use Rattle.clif_meaning.specs.Acceptance.{return_}
 use Rattle.clif_calls.specs.declared.call.Name.{Name}
+use Rattle.clif_calls.specs.declared.table.TableItem.{TableItem}
 use Rattle.clif_calls.specs.declared.plan.Plan.{Plan}
 use Rattle.clif_calls.specs.declared.call.Call.{Call}
-use Rattle.clif_replay.specs.Makes.{Makes, MakesCall, MakesConstant, MakesTable, MakesPlan}
+use Rattle.clif_replay.specs.Makes.{Makes, MakesCall, MakesConstant, MakesExceptions, MakesTable, MakesPlan}
 use Rattle.clif_replay.specs.Requests.{name_of}
 use Rattle.clif_replay.proofs.make.make_call.Goals as goal
 
@@ -50,6 +51,13 @@ returns-in-CreateJumpTable c =
     subst (λ (x : Call). MakesCall x c.args.builder.now new c.args.answers.now c.create_jump_table.result) (sym c.in-CreateJumpTable.is)
     (subst (λ (names : List Name). MakesTable c.in-CreateJumpTable.default names c.args.builder.now new c.args.answers.now c.create_jump_table.result) c.as_slice.ensures.value
     c.create_jump_table.ensures)
+
+pub returns-in-CreateExceptionTable : goal.returns-in-CreateExceptionTable
+returns-in-CreateExceptionTable c =
+    let new = c.create_exception_table.new.builder in
+    subst (λ (x : Call). MakesCall x c.args.builder.now new c.args.answers.now c.create_exception_table.result) (sym c.in-CreateExceptionTable.is)
+    (subst (λ (items : List TableItem). MakesExceptions c.in-CreateExceptionTable.signature c.in-CreateExceptionTable.normal items c.args.builder.now new c.args.answers.now c.create_exception_table.result)
+    c.as_slice-in-CreateExceptionTable.ensures.value c.create_exception_table.ensures)
 
 pub returns-in-DeclareVar : goal.returns-in-DeclareVar
 returns-in-DeclareVar c = subst (λ (x : Call). MakesCall x c.args.builder.now c.declare_var.new.builder c.args.answers.now c.declare_var.result) (sym c.in-DeclareVar.is) c.declare_var.ensures
@@ -111,6 +119,9 @@ returns-in-Jump c = subst (λ (x : Call). MakesCall x c.args.builder.now c.make_
 
 pub returns-in-Brif : goal.returns-in-Brif
 returns-in-Brif c = subst (λ (x : Call). MakesCall x c.args.builder.now c.make_instruction-in-Brif.new.builder c.args.answers.now c.make_instruction-in-Brif.result) (sym c.in-Brif.is) c.make_instruction-in-Brif.ensures
+
+pub returns-in-Throwing : goal.returns-in-Throwing
+returns-in-Throwing c = subst (λ (x : Call). MakesCall x c.args.builder.now c.make_throwing_call.new.builder c.args.answers.now c.make_throwing_call.result) (sym c.in-Throwing.is) c.make_throwing_call.ensures
 
 pub returns-in-Return : goal.returns-in-Return
 returns-in-Return c =

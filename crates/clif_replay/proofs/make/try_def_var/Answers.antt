@@ -47,7 +47,7 @@ returns-in-Ok c =
     (λ declared calls ready. Conditions.define-typed calls c.args.builder.now c.args.answers.now ready c.args.variable c.args.name value here found typed)
     (λ declared calls ready. (
       [],
-      ready-more calls _ c.args.builder.now c.try_def_var.new.self _ answer.Nothing ready tt done.grows.6
+      ready-more calls _ c.args.builder.now c.try_def_var.new.self _ answer.Nothing ready tt (done.grows.6, done.grows.8)
           (told.stands declared calls ready.stands (value-found calls c.args.builder.now c.args.answers.now ready c.args.name value found)) (refl, refl),
     ))
 

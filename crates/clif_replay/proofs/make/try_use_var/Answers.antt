@@ -42,7 +42,7 @@ returns-in-Ok c =
     let value = c.in-Ok.value in
     let stands = subst (λ told. StandsFor declared (calls ++ use_told c.args.variable told ∷ []) c.try_use_var.new.self) c.in-Ok.is (done.told.stands declared calls ready.stands tt) in
     subst (λ (a : Answer). IsReadyAfter declared calls (UseVar c.args.variable) c.try_use_var.new.self c.args.answers.now a) (sym c.one_value.ensures)
-    (value ∷ [], ready-more calls _ c.args.builder.now c.try_use_var.new.self _ (answer.Values value 1) ready tt done.grows.6 stands (or_invalid (variable_type (ledger_of calls) c.args.variable) ∷ [], refl, refl, refl)))
+    (value ∷ [], ready-more calls _ c.args.builder.now c.try_use_var.new.self _ (answer.Values value 1) ready tt (done.grows.6, done.grows.8) stands (or_invalid (variable_type (ledger_of calls) c.args.variable) ∷ [], refl, refl, refl)))
 
 pub returns-in-Err : goal.returns-in-Err
 returns-in-Err c =

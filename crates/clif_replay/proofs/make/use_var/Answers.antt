@@ -38,4 +38,4 @@ returns c =
     (λ declared calls ready.
     let value = c.in_ok-value.value in
     subst (λ (a : Answer). IsReadyAfter declared calls (UseVar c.args.variable) c.use_var.new.self c.args.answers.now a) (sym c.one_value.ensures)
-    (value ∷ [], ready-more calls _ c.args.builder.now c.use_var.new.self _ (answer.Values value 1) ready tt done.grows.6 (done.told.stands declared calls ready.stands tt) (or_invalid (variable_type (ledger_of calls) c.args.variable) ∷ [], refl, refl, refl)))
+    (value ∷ [], ready-more calls _ c.args.builder.now c.use_var.new.self _ (answer.Values value 1) ready tt (done.grows.6, done.grows.8) (done.told.stands declared calls ready.stands tt) (or_invalid (variable_type (ledger_of calls) c.args.variable) ∷ [], refl, refl, refl)))

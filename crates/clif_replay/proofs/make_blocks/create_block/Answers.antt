@@ -18,4 +18,4 @@ returns c =
     made-answer c.args.builder.now c.create_block.new.self c.args.answers.now (answer.Block c.in_ok-block.block) c.create_block.ensures.call.loans done.grows.3
     (answered-sound _ c.create_block.result _ c.create_block.ensures.call.fails c.in_ok-block.was) c.create_block.ensures.variables
     (λ declared calls ready. refl)
-    (λ declared calls ready. (c.in_ok-block.block ∷ [], ready-more calls _ c.args.builder.now c.create_block.new.self _ (answer.Block c.in_ok-block.block) ready tt done.grows.6 (done.told.stands declared calls ready.stands tt) (refl, refl)))
+    (λ declared calls ready. (c.in_ok-block.block ∷ [], ready-more calls _ c.args.builder.now c.create_block.new.self _ (answer.Block c.in_ok-block.block) ready tt (done.grows.6, done.grows.8) (done.told.stands declared calls ready.stands tt) (refl, refl)))

@@ -25,4 +25,4 @@ returns c =
     made-answer c.args.builder.now c.ensure_inserted_block.new.self c.args.answers.now answer.Nothing c.ensure_inserted_block.ensures.call.loans done.grows.3
     (answered-sound _ c.ensure_inserted_block.result _ c.ensure_inserted_block.ensures.call.fails c.in_ok-ensure_inserted_block.was) c.ensure_inserted_block.ensures.variables
     (λ declared calls ready. open-same calls c.args.builder.now c.args.answers.now ready ∙ sym c.has_current.ensures ∙ c.if-not-has_current.false)
-    (λ declared calls ready. ([], ready-more calls _ c.args.builder.now c.ensure_inserted_block.new.self _ answer.Nothing ready tt done.grows.6 (done.told.stands declared calls ready.stands tt) (refl, refl)))
+    (λ declared calls ready. ([], ready-more calls _ c.args.builder.now c.ensure_inserted_block.new.self _ answer.Nothing ready tt (done.grows.6, done.grows.8) (done.told.stands declared calls ready.stands tt) (refl, refl)))

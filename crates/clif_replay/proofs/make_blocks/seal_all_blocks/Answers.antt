@@ -18,4 +18,4 @@ returns c =
     made-answer c.args.builder.now c.seal_all_blocks.new.self c.args.answers.now answer.Nothing c.seal_all_blocks.ensures.call.loans done.grows.3
     (answered-sound _ c.seal_all_blocks.result _ c.seal_all_blocks.ensures.call.fails c.in_ok-seal_all_blocks.was) c.seal_all_blocks.ensures.variables
     (λ declared calls ready. refl)
-    (λ declared calls ready. ([], ready-more calls _ c.args.builder.now c.seal_all_blocks.new.self _ answer.Nothing ready tt done.grows.6 (done.told.stands declared calls ready.stands tt) (refl, refl)))
+    (λ declared calls ready. ([], ready-more calls _ c.args.builder.now c.seal_all_blocks.new.self _ answer.Nothing ready tt (done.grows.6, done.grows.8) (done.told.stands declared calls ready.stands tt) (refl, refl)))

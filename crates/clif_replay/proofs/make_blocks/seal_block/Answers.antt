@@ -39,4 +39,4 @@ returns c =
     made-answer c.args.builder.now c.seal_block.new.self c.args.answers.now answer.Nothing c.seal_block.ensures.call.loans done.grows.3
     (answered-sound _ c.seal_block.result _ c.seal_block.ensures.call.fails c.in_ok-seal_block.was) c.seal_block.ensures.variables
     (λ declared calls ready. Conditions.seal-some calls c.args.builder.now c.args.answers.now ready c.args.name c.in-Some.block (sym c.block_named.ensures ∙ c.in-Some.is) ∙ sym c.may_seal.ensures ∙ c.if-not-may_seal.false)
-    (λ declared calls ready. ([], ready-more calls _ c.args.builder.now c.seal_block.new.self _ answer.Nothing ready tt done.grows.6 ((done.told (name_of c.args.name)).stands declared calls ready.stands (block-found calls c.args.builder.now c.args.answers.now ready c.args.name c.in-Some.block (sym c.block_named.ensures ∙ c.in-Some.is))) (refl, refl)))
+    (λ declared calls ready. ([], ready-more calls _ c.args.builder.now c.seal_block.new.self _ answer.Nothing ready tt (done.grows.6, done.grows.8) ((done.told (name_of c.args.name)).stands declared calls ready.stands (block-found calls c.args.builder.now c.args.answers.now ready c.args.name c.in-Some.block (sym c.block_named.ensures ∙ c.in-Some.is))) (refl, refl)))

@@ -19,4 +19,4 @@ returns c =
     let new = c.set_cold_block.new.self in
     made-answer c.args.builder.now new c.args.answers.now answer.Nothing done.loans done.grows.3 (done.failed ∙ c.requires.sound) (ap (λ (x : ContextState). x.variables) done.context)
     (λ declared calls ready. cold-some calls c.args.builder.now c.args.answers.now ready c.args.name c.in-Some.block (sym c.block_named.ensures ∙ c.in-Some.is))
-    (λ declared calls ready. ([], ready-more calls _ c.args.builder.now new _ answer.Nothing ready tt done.grows.6 (done.stands declared calls (name_of c.args.name) ready.stands (block-found calls c.args.builder.now c.args.answers.now ready c.args.name c.in-Some.block (sym c.block_named.ensures ∙ c.in-Some.is))) (refl, refl)))
+    (λ declared calls ready. ([], ready-more calls _ c.args.builder.now new _ answer.Nothing ready tt (done.grows.6, done.grows.8) (done.stands declared calls (name_of c.args.name) ready.stands (block-found calls c.args.builder.now c.args.answers.now ready c.args.name c.in-Some.block (sym c.block_named.ensures ∙ c.in-Some.is))) (refl, refl)))

@@ -23,4 +23,4 @@ returns c =
     made-answer c.args.builder.now new c.args.answers.now answer.Nothing (record { func = ap (λ (b : FunctionBuilder). b.func.ghost_name) done.builder; ctx = ap (λ (b : FunctionBuilder). b.ctx.ghost_name) done.builder }) (ap (λ (b : FunctionBuilder). b.func.now.name) done.builder)
     (ap (λ (b : FunctionBuilder). b.failed) done.builder ∙ c.requires.sound) (ap (λ (b : FunctionBuilder). b.ctx.now.variables) done.builder)
     (λ declared calls ready. Conditions.switch-some calls c.args.builder.now c.args.answers.now ready c.args.name c.in-Some.block (sym c.block_named.ensures ∙ c.in-Some.is) ∙ sym c.may_switch.ensures ∙ c.if-not-may_switch.false)
-    (λ declared calls ready. ([], ready-more calls _ c.args.builder.now new _ answer.Nothing ready tt (ap (λ (b : FunctionBuilder). b.func.now.tables.jump_tables) done.builder) (done.stands declared calls (name_of c.args.name) ready.stands (block-found calls c.args.builder.now c.args.answers.now ready c.args.name c.in-Some.block (sym c.block_named.ensures ∙ c.in-Some.is))) (refl, refl)))
+    (λ declared calls ready. ([], ready-more calls _ c.args.builder.now new _ answer.Nothing ready tt (ap (λ (b : FunctionBuilder). b.func.now.tables.jump_tables) done.builder, ap (λ (b : FunctionBuilder). b.func.now.tables.exception_tables) done.builder) (done.stands declared calls (name_of c.args.name) ready.stands (block-found calls c.args.builder.now c.args.answers.now ready c.args.name c.in-Some.block (sym c.block_named.ensures ∙ c.in-Some.is))) (refl, refl)))

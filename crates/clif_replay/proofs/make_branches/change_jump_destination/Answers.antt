@@ -75,7 +75,7 @@ returns c =
     (sym c.block_named-2.ensures ∙ c.in-Some-block_named-2.is) ∙ sym c.may_change.ensures ∙ c.if-not-may_change.false)
     (λ declared calls ready. (
       [],
-      ready-more calls _ old new c.args.answers.now answer.Nothing ready tt done.grows.6
+      ready-more calls _ old new c.args.answers.now answer.Nothing ready tt (done.grows.6, done.grows.8)
           (done.stands declared calls (name_of c.args.branch) (name_of c.args.from) (name_of c.args.to) ready.stands
           (inst-found calls old c.args.answers.now ready c.args.branch c.in-Some.inst (sym c.inst_named.ensures ∙ c.in-Some.is))
           (block-found calls old c.args.answers.now ready c.args.from c.in-Some-block_named.source (sym c.block_named.ensures ∙ c.in-Some-block_named.is))

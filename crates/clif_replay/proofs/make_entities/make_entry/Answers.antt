@@ -41,6 +41,6 @@ returns c =
     (λ declared calls ready. entry-same calls old answers ready (entry_in c.args.call.now) ∙ sym c.may_make.ensures ∙ c.if-not-may_make.false)
     (λ declared calls ready. (
       _,
-      ready-more calls _ old new _ answer.Entry ready tt made.grows.6 (made.told.stands declared calls ready.stands tt)
+      ready-more calls _ old new _ answer.Entry ready tt (made.grows.6, made.grows.8) (made.told.stands declared calls ready.stands tt)
           (entry-answered calls old answers ready (entry_in c.args.call.now) c.in_ok-append.field-0 made.number),
     ))

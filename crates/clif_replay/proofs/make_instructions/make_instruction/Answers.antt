@@ -51,4 +51,4 @@ returns c =
     (λ declared calls ready. plan-same calls c.args.builder.now c.args.answers.now ready c.args.plan.now ∙ c.in_ok-planned.ensures.may)
     (λ declared calls ready.
     let shape = instruction-named calls c.args.builder.now c.args.answers.now ready c.args.plan.now _ _ c.in_ok-planned.ensures.found in
-    (_, ready-more calls _ c.args.builder.now new _ (answer.Inst c.in_ok-inst.inst) ready tt done.grows.6 (done.stands declared calls [] _ ready.stands shape) (_, _, refl, refl)))
+    (_, ready-more calls _ c.args.builder.now new _ (answer.Inst c.in_ok-inst.inst) ready tt (done.grows.6, done.grows.8) (done.stands declared calls [] _ ready.stands shape) (_, _, refl, refl)))

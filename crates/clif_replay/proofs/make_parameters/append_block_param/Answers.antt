@@ -40,4 +40,4 @@ returns c =
     let names = block-found calls c.args.builder.now c.args.answers.now ready c.args.name c.in-Some.block (sym c.block_named.ensures ∙ c.in-Some.is) in
     let value = c.in_ok-value.value in
     subst (λ (a : Answer). IsReadyAfter declared calls (AppendBlockParams (name_of c.args.name) (c.args.ty ∷ [])) c.append_block_param.new.self c.args.answers.now a) (sym c.one_value.ensures)
-    (value ∷ [], ready-more calls _ c.args.builder.now c.append_block_param.new.self _ (answer.Values value 1) ready tt done.grows.6 ((done.told (name_of c.args.name)).stands declared calls ready.stands names) (c.args.ty ∷ [], refl, refl, refl)))
+    (value ∷ [], ready-more calls _ c.args.builder.now c.append_block_param.new.self _ (answer.Values value 1) ready tt (done.grows.6, done.grows.8) ((done.told (name_of c.args.name)).stands declared calls ready.stands names) (c.args.ty ∷ [], refl, refl, refl)))

@@ -62,5 +62,5 @@ returns c =
     let viewed = ap (λ (s : SignatureShape). length s.returns) (c.behind-func.view_is ∙ c.signature.ensures ∙ ap (λ (f : Body). f.signature) c.func.ensures) in
     let counted = c.len-count.ensures in
     subst (λ (s : SignatureShape). IsReadyAfter declared calls (AppendBlockParams (name_of c.args.name) (types_of s.returns)) new c.args.answers.now c.last_params.result) ready.stands.signature
-    (params-ready calls old new c.args.answers.now (AppendBlockParams (name_of c.args.name) (types_of old.func.now.signature.returns)) c.in-Some.block old.func.now.signature.returns c.len-count.result c.last_params.result ready tt done.grows.6 there
+    (params-ready calls old new c.args.answers.now (AppendBlockParams (name_of c.args.name) (types_of old.func.now.signature.returns)) c.in-Some.block old.func.now.signature.returns c.len-count.result c.last_params.result ready tt (done.grows.6, done.grows.8) there
     done.function ((done.told (name_of c.args.name)).stands declared calls ready.stands names) refl (omega (arith, viewed, counted)) c.last_params.ensures))

@@ -1,11 +1,13 @@
 use Rattle.std.proofs.Common.{refl, ap, List, [], ◌∷◌}
 use Rattle.std.specs.Prelude.{Option, Some, unwrap_or}
-use Rattle.clif_meaning.specs.Acceptance.{table_branch}
+use Rattle.clif_meaning.specs.Acceptance.{no_exceptions, table_branch, tried_address, tried_function}
 use Rattle.clif_meaning.specs.Instruction.{Edge}
+use Rattle.clif_meaning.specs.Ledger.{ExceptionTable}
 use Rattle.clif_meaning.specs.Name.{Name}
 use Rattle.clif_meaning.specs.Request.{Build, ServedBy}
 use Rattle.clif_inst_builder.specs.Shapes.{edge_to}
-use Rattle.cranelift_frontend.proofs.LedgerShaped.{binary-shape, brif-shape, call-shape, call_indirect-shape, compare-shape, concat-shape, cond_trap-shape, convert-shape, f128const-shape, float-shape, iconst-shape, jump-shape, load-shape, return-shape, select-shape, split-shape, stack-shape, stack_store-shape, store-shape, table-shape, trap-shape, unary-shape, vconst-shape}
+use Rattle.cranelift_frontend.specs.Ledger.{ledger_of}
+use Rattle.cranelift_frontend.proofs.LedgerShaped.{binary-shape, brif-shape, call-shape, call_indirect-shape, compare-shape, concat-shape, cond_trap-shape, convert-shape, f128const-shape, float-shape, iconst-shape, jump-shape, load-shape, return-shape, select-shape, split-shape, stack-shape, stack_store-shape, store-shape, table-shape, trap-shape, try_call-shape, try_call_indirect-shape, unary-shape, vconst-shape}
 use Rattle.cranelift_frontend.proofs.laws.requests_ask_for_their_shapes.Goals as goal
 
 pub returns : goal.returns
@@ -35,5 +37,17 @@ returns c = λ calls f d p agrees. record {
   call_function = λ function names values numbered. (_, _, refl, call-shape calls f d p agrees function names values numbered);
   call_indirect = λ signature callee address names values called numbered.
       (_, _, refl, call_indirect-shape calls f d p agrees signature callee address names values called numbered);
+  try_call = λ function number names values held table numbered found named. (
+    _,
+    _,
+    ap (λ (o : Option ExceptionTable). tried_function (ledger_of calls) function names number (unwrap_or o no_exceptions)) found,
+    try_call-shape calls f d p agrees function names values held table numbered named,
+  );
+  try_call_indirect = λ number callee address names values held table called numbered found named. (
+    _,
+    _,
+    ap (λ (o : Option ExceptionTable). tried_address (ledger_of calls) callee names number (unwrap_or o no_exceptions)) found,
+    try_call_indirect-shape calls f d p agrees callee address names values held table called numbered named,
+  );
   return_ = λ names values numbered. (_, _, refl, return-shape calls f names values numbered);
 }

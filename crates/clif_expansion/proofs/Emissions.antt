@@ -1,0 +1,311 @@
+-- Code in a line keeps ledgers joined with an instruction that is emitted.
+use Rattle.std.proofs.Common.{◌≡◌, ◌<◌, ◌+◌, ◌⊎◌, inl, inr, ℕ, zero, suc, Bool, true, false, List, [], ◌∷◌, ◌++◌, length, map, refl, sym, ◌∙◌, ap, ap₂, subst, arith, Option, Some, None}
+use Rattle.std.specs.Prelude.{◌||◌, fold, if◌then◌else◌, slice_get}
+use Rattle.std.specs.List.{AllByRecursion, list_any}
+use Rattle.std.proofs.lemmas.List.{length-append}
+use Rattle.clif_types.specs.declared.types.«Type».{«Type»}
+use Rattle.clif_meaning.specs.Instruction.{Edge, Instruction}
+use Rattle.clif_meaning.specs.Ledger.{AValue, AnInstruction, Answered, BlockState, ExceptionTable, Ledger, answer_at, changed_by, is_inserted, ledger_with, with_begun, with_begun_at, with_filled_at, with_instruction, with_layout, with_predecessor, with_state, with_terminator}
+use Rattle.clif_meaning.specs.Name.{Name, answer_of, same_name}
+use Rattle.clif_expansion.specs.Emission.{EmittingKeepsJoins, StaysInLine, building, reading_emitted, reading_generated}
+use Rattle.clif_expansion.specs.Joining.{AreJoinedStates, IsJoined, IsReadAnswer, reading_with, results_at}
+use Rattle.clif_expansion.specs.Reading.{Generated, IsOneToOne, IsReadAs, Reading, ScriptName, StandsFor}
+use Rattle.clif_expansion.specs.ScriptCall.{Emit, emitted_types, ledger_with_call}
+use Rattle.clif_expansion.proofs.JoinedStates.{begun_read}
+use Rattle.clif_expansion.proofs.Joins.{KeepsReading, answer_later, answers_before, answers_last, at_read, read_before, read_either, states_later, values_read}
+use Rattle.clif_expansion.proofs.Names.{equal_names, same_script}
+
+-- BEGUN TWICE -------------------------------------------------------------------------------------------------------------
+
+abbrev pub begun_state : Name → BlockState → BlockState
+begun_state block state = if same_name state.block block then record state { is_pristine = false } else state
+
+state_twice : (block : Name) (state : BlockState) → begun_state block (begun_state block state) ≡ begun_state block state
+state_twice block state = by (same_name state.block block) refl
+  where
+    by : (c : Bool) → same_name state.block block ≡ c
+        → begun_state block (if c then record state { is_pristine = false } else state) ≡ (if c then record state { is_pristine = false } else state)
+    by true is = ap (λ (c : Bool). if c then record state { is_pristine = false } else record state { is_pristine = false }) is
+    by false is = ap (λ (c : Bool). if c then record state { is_pristine = false } else state) is
+
+states_twice : (block : Name) (states : List BlockState) → map (begun_state block) (map (begun_state block) states) ≡ map (begun_state block) states
+states_twice block [] = refl
+states_twice block (state ∷ states) = ap₂ (λ (first : BlockState) (rest : List BlockState). first ∷ rest) (state_twice block state) (states_twice block states)
+
+there_last : (block : Name) (layout : List Name) → list_any (same_name block) (layout ++ block ∷ []) ≡ true
+there_last block [] = ap (λ (c : Bool). c || false) (equal_names block block refl)
+there_last block (other ∷ layout) = by (same_name block other) (there_last block layout)
+  where
+    by : (c : Bool) → list_any (same_name block) (layout ++ block ∷ []) ≡ true → (c || list_any (same_name block) (layout ++ block ∷ [])) ≡ true
+    by true later = refl
+    by false later = later
+
+laid_there : (ledger : Ledger) (block : Name) → is_inserted (with_layout ledger block) block ≡ true
+laid_there ledger block = by (is_inserted ledger block) refl
+  where
+    by : (c : Bool) → is_inserted ledger block ≡ c → is_inserted (if c then ledger else record ledger { layout = ledger.layout ++ block ∷ [] }) block ≡ true
+    by true is = is
+    by false is = there_last block ledger.layout
+
+laid_current : (ledger : Ledger) (block : Name) → (with_layout ledger block).current ≡ ledger.current
+laid_current ledger block = by (is_inserted ledger block)
+  where
+    by : (c : Bool) → (if c then ledger else record ledger { layout = ledger.layout ++ block ∷ [] }).current ≡ ledger.current
+    by true = refl
+    by false = refl
+
+pub begun_current : (ledger : Ledger) (block : Option Name) → (with_begun_at ledger block).current ≡ ledger.current
+begun_current ledger None = refl
+begun_current ledger (Some block) = laid_current ledger block
+
+at_twice : (ledger : Ledger) (block : Option Name) → with_begun_at (with_begun_at ledger block) block ≡ with_begun_at ledger block
+at_twice ledger None = refl
+at_twice ledger (Some block) =
+    let laid : Ledger = with_layout ledger block in
+    let begun : Ledger = with_begun_at ledger (Some block) in
+    ap (λ (c : Bool). with_state (if c then begun else record begun { layout = begun.layout ++ block ∷ [] }) block (λ state. record state { is_pristine = false })) (laid_there ledger block)
+    ∙ ap (λ (states : List BlockState). record laid { blocks = states }) (states_twice block laid.blocks)
+
+pub begun_twice : (ledger : Ledger) → with_begun (with_begun ledger) ≡ with_begun ledger
+begun_twice ledger =
+    ap (λ (block : Option Name). with_begun_at (with_begun ledger) block) (begun_current ledger ledger.current) ∙ at_twice ledger ledger.current
+
+-- IN A LINE ---------------------------------------------------------------------------------------------------------------
+
+-- an instruction in a line begins its block, and changes nothing else
+in_line : (ledger : Ledger) (instruction : Instruction Name Name) → StaysInLine instruction → with_instruction ledger instruction ≡ with_begun ledger
+in_line ledger instruction stays =
+    ap (λ (edges : List (Edge Name Name)). fold (with_predecessor (answer_of (length ledger.answers) 0)) (with_terminator (with_begun ledger) instruction.operation) edges) stays.no_edges
+    ∙ ap (λ (c : Bool). if c then with_filled_at (with_begun ledger) (with_begun ledger).current else with_begun ledger) stays.goes_on
+
+-- jump tables are kept where a block is begun
+begun_tables : (ledger : Ledger) (block : Option Name) → (with_begun_at ledger block).jump_tables ≡ ledger.jump_tables
+begun_tables ledger None = refl
+begun_tables ledger (Some block) = by (is_inserted ledger block)
+  where
+    by : (c : Bool) → (if c then ledger else record ledger { layout = ledger.layout ++ block ∷ [] }).jump_tables ≡ ledger.jump_tables
+    by true = refl
+    by false = refl
+
+-- and so are exception tables
+begun_exceptions : (ledger : Ledger) (block : Option Name) → (with_begun_at ledger block).exception_tables ≡ ledger.exception_tables
+begun_exceptions ledger None = refl
+begun_exceptions ledger (Some block) = by (is_inserted ledger block)
+  where
+    by : (c : Bool) → (if c then ledger else record ledger { layout = ledger.layout ++ block ∷ [] }).exception_tables ≡ ledger.exception_tables
+    by true = refl
+    by false = refl
+
+-- the states behind an instruction in a line are those of a block that is begun
+abbrev Begins : Reading → Ledger → Ledger → Type 0
+Begins reading plain ledger = AreJoinedStates reading (with_begun plain) (with_begun ledger)
+
+pub built_changes : (plain : Ledger) (instruction : Instruction Name Name) → StaysInLine instruction → changed_by plain (building instruction) ≡ with_begun plain
+built_changes plain instruction stays =
+    ap (λ (l : Ledger). record l { jump_tables = plain.jump_tables; exception_tables = plain.exception_tables }) (in_line plain instruction stays)
+    ∙ ap₂ (λ (tables : List (Option (List (Edge Name Name)))) (exceptions : List (Option ExceptionTable)). record (with_begun plain) { jump_tables = tables; exception_tables = exceptions })
+    (sym (begun_tables plain plain.current)) (sym (begun_exceptions plain plain.current))
+
+-- answers aside, states are joined
+other_answers : (reading : Reading) (plain ledger : Ledger) (answers' answers : List (List Answered)) → AreJoinedStates reading plain ledger
+    → AreJoinedStates reading (record plain { answers = answers' }) (record ledger { answers = answers })
+other_answers reading plain ledger answers' answers are = record {
+  blocks = are.blocks;
+  current = are.current;
+  layout = are.layout;
+  variables = are.variables;
+  jump_tables = are.jump_tables;
+  exception_tables = are.exception_tables;
+  tables = are.tables;
+}
+
+-- What holds in the midst of code: a block that is begun is joined, and so are the answers.
+record InMidst (reading : Reading) (plain ledger : Ledger) : Type 0 where
+  begins : Begins reading plain ledger
+  answers : (x name : Name) → IsReadAs reading x name → IsReadAnswer reading (answer_at plain x) (answer_at ledger name)
+  one_to_one : IsOneToOne reading
+  made : (x name : Name) → IsReadAs reading x name → (x.place < length plain.answers) × (name.place < length ledger.answers)
+
+one_longer : (answers : List (List Answered)) (more : List Answered) → length (answers ++ more ∷ []) ≡ length answers + 1
+one_longer answers more = length-append answers (more ∷ [])
+
+module _ (reading : Reading) (plain ledger : Ledger) (midst : InMidst reading plain ledger) where
+  abbrev here' : ℕ
+  here' = length plain.answers
+
+  keeps : (answers : ℕ → StandsFor) → KeepsReading reading (reading_with reading here' answers)
+  keeps answers x name is = read_before reading here' answers x (midst.made x name is).0 ∙ is
+
+  -- an instruction more
+  module _ (instruction : Instruction Name Name) (stays : StaysInLine instruction) where
+    abbrev after : Ledger
+    after = ledger_with plain (building instruction)
+
+    longer : length after.answers ≡ here' + 1
+    longer = one_longer plain.answers (AnInstruction ∷ map AValue (emitted_types instruction))
+
+    -- a block that is begun again
+    begins_on : (answers : ℕ → StandsFor) → AreJoinedStates (reading_with reading here' answers) (record (with_begun plain) { answers = after.answers }) (with_begun ledger)
+    begins_on answers =
+        other_answers (reading_with reading here' answers) (with_begun plain) (with_begun ledger) after.answers (with_begun ledger).answers
+        (states_later reading (reading_with reading here' answers) (keeps answers) (with_begun plain) (with_begun ledger) midst.begins)
+
+    after_is : after ≡ record (with_begun plain) { answers = after.answers }
+    after_is = ap (λ (l : Ledger). record l { answers = after.answers }) (built_changes plain instruction stays)
+
+    states_on : (answers : ℕ → StandsFor) → AreJoinedStates (reading_with reading here' answers) after (with_begun ledger)
+    states_on answers = subst (λ (l : Ledger). AreJoinedStates (reading_with reading here' answers) l (with_begun ledger)) (sym after_is) (begins_on answers)
+
+    -- what was answered before
+    answer_before : (answers : ℕ → StandsFor) (x name : Name) → IsReadAs reading x name → IsReadAnswer (reading_with reading here' answers) (answer_at after x) (answer_at ledger name)
+    answer_before answers x name is =
+        subst (λ (answer : Option Answered). IsReadAnswer (reading_with reading here' answers) answer (answer_at ledger name))
+        (sym (answers_before plain.answers (AnInstruction ∷ map AValue (emitted_types instruction)) x.place x.index (midst.made x name is).0))
+        (answer_later reading (reading_with reading here' answers) (keeps answers) (answer_at plain x) (answer_at ledger name) (midst.answers x name is))
+
+    -- GENERATED -----------------------------------------------------------------------------------------------------------
+
+    abbrev generated : Reading
+    generated = reading_generated reading plain
+
+    -- what is read was read before
+    old : (x name : Name) → IsReadAs generated x name → IsReadAs reading x name
+    old x name is = by (read_either reading here' (λ index. Generated) x (ScriptName name) is)
+      where
+        by : ((x.place ≡ here') × (Generated ≡ ScriptName name)) ⊎ IsReadAs reading x name → IsReadAs reading x name
+        by (inl new) = let apart = new.1 in cc
+        by (inr before) = before
+
+    goes_on : (one_to_one : IsOneToOne generated) → InMidst generated after ledger
+    goes_on one_to_one = record {
+      begins = subst (λ (l : Ledger). AreJoinedStates generated (with_begun after) l) (begun_twice ledger)
+          (begun_read generated one_to_one after (with_begun ledger) (states_on (λ index. Generated)));
+      answers = λ x name is. answer_before (λ index. Generated) x name (old x name is);
+      one_to_one = one_to_one;
+      made = λ x name is.
+          let both = midst.made x name (old x name is) in
+          let below' = both.0 in
+          (omega (arith, below', longer), both.1);
+    }
+
+    one_to_one_on : IsOneToOne generated
+    one_to_one_on x y name first second = midst.one_to_one x y name (old x name first) (old y name second)
+
+    -- THE LAST ONE --------------------------------------------------------------------------------------------------------
+
+    module _ (whole : Instruction Name Name) (whole_stays : StaysInLine whole) (types : emitted_types instruction ≡ emitted_types whole) where
+      abbrev here : ℕ
+      here = length ledger.answers
+
+      abbrev emitted : Reading
+      emitted = reading_with reading here' (results_at here)
+
+      abbrev end : Ledger
+      end = ledger_with_call ledger (Emit whole)
+
+      longer_end : length end.answers ≡ here + 1
+      longer_end = one_longer ledger.answers (map AValue (emitted_types whole))
+
+      -- what is read is a result, or was read before
+      abbrev Either : Name → Name → Type 0
+      Either x name = ((x.place ≡ here') × (results_at here x.index ≡ ScriptName name)) ⊎ IsReadAs reading x name
+
+      either : (x name : Name) → IsReadAs emitted x name → Either x name
+      either x name is = read_either reading here' (results_at here) x (ScriptName name) is
+
+      -- a result with this number
+      result_of : (k : ℕ) (name : Name) → results_at here k ≡ ScriptName name → (j : ℕ) × (k ≡ suc j) × (answer_of here j ≡ name)
+      result_of zero name is = cc
+      result_of (suc j) name is = (j, refl, same_script (answer_of here j) name is)
+
+      result_place : (k : ℕ) (name : Name) → results_at here k ≡ ScriptName name → name.place ≡ here
+      result_place k name is = ap (λ (n : Name). n.place) (sym (result_of k name is).2)
+
+      result_index : (k j : ℕ) (name : Name) → results_at here k ≡ ScriptName name → results_at here j ≡ ScriptName name → k ≡ j
+      result_index k j name first second =
+          let one = result_of k name first in
+          let other = result_of j name second in
+          one.1 ∙ ap (λ (n : Name). suc n.index) (one.2 ∙ sym other.2) ∙ sym other.1
+
+      apart : (x y name : Name) → results_at here x.index ≡ ScriptName name → IsReadAs reading y name → ⊥
+      apart x y name new before =
+          let place = result_place x.index name new in
+          let below = (midst.made y name before).1 in
+          absurd (omega (arith, place, below))
+
+      emitted_apart : IsOneToOne emitted
+      emitted_apart x y name first second = by (either x name first) (either y name second)
+        where
+          by : Either x name → Either y name → x ≡ y
+          by (inl new) (inl other) =
+              let place : x.place ≡ y.place = new.0 ∙ sym other.0 in
+              let index : x.index ≡ y.index = result_index x.index y.index name new.1 other.1 in
+              λ i. answer_of (place i) (index i)
+          by (inl new) (inr before) = absurd (apart x y name new.1 before)
+          by (inr before) (inl new) = absurd (apart y x name new.1 before)
+          by (inr before) (inr other) = midst.one_to_one x y name before other
+
+      result_read : (k : ℕ) (name : Name) → results_at here k ≡ ScriptName name
+          → IsReadAnswer emitted (slice_get (AnInstruction ∷ map AValue (emitted_types instruction)) k) (answer_at end name)
+      result_read k name is =
+          let found = result_of k name is in
+          let j : ℕ = found.0 in
+          subst (λ (n : ℕ). IsReadAnswer emitted (slice_get (AnInstruction ∷ map AValue (emitted_types instruction)) n) (answer_at end name)) (sym found.1)
+          (subst (λ (n : Name). IsReadAnswer emitted (slice_get (map AValue (emitted_types instruction)) j) (answer_at end n)) found.2
+          (subst (λ (answer : Option Answered). IsReadAnswer emitted (slice_get (map AValue (emitted_types instruction)) j) answer) (sym (answers_last ledger.answers (map AValue (emitted_types whole)) j))
+          (subst (λ (ts : List «Type»). IsReadAnswer emitted (slice_get (map AValue ts) j) (slice_get (map AValue (emitted_types whole)) j)) (sym types)
+          (at_read emitted (map AValue (emitted_types whole)) (map AValue (emitted_types whole)) j (values_read emitted (emitted_types whole))))))
+
+      answers_end : (x name : Name) → IsReadAs emitted x name → IsReadAnswer emitted (answer_at after x) (answer_at end name)
+      answers_end x name is = by (either x name is)
+        where
+          by : Either x name → IsReadAnswer emitted (answer_at after x) (answer_at end name)
+          by (inl new) =
+              let x_is : answer_of here' x.index ≡ x = λ i. answer_of (sym new.0 i) x.index in
+              subst (λ (z : Name). IsReadAnswer emitted (answer_at after z) (answer_at end name)) x_is
+              (subst (λ (answer : Option Answered). IsReadAnswer emitted answer (answer_at end name))
+              (sym (answers_last plain.answers (AnInstruction ∷ map AValue (emitted_types instruction)) x.index)) (result_read x.index name new.1))
+          by (inr before) =
+              subst (λ (answer : Option Answered). IsReadAnswer emitted (answer_at after x) answer)
+              (sym (answers_before ledger.answers (map AValue (emitted_types whole)) name.place name.index (midst.made x name before).1))
+              (answer_before (results_at here) x name before)
+
+      made_end : (x name : Name) → IsReadAs emitted x name → (x.place < length after.answers) × (name.place < length end.answers)
+      made_end x name is = by (either x name is)
+        where
+          by : Either x name → (x.place < length after.answers) × (name.place < length end.answers)
+          by (inl new) =
+              let place' : x.place ≡ here' = new.0 in
+              let place : name.place ≡ here = result_place x.index name new.1 in
+              (omega (arith, place', longer), omega (arith, place, longer_end))
+          by (inr before) =
+              let below' : x.place < here' = (midst.made x name before).0 in
+              let below : name.place < here = (midst.made x name before).1 in
+              (omega (arith, below', longer), omega (arith, below, longer_end))
+
+      states_end : AreJoinedStates emitted after end
+      states_end =
+          subst (λ (l : Ledger). AreJoinedStates emitted after (record l { answers = end.answers })) (sym (in_line ledger whole whole_stays))
+          (other_answers emitted after (with_begun ledger) after.answers end.answers (states_on (results_at here)))
+
+      ends : IsJoined emitted after end
+      ends = record { ledgers = record { states = states_end; answers = answers_end }; one_to_one = emitted_apart; made = made_end }
+
+emitting : (reading : Reading) (plain ledger : Ledger) (code : List (Instruction Name Name)) (last whole : Instruction Name Name)
+    → InMidst reading plain ledger → AllByRecursion StaysInLine code → StaysInLine last → StaysInLine whole → emitted_types last ≡ emitted_types whole
+    → IsJoined (reading_emitted reading plain ledger code) (fold ledger_with plain (map building code ++ building last ∷ [])) (ledger_with_call ledger (Emit whole))
+emitting reading plain ledger [] last whole midst line stays whole_stays types = ends reading plain ledger midst last stays whole whole_stays types
+emitting reading plain ledger (first ∷ code) last whole midst line stays whole_stays types =
+    emitting (reading_generated reading plain) (ledger_with plain (building first)) ledger code last whole
+    (goes_on reading plain ledger midst first line.0 (one_to_one_on reading plain ledger midst first line.0)) line.1 stays whole_stays types
+
+pub emitting_keeps_joins : EmittingKeepsJoins
+emitting_keeps_joins reading plain ledger code last whole joined line stays whole_stays types =
+    emitting reading plain ledger code last whole
+    (record {
+      begins = begun_read reading joined.one_to_one plain ledger joined.ledgers.states;
+      answers = joined.ledgers.answers;
+      one_to_one = joined.one_to_one;
+      made = joined.made;
+    })
+    line stays whole_stays types

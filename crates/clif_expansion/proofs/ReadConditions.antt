@@ -1,0 +1,355 @@
+-- The conditions on calls are the same in joined ledgers.
+use Rattle.std.proofs.Common.{◌≡◌, ℕ, zero, suc, Bool, true, false, cond, not, ◌&&◌, ◌||◌, List, [], ◌∷◌, refl, ◌∙◌, ap, ap₂, Option, Some, None}
+use Rattle.std.specs.Prelude.{find, if◌then◌else◌, is_some, option_and_then, option_map, slice_get}
+use Rattle.std.specs.List.{AllZip, list_all, list_any}
+use Rattle.clif_tables.specs.Lists.{TableLists}
+use Rattle.clif_types.specs.Types.{is_type}
+use Rattle.clif_types.specs.declared.types.«Type».{«Type»}
+use Rattle.clif_meaning.specs.Acceptance.{allows, blames_variable, can_assign, can_lead, can_leave, can_make, can_operate, has_argument, has_entry, has_item, is_open, is_unfinished, may_give, refusal_of, unfinished, Unfilled, Unsealed}
+use Rattle.clif_meaning.specs.Instruction.{Argument, Known, CallResult, CallPayload, Edge, Instruction, operation_entries}
+use Rattle.clif_meaning.specs.Ledger.{ABlock, AVariable, AValue, AnInstruction, AnEntry, AnEdge, AJumpTable, AnExceptionTable, Answered, BlockState, ExceptionTable, Ledger, VariableState, answer_at, answered_edge, begins_with, block_state, edge_named, has_block, has_predecessors, has_value, is_empty, is_filled, is_inserted, is_instruction_answer, is_pristine, is_sealed, is_unreachable, leads_to, state_has, type_of, value_answer_type, variable_type}
+use Rattle.clif_meaning.specs.Name.{Name, same_name}
+use Rattle.clif_meaning.specs.Request.{Request, CreateBlock, SwitchToBlock, SealBlock, SealAllBlocks, InsertBlockAfter, SetColdBlock, EnsureInsertedBlock, AppendBlockParams, AppendFunctionParams, DeclareVar, DefVar, UseVar, MakeEntry, MakeEdge, MakeJumpTable, MakeExceptionTable, Annotate, GivenEntry, ServedBy, TriedBy, Imported, TableItem, TagTo, DefaultTo, InContext, Build, ChangeJumpDestination, Finalize}
+use Rattle.clif_expansion.specs.Expansion.{IsReadBlock}
+use Rattle.clif_expansion.specs.Joining.{ConditionsAreRead, IsJoined, IsReadAnswer, IsReadException, IsReadRefusal, IsReadRequest, IsReadState, IsReadTable, IsReadTableItem}
+use Rattle.clif_expansion.specs.Reading.{IsReadArgument, IsReadAs, IsReadEdge, IsReadInstruction, Reading}
+use Rattle.clif_expansion.proofs.JoinedStates.{any_read, inserted_read}
+use Rattle.clif_expansion.proofs.Names.{same_read}
+
+-- LISTS -------------------------------------------------------------------------------------------------------------------
+
+all_same : {X Y : Type 0} (R : X → Y → Type 0) (f : X → Bool) (g : Y → Bool) → ((x : X) (y : Y) → R x y → f x ≡ g y) → (xs : List X) (ys : List Y) → AllZip R xs ys
+    → list_all f xs ≡ list_all g ys
+all_same R f g each [] [] are = refl
+all_same R f g each [] (y ∷ ys) are = absurd are
+all_same R f g each (x ∷ xs) [] are = absurd are
+all_same R f g each (x ∷ xs) (y ∷ ys) are = ap₂ (λ (a b : Bool). a && b) (each x y are.0) (all_same R f g each xs ys are.1)
+
+both_empty : {X Y : Type 0} (R : X → Y → Type 0) (xs : List X) (ys : List Y) → AllZip R xs ys → is_empty xs ≡ is_empty ys
+both_empty R [] [] are = refl
+both_empty R [] (y ∷ ys) are = absurd are
+both_empty R (x ∷ xs) [] are = absurd are
+both_empty R (x ∷ xs) (y ∷ ys) are = refl
+
+-- the state of a block that is read, or none in either
+abbrev IsReadSomeState : Reading → Option BlockState → Option BlockState → Type 0
+IsReadSomeState reading None None = Unit {0}
+IsReadSomeState reading (Some state') (Some state) = IsReadState reading state' state
+IsReadSomeState reading _ _ = ⊥
+
+found : (reading : Reading) (f g : BlockState → Bool) → ((state' state : BlockState) → IsReadState reading state' state → f state' ≡ g state)
+    → (states' states : List BlockState) → AllZip (IsReadState reading) states' states → IsReadSomeState reading (find f states') (find g states)
+found reading f g each [] [] are = tt
+found reading f g each [] (state ∷ states) are = absurd are
+found reading f g each (state' ∷ states') [] are = absurd are
+found reading f g each (state' ∷ states') (state ∷ states) are = by (f state') (g state) (each state' state are.0) (found reading f g each states' states are.1)
+  where
+    by : (c' c : Bool) → c' ≡ c → IsReadSomeState reading (find f states') (find g states)
+        → IsReadSomeState reading (cond c' (Some state') (find f states')) (cond c (Some state) (find g states))
+    by true true same rest = are.0
+    by true false same rest = cc
+    by false true same rest = cc
+    by false false same rest = rest
+
+-- a test of states answers the same
+has_same : (reading : Reading) (f g : BlockState → Bool) → ((state' state : BlockState) → IsReadState reading state' state → f state' ≡ g state)
+    → (state' state : Option BlockState) → IsReadSomeState reading state' state → state_has f state' ≡ state_has g state
+has_same reading f g each None None is = refl
+has_same reading f g each (Some state') (Some state) is = each state' state is
+has_same reading f g each None (Some state) is = absurd is
+has_same reading f g each (Some state') None is = absurd is
+
+some_same : (reading : Reading) (state' state : Option BlockState) → IsReadSomeState reading state' state → is_some state' ≡ is_some state
+some_same reading None None is = refl
+some_same reading (Some state') (Some state) is = refl
+some_same reading None (Some state) is = absurd is
+some_same reading (Some state') None is = absurd is
+
+-- ANSWERS -----------------------------------------------------------------------------------------------------------------
+
+value_same : (reading : Reading) (answer' answer : Option Answered) → IsReadAnswer reading answer' answer → value_answer_type answer' ≡ value_answer_type answer
+value_same reading None None is = refl
+value_same reading (Some ABlock) (Some ABlock) is = refl
+value_same reading (Some (AVariable v')) (Some (AVariable v)) is = refl
+value_same reading (Some (AValue t')) (Some (AValue t)) is = ap (λ (ty : «Type»). Some ty) is
+value_same reading (Some AnInstruction) (Some AnInstruction) is = refl
+value_same reading (Some (AnEntry e' n')) (Some (AnEntry e n)) is = refl
+value_same reading (Some (AnEdge edge')) (Some (AnEdge edge)) is = refl
+value_same reading (Some (AJumpTable n')) (Some (AJumpTable n)) is = refl
+value_same reading (Some (AnExceptionTable n')) (Some (AnExceptionTable n)) is = refl
+value_same reading _ _ is = absurd is
+
+edge_same : (reading : Reading) (answer' answer : Option Answered) → IsReadAnswer reading answer' answer → is_some (answered_edge answer') ≡ is_some (answered_edge answer)
+edge_same reading None None is = refl
+edge_same reading (Some ABlock) (Some ABlock) is = refl
+edge_same reading (Some (AVariable v')) (Some (AVariable v)) is = refl
+edge_same reading (Some (AValue t')) (Some (AValue t)) is = refl
+edge_same reading (Some AnInstruction) (Some AnInstruction) is = refl
+edge_same reading (Some (AnEntry e' n')) (Some (AnEntry e n)) is = refl
+edge_same reading (Some (AnEdge edge')) (Some (AnEdge edge)) is = refl
+edge_same reading (Some (AJumpTable n')) (Some (AJumpTable n)) is = refl
+edge_same reading (Some (AnExceptionTable n')) (Some (AnExceptionTable n)) is = refl
+edge_same reading _ _ is = absurd is
+
+instruction_same : (reading : Reading) (answer' answer : Option Answered) → IsReadAnswer reading answer' answer → is_instruction_answer answer' ≡ is_instruction_answer answer
+instruction_same reading None None is = refl
+instruction_same reading (Some ABlock) (Some ABlock) is = refl
+instruction_same reading (Some (AVariable v')) (Some (AVariable v)) is = refl
+instruction_same reading (Some (AValue t')) (Some (AValue t)) is = refl
+instruction_same reading (Some AnInstruction) (Some AnInstruction) is = refl
+instruction_same reading (Some (AnEntry e' n')) (Some (AnEntry e n)) is = refl
+instruction_same reading (Some (AnEdge edge')) (Some (AnEdge edge)) is = refl
+instruction_same reading (Some (AJumpTable n')) (Some (AJumpTable n)) is = refl
+instruction_same reading (Some (AnExceptionTable n')) (Some (AnExceptionTable n)) is = refl
+instruction_same reading _ _ is = absurd is
+
+-- TABLES ------------------------------------------------------------------------------------------------------------------
+
+table_same : (reading : Reading) (tables' tables : List (Option (List (Edge Name Name)))) (k : ℕ) → AllZip (IsReadTable reading) tables' tables
+    → is_some (option_and_then (λ edges. edges) (slice_get tables' k)) ≡ is_some (option_and_then (λ edges. edges) (slice_get tables k))
+table_same reading [] [] k are = refl
+table_same reading [] (table ∷ tables) k are = absurd are
+table_same reading (table' ∷ tables') [] k are = absurd are
+table_same reading (None ∷ tables') (None ∷ tables) zero are = refl
+table_same reading (Some edges' ∷ tables') (Some edges ∷ tables) zero are = refl
+table_same reading (None ∷ tables') (Some edges ∷ tables) zero are = absurd are.0
+table_same reading (Some edges' ∷ tables') (None ∷ tables) zero are = absurd are.0
+table_same reading (table' ∷ tables') (table ∷ tables) (suc k) are = table_same reading tables' tables k are.1
+
+exception_same : (reading : Reading) (tables' tables : List (Option ExceptionTable)) (k : ℕ) → AllZip (IsReadException reading) tables' tables
+    → is_some (option_and_then (λ held. held) (slice_get tables' k)) ≡ is_some (option_and_then (λ held. held) (slice_get tables k))
+exception_same reading [] [] k are = refl
+exception_same reading [] (table ∷ tables) k are = absurd are
+exception_same reading (table' ∷ tables') [] k are = absurd are
+exception_same reading (None ∷ tables') (None ∷ tables) zero are = refl
+exception_same reading (Some held' ∷ tables') (Some held ∷ tables) zero are = refl
+exception_same reading (None ∷ tables') (Some held ∷ tables) zero are = absurd are.0
+exception_same reading (Some held' ∷ tables') (None ∷ tables) zero are = absurd are.0
+exception_same reading (table' ∷ tables') (table ∷ tables) (suc k) are = exception_same reading tables' tables k are.1
+
+-- CONDITIONS --------------------------------------------------------------------------------------------------------------
+
+module _ (reading : Reading) (plain ledger : Ledger) (joined : IsJoined reading plain ledger) where
+  state_read : (x block : Name) → IsReadAs reading x block → IsReadSomeState reading (block_state plain x) (block_state ledger block)
+  state_read x block is =
+      found reading (λ state. same_name state.block x) (λ state. same_name state.block block)
+      (λ state' state read. same_read reading joined.one_to_one state'.block x state.block block read.block is)
+      plain.blocks ledger.blocks joined.ledgers.states.blocks
+
+  tested : (f g : BlockState → Bool) → ((state' state : BlockState) → IsReadState reading state' state → f state' ≡ g state) → (x block : Name) → IsReadAs reading x block
+      → state_has f (block_state plain x) ≡ state_has g (block_state ledger block)
+  tested f g each x block is = has_same reading f g each (block_state plain x) (block_state ledger block) (state_read x block is)
+
+  block_same : (x block : Name) → IsReadAs reading x block → has_block plain x ≡ has_block ledger block
+  block_same x block is = some_same reading (block_state plain x) (block_state ledger block) (state_read x block is)
+
+  filled_same : (x block : Name) → IsReadAs reading x block → is_filled plain x ≡ is_filled ledger block
+  filled_same x block is = tested (λ state. state.is_filled) (λ state. state.is_filled) (λ state' state read. read.is_filled) x block is
+
+  sealed_same : (x block : Name) → IsReadAs reading x block → is_sealed plain x ≡ is_sealed ledger block
+  sealed_same x block is = tested (λ state. state.is_sealed) (λ state. state.is_sealed) (λ state' state read. read.is_sealed) x block is
+
+  pristine_same : (x block : Name) → IsReadAs reading x block → is_pristine plain x ≡ is_pristine ledger block
+  pristine_same x block is = tested (λ state. state.is_pristine) (λ state. state.is_pristine) (λ state' state read. read.is_pristine) x block is
+
+  led_same : (x block : Name) → IsReadAs reading x block → has_predecessors plain x ≡ has_predecessors ledger block
+  led_same x block is =
+      tested (λ state. not (is_empty state.predecessors)) (λ state. not (is_empty state.predecessors))
+      (λ state' state read. ap not (both_empty (IsReadAs reading) state'.predecessors state.predecessors read.predecessors)) x block is
+
+  leads_same : (jump branch x block : Name) → IsReadAs reading jump branch → IsReadAs reading x block → leads_to plain jump x ≡ leads_to ledger branch block
+  leads_same jump branch x block by is =
+      tested (λ state. list_any (same_name jump) state.predecessors) (λ state. list_any (same_name branch) state.predecessors)
+      (λ state' state read. any_read reading joined.one_to_one jump branch state'.predecessors state.predecessors by read.predecessors) x block is
+
+  is_inserted_same : (x block : Name) → IsReadAs reading x block → is_inserted plain x ≡ is_inserted ledger block
+  is_inserted_same x block is = inserted_read reading joined.one_to_one plain ledger x block joined.ledgers.states is
+
+  begins_same : (x block : Name) (layout' layout : List Name) → IsReadAs reading x block → AllZip (IsReadAs reading) layout' layout → begins_with layout' x ≡ begins_with layout block
+  begins_same x block [] [] is are = refl
+  begins_same x block [] (entry ∷ layout) is are = absurd are
+  begins_same x block (entry' ∷ layout') [] is are = absurd are
+  begins_same x block (entry' ∷ layout') (entry ∷ layout) is are = same_read reading joined.one_to_one entry' x entry block are.0 is
+
+  unreachable_same : (x block : Name) → IsReadAs reading x block → is_unreachable plain x ≡ is_unreachable ledger block
+  unreachable_same x block is =
+      let layout = joined.ledgers.states.layout in
+      λ i. not (both_empty (IsReadAs reading) plain.layout ledger.layout layout i) && not (begins_same x block plain.layout ledger.layout is layout i)
+      && sealed_same x block is i && not (led_same x block is i)
+
+  open_same : (current' current : Option Name) → IsReadBlock reading current' current → is_open plain current' ≡ is_open ledger current
+  open_same None None is = refl
+  open_same (Some x) (Some block) is = ap not (filled_same x block is)
+  open_same None (Some block) is = absurd is
+  open_same (Some x) None is = absurd is
+
+  leave_same : (current' current : Option Name) → IsReadBlock reading current' current → can_leave plain current' ≡ can_leave ledger current
+  leave_same None None is = refl
+  leave_same (Some x) (Some block) is = λ i. unreachable_same x block is i || pristine_same x block is i || filled_same x block is i
+  leave_same None (Some block) is = absurd is
+  leave_same (Some x) None is = absurd is
+
+  pub opened : is_open plain plain.current ≡ is_open ledger ledger.current
+  opened = open_same plain.current ledger.current joined.ledgers.states.current
+
+  type_same : (x name : Name) → IsReadAs reading x name → type_of plain x ≡ type_of ledger name
+  type_same x name is = value_same reading (answer_at plain x) (answer_at ledger name) (joined.ledgers.answers x name is)
+
+  pub has_value_same : (x name : Name) → IsReadAs reading x name → has_value plain x ≡ has_value ledger name
+  has_value_same x name is = ap (λ (ty : Option «Type»). is_some ty) (type_same x name is)
+
+  argument_same : (argument' argument : Argument Name) → IsReadArgument reading argument' argument → has_argument plain argument' ≡ has_argument ledger argument
+  argument_same (Known x) (Known name) is = has_value_same x name is
+  argument_same (CallResult k) (CallResult index) is = refl
+  argument_same (CallPayload k) (CallPayload index) is = refl
+  argument_same _ _ is = absurd is
+
+  arguments_same : (edge' edge : Edge Name Name) → IsReadEdge reading edge' edge → list_all (has_argument plain) edge'.arguments ≡ list_all (has_argument ledger) edge.arguments
+  arguments_same edge' edge is = all_same (IsReadArgument reading) (has_argument plain) (has_argument ledger) argument_same edge'.arguments edge.arguments is.arguments
+
+  lead_same : (edge' edge : Edge Name Name) → IsReadEdge reading edge' edge → can_lead plain edge' ≡ can_lead ledger edge
+  lead_same edge' edge is = λ i. block_same edge'.target edge.target is.target i && not (sealed_same edge'.target edge.target is.target i) && arguments_same edge' edge is i
+
+  give_same : (entry : GivenEntry) → may_give plain entry ≡ may_give ledger entry
+  give_same (ServedBy table) = table_same reading plain.jump_tables ledger.jump_tables table joined.ledgers.states.jump_tables
+  give_same (TriedBy table) = exception_same reading plain.exception_tables ledger.exception_tables table joined.ledgers.states.exception_tables
+  give_same (Imported entry) = ap (λ (tables : TableLists). has_entry tables entry) joined.ledgers.states.tables
+
+  gives_same : (entries : List GivenEntry) → list_all (may_give plain) entries ≡ list_all (may_give ledger) entries
+  gives_same [] = refl
+  gives_same (entry ∷ entries) = ap₂ (λ (a b : Bool). a && b) (give_same entry) (gives_same entries)
+
+  values_same : (names' names : List Name) → AllZip (IsReadAs reading) names' names → list_all (has_value plain) names' ≡ list_all (has_value ledger) names
+  values_same names' names are = all_same (IsReadAs reading) (has_value plain) (has_value ledger) has_value_same names' names are
+
+  variable_same : (number variable : ℕ) → number ≡ variable → variable_type plain number ≡ variable_type ledger variable
+  variable_same number variable is =
+      ap₂ (λ (variables : List VariableState) (v : ℕ). option_map (λ (state : VariableState). state.ty) (slice_get variables v)) joined.ledgers.states.variables is
+
+  assign_same : (number variable : ℕ) (x value : Name) → number ≡ variable → IsReadAs reading x value
+      → can_assign (variable_type plain number) (type_of plain x) ≡ can_assign (variable_type ledger variable) (type_of ledger value)
+  assign_same number variable x value same is = ap₂ can_assign (variable_same number variable same) (type_same x value is)
+
+  named_same : (x name : Name) → IsReadAs reading x name → is_some (edge_named plain x) ≡ is_some (edge_named ledger name)
+  named_same x name is = edge_same reading (answer_at plain x) (answer_at ledger name) (joined.ledgers.answers x name is)
+
+  edges_same : (names' names : List Name) → AllZip (IsReadAs reading) names' names → list_all (λ name. is_some (edge_named plain name)) names' ≡ list_all (λ name. is_some (edge_named ledger name)) names
+  edges_same names' names are =
+      all_same (IsReadAs reading) (λ name. is_some (edge_named plain name)) (λ name. is_some (edge_named ledger name))
+      named_same names' names are
+
+  item_same : (item' item : TableItem) → IsReadTableItem reading item' item → has_item plain item' ≡ has_item ledger item
+  item_same (TagTo tag' x) (TagTo tag edge) is = named_same x edge is.1
+  item_same (DefaultTo x) (DefaultTo edge) is = named_same x edge is
+  item_same (InContext x) (InContext value) is = has_value_same x value is
+  item_same _ _ is = absurd is
+
+  built : (entries' entries : List GivenEntry) (instruction' instruction : Instruction Name Name) → entries' ≡ entries → IsReadInstruction reading instruction' instruction
+      → allows plain (Build entries' instruction') ≡ allows ledger (Build entries instruction)
+  built entries' entries instruction' instruction same is =
+      let operation = is.operation in
+      let operands = values_same instruction'.operands instruction.operands is.operands in
+      let edges = all_same (IsReadEdge reading) (can_lead plain) (can_lead ledger) lead_same instruction'.edges instruction.edges is.edges in
+      let given : list_all (may_give plain) entries' ≡ list_all (may_give ledger) entries = ap (λ (es : List GivenEntry). list_all (may_give plain) es) same ∙ gives_same entries in
+      λ i. given i && opened i && operands i && edges i && can_operate (operation i) (is.controlling i)
+      && list_all (has_entry (joined.ledgers.states.tables i)) (operation_entries (operation i))
+
+  allowed : (asked request : Request) → IsReadRequest reading asked request → allows plain asked ≡ allows ledger request
+  allowed CreateBlock CreateBlock is = refl
+  allowed (SwitchToBlock x) (SwitchToBlock block) is =
+      let leave = leave_same plain.current ledger.current joined.ledgers.states.current in
+      λ i. block_same x block is i && not (filled_same x block is i) && leave i
+  allowed (SealBlock x) (SealBlock block) is = λ i. block_same x block is i && not (sealed_same x block is i)
+  allowed SealAllBlocks SealAllBlocks is = refl
+  allowed (InsertBlockAfter x behind) (InsertBlockAfter block after) is =
+      λ i. block_same x block is.0 i && not (is_inserted_same x block is.0 i) && is_inserted_same behind after is.1 i
+  allowed (SetColdBlock x) (SetColdBlock block) is = block_same x block is
+  allowed EnsureInsertedBlock EnsureInsertedBlock is = opened
+  allowed (AppendBlockParams x types') (AppendBlockParams block types) is = pristine_same x block is.0
+  allowed (AppendFunctionParams x types') (AppendFunctionParams block types) is = λ i. pristine_same x block is.0 i && not (led_same x block is.0 i)
+  allowed (DeclareVar ty') (DeclareVar ty) is = ap is_type is
+  allowed (DefVar number x) (DefVar variable value) is = λ i. opened i && assign_same number variable x value is.0 is.1 i
+  allowed (UseVar number) (UseVar variable) is = λ i. opened i && is_some (variable_same number variable is i)
+  allowed (MakeEntry entry') (MakeEntry entry) is = ap₂ can_make joined.ledgers.states.tables is
+  allowed (MakeEdge edge') (MakeEdge edge) is = λ i. block_same edge'.target edge.target is.target i && arguments_same edge' edge is i
+  allowed (MakeJumpTable first names) (MakeJumpTable default entries) is = edges_same (first ∷ names) (default ∷ entries) is
+  allowed (MakeExceptionTable number first listed) (MakeExceptionTable signature normal items) is =
+      ap₂ (λ (a b : Bool). a && b) (named_same first normal is.1) (all_same (IsReadTableItem reading) (has_item plain) (has_item ledger) item_same listed items is.2)
+  allowed (Annotate names) (Annotate values) is = values_same names values is
+  allowed (Build entries' instruction') (Build entries instruction) is = built entries' entries instruction' instruction is.0 is.1
+  allowed (ChangeJumpDestination jump at there) (ChangeJumpDestination branch from to) is =
+      let branches = instruction_same reading (answer_at plain jump) (answer_at ledger branch) (joined.ledgers.answers jump branch is.0) in
+      λ i. branches i && leads_same jump branch at from is.0 is.1 i && not (sealed_same at from is.1 i) && block_same there to is.2 i && not (sealed_same there to is.2 i)
+  allowed Finalize Finalize is = refl
+  allowed _ _ is = absurd is
+
+  blamed : (asked request : Request) → IsReadRequest reading asked request → blames_variable plain asked ≡ blames_variable ledger request
+  blamed (DefVar number x) (DefVar variable value) is =
+      λ i. opened i && has_value_same x value is.1 i && not (assign_same number variable x value is.0 is.1 i)
+  blamed (UseVar number) (UseVar variable) is = λ i. opened i && not (is_some (variable_same number variable is i))
+  blamed CreateBlock CreateBlock is = refl
+  blamed (SwitchToBlock x) (SwitchToBlock block) is = refl
+  blamed (SealBlock x) (SealBlock block) is = refl
+  blamed SealAllBlocks SealAllBlocks is = refl
+  blamed (InsertBlockAfter x behind) (InsertBlockAfter block after) is = refl
+  blamed (SetColdBlock x) (SetColdBlock block) is = refl
+  blamed EnsureInsertedBlock EnsureInsertedBlock is = refl
+  blamed (AppendBlockParams x types') (AppendBlockParams block types) is = refl
+  blamed (AppendFunctionParams x types') (AppendFunctionParams block types) is = refl
+  blamed (DeclareVar ty') (DeclareVar ty) is = refl
+  blamed (MakeEntry entry') (MakeEntry entry) is = refl
+  blamed (MakeEdge edge') (MakeEdge edge) is = refl
+  blamed (MakeJumpTable first names) (MakeJumpTable default entries) is = refl
+  blamed (MakeExceptionTable number first listed) (MakeExceptionTable signature normal items) is = refl
+  blamed (Annotate names) (Annotate values) is = refl
+  blamed (Build entries' instruction') (Build entries instruction) is = refl
+  blamed (ChangeJumpDestination jump at there) (ChangeJumpDestination branch from to) is = refl
+  blamed Finalize Finalize is = refl
+  blamed _ _ is = absurd is
+
+  unfinished_read : (state' state : Option BlockState) → IsReadSomeState reading state' state → IsReadRefusal reading (unfinished state') (unfinished state)
+  unfinished_read None None is = tt
+  unfinished_read (Some state') (Some state) is = by state'.is_sealed state.is_sealed is.is_sealed
+    where
+      by : (c' c : Bool) → c' ≡ c → IsReadRefusal reading (Some (if c' then Unfilled state'.block else Unsealed state'.block)) (Some (if c then Unfilled state.block else Unsealed state.block))
+      by true true same = is.block
+      by true false same = cc
+      by false true same = cc
+      by false false same = is.block
+  unfinished_read None (Some state) is = absurd is
+  unfinished_read (Some state') None is = absurd is
+
+  finished_same : (state' state : BlockState) → IsReadState reading state' state → is_unfinished state' ≡ is_unfinished state
+  finished_same state' state read = λ i. not (read.is_pristine i) && not (read.is_sealed i && read.is_filled i)
+
+  refused : (asked request : Request) → IsReadRequest reading asked request → IsReadRefusal reading (refusal_of plain asked) (refusal_of ledger request)
+  refused Finalize Finalize is =
+      unfinished_read (find is_unfinished plain.blocks) (find is_unfinished ledger.blocks)
+      (found reading is_unfinished is_unfinished finished_same plain.blocks ledger.blocks joined.ledgers.states.blocks)
+  refused CreateBlock CreateBlock is = tt
+  refused (SwitchToBlock x) (SwitchToBlock block) is = tt
+  refused (SealBlock x) (SealBlock block) is = tt
+  refused SealAllBlocks SealAllBlocks is = tt
+  refused (InsertBlockAfter x behind) (InsertBlockAfter block after) is = tt
+  refused (SetColdBlock x) (SetColdBlock block) is = tt
+  refused EnsureInsertedBlock EnsureInsertedBlock is = tt
+  refused (AppendBlockParams x types') (AppendBlockParams block types) is = tt
+  refused (AppendFunctionParams x types') (AppendFunctionParams block types) is = tt
+  refused (DeclareVar ty') (DeclareVar ty) is = tt
+  refused (DefVar number x) (DefVar variable value) is = tt
+  refused (UseVar number) (UseVar variable) is = tt
+  refused (MakeEntry entry') (MakeEntry entry) is = tt
+  refused (MakeEdge edge') (MakeEdge edge) is = tt
+  refused (MakeJumpTable first names) (MakeJumpTable default entries) is = tt
+  refused (MakeExceptionTable number first listed) (MakeExceptionTable signature normal items) is = tt
+  refused (Annotate names) (Annotate values) is = tt
+  refused (Build entries' instruction') (Build entries instruction) is = tt
+  refused (ChangeJumpDestination jump at there) (ChangeJumpDestination branch from to) is = tt
+  refused _ _ is = absurd is
+
+pub conditions_are_read : ConditionsAreRead
+conditions_are_read = record {
+  allowed = λ reading plain ledger asked request joined is. allowed reading plain ledger joined asked request is;
+  blamed = λ reading plain ledger asked request joined is. blamed reading plain ledger joined asked request is;
+  refused = λ reading plain ledger asked request joined is. refused reading plain ledger joined asked request is;
+}

@@ -1,0 +1,154 @@
+-- The plain calls of a script's calls: each call that asks the builder stands for that call with its names read, and one that
+-- emits stands for the calls that build its code, in a line. Which name is read as which follows from where calls stand. Own.
+use Rattle.std.specs.Prelude.{◌≡◌, ◌<◌, ◌==◌, ℕ, zero, suc, if◌then◌else◌, List, length, Option, Some, None}
+use Rattle.std.specs.List.{AllZip}
+use Rattle.clif_meaning.specs.Acceptance.{Refusal, Unfilled, Unsealed, allows, blames_variable, refusal_of}
+use Rattle.clif_meaning.specs.Instruction.{Edge}
+use Rattle.clif_meaning.specs.Ledger.{ABlock, AVariable, AValue, AnInstruction, AnEntry, AnEdge, AJumpTable, AnExceptionTable, Answered, BlockState, ExceptionTable, Ledger, answer_at, empty_ledger, ledger_with}
+use Rattle.clif_meaning.specs.Name.{Name, answer_of}
+use Rattle.clif_meaning.specs.Request.{Request, CreateBlock, SwitchToBlock, SealBlock, SealAllBlocks, InsertBlockAfter, SetColdBlock, EnsureInsertedBlock, AppendBlockParams, AppendFunctionParams, DeclareVar, DefVar, UseVar, MakeEntry, MakeEdge, MakeJumpTable, MakeExceptionTable, Annotate, TableItem, TagTo, DefaultTo, InContext, Build, ChangeJumpDestination, Finalize}
+use Rattle.clif_expansion.specs.Expansion.{IsReadBlock}
+use Rattle.clif_expansion.specs.Reading.{Generated, IsOneToOne, IsReadAs, IsReadEdge, IsReadInstruction, NotMade, Reading, ScriptName, StandsFor}
+
+-- REQUESTS ----------------------------------------------------------------------------------------------------------------
+
+-- an item of an exception table, with the name of its edge or of its context read
+abbrev pub IsReadTableItem : Reading → (plain item : TableItem) → Type 0
+IsReadTableItem reading (TagTo plain x) (TagTo tag edge) = (plain ≡ tag) × IsReadAs reading x edge
+IsReadTableItem reading (DefaultTo x) (DefaultTo edge) = IsReadAs reading x edge
+IsReadTableItem reading (InContext x) (InContext value) = IsReadAs reading x value
+IsReadTableItem reading _ _ = ⊥
+
+-- the request with its names read
+abbrev pub IsReadRequest : Reading → (plain request : Request) → Type 0
+IsReadRequest reading CreateBlock CreateBlock = Unit {0}
+IsReadRequest reading (SwitchToBlock plain) (SwitchToBlock block) = IsReadAs reading plain block
+IsReadRequest reading (SealBlock plain) (SealBlock block) = IsReadAs reading plain block
+IsReadRequest reading SealAllBlocks SealAllBlocks = Unit {0}
+IsReadRequest reading (InsertBlockAfter plain behind) (InsertBlockAfter block after) = IsReadAs reading plain block × IsReadAs reading behind after
+IsReadRequest reading (SetColdBlock plain) (SetColdBlock block) = IsReadAs reading plain block
+IsReadRequest reading EnsureInsertedBlock EnsureInsertedBlock = Unit {0}
+IsReadRequest reading (AppendBlockParams plain given) (AppendBlockParams block types) = IsReadAs reading plain block × (given ≡ types)
+IsReadRequest reading (AppendFunctionParams plain given) (AppendFunctionParams block types) = IsReadAs reading plain block × (given ≡ types)
+IsReadRequest reading (DeclareVar given) (DeclareVar ty) = given ≡ ty
+IsReadRequest reading (DefVar number x) (DefVar variable value) = (number ≡ variable) × IsReadAs reading x value
+IsReadRequest reading (UseVar number) (UseVar variable) = number ≡ variable
+IsReadRequest reading (MakeEntry given) (MakeEntry entry) = given ≡ entry
+IsReadRequest reading (MakeEdge plain) (MakeEdge edge) = IsReadEdge reading plain edge
+IsReadRequest reading (MakeJumpTable first names) (MakeJumpTable default entries) = IsReadAs reading first default × AllZip (IsReadAs reading) names entries
+IsReadRequest reading (MakeExceptionTable number first listed) (MakeExceptionTable signature normal items) =
+    (number ≡ signature) × IsReadAs reading first normal × AllZip (IsReadTableItem reading) listed items
+IsReadRequest reading (Annotate names) (Annotate values) = AllZip (IsReadAs reading) names values
+IsReadRequest reading (Build given plain) (Build entries instruction) = (given ≡ entries) × IsReadInstruction reading plain instruction
+IsReadRequest reading (ChangeJumpDestination jump here there) (ChangeJumpDestination branch from to) =
+    IsReadAs reading jump branch × IsReadAs reading here from × IsReadAs reading there to
+IsReadRequest reading Finalize Finalize = Unit {0}
+IsReadRequest reading _ _ = ⊥
+
+-- READINGS ----------------------------------------------------------------------------------------------------------------
+
+-- the reading, in which the answers to the plain call at this place stand for these
+abbrev pub reading_with : Reading → (place : ℕ) → (ℕ → StandsFor) → Reading
+reading_with reading place answers x = if x.place == place then answers x.index else reading x
+
+-- the answers of the script's call at this place, by their numbers
+abbrev pub answers_at : (place : ℕ) → ℕ → StandsFor
+answers_at place index = ScriptName (answer_of place index)
+
+-- The last call of an emission's code: its results, behind its number, are those of the script's call at this place.
+abbrev pub results_at : (place : ℕ) → ℕ → StandsFor
+results_at place zero = Generated
+results_at place (suc index) = ScriptName (answer_of place index)
+
+-- LEDGERS -----------------------------------------------------------------------------------------------------------------
+
+-- the answer is the same, with the names of an edge read
+abbrev pub IsReadAnswer : Reading → (plain answer : Option Answered) → Type 0
+IsReadAnswer reading None None = Unit {0}
+IsReadAnswer reading (Some ABlock) (Some ABlock) = Unit {0}
+IsReadAnswer reading (Some (AVariable plain)) (Some (AVariable variable)) = plain ≡ variable
+IsReadAnswer reading (Some (AValue plain)) (Some (AValue ty)) = plain ≡ ty
+IsReadAnswer reading (Some AnInstruction) (Some AnInstruction) = Unit {0}
+IsReadAnswer reading (Some (AnEntry plain number)) (Some (AnEntry entry index)) = (plain ≡ entry) × (number ≡ index)
+IsReadAnswer reading (Some (AnEdge plain)) (Some (AnEdge edge)) = IsReadEdge reading plain edge
+IsReadAnswer reading (Some (AJumpTable plain)) (Some (AJumpTable number)) = plain ≡ number
+IsReadAnswer reading (Some (AnExceptionTable plain)) (Some (AnExceptionTable number)) = plain ≡ number
+IsReadAnswer reading _ _ = ⊥
+
+-- The state of a block, with its name and its predecessors read.
+pub record IsReadState (reading : Reading) (plain state : BlockState) : Type 0 where
+  pub block : IsReadAs reading plain.block state.block
+  pub parameters : plain.parameters ≡ state.parameters
+  pub is_pristine : plain.is_pristine ≡ state.is_pristine
+  pub is_filled : plain.is_filled ≡ state.is_filled
+  pub is_sealed : plain.is_sealed ≡ state.is_sealed
+  pub is_cold : plain.is_cold ≡ state.is_cold
+  pub predecessors : AllZip (IsReadAs reading) plain.predecessors state.predecessors
+
+-- the edges of a jump table that serves no instruction so far
+abbrev pub IsReadTable : Reading → (plain table : Option (List (Edge Name Name))) → Type 0
+IsReadTable reading None None = Unit {0}
+IsReadTable reading (Some plain) (Some edges) = AllZip (IsReadEdge reading) plain edges
+IsReadTable reading _ _ = ⊥
+
+-- what an exception table holds, with its edges and the names of its contexts read
+pub record IsReadExceptionTable (reading : Reading) (plain table : ExceptionTable) : Type 0 where
+  pub signature : plain.signature ≡ table.signature
+  pub edges : AllZip (IsReadEdge reading) plain.edges table.edges
+  pub items : plain.items ≡ table.items
+  pub contexts : AllZip (IsReadAs reading) plain.contexts table.contexts
+
+-- an exception table that serves no instruction so far
+abbrev pub IsReadException : Reading → (plain table : Option ExceptionTable) → Type 0
+IsReadException reading None None = Unit {0}
+IsReadException reading (Some plain) (Some table) = IsReadExceptionTable reading plain table
+IsReadException reading _ _ = ⊥
+
+-- Beside the answers, the ledgers are joined: the script's blocks in the same order and states, and layout, variables and tables.
+pub record AreJoinedStates (reading : Reading) (plain ledger : Ledger) : Type 0 where
+  pub blocks : AllZip (IsReadState reading) plain.blocks ledger.blocks
+  pub current : IsReadBlock reading plain.current ledger.current
+  pub layout : AllZip (IsReadAs reading) plain.layout ledger.layout
+  pub variables : plain.variables ≡ ledger.variables
+  pub jump_tables : AllZip (IsReadTable reading) plain.jump_tables ledger.jump_tables
+  pub exception_tables : AllZip (IsReadException reading) plain.exception_tables ledger.exception_tables
+  pub tables : plain.tables ≡ ledger.tables
+
+pub record AreJoinedLedgers (reading : Reading) (plain ledger : Ledger) : Type 0 where
+  pub states : AreJoinedStates reading plain ledger
+  pub answers : (x name : Name) → IsReadAs reading x name → IsReadAnswer reading (answer_at plain x) (answer_at ledger name)
+
+-- So they are, no two plain names are read as one, and what is read was made.
+pub record IsJoined (reading : Reading) (plain ledger : Ledger) : Type 0 where
+  pub ledgers : AreJoinedLedgers reading plain ledger
+  pub one_to_one : IsOneToOne reading
+  pub made : (x name : Name) → IsReadAs reading x name → (x.place < length plain.answers) × (name.place < length ledger.answers)
+
+-- the reading behind one call more on both sides
+abbrev pub reading_after : Reading → (plain ledger : Ledger) → Reading
+reading_after reading plain ledger = reading_with reading (length plain.answers) (answers_at (length ledger.answers))
+
+-- why a call is refused, with its block read
+abbrev pub IsReadRefusal : Reading → (plain refusal : Option Refusal) → Type 0
+IsReadRefusal reading None None = Unit {0}
+IsReadRefusal reading (Some (Unsealed plain)) (Some (Unsealed block)) = IsReadAs reading plain block
+IsReadRefusal reading (Some (Unfilled plain)) (Some (Unfilled block)) = IsReadAs reading plain block
+IsReadRefusal reading _ _ = ⊥
+
+-- LAWS --------------------------------------------------------------------------------------------------------------------
+
+pub record AskingKeepsJoins : Type 0 where
+  -- before the first call
+  pub starts : IsJoined (λ x. NotMade) empty_ledger empty_ledger
+  -- One call more on both sides keeps the join.
+  pub keeps : (reading : Reading) (plain ledger : Ledger) (asked request : Request) → IsJoined reading plain ledger → IsReadRequest reading asked request
+      → IsJoined (reading_after reading plain ledger) (ledger_with plain asked) (ledger_with ledger request)
+
+-- What the script may call the builder is called with names read, and what it is refused for it is refused for.
+pub record ConditionsAreRead : Type 0 where
+  pub allowed : (reading : Reading) (plain ledger : Ledger) (asked request : Request) → IsJoined reading plain ledger → IsReadRequest reading asked request
+      → allows plain asked ≡ allows ledger request
+  pub blamed : (reading : Reading) (plain ledger : Ledger) (asked request : Request) → IsJoined reading plain ledger → IsReadRequest reading asked request
+      → blames_variable plain asked ≡ blames_variable ledger request
+  pub refused : (reading : Reading) (plain ledger : Ledger) (asked request : Request) → IsJoined reading plain ledger → IsReadRequest reading asked request
+      → IsReadRefusal reading (refusal_of plain asked) (refusal_of ledger request)

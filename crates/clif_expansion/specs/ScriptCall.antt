@@ -1,0 +1,87 @@
+-- The calls of a script that may also emit instructions that only scripts have. Such a call is one step of the script's machine; its
+-- answers are the instruction's results alone, and its change of the ledger and of the program is that of an instruction that is
+-- built. Without one, all is as it is for the builder's own calls. What may be emitted is from the documentation of Cranelift's
+-- `InstBuilder`; the rest is own.
+use Rattle.std.specs.Prelude.{◌≡◌, ℕ, suc, ◌&&◌, ◌^◌, Bool, false, List, [], ◌∷◌, ◌++◌, map, fold, Option, None, nat_lt, ℤ, pos, negsuc}
+use Rattle.std.specs.List.{list_all}
+use Rattle.clif_types.specs.declared.types.«Type».{«Type»}
+use Rattle.clif_types.specs.Types.{is_int}
+use Rattle.clif_meaning.specs.Acceptance.{Refusal, allows, can_lead, is_open, refusal_of}
+use Rattle.clif_meaning.specs.Instruction.{AddConstant, CompareConstant, Compute, Instruction, Operation}
+use Rattle.clif_meaning.specs.Ledger.{AValue, Answered, Ledger, answers_to, changed_by, empty_ledger, has_value, ledger_after, with_instruction}
+use Rattle.clif_meaning.specs.Name.{Name}
+use Rattle.clif_meaning.specs.Program.{Item, Instruct, Program, answers_from, empty_program, program_of, result_types, with_call, with_inserted, with_item}
+use Rattle.clif_meaning.specs.Request.{Request, Script}
+
+pub data ScriptCall : Type 0 where
+  -- what the builder is asked
+  Ask : Request → ScriptCall
+  -- an instruction that only scripts have, at the end of the current block
+  Emit : Instruction Name Name → ScriptCall
+
+-- the types of an instruction's results
+abbrev pub emitted_types : Instruction Name Name → List «Type»
+emitted_types instruction = result_types instruction.operation instruction.controlling
+
+-- THE LEDGER --------------------------------------------------------------------------------------------------------------
+
+abbrev pub call_answers : Ledger → ScriptCall → List Answered
+call_answers ledger (Ask request) = answers_to ledger request
+call_answers ledger (Emit instruction) = map AValue (emitted_types instruction)
+
+-- what a call changes, its answers aside
+abbrev pub call_changes : Ledger → ScriptCall → Ledger
+call_changes ledger (Ask request) = changed_by ledger request
+call_changes ledger (Emit instruction) = with_instruction ledger instruction
+
+abbrev pub ledger_with_call : Ledger → ScriptCall → Ledger
+ledger_with_call ledger call = record (call_changes ledger call) { answers = ledger.answers ++ call_answers ledger call ∷ [] }
+
+-- the ledger of these calls
+abbrev pub ledger_of : List ScriptCall → Ledger
+ledger_of calls = fold ledger_with_call empty_ledger calls
+
+-- THE PROGRAM -------------------------------------------------------------------------------------------------------------
+
+-- the item that is emitted at this place
+abbrev pub emitted_item : ℕ → Instruction Name Name → Item
+emitted_item place instruction = Instruct place instruction (answers_from place 0 (emitted_types instruction))
+
+abbrev pub program_with_call : Program → ScriptCall → Program
+program_with_call program (Ask request) = with_call program request
+program_with_call program (Emit instruction) =
+    record (with_item (with_inserted program) (emitted_item program.place instruction)) { place = suc program.place }
+
+-- the variable program of these calls
+abbrev pub program_of_calls : List ScriptCall → Program
+program_of_calls calls = fold program_with_call empty_program calls
+
+-- WHAT MAY BE CALLED ------------------------------------------------------------------------------------------------------
+
+-- the number has 64 bits, one of them its sign
+abbrev pub has_64_bits : ℤ → Bool
+has_64_bits (pos n) = nat_lt n (2 ^ 63)
+has_64_bits (negsuc n) = nat_lt n (2 ^ 63)
+
+-- What may be emitted, at which type, beside operands that are there: the table of what only scripts have.
+abbrev pub can_emit : Operation → «Type» → Bool
+can_emit (Compute (AddConstant number)) ty = is_int ty && has_64_bits number
+can_emit (Compute (CompareConstant condition number)) ty = is_int ty && has_64_bits number
+can_emit _ ty = false
+
+-- the condition of each kind of call
+abbrev pub call_allowed : Ledger → ScriptCall → Bool
+call_allowed ledger (Ask request) = allows ledger request
+call_allowed ledger (Emit instruction) =
+    is_open ledger ledger.current && list_all (has_value ledger) instruction.operands && list_all (can_lead ledger) instruction.edges
+    && can_emit instruction.operation instruction.controlling
+
+-- what it is refused for
+abbrev pub call_refusal : Ledger → ScriptCall → Option Refusal
+call_refusal ledger (Ask request) = refusal_of ledger request
+call_refusal ledger (Emit instruction) = None
+
+-- Without an emission the ledger and the program are those of the builder's calls.
+pub record AskingStays : Type 0 where
+  pub ledger : (script : Script) → ledger_of (map Ask script) ≡ ledger_after script
+  pub program : (script : Script) → program_of_calls (map Ask script) ≡ program_of script

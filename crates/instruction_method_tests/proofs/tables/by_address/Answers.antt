@@ -1,0 +1,13 @@
+use Rattle.std.proofs.Common.{rules, []}
+use Rattle.std.proofs.lemmas.List.Elements.{All-nil}
+use Rattle.clif_ir.specs.Consistent.{ValueExists}
+use Rattle.cranelift_frontend.specs.Builder.{CanLead}
+use Rattle.instruction_method_tests.proofs.TryTables.{serves}
+use Rattle.instruction_method_tests.proofs.tables.by_address.Goals as goal
+
+pub try_call_indirect-requires-clause-serves : goal.try_call_indirect-requires-clause-serves
+try_call_indirect-requires-clause-serves g c =
+    serves c.ins.result.now c.expect-table.result
+    (record { sig = c.args.sig; normal = c.edge-normal.result; items = c.new-items.result })
+    [] (search rules) (search rules) (search rules) (search rules)
+    (All-nil (CanLead c.ins.result.now), All-nil (ValueExists c.ins.result.now.func.now))
