@@ -47,19 +47,20 @@ fn tables(rt: HostRuntime) -> Result<(), Fail> {
     Ok(())
 }
 
-// How many members are left.
-fn count(members: Members<'_, Block>) -> usize {
-    members.count()
+// The number of the next member.
+fn next(mut members: Members<'_, Block>) -> Option<usize> {
+    Some(members.next()?.index())
 }
 
 /// The members of a set of entities.
 #[test]
 fn members(rt: HostRuntime) -> Result<(), Fail> {
     let mut set = EntitySet::new(rt.alloc());
+    assert!(rt; next(set.iter()).is_none());
     set.insert(Block::new(5))?;
+    assert!(rt; next(set.iter()) == Some(5));
     set.insert(Block::new(2))?;
-    set.insert(Block::new(5))?;
-    assert!(rt; count(set.iter()) == 2);
+    assert!(rt; next(set.iter()) == Some(2));
     Ok(())
 }
 
