@@ -167,7 +167,7 @@ module _ (arithmetic : Arithmetic) (number : ℤ) (can : (ty : «Type») → can
   allowed_at ledger type.Invalid x ready int = at_once ledger type.Invalid x ready int
   allowed_at ledger (type.Vector l n) x ready int = at_once ledger (type.Vector l n) x ready int
 
-  all_in_line : (ty : «Type») (place : ℕ) → AllByRecursion StaysInLine (constant_instructions ty number place)
+  pub all_in_line : (ty : «Type») (place : ℕ) → AllByRecursion StaysInLine (constant_instructions ty number place)
   all_in_line (type.Lane lane.I128) place = (in_line i64, (widened_in_line place, tt))
   all_in_line (type.Lane lane.I8) place = (in_line (type.Lane lane.I8), tt)
   all_in_line (type.Lane lane.I16) place = (in_line (type.Lane lane.I16), tt)

@@ -1,5 +1,5 @@
 -- Code that computes with a constant.
-use Rattle.std.proofs.Common.{◌≡◌, ◌+◌, ◌-◌, ℕ, Bool, List, [], ◌∷◌, ◌++◌, map, refl, sym, ◌∙◌, ap, ap₂, arith, subst}
+use Rattle.std.proofs.Common.{◌≡◌, ◌+◌, ◌-◌, ℕ, suc, Bool, List, [], ◌∷◌, ◌++◌, map, refl, sym, ◌∙◌, ap, ap₂, arith, subst}
 use Rattle.std.specs.Prelude.{◌≢◌, ◌^◌, ◌%◌, ℤ, pos, negsuc, if◌then◌else◌, IsTrue}
 use Rattle.std.proofs.Math.Nat.{mod-eq_of_lt}
 use Rattle.std.proofs.lemmas.Bool.{le-leb, lt-leb}
@@ -17,7 +17,7 @@ use Rattle.clif_meaning.specs.Outcome.{Computed, Gives, Values, compares, comput
 use Rattle.clif_meaning.specs.Program.{Item, Instruct, Use, Assign}
 use Rattle.clif_meaning.specs.Store.{assigned}
 use Rattle.clif_meaning.specs.World.{World}
-use Rattle.clif_expansion.specs.Constants.{ConstantExamples, ConstantsAreOperands, ConstantsArePerformed, Has64Bits, NamesConstant, Yields, computing, constant_code, i64, with_constant}
+use Rattle.clif_expansion.specs.Constants.{ConstantExamples, ConstantsAreOperands, ConstantsArePerformed, Has64Bits, NamesConstant, NamesNarrow, Yields, computing, constant_code, i64, place_behind, with_constant}
 use Rattle.clif_expansion.specs.Code.{NameTypes, Performs}
 use Rattle.clif_expansion.specs.Line.{Contents, RunsTo}
 use Rattle.clif_expansion.specs.Reading.{Generated, IsReadAs, Reading}
@@ -84,14 +84,14 @@ record MakesConstant (world : World) (reading : Reading) (types : Name → «Typ
   kept : (x : Name) → reading x ≢ Generated → after x ≡ names x
 
 module _ (world : World) (reading : Reading) (types : Name → «Type») (number : ℤ) (place : ℕ) (narrow constant : Name)
-    (small : Has64Bits number) (named : NamesConstant reading types narrow constant) (names : Name → Bits) (memory : Memory) where
+    (small : Has64Bits number) (generated : reading constant ≡ Generated) (names : Name → Bits) (memory : Memory) where
   -- by one instruction
   at_once : (ty : «Type») → MakesConstant world reading types (Instruct place (computing (Iconst number) ty []) (constant ∷ []) ∷ []) constant (wrapped (bits_of ty) number) names memory
   at_once ty = record {
     after = assigned same_name (constant ∷ []) (wrapped (bits_of ty) number ∷ []) names;
     runs = computed_runs world types place (Iconst number) ty [] (constant ∷ []) (wrapped (bits_of ty) number ∷ []) names memory refl;
     holds = assigned_here constant (wrapped (bits_of ty) number) names;
-    kept = λ y kept. assigned_elsewhere reading (constant ∷ []) (wrapped (bits_of ty) number ∷ []) names y (named.constant_generated, tt) kept;
+    kept = λ y kept. assigned_elsewhere reading (constant ∷ []) (wrapped (bits_of ty) number ∷ []) names y (generated, tt) kept;
   }
 
   abbrev with_narrow : Name → Bits
@@ -100,53 +100,53 @@ module _ (world : World) (reading : Reading) (types : Name → «Type») (number
   abbrev wide : «Type»
   wide = type.Lane lane.I128
 
-  extends : computed (Convert Sextend) wide (types narrow ∷ []) (with_narrow narrow ∷ []) ≡ Values (wrapped 128 number ∷ [])
-  extends =
-      ap₂ (λ (ty : «Type») (bits : Bits). computed (Convert Sextend) wide (ty ∷ []) (bits ∷ [])) named.narrow_type (assigned_here narrow (wrapped 64 number) names)
+  extends : NamesNarrow wide reading types narrow → computed (Convert Sextend) wide (types narrow ∷ []) (with_narrow narrow ∷ []) ≡ Values (wrapped 128 number ∷ [])
+  extends narrow_is =
+      ap₂ (λ (ty : «Type») (bits : Bits). computed (Convert Sextend) wide (ty ∷ []) (bits ∷ [])) narrow_is.1 (assigned_here narrow (wrapped 64 number) names)
       ∙ ap (λ (bits : Bits). Values (bits ∷ [])) (sign_repeated number small)
 
   -- by two
-  at_twice : MakesConstant world reading types (constant_code wide number place narrow constant) constant (wrapped 128 number) names memory
-  at_twice = record {
+  at_twice : NamesNarrow wide reading types narrow → MakesConstant world reading types (constant_code wide number place narrow constant) constant (wrapped 128 number) names memory
+  at_twice narrow_is = record {
     after = assigned same_name (constant ∷ []) (wrapped 128 number ∷ []) with_narrow;
-    runs = runs_after world types (Instruct place (computing (Iconst number) i64 []) (narrow ∷ []) ∷ []) (Instruct (place + 1) (computing (Convert Sextend) wide (narrow ∷ [])) (constant ∷ []) ∷ [])
+    runs = runs_after world types (Instruct place (computing (Iconst number) i64 []) (narrow ∷ []) ∷ []) (Instruct (suc place) (computing (Convert Sextend) wide (narrow ∷ [])) (constant ∷ []) ∷ [])
         (record { names = names; memory = memory }) (record { names = with_narrow; memory = memory }) _
         (computed_runs world types place (Iconst number) i64 [] (narrow ∷ []) (wrapped 64 number ∷ []) names memory refl)
-        (computed_runs world types (place + 1) (Convert Sextend) wide (narrow ∷ []) (constant ∷ []) (wrapped 128 number ∷ []) with_narrow memory extends);
+        (computed_runs world types (suc place) (Convert Sextend) wide (narrow ∷ []) (constant ∷ []) (wrapped 128 number ∷ []) with_narrow memory (extends narrow_is));
     holds = assigned_here constant (wrapped 128 number) with_narrow;
     kept = λ y kept.
-        assigned_elsewhere reading (constant ∷ []) (wrapped 128 number ∷ []) with_narrow y (named.constant_generated, tt) kept
-        ∙ assigned_elsewhere reading (narrow ∷ []) (wrapped 64 number ∷ []) names y (named.narrow_generated, tt) kept;
+        assigned_elsewhere reading (constant ∷ []) (wrapped 128 number ∷ []) with_narrow y (generated, tt) kept
+        ∙ assigned_elsewhere reading (narrow ∷ []) (wrapped 64 number ∷ []) names y (narrow_is.0, tt) kept;
   }
 
-  made : (ty : «Type») → IsTrue (is_int ty) → MakesConstant world reading types (constant_code ty number place narrow constant) constant (wrapped (bits_of ty) number) names memory
-  made type.Invalid is = let none : ⊥ = cc in absurd none
-  made (type.Vector l n) is = let none : ⊥ = cc in absurd none
-  made (type.Lane lane.I8) is = at_once (type.Lane lane.I8)
-  made (type.Lane lane.I16) is = at_once (type.Lane lane.I16)
-  made (type.Lane lane.I32) is = at_once (type.Lane lane.I32)
-  made (type.Lane lane.I64) is = at_once (type.Lane lane.I64)
-  made (type.Lane lane.I128) is = at_twice
-  made (type.Lane lane.F16) is = let none : ⊥ = cc in absurd none
-  made (type.Lane lane.F32) is = let none : ⊥ = cc in absurd none
-  made (type.Lane lane.F64) is = let none : ⊥ = cc in absurd none
-  made (type.Lane lane.F128) is = let none : ⊥ = cc in absurd none
+  made : (ty : «Type») → IsTrue (is_int ty) → NamesNarrow ty reading types narrow → MakesConstant world reading types (constant_code ty number place narrow constant) constant (wrapped (bits_of ty) number) names memory
+  made type.Invalid is narrow_is = let none : ⊥ = cc in absurd none
+  made (type.Vector l n) is narrow_is = let none : ⊥ = cc in absurd none
+  made (type.Lane lane.I8) is narrow_is = at_once (type.Lane lane.I8)
+  made (type.Lane lane.I16) is narrow_is = at_once (type.Lane lane.I16)
+  made (type.Lane lane.I32) is narrow_is = at_once (type.Lane lane.I32)
+  made (type.Lane lane.I64) is narrow_is = at_once (type.Lane lane.I64)
+  made (type.Lane lane.I128) is narrow_is = at_twice narrow_is
+  made (type.Lane lane.F16) is narrow_is = let none : ⊥ = cc in absurd none
+  made (type.Lane lane.F32) is narrow_is = let none : ⊥ = cc in absurd none
+  made (type.Lane lane.F64) is narrow_is = let none : ⊥ = cc in absurd none
+  made (type.Lane lane.F128) is narrow_is = let none : ⊥ = cc in absurd none
 
 -- ARITHMETIC --------------------------------------------------------------------------------------------------------------
 
 yields : (reading : Reading) (types : Name → «Type») (arithmetic : Arithmetic) (ty : «Type») (number : ℤ) (place : ℕ) (narrow constant x result : Name)
     → (f : Bits → Bits → Bits) → ((ts : List «Type») (a b : Bits) → computed arithmetic ty ts (a ∷ b ∷ []) ≡ Values (f a b ∷ []))
-    → IsTrue (is_int ty) → Has64Bits number → NamesConstant reading types narrow constant → reading x ≢ Generated
+    → IsTrue (is_int ty) → Has64Bits number → NamesConstant ty reading types narrow constant → reading x ≢ Generated
     → Yields reading types (with_constant arithmetic ty number place narrow constant x result) (result ∷ []) (λ names. f (names x) (wrapped (bits_of ty) number) ∷ [])
 yields reading types arithmetic ty number place narrow constant x result f does is small named operand world names memory =
-    let constant_made = made world reading types number place narrow constant small named names memory ty is in
+    let constant_made = made world reading types number place narrow constant small named.constant_generated names memory ty is named.narrow_named in
     let value : Bits = f (names x) (wrapped (bits_of ty) number) in
     record {
       after = assigned same_name (result ∷ []) (value ∷ []) constant_made.after;
-      runs = runs_after world types (constant_code ty number place narrow constant) (Instruct (place + 2) (computing arithmetic ty (x ∷ constant ∷ [])) (result ∷ []) ∷ [])
+      runs = runs_after world types (constant_code ty number place narrow constant) (Instruct (place_behind ty place) (computing arithmetic ty (x ∷ constant ∷ [])) (result ∷ []) ∷ [])
           (record { names = names; memory = memory }) (record { names = constant_made.after; memory = memory }) _
           constant_made.runs
-          (computed_runs world types (place + 2) arithmetic ty (x ∷ constant ∷ []) (result ∷ []) (value ∷ []) constant_made.after memory
+          (computed_runs world types (place_behind ty place) arithmetic ty (x ∷ constant ∷ []) (result ∷ []) (value ∷ []) constant_made.after memory
           (does (types x ∷ types constant ∷ []) (constant_made.after x) (constant_made.after constant)
           ∙ ap₂ (λ (a b : Bits). Values (f a b ∷ [])) (constant_made.kept x operand) constant_made.holds));
       kept = λ y kept. ap (λ (bits : Bits). if same_name y result then value else bits) (constant_made.kept y kept);
@@ -169,10 +169,10 @@ not_empty (first ∷ code) item none = cc
 performs : (pointer_width : ℕ) (reading : Reading) (types : NameTypes) (arithmetic with : Arithmetic) (ty : «Type») (number : ℤ) (place : ℕ) (narrow constant plain given x result : Name)
     → (f : Bits → Bits → Bits) → ((ts : List «Type») (a b : Bits) → computed arithmetic ty ts (a ∷ b ∷ []) ≡ Values (f a b ∷ []))
     → ((ts : List «Type») (a : Bits) → computed with ty ts (a ∷ []) ≡ Values (f a (wrapped (bits_of ty) number) ∷ []))
-    → IsTrue (is_int ty) → Has64Bits number → NamesConstant reading types.plain narrow constant → IsReadAs reading plain x → IsReadAs reading given result
+    → IsTrue (is_int ty) → Has64Bits number → NamesConstant ty reading types.plain narrow constant → IsReadAs reading plain x → IsReadAs reading given result
     → Performs pointer_width reading types (with_constant arithmetic ty number place narrow constant plain given) (computing with ty (x ∷ [])) (result ∷ [])
 performs pointer_width reading types arithmetic with ty number place narrow constant plain given x result f does means is small named operand gives = record {
-  begins = not_empty (constant_code ty number place narrow constant) (Instruct (place + 2) (computing arithmetic ty (plain ∷ constant ∷ [])) (given ∷ []));
+  begins = not_empty (constant_code ty number place narrow constant) (Instruct (place_behind ty place) (computing arithmetic ty (plain ∷ constant ∷ [])) (given ∷ []));
   given = given ∷ [];
   named = (gives, tt);
   performs = λ world names script memory width agree sound.

@@ -134,6 +134,40 @@ emitted_either reading plain ledger (first ∷ code) x name is =
     by (inl new) = let more = longer plain first in let below = new.0 in inl (omega (arith, more, below), new.1)
     by (inr old) = inr (generated (read_either reading (length plain.answers) (λ index. Generated) x (ScriptName name) old))
 
+-- what the calls before the last one answer is generated
+pub emitted_inner : (reading : Reading) (plain ledger : Ledger) (code : List (Instruction Name Name)) (place k index : ℕ) → place ≡ length plain.answers + k → k < length code
+    → reading_emitted reading plain ledger code (answer_of place index) ≡ Generated
+emitted_inner reading plain ledger [] place k index is below = absurd (omega (arith, below))
+emitted_inner reading plain ledger (first ∷ code) place zero index is below =
+    let here : place ≡ length plain.answers = omega (arith, is) in
+    let more = longer plain first in
+    emitted_before (reading_generated reading plain) (ledger_with plain (building first)) ledger code (answer_of place index) (omega (arith, here, more))
+    ∙ ap (λ (n : ℕ). reading_generated reading plain (answer_of n index)) here
+    ∙ read_there reading (length plain.answers) index (λ index. Generated)
+emitted_inner reading plain ledger (first ∷ code) place (suc k) index is below =
+    let more = longer plain first in
+    emitted_inner (reading_generated reading plain) (ledger_with plain (building first)) ledger code place k index (omega (arith, is, more)) (omega (arith, below))
+
+-- what is generated is an answer of a call so far
+pub emitted_generated : (reading : Reading) (plain ledger : Ledger) (code : List (Instruction Name Name)) → ((x : Name) → reading x ≡ Generated → x.place < length plain.answers)
+    → (x : Name) → reading_emitted reading plain ledger code x ≡ Generated → x.place < length code + suc (length plain.answers)
+emitted_generated reading plain ledger [] made x is = by (read_either reading (length plain.answers) (results_at (length ledger.answers)) x Generated is)
+  where
+    by : ((x.place ≡ length plain.answers) × (results_at (length ledger.answers) x.index ≡ Generated)) ⊎ (reading x ≡ Generated) → x.place < 0 + suc (length plain.answers)
+    by (inl new) = let place = new.0 in omega (arith, place)
+    by (inr old) = let below = made x old in omega (arith, below)
+emitted_generated reading plain ledger (first ∷ code) made x is =
+    let more = longer plain first in
+    let below = emitted_generated (reading_generated reading plain) (ledger_with plain (building first)) ledger code made_next x is in
+    omega (arith, more, below)
+  where
+    made_next : (y : Name) → reading_generated reading plain y ≡ Generated → y.place < length (ledger_with plain (building first)).answers
+    made_next y stands = by (read_either reading (length plain.answers) (λ index. Generated) y Generated stands)
+      where
+        by : ((y.place ≡ length plain.answers) × (Generated ≡ Generated)) ⊎ (reading y ≡ Generated) → y.place < length (ledger_with plain (building first)).answers
+        by (inl new) = let more = longer plain first in let place = new.0 in omega (arith, more, place)
+        by (inr old) = let more = longer plain first in let below = made y old in omega (arith, more, below)
+
 -- ANSWERS -----------------------------------------------------------------------------------------------------------------
 
 -- results of two calls at these places, the one's numbers one further than the other's

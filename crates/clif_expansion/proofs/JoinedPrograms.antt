@@ -1,5 +1,5 @@
 -- Changes of a program with names read keep it cut.
-use Rattle.std.proofs.Common.{◌≡◌, ◌<◌, ◌≤◌, inl, inr, ℕ, suc, Bool, true, false, List, [], ◌∷◌, ◌++◌, map, refl, sym, ◌∙◌, ap, ap₂, arith, Option, Some, None, append_assoc}
+use Rattle.std.proofs.Common.{◌≡◌, ◌<◌, ◌≤◌, ◌⊎◌, inl, inr, ℕ, suc, Bool, true, false, List, [], ◌∷◌, ◌++◌, map, refl, sym, ◌∙◌, ap, ap₂, arith, subst, Option, Some, None, append_assoc}
 use Rattle.std.specs.Prelude.{if◌then◌else◌}
 use Rattle.std.specs.List.{AllByRecursion}
 use Rattle.std.proofs.Math.Path.{fun_ext}
@@ -9,8 +9,9 @@ use Rattle.clif_meaning.specs.Name.{Name, answer_of, same_name}
 use Rattle.clif_meaning.specs.Program.{Program, Item, Instruct, Use, Assign, first_block, redirected_edge, redirected_instruction, redirected_item, result_names, with_inserted, with_item_at}
 use Rattle.clif_expansion.specs.Emission.{StaysInLine}
 use Rattle.clif_expansion.specs.Expansion.{AreCut, IsCutProgram, IsReadBlock}
-use Rattle.clif_expansion.specs.JoinedPrograms.{IsCalled, IsReadPlace, built_items}
-use Rattle.clif_expansion.specs.Reading.{IsOneToOne, IsReadAs, IsReadEdge, IsReadInstruction, IsReadItem, Reading}
+use Rattle.clif_expansion.specs.JoinedPrograms.{IsAsked, IsEmission, IsReadPlace, built_items}
+use Rattle.clif_expansion.specs.Reading.{Generated, IsOneToOne, IsReadAs, IsReadEdge, IsReadInstruction, IsReadItem, Reading}
+use Rattle.clif_expansion.specs.ScriptCall.{emitted_item}
 use Rattle.clif_expansion.proofs.JoinedStates.{chosen, zip_mapped}
 use Rattle.clif_expansion.proofs.Joins.{KeepsReading, edges_later, names_later}
 use Rattle.clif_expansion.proofs.Names.{names_equal, same_read}
@@ -42,6 +43,21 @@ cut_mapped P f g each plain [] cut = ap (map f) cut
 cut_mapped P f g each plain (item ∷ items) (code, rest, split, is, more) =
     (map f code, map f rest, ap (map f) split ∙ map-append f code rest, each code item is, cut_mapped P f g each rest items more)
 
+-- KNOWN EMISSIONS ---------------------------------------------------------------------------------------------------------
+
+-- what was generated stays so
+abbrev pub KeepsGenerated : Reading → Reading → Type 0
+KeepsGenerated reading later = (x : Name) → reading x ≡ Generated → later x ≡ Generated
+
+-- what is known of an emission's code stays true in a later reading
+abbrev pub LastsLater : (Reading → List Item → Item → Type 0) → Type 0
+LastsLater Known =
+    (reading later : Reading) → KeepsReading reading later → KeepsGenerated reading later → (code : List Item) (item : Item) → Known reading code item → Known later code item
+
+-- the code was called, and if it is an emission's this is known of it
+abbrev pub IsCalledSo : (Reading → List Item → Item → Type 0) → Reading → List Item → Item → Type 0
+IsCalledSo Known reading code item = IsAsked reading code item ⊎ (IsEmission reading code item × Known reading code item)
+
 -- A LATER READING ---------------------------------------------------------------------------------------------------------
 
 module _ (reading later : Reading) (keeps : KeepsReading reading later) where
@@ -51,6 +67,7 @@ module _ (reading later : Reading) (keeps : KeepsReading reading later) where
       operation = is.0.operation;
       controlling = is.0.controlling;
       operands = names_later reading later keeps plain.operands instruction.operands is.0.operands;
+      contexts = names_later reading later keeps plain.contexts instruction.contexts is.0.contexts;
       edges = edges_later reading later keeps plain.edges instruction.edges is.0.edges;
     },
     names_later reading later keeps given results is.1,
@@ -65,22 +82,26 @@ module _ (reading later : Reading) (keeps : KeepsReading reading later) where
   place_later (Assign number x) (Assign variable name) read is = tt
   place_later _ _ read is = absurd read
 
-  pub called_later : (code : List Item) (item : Item) → IsCalled reading code item → IsCalled later code item
-  called_later (plain ∷ []) item (inl asked) = inl (item_later plain item asked.0, place_later plain item asked.0 asked.1)
-  called_later [] item (inl asked) = absurd asked
-  called_later (plain ∷ second ∷ code) item (inl asked) = absurd asked
-  called_later code item (inr is) = inr (record {
-    place = is.place;
-    instructions = is.instructions;
-    last = is.last;
-    built = is.built;
-    line = is.line;
-    other = is.other;
-    whole = is.whole;
-    emitted = is.emitted;
-    stays = is.stays;
-    results = names_later reading later keeps _ _ is.results;
-  })
+  pub called_later : (Known : Reading → List Item → Item → Type 0) → LastsLater Known → KeepsGenerated reading later
+      → (code : List Item) (item : Item) → IsCalledSo Known reading code item → IsCalledSo Known later code item
+  called_later Known lasts generated (plain ∷ []) item (inl asked) = inl (item_later plain item asked.0, place_later plain item asked.0 asked.1)
+  called_later Known lasts generated [] item (inl asked) = absurd asked
+  called_later Known lasts generated (plain ∷ second ∷ code) item (inl asked) = absurd asked
+  called_later Known lasts generated code item (inr (is, known)) = inr (
+    record {
+      place = is.place;
+      instructions = is.instructions;
+      last = is.last;
+      built = is.built;
+      line = is.line;
+      other = is.other;
+      whole = is.whole;
+      emitted = is.emitted;
+      stays = is.stays;
+      results = names_later reading later keeps _ _ is.results;
+    },
+    lasts reading later keeps generated code item known,
+  )
 
 -- CHANGED EDGES -----------------------------------------------------------------------------------------------------------
 
@@ -117,6 +138,7 @@ module _ (reading : Reading) (one_to_one : IsOneToOne reading) (jump branch at f
     operation = is.operation;
     controlling = is.controlling;
     operands = is.operands;
+    contexts = is.contexts;
     edges = zip_mapped (IsReadEdge reading) (IsReadEdge reading) (redirected_edge at there) (redirected_edge from to) edge_redirected plain.edges instruction.edges is.edges;
   }
 
@@ -136,22 +158,31 @@ module _ (reading : Reading) (one_to_one : IsOneToOne reading) (jump branch at f
   item_redirected (Assign number x) (Assign variable name) is = is
   item_redirected _ _ is = absurd is.0
 
-  pub called_redirected : (code : List Item) (item : Item) → IsCalled reading code item → IsCalled reading (map (redirected_item jump at there) code) (redirected_item branch from to item)
-  called_redirected (plain ∷ []) item (inl asked) = inl (item_redirected plain item asked)
-  called_redirected [] item (inl asked) = absurd asked
-  called_redirected (plain ∷ second ∷ code) item (inl asked) = absurd asked
-  called_redirected code item (inr is) = inr (record {
-    place = is.place;
-    instructions = is.instructions;
-    last = is.last;
-    built = ap (map (redirected_item jump at there)) is.built ∙ unchanged_line jump at there is.place (is.instructions ++ is.last ∷ []) is.line;
-    line = is.line;
-    other = is.other;
-    whole = is.whole;
-    emitted = ap (redirected_item branch from to) is.emitted ∙ unchanged branch from to is.other is.whole _ is.stays;
-    stays = is.stays;
-    results = is.results;
-  })
+  pub called_redirected : (Known : Reading → List Item → Item → Type 0) (code : List Item) (item : Item) → IsCalledSo Known reading code item
+      → IsCalledSo Known reading (map (redirected_item jump at there) code) (redirected_item branch from to item)
+  called_redirected Known (plain ∷ []) item (inl asked) = inl (item_redirected plain item asked)
+  called_redirected Known [] item (inl asked) = absurd asked
+  called_redirected Known (plain ∷ second ∷ code) item (inl asked) = absurd asked
+  called_redirected Known code item (inr (is, known)) =
+      let same_code : map (redirected_item jump at there) code ≡ built_items is.place (is.instructions ++ is.last ∷ []) =
+      ap (map (redirected_item jump at there)) is.built ∙ unchanged_line jump at there is.place (is.instructions ++ is.last ∷ []) is.line in
+      let same_item : redirected_item branch from to item ≡ emitted_item is.other is.whole = ap (redirected_item branch from to) is.emitted ∙ unchanged branch from to is.other is.whole _ is.stays in
+      inr (
+        record {
+          place = is.place;
+          instructions = is.instructions;
+          last = is.last;
+          built = same_code;
+          line = is.line;
+          other = is.other;
+          whole = is.whole;
+          emitted = same_item;
+          stays = is.stays;
+          results = is.results;
+        },
+        subst (λ (xs : List Item). Known reading xs (redirected_item branch from to item)) (is.built ∙ sym same_code)
+            (subst (λ (x : Item). Known reading code x) (is.emitted ∙ sym same_item) known),
+      )
 
 -- PROGRAMS ----------------------------------------------------------------------------------------------------------------
 
@@ -200,12 +231,12 @@ bare_items place program (Some block) items before bare = λ x behind. (
   (bare x behind).1,
 )
 
-module _ (reading : Reading) (one_to_one : IsOneToOne reading) where
+module _ (Stands : List Item → Item → Type 0) (reading : Reading) (one_to_one : IsOneToOne reading) where
   abbrev Cut : Program → Program → Type 0
-  Cut plain program = IsCutProgram reading (IsCalled reading) plain program
+  Cut plain program = IsCutProgram reading Stands plain program
 
   pub cut_items : (plain program : Program) (current' current : Option Name) (code : List Item) (item : Item) → Cut plain program → IsReadBlock reading current' current
-      → IsCalled reading code item → Cut (with_items_at plain current' code) (with_items_at program current (item ∷ []))
+      → Stands code item → Cut (with_items_at plain current' code) (with_items_at program current (item ∷ []))
   cut_items plain program None None code item cut is called = cut
   cut_items plain program None (Some block) code item cut is called = absurd is
   cut_items plain program (Some x) None code item cut is called = absurd is
@@ -213,9 +244,9 @@ module _ (reading : Reading) (one_to_one : IsOneToOne reading) where
     entry = cut.entry;
     parameters = cut.parameters;
     items = λ y other read.
-        chosen (AreCut (IsCalled reading)) (same_name y x) (same_name other block) (plain.items y ++ code) (plain.items y) (program.items other ++ item ∷ []) (program.items other)
+        chosen (AreCut Stands) (same_name y x) (same_name other block) (plain.items y ++ code) (plain.items y) (program.items other ++ item ∷ []) (program.items other)
         (same_read reading one_to_one y x other block read is)
-        (cut_more (IsCalled reading) (plain.items y) (program.items other) code item (cut.items y other read) called) (cut.items y other read);
+        (cut_more Stands (plain.items y) (program.items other) code item (cut.items y other read) called) (cut.items y other read);
   }
 
   pub first_read : (entry' entry current' current : Option Name) → IsReadBlock reading entry' entry → IsReadBlock reading current' current

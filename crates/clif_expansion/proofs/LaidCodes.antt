@@ -1,12 +1,12 @@
 -- Code that is the item is laid, and so is arithmetic on a constant.
-use Rattle.std.proofs.Common.{ℕ, ℤ, List, [], ◌∷◌, ◌++◌, map, inl, inr, Some}
-use Rattle.std.specs.Prelude.{◌+◌, Contains, flat_map}
+use Rattle.std.proofs.Common.{ℕ, suc, ℤ, List, [], ◌∷◌, ◌++◌, map, inl, inr, Some}
+use Rattle.std.specs.Prelude.{Contains, flat_map}
 use Rattle.std.specs.List.{AllByRecursion, AllZip}
 use Rattle.clif_opcodes.specs.declared.opcodes.ConvertOpcode.TheVariants.{Sextend}
 use Rattle.clif_types.specs.declared.types.LaneType.TheVariants as lane
 use Rattle.clif_types.specs.declared.types.«Type».{«Type»}
 use Rattle.clif_types.specs.declared.types.«Type».TheVariants as type
-use Rattle.clif_meaning.specs.Instruction.{Argument, Arithmetic, Convert, Iconst, Known, CallResult, CallPayload, Edge}
+use Rattle.clif_meaning.specs.Instruction.{Argument, Arithmetic, Convert, Iconst, Known, CallResult, CallPayload, Edge, named_operands}
 use Rattle.clif_meaning.specs.Name.{Name}
 use Rattle.clif_meaning.specs.Program.{Program, Item, Instruct, Use, Assign}
 use Rattle.clif_meaning.specs.WellPlaced.{item_names, item_passes, item_targets, known_argument, passed_operands}
@@ -99,7 +99,8 @@ module _ (reading : Reading) where
       let item : Item = Instruct other instruction results in
       let has : HasGiven reading item (given ++ []) = among (given ++ []) given results is.1 (contained_left given []) in
       Laying [] (Instruct place plain given) []
-      (hands program item [] plain.operands instruction.operands is.0.operands (λ name there. there))
+      (hands program item [] (named_operands plain) (named_operands instruction)
+      (both_read plain.operands instruction.operands plain.contexts instruction.contexts is.0.operands is.0.contexts) (λ name there. there))
       (passing program item (given ++ []) (passed_operands plain) (passed_operands instruction) has (passed_read plain.edges instruction.edges is.0.edges) (λ name there. there))
       (leaves program item (given ++ []) plain.edges instruction.edges has is.0.edges (λ name there. there))
   item_laid program (Use variable' x) (Use variable name) is =
@@ -126,22 +127,22 @@ module _ (reading : Reading) where
     item_at ty = Instruct other (computing whole ty (x ∷ [])) (result ∷ [])
 
     -- behind the constant
-    last : (ty : «Type») (before : List Name) → Lays reading program (item_at ty) (constant ∷ before) [] (Instruct (place + 2) (computing arithmetic ty (plain ∷ constant ∷ [])) (given ∷ []) ∷ [])
-    last ty before =
-        Laying (constant ∷ before) (Instruct (place + 2) (computing arithmetic ty (plain ∷ constant ∷ [])) (given ∷ [])) []
+    last : (ty : «Type») (place : ℕ) (before : List Name) → Lays reading program (item_at ty) (constant ∷ before) [] (Instruct place (computing arithmetic ty (plain ∷ constant ∷ [])) (given ∷ []) ∷ [])
+    last ty place before =
+        Laying (constant ∷ before) (Instruct place (computing arithmetic ty (plain ∷ constant ∷ [])) (given ∷ [])) []
         (inr (x, operand, contained_first x []), (inl (contained_first constant before), tt)) tt
         (Ending (given ∷ constant ∷ before) ((given, gives, contained_first given (constant ∷ before)), tt))
 
     at_once : (ty : «Type») → IsLaid reading program
-        (Instruct place (computing (Iconst number) ty []) (constant ∷ []) ∷ Instruct (place + 2) (computing arithmetic ty (plain ∷ constant ∷ [])) (given ∷ []) ∷ []) (item_at ty)
-    at_once ty = record { begins = λ none. cc; lays = Laying [] (Instruct place (computing (Iconst number) ty []) (constant ∷ [])) _ tt tt (last ty []) }
+        (Instruct place (computing (Iconst number) ty []) (constant ∷ []) ∷ Instruct (suc place) (computing arithmetic ty (plain ∷ constant ∷ [])) (given ∷ []) ∷ []) (item_at ty)
+    at_once ty = record { begins = λ none. cc; lays = Laying [] (Instruct place (computing (Iconst number) ty []) (constant ∷ [])) _ tt tt (last ty (suc place) []) }
 
     at_twice : IsLaid reading program (with_constant arithmetic (type.Lane lane.I128) number place narrow constant plain given) (item_at (type.Lane lane.I128))
     at_twice = record {
       begins = λ none. cc;
       lays = Laying [] (Instruct place (computing (Iconst number) i64 []) (narrow ∷ [])) _ tt tt
-          (Laying (narrow ∷ []) (Instruct (place + 1) (computing (Convert Sextend) (type.Lane lane.I128) (narrow ∷ [])) (constant ∷ [])) _
-          (inl (contained_first narrow []), tt) tt (last (type.Lane lane.I128) (narrow ∷ [])));
+          (Laying (narrow ∷ []) (Instruct (suc place) (computing (Convert Sextend) (type.Lane lane.I128) (narrow ∷ [])) (constant ∷ [])) _
+          (inl (contained_first narrow []), tt) tt (last (type.Lane lane.I128) (suc (suc place)) (narrow ∷ [])));
     }
 
     constants : (ty : «Type») → IsLaid reading program (with_constant arithmetic ty number place narrow constant plain given) (item_at ty)

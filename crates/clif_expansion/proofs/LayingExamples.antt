@@ -100,13 +100,13 @@ whole = (
   five ∷ [],
   difference (pos 0) ++ returns ∷ [],
   refl,
-  LaidCodes.itself reading subtraction (five ∷ []) five (record { operation = refl; controlling = refl; operands = tt; edges = tt }, (refl, tt)),
+  LaidCodes.itself reading subtraction (five ∷ []) five (record { operation = refl; controlling = refl; operands = tt; contexts = tt; edges = tt }, (refl, tt)),
   (
     difference (pos 0),
     returns ∷ [],
     refl,
     negation_laid,
-    (returns ∷ [], [], refl, LaidCodes.itself reading subtraction (returns ∷ []) (Instruct 3 (returning (answer_of 2 1)) []) (record { operation = refl; controlling = refl; operands = (refl, tt); edges = tt }, tt), refl),
+    (returns ∷ [], [], refl, LaidCodes.itself reading subtraction (returns ∷ []) (Instruct 3 (returning (answer_of 2 1)) []) (record { operation = refl; controlling = refl; operands = (refl, tt); contexts = tt; edges = tt }, tt), refl),
   ),
 )
 

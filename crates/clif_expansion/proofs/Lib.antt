@@ -25,3 +25,8 @@ pub mod ConstantCalls
 pub mod JoinedPrograms
 pub mod CalledPrograms
 pub mod EmittedPrograms
+pub mod LedgerTypes
+pub mod LaterCodes
+pub mod JoinedRuns
+pub mod PerformedConstants
+pub mod JoinedRunExamples

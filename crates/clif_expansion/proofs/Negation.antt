@@ -67,7 +67,7 @@ given_values (Traps reason) = []
 given_values (Calls callee call arguments) = []
 given_values NoStep = []
 
-same_values : (values others : List Bits) (memory after : Memory) → Gives values memory ≡ Gives others after → values ≡ others
+pub same_values : (values others : List Bits) (memory after : Memory) → Gives values memory ≡ Gives others after → values ≡ others
 unfolding given_values
 same_values values others memory after same = ap given_values same
 
@@ -147,13 +147,13 @@ module _ (world : World) where
     five ∷ [],
     difference (pos 0) ++ returns ∷ [],
     refl,
-    inl (record { operation = refl; controlling = refl; operands = tt; edges = tt }, (refl, tt)),
+    inl (record { operation = refl; controlling = refl; operands = tt; contexts = tt; edges = tt }, (refl, tt)),
     (
       difference (pos 0),
       returns ∷ [],
       refl,
       inr (inl (performs world)),
-      (returns ∷ [], [], refl, inl (record { operation = refl; controlling = refl; operands = (refl, tt); edges = tt }, tt), refl),
+      (returns ∷ [], [], refl, inl (record { operation = refl; controlling = refl; operands = (refl, tt); contexts = tt; edges = tt }, tt), refl),
     ),
   )
 

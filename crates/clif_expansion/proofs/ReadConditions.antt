@@ -5,7 +5,7 @@ use Rattle.std.specs.List.{AllZip, list_all, list_any}
 use Rattle.clif_tables.specs.Lists.{TableLists}
 use Rattle.clif_types.specs.Types.{is_type}
 use Rattle.clif_types.specs.declared.types.«Type».{«Type»}
-use Rattle.clif_meaning.specs.Acceptance.{allows, blames_variable, can_assign, can_lead, can_leave, can_make, can_operate, has_argument, has_entry, has_item, is_open, is_unfinished, may_give, refusal_of, unfinished, Unfilled, Unsealed}
+use Rattle.clif_meaning.specs.Acceptance.{allows, blames_variable, can_assign, can_lead, can_leave, can_make, can_operate, has_argument, has_entry, has_item, is_open, is_unfinished, may_give, may_give_all, refusal_of, tables_differ, unfinished, Unfilled, Unsealed}
 use Rattle.clif_meaning.specs.Instruction.{Argument, Known, CallResult, CallPayload, Edge, Instruction, operation_entries}
 use Rattle.clif_meaning.specs.Ledger.{ABlock, AVariable, AValue, AnInstruction, AnEntry, AnEdge, AJumpTable, AnExceptionTable, Answered, BlockState, ExceptionTable, Ledger, VariableState, answer_at, answered_edge, begins_with, block_state, edge_named, has_block, has_predecessors, has_value, is_empty, is_filled, is_inserted, is_instruction_answer, is_pristine, is_sealed, is_unreachable, leads_to, state_has, type_of, value_answer_type, variable_type}
 use Rattle.clif_meaning.specs.Name.{Name, same_name}
@@ -192,7 +192,7 @@ module _ (reading : Reading) (plain ledger : Ledger) (joined : IsJoined reading 
   pub opened : is_open plain plain.current ≡ is_open ledger ledger.current
   opened = open_same plain.current ledger.current joined.ledgers.states.current
 
-  type_same : (x name : Name) → IsReadAs reading x name → type_of plain x ≡ type_of ledger name
+  pub type_same : (x name : Name) → IsReadAs reading x name → type_of plain x ≡ type_of ledger name
   type_same x name is = value_same reading (answer_at plain x) (answer_at ledger name) (joined.ledgers.answers x name is)
 
   pub has_value_same : (x name : Name) → IsReadAs reading x name → has_value plain x ≡ has_value ledger name
@@ -222,7 +222,7 @@ module _ (reading : Reading) (plain ledger : Ledger) (joined : IsJoined reading 
   values_same : (names' names : List Name) → AllZip (IsReadAs reading) names' names → list_all (has_value plain) names' ≡ list_all (has_value ledger) names
   values_same names' names are = all_same (IsReadAs reading) (has_value plain) (has_value ledger) has_value_same names' names are
 
-  variable_same : (number variable : ℕ) → number ≡ variable → variable_type plain number ≡ variable_type ledger variable
+  pub variable_same : (number variable : ℕ) → number ≡ variable → variable_type plain number ≡ variable_type ledger variable
   variable_same number variable is =
       ap₂ (λ (variables : List VariableState) (v : ℕ). option_map (λ (state : VariableState). state.ty) (slice_get variables v)) joined.ledgers.states.variables is
 
@@ -249,9 +249,11 @@ module _ (reading : Reading) (plain ledger : Ledger) (joined : IsJoined reading 
   built entries' entries instruction' instruction same is =
       let operation = is.operation in
       let operands = values_same instruction'.operands instruction.operands is.operands in
+      let contexts = values_same instruction'.contexts instruction.contexts is.contexts in
       let edges = all_same (IsReadEdge reading) (can_lead plain) (can_lead ledger) lead_same instruction'.edges instruction.edges is.edges in
-      let given : list_all (may_give plain) entries' ≡ list_all (may_give ledger) entries = ap (λ (es : List GivenEntry). list_all (may_give plain) es) same ∙ gives_same entries in
-      λ i. given i && opened i && operands i && edges i && can_operate (operation i) (is.controlling i)
+      let given : may_give_all plain entries' ≡ may_give_all ledger entries =
+      ap (λ (es : List GivenEntry). may_give_all plain es) same ∙ ap (λ (each : Bool). tables_differ entries && each) (gives_same entries) in
+      λ i. contexts i && given i && opened i && operands i && edges i && can_operate (operation i) (is.controlling i)
       && list_all (has_entry (joined.ledgers.states.tables i)) (operation_entries (operation i))
 
   allowed : (asked request : Request) → IsReadRequest reading asked request → allows plain asked ≡ allows ledger request

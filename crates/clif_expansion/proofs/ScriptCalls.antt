@@ -34,16 +34,22 @@ apart reading are = let sealed = are.blocks.0.is_sealed in cc
 one_more : (reading : Reading) → AreJoinedCalls reading (summing_script ++ SealBlock (block 0) ∷ []) summing_calls → ⊥
 one_more reading are = apart reading (joined_calls reading (summing_script ++ SealBlock (block 0) ∷ []) summing_calls are).ledgers.states
 
-abbrev stands : (reading : Reading) × AreJoinedCalls reading summing_script summing_calls
-stands =
+-- the calls before the emission
+abbrev pub begun : (reading : Reading) × AreJoinedCalls reading begun_script begun_calls
+begun =
     let created = Asking (λ x. NotMade) [] [] CreateBlock CreateBlock Starting tt in
-    let switched = Asking _ (CreateBlock ∷ []) (Ask CreateBlock ∷ []) (SwitchToBlock (block 0)) (SwitchToBlock (block 0)) created refl in
-    let begun = Asking _ (CreateBlock ∷ SwitchToBlock (block 0) ∷ []) (Ask CreateBlock ∷ Ask (SwitchToBlock (block 0)) ∷ []) (iconst i32 (pos 5)) (iconst i32 (pos 5)) switched
-    (refl, record { operation = refl; controlling = refl; operands = tt; edges = tt }) in (
+    let switched = Asking _ (CreateBlock ∷ []) (Ask CreateBlock ∷ []) (SwitchToBlock (block 0)) (SwitchToBlock (block 0)) created refl in (
       _,
-      Emitting _ begun_script begun_calls (computing (Iconst (pos 7)) i32 [] ∷ []) sum (seven_more (answer_of 2 1)) begun
-          (record { no_edges = refl; goes_on = refl }, tt) (record { no_edges = refl; goes_on = refl }) (record { no_edges = refl; goes_on = refl }) refl,
+      Asking _ (CreateBlock ∷ SwitchToBlock (block 0) ∷ []) (Ask CreateBlock ∷ Ask (SwitchToBlock (block 0)) ∷ []) (iconst i32 (pos 5)) (iconst i32 (pos 5)) switched
+          (refl, record { operation = refl; controlling = refl; operands = tt; contexts = tt; edges = tt }),
     )
+
+abbrev stands : (reading : Reading) × AreJoinedCalls reading summing_script summing_calls
+stands = (
+  _,
+  Emitting _ begun_script begun_calls (computing (Iconst (pos 7)) i32 [] ∷ []) sum (seven_more (answer_of 2 1)) begun.1
+      (record { no_edges = refl; goes_on = refl }, tt) (record { no_edges = refl; goes_on = refl }) (record { no_edges = refl; goes_on = refl }) refl,
+)
 
 throws : (reading : Reading) × AreJoinedCalls reading (throwing_script 7 (answer_of 4 1)) throwing_calls
 throws =
@@ -67,7 +73,9 @@ other_context reading are =
 pub examples : ScriptCallExamples
 examples = record {
   allowed = refl;
+  with_context = refl;
   no_value = refl;
+  no_context = refl;
   built = refl;
   too_wide = refl;
   result = refl;

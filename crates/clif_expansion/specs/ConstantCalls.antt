@@ -9,14 +9,16 @@ use Rattle.clif_types.specs.declared.types.«Type».{«Type»}
 use Rattle.clif_types.specs.declared.types.«Type».TheVariants as type
 use Rattle.clif_meaning.specs.Acceptance.{allows}
 use Rattle.clif_meaning.specs.Instruction.{AddConstant, Arithmetic, Binary, Compare, CompareConstant, Convert, Iconst, Instruction}
-use Rattle.clif_meaning.specs.Ledger.{Ledger, ledger_with}
+use Rattle.clif_meaning.specs.Ledger.{Ledger, ledger_after, ledger_with}
 use Rattle.clif_meaning.specs.Name.{Name, answer_of}
 use Rattle.clif_meaning.specs.Request.{Script}
 use Rattle.clif_expansion.specs.Constants.{computing, i64}
 use Rattle.clif_expansion.specs.Emission.{building, reading_emitted}
+use Rattle.clif_expansion.specs.JoinedCalls.{AreJoinedCalls}
 use Rattle.clif_expansion.specs.Joining.{IsJoined}
+use Rattle.clif_expansion.specs.PerformedCalls.{ArePerformed}
 use Rattle.clif_expansion.specs.Reading.{IsReadAs, Reading}
-use Rattle.clif_expansion.specs.ScriptCall.{Emit, call_allowed, ledger_with_call}
+use Rattle.clif_expansion.specs.ScriptCall.{Emit, ScriptCall, call_allowed, ledger_of, ledger_with_call}
 
 -- the instructions that make a constant, from this place on: one of 64 bits whose sign is repeated, where there are 128
 abbrev pub constant_instructions : «Type» → ℤ → (place : ℕ) → List (Instruction Name Name)
@@ -52,6 +54,24 @@ pub record StandsForEmission (arithmetic whole : Arithmetic) (number : ℤ) : Ty
       → IsJoined (reading_emitted reading plain ledger (constant_instructions ty number (length plain.answers)))
       (fold ledger_with plain (constant_calls arithmetic ty number (length plain.answers) x))
       (ledger_with_call ledger (Emit (computing whole ty (name ∷ []))))
+
+-- Joined calls stay joined with the emission at the script's end and these calls at the plain one's, and if each emission was
+-- performed so far, each is: the name is a value, and the constant has 64 bits.
+pub record IsPerformedByConstant (arithmetic whole : Arithmetic) (number : ℤ) : Type 0 where
+  pub joined : (reading : Reading) (plain : Script) (calls : List ScriptCall) (ty : «Type») (x name : Name) → AreJoinedCalls reading plain calls
+      → AreJoinedCalls (reading_emitted reading (ledger_after plain) (ledger_of calls) (constant_instructions ty number (length (ledger_after plain).answers)))
+      (plain ++ constant_calls arithmetic ty number (length (ledger_after plain).answers) x) (calls ++ Emit (computing whole ty (name ∷ [])) ∷ [])
+  pub performed : (pointer_width : ℕ) (reading : Reading) (plain : Script) (calls : List ScriptCall) (ty : «Type») (x name : Name) (are : AreJoinedCalls reading plain calls)
+      → ArePerformed pointer_width reading plain calls are → IsReadAs reading x name
+      → IsTrue (call_allowed (ledger_of calls) (Emit (computing whole ty (name ∷ []))))
+      → ArePerformed pointer_width (reading_emitted reading (ledger_after plain) (ledger_of calls) (constant_instructions ty number (length (ledger_after plain).answers)))
+      (plain ++ constant_calls arithmetic ty number (length (ledger_after plain).answers) x) (calls ++ Emit (computing whole ty (name ∷ [])) ∷ [])
+      (joined reading plain calls ty x name are)
+
+-- So it is with the plain sum and the plain comparison.
+pub record ConstantCallsArePerformed : Type 0 where
+  pub adds : (number : ℤ) → IsPerformedByConstant (Binary Iadd) (AddConstant number) number
+  pub compares : (condition : IntCC) (number : ℤ) → IsPerformedByConstant (Compare condition) (CompareConstant condition number) number
 
 pub record ConstantsAreEmitted : Type 0 where
   pub adds : (number : ℤ) → StandsForEmission (Binary Iadd) (AddConstant number) number

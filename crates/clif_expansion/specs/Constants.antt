@@ -1,7 +1,7 @@
 -- Sums with a constant and comparisons with one: the code that a front end's methods `iadd_imm_s` and `icmp_imm_s` append, and
 -- what it computes. The constant is a number of 64 bits; it is cut to the operand's type, or its sign is repeated. From the
 -- documentation of Cranelift's `InstBuilder`, as are the names.
-use Rattle.std.specs.Prelude.{◌≡◌, ◌≢◌, ◌<◌, ◌+◌, ◌^◌, ℕ, ℤ, pos, negsuc, if◌then◌else◌, List, [], ◌∷◌, ◌++◌, IsTrue}
+use Rattle.std.specs.Prelude.{◌≡◌, ◌≢◌, ◌<◌, ◌+◌, ◌^◌, ℕ, suc, ℤ, pos, negsuc, if◌then◌else◌, List, [], ◌∷◌, ◌++◌, IsTrue}
 use Rattle.clif_opcodes.specs.declared.opcodes.BinaryOpcode.TheVariants.{Iadd}
 use Rattle.clif_opcodes.specs.declared.opcodes.ConvertOpcode.TheVariants.{Sextend}
 use Rattle.clif_types.specs.declared.condcodes.IntCC.{IntCC}
@@ -48,44 +48,53 @@ i64 = type.Lane lane.I64
 
 -- an instruction that computes, at a type
 abbrev pub computing : Arithmetic → «Type» → List Name → Instruction Name Name
-computing arithmetic ty operands = record { operation = Compute arithmetic; controlling = ty; operands = operands; edges = [] }
+computing arithmetic ty operands = record { operation = Compute arithmetic; controlling = ty; operands = operands; contexts = []; edges = [] }
 
 -- The constant of a type. There is none of 128 bits: one of 64 bits has its sign repeated.
 abbrev pub constant_code : «Type» → ℤ → (place : ℕ) (narrow constant : Name) → List Item
 constant_code (type.Lane lane.I128) number place narrow constant =
     Instruct place (computing (Iconst number) i64 []) (narrow ∷ [])
-    ∷ Instruct (place + 1) (computing (Convert Sextend) (type.Lane lane.I128) (narrow ∷ [])) (constant ∷ []) ∷ []
+    ∷ Instruct (suc place) (computing (Convert Sextend) (type.Lane lane.I128) (narrow ∷ [])) (constant ∷ []) ∷ []
 constant_code ty number place narrow constant = Instruct place (computing (Iconst number) ty []) (constant ∷ []) ∷ []
+
+-- the place behind the constant
+abbrev pub place_behind : «Type» → (place : ℕ) → ℕ
+place_behind (type.Lane lane.I128) place = suc (suc place)
+place_behind ty place = suc place
 
 -- the constant, and then arithmetic on a name and it
 abbrev pub with_constant : Arithmetic → «Type» → ℤ → (place : ℕ) (narrow constant x result : Name) → List Item
 with_constant arithmetic ty number place narrow constant x result =
-    constant_code ty number place narrow constant ++ Instruct (place + 2) (computing arithmetic ty (x ∷ constant ∷ [])) (result ∷ []) ∷ []
+    constant_code ty number place narrow constant ++ Instruct (place_behind ty place) (computing arithmetic ty (x ∷ constant ∷ [])) (result ∷ []) ∷ []
 
--- The names of a constant are generated; the narrow one has 64 bits.
-pub record NamesConstant (reading : Reading) (types : Name → «Type») (narrow constant : Name) : Type 0 where
-  pub narrow_generated : reading narrow ≡ Generated
+-- The narrow constant, where there is one, is generated and has 64 bits.
+abbrev pub NamesNarrow : «Type» → Reading → (Name → «Type») → Name → Type 0
+NamesNarrow (type.Lane lane.I128) reading types narrow = (reading narrow ≡ Generated) × (types narrow ≡ i64)
+NamesNarrow ty reading types narrow = Unit {0}
+
+-- The names of a constant of a type are generated.
+pub record NamesConstant (ty : «Type») (reading : Reading) (types : Name → «Type») (narrow constant : Name) : Type 0 where
+  pub narrow_named : NamesNarrow ty reading types narrow
   pub constant_generated : reading constant ≡ Generated
-  pub narrow_type : types narrow ≡ i64
 
 -- What is computed with a constant: the sum's low bits, or 1 if the condition holds of the name and the constant and else 0.
 pub record ConstantsAreOperands : Type 0 where
   pub adds : (reading : Reading) (types : Name → «Type») (ty : «Type») (number : ℤ) (place : ℕ) (narrow constant x result : Name)
-      → IsTrue (is_int ty) → Has64Bits number → NamesConstant reading types narrow constant → reading x ≢ Generated
+      → IsTrue (is_int ty) → Has64Bits number → NamesConstant ty reading types narrow constant → reading x ≢ Generated
       → Yields reading types (with_constant (Binary Iadd) ty number place narrow constant x result) (result ∷ [])
       (λ names. low_bits_at ty (names x + wrapped (bits_of ty) number) ∷ [])
   pub compares : (reading : Reading) (types : Name → «Type») (condition : IntCC) (ty : «Type») (number : ℤ) (place : ℕ) (narrow constant x result : Name)
-      → IsTrue (is_int ty) → Has64Bits number → NamesConstant reading types narrow constant → reading x ≢ Generated
+      → IsTrue (is_int ty) → Has64Bits number → NamesConstant ty reading types narrow constant → reading x ≢ Generated
       → Yields reading types (with_constant (Compare condition) ty number place narrow constant x result) (result ∷ [])
       (λ names. (if compares condition (bits_of ty) (names x) (wrapped (bits_of ty) number) then 1 else 0) ∷ [])
 
 -- Such code performs the script's one instruction.
 pub record ConstantsArePerformed : Type 0 where
   pub adds : (pointer_width : ℕ) (reading : Reading) (types : NameTypes) (ty : «Type») (number : ℤ) (place : ℕ) (narrow constant plain given x result : Name)
-      → IsTrue (is_int ty) → Has64Bits number → NamesConstant reading types.plain narrow constant → IsReadAs reading plain x → IsReadAs reading given result
+      → IsTrue (is_int ty) → Has64Bits number → NamesConstant ty reading types.plain narrow constant → IsReadAs reading plain x → IsReadAs reading given result
       → Performs pointer_width reading types (with_constant (Binary Iadd) ty number place narrow constant plain given) (computing (AddConstant number) ty (x ∷ [])) (result ∷ [])
   pub compares : (pointer_width : ℕ) (reading : Reading) (types : NameTypes) (condition : IntCC) (ty : «Type») (number : ℤ) (place : ℕ) (narrow constant plain given x result : Name)
-      → IsTrue (is_int ty) → Has64Bits number → NamesConstant reading types.plain narrow constant → IsReadAs reading plain x → IsReadAs reading given result
+      → IsTrue (is_int ty) → Has64Bits number → NamesConstant ty reading types.plain narrow constant → IsReadAs reading plain x → IsReadAs reading given result
       → Performs pointer_width reading types (with_constant (Compare condition) ty number place narrow constant plain given) (computing (CompareConstant condition number) ty (x ∷ [])) (result ∷ [])
 
 -- Worked out: 200 and -100 are 100 at 8 bits, and -1 is less than 0 at 128 bits, as a signed number.

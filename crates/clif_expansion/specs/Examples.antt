@@ -16,10 +16,10 @@ use Rattle.clif_expansion.specs.Reading.{Generated, Reading, ScriptName, StandsF
 
 -- arithmetic of 32 bits on these names
 abbrev pub of_32_bits : Operation → List Name → Instruction Name Name
-of_32_bits operation operands = record { operation = operation; controlling = i32; operands = operands; edges = [] }
+of_32_bits operation operands = record { operation = operation; controlling = i32; operands = operands; contexts = []; edges = [] }
 
 abbrev pub returning : Name → Instruction Name Name
-returning name = record { operation = Return; controlling = type.Invalid; operands = name ∷ []; edges = [] }
+returning name = record { operation = Return; controlling = type.Invalid; operands = name ∷ []; contexts = []; edges = [] }
 
 -- y = -x
 abbrev pub negation : Instruction Name Name

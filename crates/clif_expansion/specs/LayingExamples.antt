@@ -19,7 +19,7 @@ without_zero =
 
 -- to a block that the table doesn't lead to
 abbrev pub elsewhere : Instruction Name Name
-elsewhere = record { operation = Jump; controlling = type.Invalid; operands = []; edges = plain (answer_of 0 0) ∷ [] }
+elsewhere = record { operation = Jump; controlling = type.Invalid; operands = []; contexts = []; edges = plain (answer_of 0 0) ∷ [] }
 
 pub record LayingExamples : Type 0 where
   pub decides : IsLaid early jumping comparing (Instruct 4 by_table [])

@@ -18,3 +18,6 @@ pub mod Emission
 pub mod JoinedCalls
 pub mod ConstantCalls
 pub mod JoinedPrograms
+pub mod PerformedCalls
+pub mod JoinedRuns
+pub mod JoinedRunExamples

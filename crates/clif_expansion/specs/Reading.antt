@@ -44,6 +44,7 @@ pub record IsReadInstruction (reading : Reading) (plain instruction : Instructio
   pub operation : plain.operation ≡ instruction.operation
   pub controlling : plain.controlling ≡ instruction.controlling
   pub operands : AllZip (IsReadAs reading) plain.operands instruction.operands
+  pub contexts : AllZip (IsReadAs reading) plain.contexts instruction.contexts
   pub edges : AllZip (IsReadEdge reading) plain.edges instruction.edges
 
 -- Where in its list of calls an instruction was built is free.

@@ -73,7 +73,8 @@ can_emit _ ty = false
 abbrev pub call_allowed : Ledger → ScriptCall → Bool
 call_allowed ledger (Ask request) = allows ledger request
 call_allowed ledger (Emit instruction) =
-    is_open ledger ledger.current && list_all (has_value ledger) instruction.operands && list_all (can_lead ledger) instruction.edges
+    list_all (has_value ledger) instruction.contexts
+    && is_open ledger ledger.current && list_all (has_value ledger) instruction.operands && list_all (can_lead ledger) instruction.edges
     && can_emit instruction.operation instruction.controlling
 
 -- what it is refused for

@@ -36,11 +36,11 @@ number = answer_of 3 1
 
 -- by the number to the one block or to the other
 abbrev pub by_table : Instruction Name Name
-by_table = record { operation = BrTable 1; controlling = i32; operands = number ∷ []; edges = plain otherwise ∷ plain at_zero ∷ [] }
+by_table = record { operation = BrTable 1; controlling = i32; operands = number ∷ []; contexts = []; edges = plain otherwise ∷ plain at_zero ∷ [] }
 
 -- a branch by whether it is zero, to the one block or to a generated one
 abbrev pub by_test : Instruction Name Name
-by_test = record { operation = Brif; controlling = i32; operands = answer_of 5 1 ∷ []; edges = plain at_zero ∷ plain (answer_of 7 0) ∷ [] }
+by_test = record { operation = Brif; controlling = i32; operands = answer_of 5 1 ∷ []; contexts = []; edges = plain at_zero ∷ plain (answer_of 7 0) ∷ [] }
 
 -- The code: zero, whether the number is zero, and the branch by that.
 abbrev pub comparing : List Item
@@ -51,7 +51,7 @@ comparing =
 
 -- to the other block
 abbrev pub onward : Instruction Name Name
-onward = record { operation = Jump; controlling = type.Invalid; operands = []; edges = plain otherwise ∷ [] }
+onward = record { operation = Jump; controlling = type.Invalid; operands = []; contexts = []; edges = plain otherwise ∷ [] }
 
 -- a program in which each block goes there
 abbrev pub jumping : Program

@@ -2,6 +2,7 @@
 
 ghost use Rattle.clif_expansion.specs.Constants.{ConstantExamples};
 ghost use Rattle.clif_expansion.specs.Examples.{ExpansionExamples};
+ghost use Rattle.clif_expansion.specs.JoinedRunExamples.{JoinedRunExamples};
 ghost use Rattle.clif_expansion.specs.LayingExamples.{LayingExamples};
 ghost use Rattle.clif_expansion.specs.ScriptCallExamples.{ScriptCallExamples};
 ghost use Rattle.clif_expansion.specs.WalkExamples.{WalkExamples};
@@ -27,8 +28,16 @@ pub fn laying_examples()
     ensures { LayingExamples }
 {}
 
-/// A sum with a constant is emitted, its ledger is joined to that of its plain calls, and another one isn't. So it is with an
-/// exception table whose context is the sum, and isn't with another tag or context.
+/// A sum with a constant is emitted, and isn't where its operand or its context is no value. Its ledger is joined to
+/// that of its plain calls, and another one isn't. So it is with an exception table whose context is the sum, and isn't
+/// with another tag or context.
 pub fn script_call_examples()
     ensures { ScriptCallExamples }
+{}
+
+/// The plain calls of a sum with a constant are joined to the script's and perform it, in every world, and the script's
+/// own run is sound; the plain calls of the negated constant don't perform it. The run of a negation is sound; the run
+/// in which 300 is said to have 8 bits isn't.
+pub fn joined_run_examples()
+    ensures { (world : World) → JoinedRunExamples world }
 {}

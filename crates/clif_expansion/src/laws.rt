@@ -1,10 +1,11 @@
 //! The laws.
 
-ghost use Rattle.clif_expansion.specs.ConstantCalls.{ConstantsAreEmitted};
+ghost use Rattle.clif_expansion.specs.ConstantCalls.{ConstantCallsArePerformed, ConstantsAreEmitted};
 ghost use Rattle.clif_expansion.specs.Constants.{ConstantsAreOperands, ConstantsArePerformed};
 ghost use Rattle.clif_expansion.specs.Emission.{EmittingKeepsJoins};
 ghost use Rattle.clif_expansion.specs.JoinedCalls.{JoinedCallsHaveJoinedLedgers};
 ghost use Rattle.clif_expansion.specs.JoinedPrograms.{JoinedCallsHaveJoinedPrograms};
+ghost use Rattle.clif_expansion.specs.JoinedRuns.{JoinedCallsMeanTheSame};
 ghost use Rattle.clif_expansion.specs.Joining.{AskingKeepsJoins, ConditionsAreRead};
 ghost use Rattle.clif_expansion.specs.Laying.{CodesAreLaid, LayingKeepsPlaces};
 ghost use Rattle.clif_expansion.specs.Laws.{ExpandingKeepsPremises, ExpandingMeansTheSame, ValuesAreTaken};
@@ -23,8 +24,8 @@ pub fn expanding_keeps_premises()
     ensures { ExpandingKeepsPremises }
 {}
 
-/// The code of a sum with a constant and of a comparison with one computes with the constant, cut to the type or with its sign
-/// repeated.
+/// The code of a sum with a constant and of a comparison with one computes with the constant, cut to the type or with
+/// its sign repeated.
 pub fn constants_are_operands()
     ensures { ConstantsAreOperands }
 {}
@@ -49,8 +50,9 @@ pub fn scripts_alone()
     ensures { ScriptsAlone }
 {}
 
-/// Where each item of a script's program is laid out as code that names what was given before or what the item names, all that the
-/// plain program names was given before, on every path from the entry, if it is so in the script's program.
+/// Where each item of a script's program is laid out as code that names what was given before or what the item names,
+/// all that the plain program names was given before, on every path from the entry, if it is so in the script's
+/// program.
 pub fn laying_keeps_places()
     ensures { LayingKeepsPlaces }
 {}
@@ -60,7 +62,8 @@ pub fn codes_are_laid()
     ensures { CodesAreLaid }
 {}
 
-/// A call of the builder's on both sides, with its names read, keeps the ledger of a script's plain calls joined to the script's.
+/// A call of the builder's on both sides, with its names read, keeps the ledger of a script's plain calls joined to the
+/// script's.
 pub fn asking_keeps_joins()
     ensures { AskingKeepsJoins }
 {}
@@ -75,7 +78,8 @@ pub fn asking_stays()
     ensures { AskingStays }
 {}
 
-/// Code in a line keeps the ledger of a script's plain calls joined to that of a script that emits an instruction with such results.
+/// Code in a line keeps the ledger of a script's plain calls joined to that of a script that emits an instruction with
+/// such results.
 pub fn emitting_keeps_joins()
     ensures { EmittingKeepsJoins }
 {}
@@ -85,12 +89,27 @@ pub fn joined_calls_have_joined_ledgers()
     ensures { JoinedCallsHaveJoinedLedgers }
 {}
 
-/// Where a script may emit a sum with a constant or a comparison with one, its plain calls may be made, and they keep its ledger joined.
+/// Where a script may emit a sum with a constant or a comparison with one, its plain calls may be made, and they keep
+/// its ledger joined.
 pub fn constants_are_emitted()
     ensures { ConstantsAreEmitted }
 {}
 
-/// And the items of the plain program are cut into the script's items with their names read, and into the code of each emission.
+/// And the items of the plain program are cut into the script's items with their names read, and into the code of each
+/// emission.
 pub fn joined_calls_have_joined_programs()
     ensures { JoinedCallsHaveJoinedPrograms }
+{}
+
+/// So a script whose emissions are performed means what its plain calls mean, in each world in which the calls' own run
+/// is sound. There the plain calls' run meets the premise on claims, and the one on spill slots where the script's own
+/// run spares them. And the plain program is well placed where the script's own is.
+pub fn joined_calls_mean_the_same()
+    ensures { JoinedCallsMeanTheSame }
+{}
+
+/// Joined calls whose emissions are performed stay so with a sum with a constant, or a comparison with one, and its
+/// plain calls.
+pub fn constant_calls_are_performed()
+    ensures { ConstantCallsArePerformed }
 {}

@@ -172,7 +172,7 @@ pub struct RunError {
 
 impl RunError {
     /// Memory was refused before the first step.
-    pub(crate) fn memory() -> RunError {
+    pub fn memory() -> RunError {
         Cause::Fault(Fault::Memory).at(Place::Start)
     }
 }

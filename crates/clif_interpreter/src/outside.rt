@@ -1,11 +1,8 @@
-//! Outside calls: what is shown of them, and who answers them.
+//! Outside calls: what is shown of them, and what answers them.
 use crate::error::Cause;
-use clif_calls::OutsideAnswer;
 use clif_operations::arithmetic::greatest;
 use clif_operations::{Fault, LibraryCall, Memory, Typed, is_library_signature, library_result};
-use clif_types::{
-    AbiParam, ExternalName, LibCall, PointerWidth, SigRef, Signature, Type, UserFuncName, types,
-};
+use clif_types::{AbiParam, ExternalName, LibCall, PointerWidth, SigRef, Signature, Type, types};
 use std::alloc::Global;
 use std::fmt;
 
@@ -76,49 +73,6 @@ impl Outside for Zeros {
     }
 
     fn change(&self, _events: &[Event], _memory: &mut Memory) {}
-}
-
-/// Answers a call of a named function by the first entry of its name, and with zeros what no entry says; leaves memory as it
-/// is.
-#[derive(Clone, Copy)]
-pub struct Answers<'a>(pub &'a [OutsideAnswer]);
-
-impl Outside for Answers<'_> {
-    fn thrown(&self, _events: &[Event], _items: usize) -> Option<usize> {
-        None
-    }
-
-    fn value(&self, events: &[Event], place: usize) -> u128 {
-        match events.last() {
-            Some(event) => answered(self.0, &event.callee, place),
-            None => 0,
-        }
-    }
-
-    fn change(&self, _events: &[Event], _memory: &mut Memory) {}
-}
-
-// What a table says that a call returns at a place.
-fn answered(table: &[OutsideAnswer], callee: &Callee, place: usize) -> u128 {
-    for answer in table {
-        if is_named(callee, &answer.callee) {
-            return match answer.values.get(place) {
-                Some(value) => i128::from(*value).cast_unsigned(),
-                None => 0,
-            };
-        }
-    }
-    0
-}
-
-fn is_named(callee: &Callee, name: &UserFuncName) -> bool {
-    match (callee, name) {
-        (Callee::Named(ExternalName::User(called)), UserFuncName::User(name)) => called == name,
-        (Callee::Named(ExternalName::TestCase(called)), UserFuncName::Testcase(name)) => {
-            called == name
-        }
-        _ => false,
-    }
 }
 
 /// How a call was answered: what the parts `ret0` or `exn0` of its edges hold.

@@ -388,7 +388,8 @@ impl<O: Outside> State<'_, '_, '_, O> {
         self.tried(place, Event { callee, arguments }, signature, table)
     }
 
-    // Makes the try call at a place, by the signature of its table.
+    // Makes the try call at a place, by the signature of its table. The promise asks that the contexts are given before it, though
+    // nothing reads them.
     fn try_call(&mut self, place: usize, called: &ThrowingCall) -> Result<Next, Cause> {
         let (program, calls, table) = (self.program, self.calls, called.table());
         let (Some(held), Some(signature)) = (
@@ -397,6 +398,9 @@ impl<O: Outside> State<'_, '_, '_, O> {
         ) else {
             return Err(Cause::NoFunction);
         };
+        for name in held.contexts.iter() {
+            self.value(*name)?;
+        }
         match called {
             ThrowingCall::TryCall { function, args, .. } => {
                 let Some(data) = program.imports.function(calls, *function) else {

@@ -1,7 +1,7 @@
 -- Which calls a script may make, and which of them are refused. A call outside its condition is a misuse. After the
 -- documentation of Cranelift's `FunctionBuilder`.
 use Rattle.std.specs.Prelude.{ℕ, suc, not, ◌-◌, ◌==◌, ◌&&◌, ◌||◌, if◌then◌else◌, Bool, true, false, List, [], ◌∷◌, ◌++◌, Option, Some, None, is_some, unwrap_or, find, length, map, nat_lt, ℤ}
-use Rattle.std.specs.List.{list_all}
+use Rattle.std.specs.List.{list_all, list_any}
 use Rattle.clif_opcodes.specs.declared.opcodes.UnaryOpcode.{UnaryOpcode}
 use Rattle.clif_opcodes.specs.declared.opcodes.BinaryOpcode.{BinaryOpcode}
 use Rattle.clif_opcodes.specs.declared.opcodes.ConvertOpcode.{ConvertOpcode}
@@ -88,6 +88,21 @@ may_give ledger (ServedBy table) = is_some (unserved_edges ledger table)
 may_give ledger (TriedBy table) = is_some (unserved_exceptions ledger table)
 may_give ledger (Imported entry) = has_entry ledger.tables entry
 
+-- both are one jump table, or one exception table
+abbrev pub same_table : GivenEntry → GivenEntry → Bool
+same_table (ServedBy table) (ServedBy other) = table == other
+same_table (TriedBy table) (TriedBy other) = table == other
+same_table _ _ = false
+
+-- no table is given twice, as it would serve twice; other entries may be
+abbrev pub tables_differ : List GivenEntry → Bool
+tables_differ [] = true
+tables_differ (entry ∷ entries) = not (list_any (same_table entry) entries) && tables_differ entries
+
+-- the entries may be given to one instruction: the tables among them differ, and each entry may be given
+abbrev pub may_give_all : Ledger → List GivenEntry → Bool
+may_give_all ledger entries = tables_differ entries && list_all (may_give ledger) entries
+
 -- an item of an exception table names an edge that was made, or a value
 abbrev pub has_item : Ledger → TableItem → Bool
 has_item ledger (TagTo tag edge) = is_some (edge_named ledger edge)
@@ -121,7 +136,8 @@ allows ledger (MakeExceptionTable signature normal items) =
     is_some (edge_named ledger normal) && list_all (has_item ledger) items
 allows ledger (Annotate values) = list_all (has_value ledger) values
 allows ledger (Build entries instruction) =
-    list_all (may_give ledger) entries && is_open ledger ledger.current && list_all (has_value ledger) instruction.operands && list_all (can_lead ledger) instruction.edges
+    list_all (has_value ledger) instruction.contexts && may_give_all ledger entries
+    && is_open ledger ledger.current && list_all (has_value ledger) instruction.operands && list_all (can_lead ledger) instruction.edges
     && can_operate instruction.operation instruction.controlling && list_all (has_entry ledger.tables) (operation_entries instruction.operation)
 allows ledger (ChangeJumpDestination branch from to) =
     has_instruction ledger branch && leads_to ledger branch from && not (is_sealed ledger from) && has_block ledger to && not (is_sealed ledger to)
@@ -182,72 +198,72 @@ verdict_on script = verdict_on_attempts (map outright script)
 
 -- The instruction calls. Operations on operands and `brif` are made at the type of their first operand.
 abbrev pub iconst : «Type» → ℤ → Request
-iconst ty number = Build [] (record { operation = Compute (Iconst number); controlling = ty; operands = []; edges = [] })
+iconst ty number = Build [] (record { operation = Compute (Iconst number); controlling = ty; operands = []; contexts = []; edges = [] })
 
 abbrev pub unary : Ledger → UnaryOpcode → Name → Request
-unary ledger opcode a = Build [] (record { operation = Compute (Unary opcode); controlling = or_invalid (type_of ledger a); operands = a ∷ []; edges = [] })
+unary ledger opcode a = Build [] (record { operation = Compute (Unary opcode); controlling = or_invalid (type_of ledger a); operands = a ∷ []; contexts = []; edges = [] })
 
 abbrev pub binary : Ledger → BinaryOpcode → Name → Name → Request
-binary ledger opcode a b = Build [] (record { operation = Compute (Binary opcode); controlling = or_invalid (type_of ledger a); operands = a ∷ b ∷ []; edges = [] })
+binary ledger opcode a b = Build [] (record { operation = Compute (Binary opcode); controlling = or_invalid (type_of ledger a); operands = a ∷ b ∷ []; contexts = []; edges = [] })
 
 abbrev pub convert : ConvertOpcode → «Type» → Name → Request
-convert opcode ty a = Build [] (record { operation = Compute (Convert opcode); controlling = ty; operands = a ∷ []; edges = [] })
+convert opcode ty a = Build [] (record { operation = Compute (Convert opcode); controlling = ty; operands = a ∷ []; contexts = []; edges = [] })
 
 abbrev pub float_const : FloatConstOpcode → ℕ → Request
-float_const opcode bits = Build [] (record { operation = Compute (FloatConst opcode bits); controlling = type.Invalid; operands = []; edges = [] })
+float_const opcode bits = Build [] (record { operation = Compute (FloatConst opcode bits); controlling = type.Invalid; operands = []; contexts = []; edges = [] })
 
 abbrev pub pooled_const : PooledConstOpcode → «Type» → List ℕ → Request
-pooled_const opcode ty bytes = Build [] (record { operation = Compute (PooledConst opcode bytes); controlling = ty; operands = []; edges = [] })
+pooled_const opcode ty bytes = Build [] (record { operation = Compute (PooledConst opcode bytes); controlling = ty; operands = []; contexts = []; edges = [] })
 
 abbrev pub compare : Ledger → IntCC → Name → Name → Request
 compare ledger condition a b =
-    Build [] (record { operation = Compute (Compare condition); controlling = or_invalid (type_of ledger a); operands = a ∷ b ∷ []; edges = [] })
+    Build [] (record { operation = Compute (Compare condition); controlling = or_invalid (type_of ledger a); operands = a ∷ b ∷ []; contexts = []; edges = [] })
 
 abbrev pub concat : Ledger → Name → Name → Request
 concat ledger low high =
-    Build [] (record { operation = Compute Concat; controlling = or_invalid (type_of ledger low); operands = low ∷ high ∷ []; edges = [] })
+    Build [] (record { operation = Compute Concat; controlling = or_invalid (type_of ledger low); operands = low ∷ high ∷ []; contexts = []; edges = [] })
 
 abbrev pub split : Ledger → Name → Request
-split ledger a = Build [] (record { operation = Compute Split; controlling = or_invalid (type_of ledger a); operands = a ∷ []; edges = [] })
+split ledger a = Build [] (record { operation = Compute Split; controlling = or_invalid (type_of ledger a); operands = a ∷ []; contexts = []; edges = [] })
 
 abbrev pub load : MemFlagsShape → «Type» → Name → ℤ → Request
-load flags ty address offset = Build [] (record { operation = Load flags offset; controlling = ty; operands = address ∷ []; edges = [] })
+load flags ty address offset = Build [] (record { operation = Load flags offset; controlling = ty; operands = address ∷ []; contexts = []; edges = [] })
 
 -- at the type of what is stored
 abbrev pub store : Ledger → MemFlagsShape → Name → Name → ℤ → Request
 store ledger flags stored address offset =
-    Build [] (record { operation = Store flags offset; controlling = or_invalid (type_of ledger stored); operands = stored ∷ address ∷ []; edges = [] })
+    Build [] (record { operation = Store flags offset; controlling = or_invalid (type_of ledger stored); operands = stored ∷ address ∷ []; contexts = []; edges = [] })
 
 abbrev pub stack : StackOpcode → «Type» → ℕ → ℤ → Request
-stack opcode ty slot offset = Build [] (record { operation = Stack opcode slot offset; controlling = ty; operands = []; edges = [] })
+stack opcode ty slot offset = Build [] (record { operation = Stack opcode slot offset; controlling = ty; operands = []; contexts = []; edges = [] })
 
 -- at the type of what is stored
 abbrev pub stack_store : Ledger → Name → ℕ → ℤ → Request
 stack_store ledger stored slot offset =
-    Build [] (record { operation = StackStore slot offset; controlling = or_invalid (type_of ledger stored); operands = stored ∷ []; edges = [] })
+    Build [] (record { operation = StackStore slot offset; controlling = or_invalid (type_of ledger stored); operands = stored ∷ []; contexts = []; edges = [] })
 
 abbrev pub trap : TrapCode → Request
-trap reason = Build [] (record { operation = Trap reason; controlling = type.Invalid; operands = []; edges = [] })
+trap reason = Build [] (record { operation = Trap reason; controlling = type.Invalid; operands = []; contexts = []; edges = [] })
 
 abbrev pub cond_trap : Ledger → CondTrapOpcode → Name → TrapCode → Request
 cond_trap ledger opcode condition reason =
-    Build [] (record { operation = CondTrap opcode reason; controlling = or_invalid (type_of ledger condition); operands = condition ∷ []; edges = [] })
+    Build [] (record { operation = CondTrap opcode reason; controlling = or_invalid (type_of ledger condition); operands = condition ∷ []; contexts = []; edges = [] })
 
 -- at the type of its second operand
 abbrev pub select : Ledger → Name → Name → Name → Request
 select ledger condition a b =
-    Build [] (record { operation = Compute Select; controlling = or_invalid (type_of ledger a); operands = condition ∷ a ∷ b ∷ []; edges = [] })
+    Build [] (record { operation = Compute Select; controlling = or_invalid (type_of ledger a); operands = condition ∷ a ∷ b ∷ []; contexts = []; edges = [] })
 
 abbrev pub jump : Edge Name Name → Request
-jump edge = Build [] (record { operation = Jump; controlling = type.Invalid; operands = []; edges = edge ∷ [] })
+jump edge = Build [] (record { operation = Jump; controlling = type.Invalid; operands = []; contexts = []; edges = edge ∷ [] })
 
 abbrev pub brif : Ledger → Name → Edge Name Name → Edge Name Name → Request
 brif ledger condition taken other =
-    Build [] (record { operation = Brif; controlling = or_invalid (type_of ledger condition); operands = condition ∷ []; edges = taken ∷ other ∷ [] })
+    Build [] (record { operation = Brif; controlling = or_invalid (type_of ledger condition); operands = condition ∷ []; contexts = []; edges = taken ∷ other ∷ [] })
 
 -- a branch along these edges: the default, and then the entries
 abbrev pub table_branch : Name → List (Edge Name Name) → Instruction Name Name
-table_branch index edges = record { operation = BrTable (length edges - 1); controlling = type.Invalid; operands = index ∷ []; edges = edges }
+table_branch index edges = record { operation = BrTable (length edges - 1); controlling = type.Invalid; operands = index ∷ []; contexts = []; edges = edges }
 
 -- a branch along the edges of a jump table, which serves it
 abbrev pub br_table : Ledger → Name → ℕ → Request
@@ -260,6 +276,7 @@ call_function ledger function arguments =
       operation = Call (function_at ledger.tables function).name (signature_at ledger.tables (function_at ledger.tables function).signature);
       controlling = type.Invalid;
       operands = arguments;
+      contexts = [];
       edges = [];
     })
 
@@ -270,6 +287,7 @@ call_indirect ledger signature callee arguments =
       operation = CallIndirect (signature_at ledger.tables signature);
       controlling = type.Invalid;
       operands = callee ∷ arguments;
+      contexts = [];
       edges = [];
     })
 
@@ -293,6 +311,7 @@ tried_function ledger function arguments table held =
       operation = TryCall (function_at ledger.tables function).name (tried_shape ledger held);
       controlling = type.Invalid;
       operands = arguments;
+      contexts = held.contexts;
       edges = held.edges;
     })
 
@@ -302,6 +321,7 @@ tried_address ledger callee arguments table held =
       operation = TryCallIndirect (tried_shape ledger held);
       controlling = type.Invalid;
       operands = callee ∷ arguments;
+      contexts = held.contexts;
       edges = held.edges;
     })
 
@@ -313,4 +333,4 @@ abbrev pub try_call_indirect : Ledger → Name → List Name → ℕ → Request
 try_call_indirect ledger callee arguments table = tried_address ledger callee arguments table (exceptions_at ledger table)
 
 abbrev pub return_ : List Name → Request
-return_ values = Build [] (record { operation = Return; controlling = type.Invalid; operands = values; edges = [] })
+return_ values = Build [] (record { operation = Return; controlling = type.Invalid; operands = values; contexts = []; edges = [] })

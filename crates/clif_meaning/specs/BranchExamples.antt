@@ -28,7 +28,7 @@ passing block value = record { target = block; arguments = Known value ∷ [] }
 -- a branch of 32 bits
 abbrev pub branch : Name → Name → Name → Request
 branch condition taken other =
-    Build [] (record { operation = Brif; controlling = i32; operands = condition ∷ []; edges = plain taken ∷ plain other ∷ [] })
+    Build [] (record { operation = Brif; controlling = i32; operands = condition ∷ []; contexts = []; edges = plain taken ∷ plain other ∷ [] })
 
 abbrev pub block : ℕ → Name
 block number = answer_of number 0
@@ -41,7 +41,7 @@ both_arms_script =
     ∷ SwitchToBlock (block 0) ∷ SealBlock (block 0) ∷ iconst i32 (pos 5) ∷ DefVar 0 (answer_of 7 1) ∷ jump (plain (block 1))
     ∷ SwitchToBlock (block 1) ∷ UseVar 0 ∷ branch (answer_of 11 0) (block 2) (block 3)
     ∷ SwitchToBlock (block 2) ∷ SealBlock (block 2) ∷ UseVar 0 ∷ iconst i32 (negsuc 0)
-    ∷ Build [] (record { operation = Compute (Binary Iadd); controlling = i32; operands = answer_of 15 0 ∷ answer_of 16 1 ∷ []; edges = [] })
+    ∷ Build [] (record { operation = Compute (Binary Iadd); controlling = i32; operands = answer_of 15 0 ∷ answer_of 16 1 ∷ []; contexts = []; edges = [] })
     ∷ DefVar 0 (answer_of 17 1) ∷ branch (answer_of 17 1) (block 1) (block 1) ∷ SealBlock (block 1)
     ∷ SwitchToBlock (block 3) ∷ SealBlock (block 3) ∷ UseVar 0 ∷ return_ (answer_of 23 0 ∷ []) ∷ []
 
@@ -51,12 +51,12 @@ no_block = record { parameters = []; items = [] }
 -- an instruction without results and stack map, at these edges
 abbrev pub going : List ℕ → List (Edge ℕ ℕ) → Placed
 going [] edges = record {
-  instruction = record { operation = Jump; controlling = type.Invalid; operands = []; edges = edges };
+  instruction = record { operation = Jump; controlling = type.Invalid; operands = []; contexts = []; edges = edges };
   results = [];
   stack_map = [];
 }
 going (condition ∷ more) edges = record {
-  instruction = record { operation = Brif; controlling = i32; operands = condition ∷ []; edges = edges };
+  instruction = record { operation = Brif; controlling = i32; operands = condition ∷ []; contexts = []; edges = edges };
   results = [];
   stack_map = [];
 }

@@ -163,7 +163,7 @@ first_script =
 -- an instruction without edges and stack map
 abbrev pub placed : Operation → «Type» → List ℕ → List ℕ → Placed
 placed operation ty operands results = record {
-  instruction = record { operation = operation; controlling = ty; operands = operands; edges = [] };
+  instruction = record { operation = operation; controlling = ty; operands = operands; contexts = []; edges = [] };
   results = results;
   stack_map = [];
 }

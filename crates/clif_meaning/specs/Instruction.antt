@@ -1,6 +1,6 @@
 -- The one shape of an instruction, for the script's machine and for the function's: what operands are is a parameter,
 -- a name or a value. After Cranelift's `InstructionData`, its opcode and controlling type apart from its operands.
-use Rattle.std.specs.Prelude.{ℕ, List, [], ◌∷◌, ℤ}
+use Rattle.std.specs.Prelude.{ℕ, List, [], ◌∷◌, ◌++◌, ℤ}
 use Rattle.clif_opcodes.specs.declared.opcodes.CondTrapOpcode.{CondTrapOpcode}
 use Rattle.clif_opcodes.specs.declared.opcodes.FloatConstOpcode.{FloatConstOpcode}
 use Rattle.clif_opcodes.specs.declared.opcodes.PooledConstOpcode.{PooledConstOpcode}
@@ -148,11 +148,17 @@ pub record Edge (Block Operand : Type 0) : Type 0 where
   pub target : Block
   pub arguments : List (Argument Operand)
 
--- an instruction. `controlling` is the type that an operation over several types is made at. The edges of `brif` are
--- the one where the condition holds and the other; of `br_table` the default and then its entries in order; of a try
--- call the normal edge and then those of its items.
+-- an instruction. `controlling` is the type that an operation over several types is made at. The contexts of a try call are
+-- what its table names for the tags that follow, of any type: they are there for an unwinder, and no run reads them. The
+-- edges of `brif` are the one where the condition holds and the other; of `br_table` the default and then its entries in
+-- order; of a try call the normal edge and then those of its items.
 pub record Instruction (Block Operand : Type 0) : Type 0 where
   pub operation : Operation
   pub controlling : «Type»
   pub operands : List Operand
+  pub contexts : List Operand
   pub edges : List (Edge Block Operand)
+
+-- what an instruction names itself, its edges aside: its operands, and then its contexts
+abbrev pub named_operands : {Block Operand : Type 0} → Instruction Block Operand → List Operand
+named_operands instruction = instruction.operands ++ instruction.contexts

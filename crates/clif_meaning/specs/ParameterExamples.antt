@@ -22,7 +22,7 @@ abbrev pub difference_script : Script
 difference_script =
     CreateBlock ∷ CreateBlock ∷ AppendFunctionParams (block 0) (i32 ∷ i32 ∷ []) ∷ AppendBlockParams (block 1) (i32 ∷ [])
     ∷ SwitchToBlock (block 0) ∷ SealBlock (block 0)
-    ∷ Build [] (record { operation = Compute (Binary Isub); controlling = i32; operands = answer_of 2 0 ∷ answer_of 2 1 ∷ []; edges = [] })
+    ∷ Build [] (record { operation = Compute (Binary Isub); controlling = i32; operands = answer_of 2 0 ∷ answer_of 2 1 ∷ []; contexts = []; edges = [] })
     ∷ jump (record { target = block 1; arguments = Known (answer_of 6 1) ∷ [] })
     ∷ SealBlock (block 1) ∷ SwitchToBlock (block 1) ∷ return_ (answer_of 3 0 ∷ []) ∷ []
 

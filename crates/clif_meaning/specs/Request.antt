@@ -8,7 +8,8 @@ use Rattle.clif_meaning.specs.Instruction.{Edge, Instruction}
 use Rattle.clif_meaning.specs.Name.{Name}
 
 -- An entry of a table that an instruction is given by its number. A jump table or an exception table serves it from then on, and
--- no other; a function, a signature or another entry may be given to any number of them.
+-- no other. Any other entry of the function's tables, be it a function, a signature, a stack slot or a constant, is imported, and
+-- may be given to any number of them; calls give functions and signatures alone.
 pub data GivenEntry : Type 0 where
   ServedBy : (table : ℕ) → GivenEntry
   TriedBy : (table : ℕ) → GivenEntry

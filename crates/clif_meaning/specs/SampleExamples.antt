@@ -19,7 +19,7 @@ use Rattle.clif_meaning.specs.BranchExamples.{block, branch, going, no_block, pl
 
 -- an instruction on two values of 32 bits
 abbrev pub of_two : Arithmetic → Name → Name → Request
-of_two arithmetic x y = Build [] (record { operation = Compute arithmetic; controlling = i32; operands = x ∷ y ∷ []; edges = [] })
+of_two arithmetic x y = Build [] (record { operation = Compute arithmetic; controlling = i32; operands = x ∷ y ∷ []; contexts = []; edges = [] })
 
 -- block0(x): y = 2, z = x + y, jump to block1; block1: z = y + z, by y to block3 or block2; block2: z = z - x, returns y;
 -- block3: y = y - x, jump to block1. Each block is sealed as soon as its branches are there.

@@ -9,7 +9,7 @@ use Rattle.clif_nodes.specs.declared.nodes.InstNode.{InstNode}
 use Rattle.clif_instructions.specs.declared.block_call.BlockArg.{BlockArg}
 use Rattle.clif_instructions.specs.declared.block_call.BlockArg.TheVariants as arg
 use Rattle.clif_instructions.specs.declared.block_call.BlockCall.{BlockCall}
-use Rattle.clif_instructions.specs.Instruction.{operands, destinations, typing_of}
+use Rattle.clif_instructions.specs.Instruction.{contexts, operands, destinations, typing_of}
 use Rattle.clif_opcodes.specs.declared.kinds.Control.{Control}
 use Rattle.clif_opcodes.specs.declared.kinds.Control.TheVariants as control
 use Rattle.clif_opcodes.specs.declared.kinds.ResultKind.{ResultKind}
@@ -103,12 +103,13 @@ made_with body _ _ operands ty = type.Invalid
 abbrev pub made_at : Body → InstructionData → «Type» → «Type»
 made_at body shape ty = made_with body (typing_of shape).results (typing_of shape).control (operands shape) ty
 
--- an instruction. The contexts of a try call aren't seen yet.
+-- an instruction
 abbrev pub instruction_of : Body → InstNode → Instruction ℕ ℕ
 instruction_of body node = record {
   operation = operation_of body.tables node.shape;
   controlling = controlling_of body node.shape node.results;
   operands = operands node.shape;
+  contexts = contexts node.shape;
   edges = edges_of node.shape;
 }
 

@@ -1,8 +1,8 @@
 -- Well placed: what an item names was given before, on every path from the entry. The usual dominance of uses by
--- definitions, said by paths. An item names its operands before its results are given, and its edges' arguments
--- after; parameters are given as their block is entered.
+-- definitions, said by paths. An item names its operands and contexts before its results are given, and its edges'
+-- arguments after; parameters are given as their block is entered.
 use Rattle.std.specs.Prelude.{◌≡◌, ℕ, zero, suc, ◌+◌, ◌⊎◌, List, [], ◌∷◌, length, map, flat_map, Option, Some, None, slice_get, Contains}
-use Rattle.clif_meaning.specs.Instruction.{Argument, Known, CallResult, CallPayload, Instruction}
+use Rattle.clif_meaning.specs.Instruction.{Argument, Known, CallResult, CallPayload, Instruction, named_operands}
 use Rattle.clif_meaning.specs.Name.{Name}
 use Rattle.clif_meaning.specs.Program.{Item, Instruct, Use, Assign, Program}
 use Rattle.clif_meaning.specs.FunctionView.{Placed, FunctionView}
@@ -64,7 +64,7 @@ item_gives (Some (Assign variable name)) = []
 item_gives None = []
 
 abbrev pub item_names : Option Item → List Name
-item_names (Some (Instruct place instruction results)) = instruction.operands
+item_names (Some (Instruct place instruction results)) = named_operands instruction
 item_names (Some (Use variable name)) = []
 item_names (Some (Assign variable name)) = name ∷ []
 item_names None = []
@@ -105,7 +105,7 @@ placed_gives (Some placed) = placed.results
 
 abbrev pub placed_names : (ℕ → ℕ) → Option Placed → List ℕ
 placed_names resolved None = []
-placed_names resolved (Some placed) = map resolved placed.instruction.operands
+placed_names resolved (Some placed) = map resolved (named_operands placed.instruction)
 
 abbrev pub placed_passes : (ℕ → ℕ) → Option Placed → List ℕ
 placed_passes resolved None = []
@@ -131,8 +131,8 @@ function_code function = record {
   passes = λ p. placed_passes function.resolved (placed_at function p);
 }
 
--- in a function: on every path from the entry a value, after aliases, is defined before each operand and each
--- argument of an edge that names it
+-- in a function: on every path from the entry a value, after aliases, is defined before each operand, each
+-- context of a try call and each argument of an edge that names it
 abbrev pub WellPlaced : FunctionView → Type 0
 WellPlaced function = IsWellPlaced (function_code function)
 

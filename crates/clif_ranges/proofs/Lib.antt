@@ -1,3 +1,6 @@
 -- Ranges, one case more, and why they are the fewest.
 pub mod Gathering
 pub mod Fewest
+pub mod CaseMaps
+pub mod Tables
+pub mod Greatest

@@ -1,6 +1,10 @@
-//! Ranges of consecutive keys among the cases of a switch.
+//! The cases of a switch, and the ranges of consecutive keys among them.
 #![tactic(auto)]
 
+pub mod cases;
+pub mod error;
 pub mod ranges;
 
+pub use cases::Cases;
+pub use error::SwitchError;
 pub use ranges::{CaseRange, ranges_of};

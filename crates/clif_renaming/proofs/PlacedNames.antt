@@ -2,7 +2,7 @@
 use Rattle.std.proofs.Common.{◌≡◌, ◌<◌, ◌↔◌, ℕ, zero, suc, List, [], ◌∷◌, ◌++◌, length, map, refl, sym, ◌∙◌, ap, ap₂, subst, arith, ◌⊎◌, inl, inr, Option, Some, None}
 use Rattle.std.specs.Prelude.{Contains, flat_map, option_map, slice_get}
 use Rattle.std.proofs.lemmas.List.{map-append}
-use Rattle.clif_meaning.specs.Instruction.{Argument, Known, CallResult, CallPayload, Edge, Instruction}
+use Rattle.clif_meaning.specs.Instruction.{Argument, Known, CallResult, CallPayload, Edge, Instruction, named_operands}
 use Rattle.clif_meaning.specs.Name.{Name}
 use Rattle.clif_meaning.specs.Path.{Flow, IsFirstPlace, IsPath, Leads, Place}
 use Rattle.clif_meaning.specs.Program.{Program, Item, Instruct, Use, Assign}
@@ -56,7 +56,8 @@ module _ (rename : Name → Name) where
   gives_of _ _ is = absurd is
 
   names_of : IsRenamedOf item_names
-  names_of (Instruct place instruction results) (Instruct other changed names) is = ap (λ (n : Instruction Name Name). n.operands) is.0
+  names_of (Instruct place instruction results) (Instruct other changed names) is =
+      ap (λ (n : Instruction Name Name). named_operands n) is.0 ∙ sym (map-append rename instruction.operands instruction.contexts)
   names_of (Use variable name) (Use other name') is = refl
   names_of (Assign variable name) (Assign other name') is = ap (λ (n : Name). n ∷ []) is.1
   names_of _ _ is = absurd is

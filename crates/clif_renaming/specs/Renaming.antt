@@ -21,7 +21,11 @@ renamed_edge rename edge = record { target = rename edge.target; arguments = map
 
 abbrev pub renamed_instruction : (Name → Name) → Instruction Name Name → Instruction Name Name
 renamed_instruction rename instruction =
-    record instruction { operands = map rename instruction.operands; edges = map (renamed_edge rename) instruction.edges }
+    record instruction {
+      operands = map rename instruction.operands;
+      contexts = map rename instruction.contexts;
+      edges = map (renamed_edge rename) instruction.edges;
+    }
 
 -- The second item is the first one renamed. Where in the script an instruction was built is free.
 abbrev pub IsRenamedItem : (Name → Name) → Item → Item → Type 0

@@ -1,5 +1,5 @@
 -- The tests before a branch is changed are the condition of that request in the ledger.
-use Rattle.std.proofs.Common.{ℕ, List, refl, ap, sym, ◌∙◌}
+use Rattle.std.proofs.Common.{ℕ, List, refl, sym, ◌∙◌}
 use Rattle.std.specs.Prelude.{◌≡◌, ◌↔◌, ◌&&◌, Bool, IsTrue, None, Some, false, not, true}
 use Rattle.std.specs.List.{list_any}
 use Rattle.std.proofs.lemmas.Bool.{and_parts, false_from_ne_true, false≢true, not-true}
@@ -15,8 +15,10 @@ use Rattle.cranelift_frontend.specs.declared.builder.FunctionBuilder.{FunctionBu
 use Rattle.cranelift_frontend.specs.LeadsLaw.{LeadsAreReadByNumber}
 use Rattle.cranelift_frontend.specs.Ledger.{NamesBlock, NamesInstruction, ledger_of}
 use Rattle.clif_calls.specs.declared.call.Name.{Name}
-use Rattle.clif_replay.specs.declared.script.Answer.{Answer}
-use Rattle.clif_replay.specs.Ready.{IsReady, block_of, can_change, can_seal, inst_of}
+use Rattle.clif_resolution.specs.declared.answers.Answer.{Answer}
+use Rattle.clif_replay.specs.Ready.{IsReady, can_change}
+use Rattle.clif_resolution.specs.Answers.{block_of, inst_of}
+use Rattle.clif_resolution.specs.Conditions.{can_seal}
 use Rattle.clif_replay.specs.Requests.{name_of}
 use Rattle.clif_replay.proofs.Conditions.{no-state, sealed-same}
 use Rattle.clif_replay.proofs.Placements.{Stands-from_test, test-from_Stands}

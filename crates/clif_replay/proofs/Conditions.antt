@@ -33,11 +33,15 @@ use Rattle.cranelift_frontend.specs.Builder.{CanLead, HasCurrent, is_elsewhere, 
 use Rattle.cranelift_frontend.specs.Ledger.{NamesArguments, NamesEdge, block_name, ledger_of}
 use Rattle.clif_calls.specs.declared.call.Edge.{Edge}
 use Rattle.clif_calls.specs.declared.call.Name.{Name}
-use Rattle.clif_replay.specs.declared.script.Answer.{Answer}
+use Rattle.clif_resolution.specs.declared.answers.Answer.{Answer}
 use Rattle.clif_replay.specs.Requests.{edge_of, name_of}
-use Rattle.clif_replay.specs.Ready.{IsReady, IsFound, all_values, argument_of, block_of, can_append, can_append_function_params, can_define, can_seal, can_switch, can_use, is_open, is_open_at, is_target, may_lead, value_of}
-use Rattle.clif_replay.proofs.Options.{get-below, map-some, name-of-none, name-of-some, some-is}
+use Rattle.clif_replay.specs.Ready.{IsReady, can_append, can_append_function_params, can_define, can_switch, can_use}
+use Rattle.clif_resolution.specs.Conditions.{IsFound, can_seal, is_open, is_open_at, is_target, may_lead}
+use Rattle.clif_resolution.specs.Answers.{all_values, block_of, value_of}
+use Rattle.clif_resolution.proofs.Options.{get-below, map-some}
+use Rattle.clif_replay.proofs.Options.{name-of-none, name-of-some, some-is}
 use Rattle.clif_replay.proofs.ReadyLaws.{block-found, block-missing, block-there, read, value-exists, value-found, value-missing}
+use Rattle.clif_resolution.proofs.Found.{passed-values}
 
 filled-same : {declared : SignatureShape} (calls : List AnsweredCall) (b : FunctionBuilder) (answers : List Answer) → IsReady declared calls b answers
     → (name : meaning.Name) (block : ℕ) → block_name (ledger_of calls) block ≡ Some name → is_filled (ledger_of calls) name ≡ is_filled_status (status_of b.ctx.now block)
@@ -285,15 +289,6 @@ values-same calls b answers ready (name ∷ names) =
     by None is = value-missing calls b answers ready name is ∙ ap is_some (sym is)
     by (Some value) is = (value-found calls b answers ready name value is).is_value ∙ ap is_some (sym is)
 
--- values that were found are all there
-pub all-found : (f : Body) (answers : List Answer) (names : List Name) (values : List ℕ) → map (value_of f answers) names ≡ map Some values → all_values f answers names ≡ true
-all-found f answers [] values found = refl
-all-found f answers (name ∷ names) [] found = let no_way : ⊥ = cc in absurd no_way
-all-found f answers (name ∷ names) (value ∷ values) found =
-    let here : value_of f answers name ≡ Some value = cc in
-    let rest : map (value_of f answers) names ≡ map Some values = cc in
-    rw here (all-found f answers names values rest)
-
 -- a current block that isn't filled
 pub has-current : {declared : SignatureShape} (calls : List AnsweredCall) (b : FunctionBuilder) (answers : List Answer) → IsReady declared calls b answers → is_open b ≡ true → HasCurrent b
 has-current calls b answers ready opens = by b.position refl opens
@@ -444,30 +439,6 @@ lead-same calls b answers ready edge =
     ap (λ (test : Bool). test && list_all (has_argument (ledger_of calls)) (map (λ name. Known (name_of name)) edge.args.items)) (target-same calls b answers ready edge.block)
     ∙ ap (λ (all : Bool). is_target b (block_of answers edge.block) && all)
     (arguments-same (ledger_of calls) edge.args.items ∙ values-same calls b answers ready edge.args.items)
-
--- what names pass is what they lead to
-pub passed-values : (f : Body) (answers : List Answer) (names : List Name) (args : List BlockArg) → map (argument_of f answers) names ≡ map Some args
-    → (values : List ℕ) × (map (value_of f answers) names ≡ map Some values) × (args ≡ map arg.Value values)
-passed-values f answers [] [] found = ([], refl, refl)
-passed-values f answers [] (a ∷ args) found = let no_way : ⊥ = cc in absurd no_way
-passed-values f answers (name ∷ names) [] found = let no_way : ⊥ = cc in absurd no_way
-passed-values f answers (name ∷ names) (a ∷ args) found =
-    let here : argument_of f answers name ≡ Some a = cc in
-    let rest : map (argument_of f answers) names ≡ map Some args = cc in
-    let value = map-some arg.Value (value_of f answers name) a here in
-    let others = passed-values f answers names args rest in
-    let first : value_of f answers name ≡ Some value.0 = value.1 in
-    let same : arg.Value value.0 ≡ a = value.2 in
-    let more : map (value_of f answers) names ≡ map Some others.0 = others.1 in
-    let same_args : args ≡ map arg.Value others.0 = others.2 in
-    (value.0 ∷ others.0, cc, cc)
-
--- an edge that was found may be made
-pub found-leads : (b : FunctionBuilder) (answers : List Answer) (edge : Edge) (call : BlockCall) → IsFound b answers edge call → may_lead b answers edge ≡ true
-found-leads b answers edge call found =
-    let passed = passed-values b.func.now answers edge.args.items call.args found.passed in
-    and_from (is_target b (block_of answers edge.block)) (all_values b.func.now answers edge.args.items)
-    (ap (is_target b) found.target ∙ found.unsealed) (all-found b.func.now answers edge.args.items passed.0 passed.1)
 
 -- what names lead to is passed
 passed-named : {declared : SignatureShape} (calls : List AnsweredCall) (b : FunctionBuilder) (answers : List Answer) → IsReady declared calls b answers

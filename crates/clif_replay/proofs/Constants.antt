@@ -20,8 +20,9 @@ use Rattle.clif_meaning.specs.View.{made_at}
 use Rattle.cranelift_frontend.specs.declared.builder.FunctionBuilder.{FunctionBuilder}
 use Rattle.cranelift_frontend.specs.Ledger.{HasShape, NamesEdges, NamesExceptions, ledger_of}
 use Rattle.cranelift_frontend.specs.StandsFor.{StandsFor}
-use Rattle.clif_replay.specs.Ready.{IsReady, KeepsTables, TablesAgree, is_open, is_open_at}
-use Rattle.clif_replay.specs.declared.script.Answer.{Answer}
+use Rattle.clif_replay.specs.Ready.{IsReady, KeepsTables, TablesAgree}
+use Rattle.clif_resolution.specs.Conditions.{is_open, is_open_at}
+use Rattle.clif_resolution.specs.declared.answers.Answer.{Answer}
 use Rattle.clif_replay.proofs.Conditions.{pooled-same}
 use Rattle.clif_replay.proofs.Making.{Judges}
 
@@ -33,7 +34,7 @@ made-at f Vconst constant ty told = refl
 -- the constant has its bytes
 pub constant-shape : (calls : List AnsweredCall) (f : Body) (opcode : PooledConstOpcode) (ty : «Type») (bytes : List ℕ) (constant : ℕ) → (opcode ≡ F128const → ty ≡ Invalid)
     → slice_get f.tables.constants constant ≡ Some bytes
-    → HasShape calls f (record { operation = Compute (PooledConst opcode bytes); controlling = ty; operands = []; edges = [] }) (UnaryConst opcode constant) ty
+    → HasShape calls f (record { operation = Compute (PooledConst opcode bytes); controlling = ty; operands = []; contexts = []; edges = [] }) (UnaryConst opcode constant) ty
 constant-shape calls f opcode ty bytes constant told found =
     let controlling = made-at f opcode constant ty told in
     record {
@@ -41,6 +42,7 @@ constant-shape calls f opcode ty bytes constant told found =
       controlling = controlling;
       typed = ap (result_types (UnaryConst opcode constant)) controlling;
       operands_numbered = refl;
+      contexts_numbered = refl;
       edges = tt;
     }
 

@@ -4,12 +4,12 @@ use Rattle.clif_types.specs.Signature.{SignatureShape}
 use Rattle.clif_tables.specs.Entries.{TableEntry, AStackSlot, ADynamicStackSlot, AGlobalValue, ASignature, AFunction, count_for}
 use Rattle.clif_tables.specs.Lists.{TableLists}
 use Rattle.clif_meaning.specs.Acceptance.{allows, can_make}
-use Rattle.clif_meaning.specs.Ledger.{Ledger, AnEntry, answers_to}
+use Rattle.clif_meaning.specs.Ledger.{AnEntry, answers_to}
 use Rattle.clif_meaning.specs.Request.{AnsweredCall, MakeEntry}
 use Rattle.cranelift_frontend.specs.declared.builder.FunctionBuilder.{FunctionBuilder}
 use Rattle.cranelift_frontend.specs.Ledger.{ledger_of, tables_of_calls}
-use Rattle.clif_replay.specs.declared.script.Answer.{Answer}
-use Rattle.clif_replay.specs.declared.script.Answer.TheVariants as answer
+use Rattle.clif_resolution.specs.declared.answers.Answer.{Answer}
+use Rattle.clif_resolution.specs.declared.answers.Answer.TheVariants as answer
 use Rattle.clif_replay.specs.Ready.{AnswerIs, IsReady}
 
 -- neither constants nor jump tables are asked for

@@ -1,6 +1,6 @@
 -- Edges, jump tables and branches by them: when they are allowed, and what a builder stands for afterwards.
 use Rattle.std.proofs.Common.{◌≡◌, ℕ, zero, suc, ◌<◌, List, [], ◌∷◌, ◌++◌, length, refl, ap, arith, sym, ◌∙◌, subst, ◌⊎◌, inl, inr}
-use Rattle.std.specs.Prelude.{◌↔◌, IfOk, IsTrue, map, slice_get, slice_set, Option, Some, None, is_some, option_and_then, option_map, Bool, true, false, not, ◌&&◌, Result, Ok, Err}
+use Rattle.std.specs.Prelude.{◌↔◌, IsTrue, map, slice_get, slice_set, Option, Some, None, is_some, option_and_then, option_map, Bool, true, false, ◌&&◌, Result, Ok, Err}
 use Rattle.std.specs.List.{All, cons_option, list_all}
 use Rattle.std.proofs.lemmas.Bool.{and_from, and_parts, and_right, not-true}
 use Rattle.std.proofs.lemmas.Option.{same_Some, slice_get_within}
@@ -14,7 +14,7 @@ use Rattle.clif_instructions.specs.declared.block_call.BlockCall.{BlockCall}
 use Rattle.clif_tables.specs.Lists.{with_jump_table}
 use Rattle.clif_nodes.specs.declared.nodes.ValueNode.{ValueNode}
 use Rattle.clif_ir.specs.Body.{Body, inst_at}
-use Rattle.clif_ir.specs.Consistent.{EdgeExists, PassedExists}
+use Rattle.clif_ir.specs.Consistent.{PassedExists}
 use Rattle.clif_inst_builder.specs.Shapes.{TakesThenBuilds, branch_table}
 use Rattle.clif_meaning.specs.Acceptance.{allows, br_table, can_lead, has_argument}
 use Rattle.clif_meaning.specs.Instruction.{Argument, CallPayload, CallResult, Known}
@@ -25,7 +25,7 @@ use Rattle.clif_meaning.specs.Request.{AnsweredCall, MakeEdge, MakeJumpTable, Re
 use Rattle.clif_ssa.specs.Limits.{IsFull}
 use Rattle.cranelift_frontend.specs.declared.builder.FunctionBuilder.{FunctionBuilder}
 use Rattle.cranelift_frontend.specs.Builder.{CanLead, SameLoans}
-use Rattle.cranelift_frontend.specs.Built.{Builds, after_build, numbers_of}
+use Rattle.cranelift_frontend.specs.Built.{Builds, numbers_of}
 use Rattle.cranelift_frontend.specs.Entries.{CreatesJumpTable, MakesEdge, MayServe, TakesJumpTable, table_edges}
 use Rattle.cranelift_frontend.specs.Ledger.{NamesArgument, NamesArguments, NamesEdge, NamesEdges, ledger_of}
 use Rattle.cranelift_frontend.specs.LedgerLaws.{RequestsAskForTheirShapes, TableCallsAddNothing}
@@ -34,14 +34,17 @@ use Rattle.clif_calls.specs.declared.call.Name.{Name}
 use Rattle.clif_calls.specs.declared.table.Passed.{Passed}
 use Rattle.clif_calls.specs.declared.table.Passed.TheVariants as passed
 use Rattle.clif_calls.specs.declared.table.TableEdge.{TableEdge}
-use Rattle.clif_replay.specs.declared.script.Answer.{Answer}
-use Rattle.clif_replay.specs.declared.script.Answer.TheVariants as answer
+use Rattle.clif_resolution.specs.declared.answers.Answer.{Answer}
+use Rattle.clif_resolution.specs.declared.answers.Answer.TheVariants as answer
 use Rattle.clif_replay.specs.Requests.{name_of, passed_of, table_edge_of}
-use Rattle.clif_replay.specs.Ready.{IsEdge, IsReady, IsReadyAfter, TableAgrees, TablesAgree, all_passed, block_of, can_seal, edge_at, has_edge, is_open, passed_in, serves, serves_at, value_of}
+use Rattle.clif_resolution.specs.Conditions.{IsEdge, can_seal, has_edge, is_open, serves, serves_at}
+use Rattle.clif_replay.specs.Ready.{IsReady, IsReadyAfter, TableAgrees, TablesAgree}
+use Rattle.clif_resolution.specs.Answers.{all_passed, block_of, edge_at, passed_in, value_of}
 use Rattle.clif_replay.proofs.Conditions.{open-same, sealed-same, values-same}
 use Rattle.clif_replay.proofs.Lasting.{as-many, edge-stays, edges-stay, held-missing, held-there, ledger-more, one-table-more, table-at, table-serves, tables-stay}
 use Rattle.clif_replay.proofs.Making.{full-either}
-use Rattle.clif_replay.proofs.Options.{get-last, map-some}
+use Rattle.clif_replay.proofs.Options.{get-last}
+use Rattle.clif_resolution.proofs.Options.{map-some}
 use Rattle.clif_replay.proofs.ReadyLaws.{block-found, block-missing, edge-found, edge-missing, exceptions-still, read, ready-answered, tables-still, value-found, value-missing}
 
 -- EDGES -----------------------------------------------------------------------------------------------------------------
@@ -77,20 +80,6 @@ pub edge-same : {declared : SignatureShape} (calls : List AnsweredCall) (b : Fun
 edge-same calls b answers ready edge =
     ap (λ (test : Bool). test && list_all (has_argument (ledger_of calls)) (map passed_of edge.args.items)) (block-same calls b answers ready edge.block)
     ∙ ap (λ (all : Bool). is_some (block_of answers edge.block) && all) (passed-same calls b answers ready edge.args.items)
-
--- what was found is there
-passed-found : (f : Body) (answers : List Answer) (args : List Passed) (made : List BlockArg) → map (passed_in f answers) args ≡ map Some made → all_passed f answers args ≡ true
-passed-found f answers [] made found = refl
-passed-found f answers (one ∷ args) [] found = let no_way : ⊥ = cc in absurd no_way
-passed-found f answers (one ∷ args) (a ∷ made) found =
-    let here : passed_in f answers one ≡ Some a = cc in
-    let rest : map (passed_in f answers) args ≡ map Some made = cc in
-    and_from (is_some (passed_in f answers one)) (all_passed f answers args) (ap is_some here) (passed-found f answers args made rest)
-
-pub edge-there : (b : FunctionBuilder) (answers : List Answer) (edge : TableEdge) (call : BlockCall) → IsEdge b answers edge call → has_edge b answers edge ≡ true
-edge-there b answers edge call is =
-    and_from (is_some (block_of answers edge.block)) (all_passed b.func.now answers edge.args.items) (ap is_some is.target)
-    (passed-found b.func.now answers edge.args.items call.args is.passed)
 
 -- it is named
 passed-names : {declared : SignatureShape} (calls : List AnsweredCall) (b : FunctionBuilder) (answers : List Answer) → IsReady declared calls b answers

@@ -19,14 +19,15 @@ use Rattle.clif_meaning.specs.Acceptance.{allows, blames_variable}
 use Rattle.cranelift_frontend.specs.declared.builder.FunctionBuilder.{FunctionBuilder}
 use Rattle.cranelift_frontend.specs.Builder.{HasCurrent, SameLoans}
 use Rattle.cranelift_frontend.specs.Ledger.{ledger_of}
-use Rattle.clif_replay.specs.Errors.{call_error_of}
-use Rattle.clif_replay.specs.declared.script.Answer.{Answer}
-use Rattle.clif_replay.specs.declared.script.CallError.{CallError}
-use Rattle.clif_replay.specs.declared.script.CallError.TheVariants as error
+use Rattle.clif_resolution.specs.Errors.{call_error_of}
+use Rattle.clif_resolution.specs.declared.answers.Answer.{Answer}
+use Rattle.clif_resolution.specs.declared.answers.CallError.{CallError}
+use Rattle.clif_resolution.specs.declared.answers.CallError.TheVariants as error
 use Rattle.clif_replay.specs.Limits.{ConstructsUntil, UseMeetsFullTable}
-use Rattle.clif_replay.specs.Makes.{Finds, Makes}
+use Rattle.clif_resolution.specs.Answers.{Finds}
+use Rattle.clif_replay.specs.Makes.{Makes}
 use Rattle.clif_replay.specs.Ready.{IsJudged, IsReady, IsReadyAfter}
-use Rattle.clif_replay.proofs.Options.{get-below}
+use Rattle.clif_resolution.proofs.Options.{get-below}
 
 -- the request is allowed in each ledger with which the builder agrees, or in none
 abbrev pub Judges : (SignatureShape → Ledger → Request) → FunctionBuilder → List Answer → Bool → Type 0
@@ -220,15 +221,6 @@ made-between old between new answers r loans name goes_on meets made = record {
     named (Err e) same = tt
 
 -- FINDING -----------------------------------------------------------------------------------------------------------
-
-pub found-misuse : {X : Type 0} {Found : X → Type 0} {there : Bool} → there ≡ false → Finds Found there (Err error.Misuse)
-found-misuse none = record { found = tt; may = tt; misuse = λ same. none; never_refused = λ same. cc; never_full = λ same. cc }
-
-pub found-one : {X : Type 0} {Found : X → Type 0} {there : Bool} (x : X) → Found x → there ≡ true → Finds Found there (Ok x)
-found-one {X = X} x found may = record { found = found; may = may; misuse = λ same. absurd (no-error error.Misuse same); never_refused = no-error error.Refused; never_full = no-error error.Full }
-  where
-    no-error : (e : CallError) → ◌≡◌ {A = Result X CallError} (Ok x) (Err e) → ⊥
-    no-error e same = cc
 
 -- what a part of it told
 pub found-none : {X Y : Type 0} {Found : Y → Type 0} (there other : Bool) (v : Result X CallError) (r : Result Y CallError) (e : CallError) → v ≡ Err e → r ≡ Err e

@@ -1,20 +1,19 @@
 -- A note was made: the builder stands for the calls before it, and so for those with it.
-use Rattle.std.proofs.Common.{◌≡◌, ℕ, List, [], ◌∷◌, ◌++◌, refl, ap, sym}
+use Rattle.std.proofs.Common.{◌≡◌, ℕ, List, [], ◌∷◌, ◌++◌, refl, ap}
 use Rattle.std.specs.Prelude.{◌&&◌, Bool, None, Some, true, false}
-use Rattle.std.proofs.lemmas.Bool.{and_from}
 use Rattle.clif_types.specs.Signature.{SignatureShape}
 use Rattle.clif_meaning.specs.Name as meaning
 use Rattle.clif_meaning.specs.Acceptance.{allows}
-use Rattle.clif_meaning.specs.Ledger.{has_value}
 use Rattle.clif_meaning.specs.Request.{AnsweredCall, Annotate}
 use Rattle.cranelift_frontend.specs.declared.builder.FunctionBuilder.{FunctionBuilder}
 use Rattle.cranelift_frontend.specs.Ledger.{ledger_of}
 use Rattle.cranelift_frontend.specs.LedgerLaws.{NotesAddNothing}
 use Rattle.cranelift_frontend.specs.StandsFor.{StandsFor}
 use Rattle.clif_calls.specs.declared.call.Name.{Name}
-use Rattle.clif_replay.specs.declared.script.Answer.{Answer}
-use Rattle.clif_replay.specs.declared.script.Answer.TheVariants as answer
-use Rattle.clif_replay.specs.Ready.{IsReady, IsReadyAfter, KeepsTables, value_of}
+use Rattle.clif_resolution.specs.declared.answers.Answer.{Answer}
+use Rattle.clif_resolution.specs.declared.answers.Answer.TheVariants as answer
+use Rattle.clif_replay.specs.Ready.{IsReady, IsReadyAfter, KeepsTables}
+use Rattle.clif_resolution.specs.Answers.{value_of}
 use Rattle.clif_replay.specs.Requests.{name_of}
 use Rattle.clif_replay.proofs.ReadyLaws.{ready-more, value-found, value-missing}
 

@@ -1,8 +1,7 @@
 -- Plain lists and options, as the proofs of this crate need them.
-use Rattle.std.proofs.Common.{◌≡◌, ◌<◌, ℕ, zero, suc, List, [], ◌∷◌, ◌++◌, length, refl, ap, arith, ◌⊎◌, inl, inr, sym, ◌∙◌, Bor}
-use Rattle.std.specs.Prelude.{slice_get, Option, Some, None, option_map, Bool, true, false, if◌then◌else◌, is_some, nat_lt, option_copied}
-use Rattle.std.proofs.lemmas.Bool.{cases_lt, false_from_ne_true, lt-ltb, ltb-true}
-use Rattle.std.proofs.lemmas.Option.{same_Some, none-some, slice_get_past}
+use Rattle.std.proofs.Common.{◌≡◌, ◌<◌, ℕ, zero, suc, List, [], ◌∷◌, ◌++◌, length, refl, ap, arith, ◌⊎◌, inl, inr, ◌∙◌}
+use Rattle.std.specs.Prelude.{slice_get, Option, Some, None, option_map, Bool, true, false, if◌then◌else◌, is_some}
+use Rattle.std.proofs.lemmas.Option.{same_Some, none-some}
 
 -- the entry at the end
 pub get-last : {X : Type 0} (xs : List X) (x : X) → slice_get (xs ++ x ∷ []) (length xs) ≡ Some x
@@ -16,31 +15,6 @@ get-push [] y zero x found = inr (refl, same_Some y x found)
 get-push [] y (suc k) x found = absurd (none-some x found)
 get-push (z ∷ xs) y zero x found = inl found
 get-push (z ∷ xs) y (suc k) x found = elim (get-push xs y k x found) [ inl old ↦ inl old | inr last ↦ inr (omega (arith, last.0), last.1) ]
-
--- there is an entry below the length
-pub get-below : {X : Type 0} (xs : List X) (k : ℕ) → k < length xs → (x : X) × (slice_get xs k ≡ Some x)
-get-below [] k inside = absurd (omega (arith, inside))
-get-below (x ∷ xs) zero inside = (x, refl)
-get-below (x ∷ xs) (suc k) inside = get-below xs k (omega (arith, inside))
-
-pub there-below : {X : Type 0} (xs : List X) (k : ℕ) → is_some (slice_get xs k) ≡ nat_lt k (length xs)
-there-below xs k =
-    elim (cases_lt k (length xs)) [
-      | inl inside ↦ let x = get-below xs k inside in ap is_some x.1 ∙ sym (lt-ltb k (length xs) inside)
-      | inr past ↦
-          ap is_some (slice_get_past xs k past)
-          ∙ sym (false_from_ne_true (nat_lt k (length xs)) (λ below. let less : k < length xs = ltb-true k (length xs) below in omega (arith, less, past)))
-    ]
-
--- one that was lent is there
-pub copied-there : {X : Type 0} (o : Option (Bor X)) → is_some o ≡ is_some (option_copied o)
-copied-there None = refl
-copied-there (Some x) = refl
-
--- what an option was made of
-pub map-some : {X Y : Type 0} (f : X → Y) (o : Option X) (y : Y) → option_map f o ≡ Some y → (x : X) × (o ≡ Some x) × (f x ≡ y)
-map-some f None y found = absurd (none-some y found)
-map-some f (Some x) y found = (x, refl, same_Some (f x) y found)
 
 pub some-is : {X : Type 0} (o : Option X) → is_some o ≡ true → (x : X) × (o ≡ Some x)
 some-is None there = let no_way : ⊥ = cc in absurd no_way

@@ -1,12 +1,12 @@
 -- An outside call, by numbers: when it may be made, and what it is.
 use Rattle.std.proofs.Common.{◌≡◌, ℕ, ◌<◌, List, [], ◌∷◌, ◌++◌, length, refl, ap, sym, ◌∙◌, subst, arith}
-use Rattle.std.specs.Prelude.{◌↔◌, IsTrue, map, Option, Some, Bool, true, false, ◌&&◌, Ok, slice_index}
+use Rattle.std.specs.Prelude.{◌↔◌, IsTrue, map, Some, Bool, true, false, ◌&&◌, Ok, slice_index}
 use Rattle.std.specs.List.{All, list_all}
 use Rattle.std.proofs.lemmas.Bool.{and_parts}
 use Rattle.clif_types.specs.declared.types.«Type».TheVariants.{Invalid}
 use Rattle.clif_types.specs.Signature.{SignatureShape}
 use Rattle.clif_instructions.specs.declared.instructions.InstructionData.{InstructionData}
-use Rattle.clif_instructions.specs.Instruction.{EntryRef, AFunctionRef, ASignatureRef, contexts, destinations, entries_of, operands}
+use Rattle.clif_instructions.specs.Instruction.{AFunctionRef, ASignatureRef, contexts, destinations, entries_of, operands}
 use Rattle.clif_ir.specs.Body.{Body, inst_at}
 use Rattle.clif_ir.specs.Changes.{HasNoRoom}
 use Rattle.clif_ir.specs.Consistent.{EntryExists, ValueExists}
@@ -24,15 +24,17 @@ use Rattle.cranelift_frontend.specs.LedgerLaws.{AsksForShape, RequestsAskForThei
 use Rattle.clif_calls.specs.Outside.{operands_of}
 use Rattle.clif_calls.specs.declared.outside.OutsideCall.{OutsideCall}
 use Rattle.clif_calls.specs.declared.outside.OutsideCall.TheVariants as outside
-use Rattle.clif_replay.specs.declared.script.Answer.{Answer}
-use Rattle.clif_replay.specs.declared.script.Answer.TheVariants as answer
+use Rattle.clif_resolution.specs.declared.answers.Answer.{Answer}
+use Rattle.clif_resolution.specs.declared.answers.Answer.TheVariants as answer
 use Rattle.clif_replay.specs.Limits.{returns_in}
-use Rattle.clif_replay.specs.Makes.{IsOutsideShape, can_call, is_imported, outside_shape}
-use Rattle.clif_replay.specs.Ready.{AnswerIs, IsReady, IsReadyAfter, all_values, is_open, value_of}
+use Rattle.clif_resolution.specs.Callings.{IsOutsideShape, can_call, is_imported, outside_shape}
+use Rattle.clif_replay.specs.Ready.{AnswerIs, IsReady, IsReadyAfter}
+use Rattle.clif_resolution.specs.Answers.{all_values, value_of}
+use Rattle.clif_resolution.specs.Conditions.{is_open}
 use Rattle.clif_replay.specs.Requests.{name_of, outside_request}
 use Rattle.clif_replay.proofs.Conditions.{all-exist, all-numbered, open-same, values-same}
 use Rattle.clif_replay.proofs.Lasting.{LeavesTables}
-use Rattle.clif_replay.proofs.Planning.{all-entries-exist, entries-tested}
+use Rattle.clif_resolution.proofs.Planning.{all-entries-exist, entries-tested}
 use Rattle.clif_replay.proofs.ReadyLaws.{ready-more, value-found}
 
 -- the parts of its condition, in the order in which they are tested

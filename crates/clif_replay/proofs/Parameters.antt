@@ -16,7 +16,7 @@ use Rattle.clif_simulation.specs.Carries.{numbers_from, with_params}
 use Rattle.cranelift_frontend.specs.declared.builder.FunctionBuilder.{FunctionBuilder}
 use Rattle.cranelift_frontend.specs.Ledger.{ledger_of}
 use Rattle.cranelift_frontend.specs.StandsFor.{StandsFor}
-use Rattle.clif_replay.specs.declared.script.Answer.{Answer}
+use Rattle.clif_resolution.specs.declared.answers.Answer.{Answer}
 use Rattle.clif_replay.specs.Ready.{AnswerIs, IsReady, IsReadyAfter, KeepsTables, last_params, values_from}
 use Rattle.clif_replay.proofs.Lasting.{LeavesTables}
 use Rattle.clif_replay.proofs.ReadyLaws.{ready-more}

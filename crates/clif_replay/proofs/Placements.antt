@@ -13,9 +13,10 @@ use Rattle.clif_meaning.specs.Acceptance.{allows}
 use Rattle.cranelift_frontend.specs.declared.builder.FunctionBuilder.{FunctionBuilder}
 use Rattle.cranelift_frontend.specs.Ledger.{block_name, ledger_of}
 use Rattle.clif_calls.specs.declared.call.Name.{Name}
-use Rattle.clif_replay.specs.declared.script.Answer.{Answer}
+use Rattle.clif_resolution.specs.declared.answers.Answer.{Answer}
 use Rattle.clif_replay.specs.Requests.{name_of}
-use Rattle.clif_replay.specs.Ready.{IsReady, block_of, can_insert}
+use Rattle.clif_replay.specs.Ready.{IsReady, can_insert}
+use Rattle.clif_resolution.specs.Answers.{block_of}
 use Rattle.clif_replay.proofs.ReadyLaws.{block-found, block-missing, read}
 
 -- a number stands in a list where the test says so

@@ -1,14 +1,13 @@
 -- What an instruction of a plan is, by numbers, and when it may be made.
 use Rattle.std.proofs.Common.{◌≡◌, ℕ, zero, suc, ◌<◌, ◌≤◌, List, [], ◌∷◌, length, refl, ap, arith, sym, ◌∙◌, subst}
-use Rattle.std.specs.Prelude.{◌↔◌, IsTrue, drop, map, Option, Some, None, is_some, Bool, true, false, ◌&&◌, Ok, slice_index}
+use Rattle.std.specs.Prelude.{◌↔◌, drop, map, Option, Some, None, is_some, Bool, true, false, ◌&&◌, slice_index}
 use Rattle.std.specs.List.{All, list_all}
-use Rattle.std.specs.Borrow.{Bor}
-use Rattle.std.proofs.lemmas.Bool.{and_from, and_parts, false_from_ne_true, false≢true, lt-ltb, ltb-true}
+use Rattle.std.proofs.lemmas.Bool.{and_parts, false≢true}
 use Rattle.clif_types.specs.declared.types.«Type».{«Type»}
 use Rattle.clif_types.specs.declared.types.«Type».TheVariants.{Invalid}
 use Rattle.clif_types.specs.Signature.{SignatureShape}
 use Rattle.clif_ir.specs.Body.{Body}
-use Rattle.clif_instructions.specs.Instruction.{EntryRef, AConstant, AFunctionRef, ASignatureRef, ASlot, contexts, destinations, entries_of, is_call, operands}
+use Rattle.clif_instructions.specs.Instruction.{contexts, destinations, entries_of, is_call, operands}
 use Rattle.clif_tables.specs.Lists.{TableLists}
 use Rattle.clif_ir.specs.Consistent.{EntryExists, ValueExists}
 use Rattle.clif_instructions.specs.declared.block_call.BlockCall.{BlockCall}
@@ -27,26 +26,27 @@ use Rattle.clif_calls.specs.declared.call.Edge.{Edge}
 use Rattle.clif_calls.specs.declared.call.Name.{Name}
 use Rattle.clif_calls.specs.declared.plan.Plan.{Plan}
 use Rattle.clif_calls.specs.declared.plan.Plan.TheVariants as plan
-use Rattle.clif_replay.specs.declared.script.Answer.{Answer}
+use Rattle.clif_resolution.specs.declared.answers.Answer.{Answer}
 use Rattle.clif_ir.specs.Changes.{HasNoRoom}
 use Rattle.clif_inst_builder.proofs.NoCalls.{no_contexts, plain_count}
 use Rattle.clif_tables.specs.Callees.{count_of_results}
-use Rattle.clif_meaning.specs.Event.{CallShape}
 use Rattle.clif_meaning.specs.Typing.{call_shape}
 use Rattle.clif_opcodes.specs.Typing.{Row}
-use Rattle.clif_meaning.specs.Instruction.{Compute, Operation, PooledConst, operation_entries, operation_typing}
+use Rattle.clif_meaning.specs.Instruction.{Operation, operation_entries, operation_typing}
 use Rattle.clif_meaning.specs.View.{operation_of}
 use Rattle.clif_ssa.specs.Limits.{IsFull}
 use Rattle.cranelift_frontend.specs.Built.{HasFullTable}
 use Rattle.clif_meaning.proofs.OperationTypes.{operation_typed}
 use Rattle.clif_replay.specs.Limits.{PlanMeetsFullTable}
-use Rattle.clif_replay.specs.declared.make_instructions.Planned.{Planned}
-use Rattle.clif_replay.specs.Makes.{AreFound, Finds, IsPlanned, ValuesExist, can_make, has_entries, has_names, type_in}
-use Rattle.clif_replay.specs.Ready.{IsReady, all_values, is_open, may_lead, value_of}
-use Rattle.clif_replay.specs.Requests.{controlling_in, edge_of, first_type, name_of, operation_in, request_in}
-use Rattle.clif_replay.proofs.Conditions.{all-exist, all-found, all-numbered, found-exists, found-leads, found-names, lead-same, open-same, value-type-same, values-same}
-use Rattle.clif_replay.proofs.Making.{found-one, full-either}
+use Rattle.clif_resolution.specs.Plans.{AreFound, IsPlanned, can_make, has_entries, has_names, type_in, controlling_in, first_type, operation_in}
+use Rattle.clif_resolution.specs.Answers.{all_values, value_of}
+use Rattle.clif_replay.specs.Ready.{IsReady}
+use Rattle.clif_resolution.specs.Conditions.{is_open, may_lead}
+use Rattle.clif_replay.specs.Requests.{edge_of, name_of, request_in}
+use Rattle.clif_replay.proofs.Conditions.{all-exist, all-numbered, found-exists, found-names, lead-same, open-same, value-type-same, values-same}
+use Rattle.clif_replay.proofs.Making.{full-either}
 use Rattle.clif_replay.proofs.ReadyLaws.{value-missing}
+use Rattle.clif_resolution.proofs.Planning.{never-calls, entries-alike, all-entries-exist}
 
 -- THE CONDITION -----------------------------------------------------------------------------------------------------
 
@@ -113,14 +113,6 @@ plan-same calls b answers ready p =
 pub opens-planned : (b : FunctionBuilder) (answers : List Answer) (p : Plan) → can_make b answers p ≡ true → is_open b ≡ true
 opens-planned b answers p may = (and_parts (is_open b) (has_names b answers p) (and_parts (is_open b && has_names b answers p) _ (and_parts _ (has_entries b.func.now p) may).0).0).0
 
--- no plan asks for a call
-calls-nothing : (p : Plan) → call_shape (operation_in p) ≡ None
-calls-nothing (plan.Jump destination) = refl
-calls-nothing _ = refl
-
-never-calls : (p : Plan) {call : CallShape} → call_shape (operation_in p) ≡ Some call → ⊥
-never-calls p {call} is = let none : call_shape (operation_in p) ≡ None = calls-nothing p in cc
-
 -- THE SHAPE -----------------------------------------------------------------------------------------------------------
 
 edges-named : {declared : SignatureShape} (calls : List AnsweredCall) (b : FunctionBuilder) (answers : List Answer) → IsReady declared calls b answers
@@ -130,19 +122,6 @@ edges-named calls b answers ready [] (m ∷ made) found = absurd found
 edges-named calls b answers ready (edge ∷ edges) [] found = absurd found
 edges-named calls b answers ready (edge ∷ edges) (m ∷ made) found =
     (found-names calls b answers ready edge m found.0, edges-named calls b answers ready edges made found.1)
-
--- the instruction that a plan asks for
-pub instruction-named : {declared : SignatureShape} (calls : List AnsweredCall) (b : FunctionBuilder) (answers : List Answer) → IsReady declared calls b answers
-    → (p : Plan) (s : InstructionData) (ty : «Type») → IsPlanned b answers p s ty
-    → HasShape calls b.func.now (record { operation = operation_in p; controlling = controlling_in (λ name. or_invalid (type_of (ledger_of calls) (name_of name))) p; operands = map name_of (operands_in p); edges = map edge_of (edges_in p) }) s ty
-instruction-named calls b answers ready p s ty planned = record {
-  operation = planned.operation;
-  controlling = controlling-same (λ name. or_invalid (type_of (ledger_of calls) (name_of name))) (λ name. type_in b.func.now (value_of b.func.now answers name)) (type-same calls b answers ready) p
-      ∙ planned.controlling;
-  typed = planned.typed;
-  operands_numbered = all-numbered calls b answers ready (operands_in p) (operands s) planned.operands;
-  edges = edges-named calls b answers ready (edges_in p) (destinations s) planned.edges;
-}
 
 -- what it names exists
 pub operands-exist : {declared : SignatureShape} (calls : List AnsweredCall) (b : FunctionBuilder) (answers : List Answer) → IsReady declared calls b answers
@@ -161,16 +140,6 @@ pub destinations-lead : {declared : SignatureShape} (calls : List AnsweredCall) 
     → (p : Plan) (s : InstructionData) (ty : «Type») → IsPlanned b answers p s ty → All (CanLead b) (destinations s)
 destinations-lead calls b answers ready p s ty planned = edges-lead calls b answers ready (edges_in p) (destinations s) planned.edges
 
--- the entries that it names exist
-abbrev is-pooled : Operation → Bool
-is-pooled (Compute (PooledConst opcode bytes)) = true
-is-pooled _ = false
-
--- no plan asks for a pooled constant
-never-pooled : (p : Plan) → is-pooled (operation_in p) ≡ false
-never-pooled (plan.Jump destination) = refl
-never-pooled _ = refl
-
 planned-no-call : (tables : TableLists) (p : Plan) (s : InstructionData) → operation_in p ≡ operation_of tables s → is_call s ≡ false
 planned-no-call tables p (shape.Call function args) same = absurd (never-calls p (ap call_shape same))
 planned-no-call tables p (shape.CallIndirect sig args) same = absurd (never-calls p (ap call_shape same))
@@ -178,56 +147,24 @@ planned-no-call tables p (shape.TryCall function args table) same = absurd (neve
 planned-no-call tables p (shape.TryCallIndirect args table) same = absurd (never-calls p (ap call_shape same))
 planned-no-call tables p _ same = refl
 
+-- the instruction that a plan asks for
+pub instruction-named : {declared : SignatureShape} (calls : List AnsweredCall) (b : FunctionBuilder) (answers : List Answer) → IsReady declared calls b answers
+    → (p : Plan) (s : InstructionData) (ty : «Type») → IsPlanned b answers p s ty
+    → HasShape calls b.func.now (record { operation = operation_in p; controlling = controlling_in (λ name. or_invalid (type_of (ledger_of calls) (name_of name))) p; operands = map name_of (operands_in p); contexts = []; edges = map edge_of (edges_in p) }) s ty
+instruction-named calls b answers ready p s ty planned = record {
+  operation = planned.operation;
+  controlling = controlling-same (λ name. or_invalid (type_of (ledger_of calls) (name_of name))) (λ name. type_in b.func.now (value_of b.func.now answers name)) (type-same calls b answers ready) p
+      ∙ planned.controlling;
+  typed = planned.typed;
+  operands_numbered = all-numbered calls b answers ready (operands_in p) (operands s) planned.operands;
+  contexts_numbered = ap (map Some) (sym (no_contexts s (planned-no-call b.func.now.tables p s planned.operation)));
+  edges = edges-named calls b answers ready (edges_in p) (destinations s) planned.edges;
+}
+
 pub contexts-exist : (b : FunctionBuilder) (answers : List Answer) (p : Plan) (s : InstructionData) (ty : «Type») → IsPlanned b answers p s ty
     → All (ValueExists b.func.now) (contexts s)
 contexts-exist b answers p s ty planned =
     subst (All (ValueExists b.func.now)) (sym (no_contexts s (planned-no-call b.func.now.tables p s planned.operation))) (λ k d inside. absurd (omega (arith, inside)))
-
-entries-alike : (tables : TableLists) (p : Plan) (s : InstructionData) → operation_in p ≡ operation_of tables s → operation_entries (operation_in p) ≡ entries_of s
-entries-alike tables p (shape.UnaryConst opcode constant) same =
-    let no_way : false ≡ true = sym (never-pooled p) ∙ ap is-pooled same in absurd (false≢true no_way)
-entries-alike tables p (shape.UnaryIeee opcode bits) same = ap operation_entries same
-entries-alike tables p (shape.Call function args) same = absurd (never-calls p (ap call_shape same))
-entries-alike tables p (shape.CallIndirect sig args) same = absurd (never-calls p (ap call_shape same))
-entries-alike tables p (shape.TryCall function args table) same = absurd (never-calls p (ap call_shape same))
-entries-alike tables p (shape.TryCallIndirect args table) same = absurd (never-calls p (ap call_shape same))
-entries-alike tables p _ same = ap operation_entries same
-
-entry-exists : (tables : TableLists) (entry : EntryRef) → has_entry tables entry ≡ true → EntryExists tables entry
-entry-exists tables (ASlot number) there = ltb-true number (length tables.stack_slots) there
-entry-exists tables (AConstant number) there = ltb-true number (length tables.constants) there
-entry-exists tables (ASignatureRef number) there = ltb-true number (length tables.signatures) there
-entry-exists tables (AFunctionRef number) there = ltb-true number (length tables.functions) there
-
-pub all-entries-exist : (tables : TableLists) (entries : List EntryRef) → list_all (has_entry tables) entries ≡ true → All (EntryExists tables) entries
-all-entries-exist tables [] there k d inside = absurd (omega (arith, inside))
-all-entries-exist tables (entry ∷ entries) there zero d inside = entry-exists tables entry (and_parts (has_entry tables entry) _ there).0
-all-entries-exist tables (entry ∷ entries) there (suc k) d inside =
-    all-entries-exist tables entries (and_parts (has_entry tables entry) _ there).1 k d (omega (arith, inside))
-
-entries-found : (tables : TableLists) (entries : List EntryRef) → All (EntryExists tables) entries → list_all (has_entry tables) entries ≡ true
-entries-found tables [] exist = refl
-entries-found tables (entry ∷ entries) exist =
-    and_from (has_entry tables entry) (list_all (has_entry tables) entries) (entry-found entry (exist 0 entry (omega arith)))
-    (entries-found tables entries (λ k d inside. exist (suc k) d (omega (arith, inside))))
-  where
-    entry-found : (e : EntryRef) → EntryExists tables e → has_entry tables e ≡ true
-    entry-found (ASlot number) below = lt-ltb number (length tables.stack_slots) below
-    entry-found (AConstant number) below = lt-ltb number (length tables.constants) below
-    entry-found (ASignatureRef number) below = lt-ltb number (length tables.signatures) below
-    entry-found (AFunctionRef number) below = lt-ltb number (length tables.functions) below
-
--- a test of these entries
-pub entries-tested : (tables : TableLists) (entries : List EntryRef) (test : Bool) → IsTrue test ↔ All (EntryExists tables) entries → list_all (has_entry tables) entries ≡ test
-entries-tested tables entries true tells = entries-found tables entries (tells.0 refl)
-entries-tested tables entries false tells =
-    false_from_ne_true _ (λ there. let no_way : false ≡ true = tells.1 (all-entries-exist tables entries there) in absurd (false≢true no_way))
-
--- a test of what the shape names is one of what the plan names
-pub entries-same : (b : FunctionBuilder) (answers : List Answer) (p : Plan) (s : InstructionData) (ty : «Type») (test : Bool) → IsPlanned b answers p s ty
-    → IsTrue test ↔ All (EntryExists b.func.now.tables) (entries_of s) → has_entries b.func.now p ≡ test
-entries-same b answers p s ty test planned tells =
-    ap (list_all (has_entry b.func.now.tables)) (entries-alike b.func.now.tables p s planned.operation) ∙ entries-tested b.func.now.tables (entries_of s) test tells
 
 pub entries-exist : (b : FunctionBuilder) (answers : List Answer) (p : Plan) (s : InstructionData) (ty : «Type») → IsPlanned b answers p s ty → can_make b answers p ≡ true
     → All (EntryExists b.func.now.tables) (entries_of s)
@@ -236,18 +173,6 @@ entries-exist b answers p s ty planned may =
     (ap (list_all (has_entry b.func.now.tables)) (sym (entries-alike b.func.now.tables p s planned.operation)) ∙ (and_parts _ (has_entries b.func.now p) may).1)
 
 -- FORMATS -------------------------------------------------------------------------------------------------------------
-
--- the first of the values that names lead to exists, and so does the second
-pub first-exists : (b : FunctionBuilder) (answers : List Answer) (names : List Name) (x : ℕ) (xs : List ℕ) → ValuesExist b answers
-    → map (value_of b.func.now answers) names ≡ map Some (x ∷ xs) → x < length b.func.now.values
-first-exists b answers [] x xs exist found = let no_way : ⊥ = cc in absurd no_way
-first-exists b answers (name ∷ names) x xs exist found = let here : value_of b.func.now answers name ≡ Some x = cc in exist name x here
-
-pub second-exists : (b : FunctionBuilder) (answers : List Answer) (names : List Name) (w x : ℕ) (xs : List ℕ) → ValuesExist b answers
-    → map (value_of b.func.now answers) names ≡ map Some (w ∷ x ∷ xs) → x < length b.func.now.values
-second-exists b answers [] w x xs exist found = let no_way : ⊥ = cc in absurd no_way
-second-exists b answers (name ∷ names) w x xs exist found =
-    let rest : map (value_of b.func.now answers) names ≡ map Some (x ∷ xs) = cc in first-exists b answers names x xs exist rest
 
 -- FULL TABLES ---------------------------------------------------------------------------------------------------------
 
@@ -272,28 +197,3 @@ planned-full b answers p s ty planned none few =
     ap (λ (o : Operation). length (operation_typing o).results) planned.operation ∙ ap (λ (row : Row). length row.results) (operation_typed b.func.now.tables s)
     ∙ sym (plain_count b.func.now.tables s (planned-no-call b.func.now.tables p s planned.operation)) in
     plan-met b.func.now p (subst (HasNoRoom b.func.now) (sym same) none) (λ small. full-either b.func.now (few (subst (λ (n : ℕ). n ≤ 1) same small)))
-
--- what names lead to is there
-edges-there : (b : FunctionBuilder) (answers : List Answer) (edges : List Edge) (made : List BlockCall) → AreFound b answers edges made → list_all (may_lead b answers) edges ≡ true
-edges-there b answers [] [] found = refl
-edges-there b answers [] (m ∷ made) found = absurd found
-edges-there b answers (edge ∷ edges) [] found = absurd found
-edges-there b answers (edge ∷ edges) (m ∷ made) found =
-    and_from (may_lead b answers edge) (list_all (may_lead b answers) edges) (found-leads b answers edge m found.0) (edges-there b answers edges made found.1)
-
-pub planned-named : (b : FunctionBuilder) (answers : List Answer) (p : Plan) (s : InstructionData) (ty : «Type») → IsPlanned b answers p s ty → has_names b answers p ≡ true
-planned-named b answers p s ty planned =
-    and_from (all_values b.func.now answers (operands_in p)) (list_all (may_lead b answers) (edges_in p))
-    (all-found b.func.now answers (operands_in p) (operands s) planned.operands) (edges-there b answers (edges_in p) (destinations s) planned.edges)
-
-pub planned-returns : (b : FunctionBuilder) (answers : List Answer) (args : Bor (List Name)) (values : List ℕ) → map (value_of b.func.now answers) args.now ≡ map Some values
-    → IsPlanned b answers (plan.MultiAry args) (shape.MultiAry values) Invalid
-planned-returns b answers args values found = record { operation = refl; controlling = refl; typed = refl; operands = found; edges = tt }
-
--- the instruction was found
-pub planned-found : (b : FunctionBuilder) (answers : List Answer) (given p : Plan) (made : Planned) (s : InstructionData) (ty : «Type») → given ≡ p → made ≡ record { shape = s; ty = ty } → IsPlanned b answers p s ty
-    → Finds (λ (x : Planned). IsPlanned b answers given x.shape x.ty) (has_names b answers given) (Ok made)
-planned-found b answers given p made s ty is same planned =
-    let here : IsPlanned b answers given made.shape made.ty =
-    subst (λ (x : Planned). IsPlanned b answers given x.shape x.ty) (sym same) (subst (λ (q : Plan). IsPlanned b answers q s ty) (sym is) planned) in
-    found-one made here (planned-named b answers given made.shape made.ty here)

@@ -1,17 +1,16 @@
 -- What names lead to, where the builder agrees with the ledger of the calls.
 use Rattle.std.proofs.Common.{◌≡◌, ℕ, zero, suc, ◌+◌, ◌-◌, ◌<◌, List, [], ◌∷◌, ◌++◌, length, refl, ap, arith, sym, ◌∙◌, subst, ◌⊎◌, inl, inr, length-append}
-use Rattle.std.specs.Prelude.{fold, map, slice_get, slice_index_or, Option, Some, None, option_map, option_and_then, is_some, IfSome, Bool, true, false, nat_lt, if◌then◌else◌, ◌==◌}
+use Rattle.std.specs.Prelude.{map, slice_get, slice_index_or, Option, Some, None, option_map, option_and_then, is_some, IfSome, Bool, true, false, nat_lt, if◌then◌else◌, ◌==◌}
 use Rattle.std.proofs.lemmas.Option.{slice_get_within, slice_get_past, same_Some, none-some, get_or_from_slice_get, slice_get-map}
 use Rattle.std.proofs.lemmas.Bool.{cases_lt, ne_eqb, false_from_ne_true, false≢true, ltb-true, lt-ltb}
-use Rattle.std.proofs.lemmas.List.{length-map, map_push}
-use Rattle.std.proofs.lemmas.List.Sums.{fold-append}
+use Rattle.std.proofs.lemmas.List.{length-map}
 use Rattle.clif_types.specs.declared.types.«Type».{«Type»}
 use Rattle.clif_types.specs.Signature.{SignatureShape}
 use Rattle.clif_nodes.specs.declared.nodes.InstNode.{InstNode}
 use Rattle.clif_nodes.specs.declared.nodes.ValueNode.{ValueNode}
 use Rattle.clif_ir.specs.Body.{inst_at}
 use Rattle.clif_nodes.specs.Nodes.{no_inst}
-use Rattle.clif_meaning.specs.Request.{AnsweredCall, number_of, script_of}
+use Rattle.clif_meaning.specs.Request.{AnsweredCall, number_of}
 use Rattle.clif_meaning.specs.Ledger.{Answered, ABlock, AVariable, AValue, AnInstruction, AnEntry, AnEdge, AJumpTable, AnExceptionTable, ExceptionTable, Ledger, answer_at, answered_edge, answers_to, edge_named, has_block, has_instruction, is_instruction_answer, ledger_with, has_value, type_of, value_answer_type}
 use Rattle.clif_simulation.specs.Carries.{numbers_from}
 use Rattle.cranelift_frontend.specs.declared.builder.FunctionBuilder.{FunctionBuilder}
@@ -19,15 +18,17 @@ use Rattle.cranelift_frontend.specs.StandsFor.{StandsFor}
 use Rattle.cranelift_frontend.specs.Ledger.{AnswersAgree, ResultsFollow, NamesBlock, NamesEdge, NamesEdges, NamesExceptions, NamesInstruction, NamesValue, block_name, value_type, ledger_of}
 use Rattle.cranelift_frontend.specs.LedgerLaws.{IsReadByNumber}
 use Rattle.clif_calls.specs.declared.call.Name.{Name}
-use Rattle.clif_replay.specs.declared.script.Answer.{Answer}
-use Rattle.clif_replay.specs.declared.script.Answer.TheVariants as answer
+use Rattle.clif_resolution.specs.declared.answers.Answer.{Answer}
+use Rattle.clif_resolution.specs.declared.answers.Answer.TheVariants as answer
 use Rattle.clif_instructions.specs.declared.block_call.BlockCall.{BlockCall}
 use Rattle.clif_meaning.specs.Instruction as meaning
 use Rattle.clif_meaning.specs.Name as named
 use Rattle.clif_replay.specs.Requests.{name_of}
-use Rattle.clif_replay.specs.Ready.{AnswerIs, AnswerExists, IsReady, KeepsTables, TablesAgree, edge_at, edge_in, block_in, block_of, inst_in, inst_of, value_in, value_of}
+use Rattle.clif_replay.specs.Ready.{AnswerIs, IsReady, KeepsTables, TablesAgree}
+use Rattle.clif_resolution.specs.Answers.{AnswerExists, edge_at, edge_in, block_in, block_of, inst_in, inst_of, value_in, value_of}
 use Rattle.clif_replay.proofs.Lasting.{LeavesTables, answer-stays, edge-stays, exceptions-kept, exceptions-stay, ledger-more, no-edge, tables-kept, tables-stay}
-use Rattle.clif_replay.proofs.Options.{get-push, get-below, map-some, some-is, if-no, name-of-some}
+use Rattle.clif_replay.proofs.Options.{get-push, some-is, if-no, name-of-some}
+use Rattle.clif_resolution.proofs.Options.{get-below, map-some}
 
 -- what the ledger says of a name, the builder says of its number
 pub read : {declared : SignatureShape} (calls : List AnsweredCall) (b : FunctionBuilder) (answers : List Answer) → IsReady declared calls b answers → IsReadByNumber calls b.func.now b.ctx.now

@@ -18,8 +18,8 @@ use Rattle.cranelift_frontend.specs.Builder.{SameLoans}
 use Rattle.cranelift_frontend.specs.Ledger.{RefusalAgrees, ledger_of}
 use Rattle.cranelift_frontend.specs.StandsFor.{LeavesNoParameter, StandsFor, StandsIn}
 use Rattle.clif_calls.specs.declared.call.Call.{Call}
-use Rattle.clif_replay.specs.declared.script.CallError.{CallError}
-use Rattle.clif_replay.specs.declared.script.CallError.TheVariants as error
+use Rattle.clif_resolution.specs.declared.answers.CallError.{CallError}
+use Rattle.clif_resolution.specs.declared.answers.CallError.TheVariants as error
 use Rattle.clif_replay.specs.Errors.{replay_error_at}
 use Rattle.clif_replay.specs.declared.script.ReplayError.{ReplayError}
 use Rattle.clif_replay.specs.declared.script.ReplayError.TheVariants as replay

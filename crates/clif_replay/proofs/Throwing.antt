@@ -1,6 +1,6 @@
 -- Exception tables and the calls that they serve: when they are allowed, and what a builder stands for afterwards.
 use Rattle.std.proofs.Common.{◌≡◌, ℕ, zero, suc, ◌<◌, ◌≤◌, List, [], ◌∷◌, ◌++◌, length, refl, ap, arith, sym, ◌∙◌, subst}
-use Rattle.std.specs.Prelude.{◌↔◌, IsTrue, map, flat_map, nat_lt, slice_get, slice_index, slice_set, Option, Some, None, is_some, option_map, Bool, true, false, ◌&&◌, Result, Ok, Err}
+use Rattle.std.specs.Prelude.{◌↔◌, IsTrue, map, flat_map, nat_lt, slice_index, slice_set, Option, Some, None, is_some, option_map, Bool, true, false, ◌&&◌, Result, Ok, Err}
 use Rattle.std.specs.List.{All, cons_option, list_all}
 use Rattle.std.proofs.lemmas.Bool.{and_from, and_parts, and_right, ltb-true}
 use Rattle.std.proofs.lemmas.List.Elements.{All-cons, All-nil}
@@ -8,13 +8,11 @@ use Rattle.clif_types.specs.declared.error.BuildError.{BuildError}
 use Rattle.clif_types.specs.declared.error.BuildError.TheVariants.{Failed, Full}
 use Rattle.clif_types.specs.declared.types.«Type».TheVariants.{Invalid}
 use Rattle.clif_types.specs.Signature.{SignatureShape}
-use Rattle.clif_instructions.specs.declared.block_call.BlockArg.{BlockArg}
 use Rattle.clif_instructions.specs.declared.block_call.BlockArg.TheVariants as arg
 use Rattle.clif_instructions.specs.declared.block_call.BlockCall.{BlockCall}
 use Rattle.clif_instructions.specs.declared.exception_table.ExceptionTableData.{ExceptionTableData}
 use Rattle.clif_instructions.specs.declared.exception_table.ExceptionTableItem.{ExceptionTableItem}
 use Rattle.clif_instructions.specs.declared.exception_table.ExceptionTableItem.TheVariants as kept
-use Rattle.clif_instructions.specs.declared.instructions.InstructionData.{InstructionData}
 use Rattle.clif_instructions.specs.ExceptionTables.{ExceptionShape, contexts_of, exception_shape, item_edges, kept_item}
 use Rattle.clif_instructions.specs.ExceptionTables as shape
 use Rattle.clif_instructions.specs.Instruction.{AFunctionRef, ASignatureRef, contexts, destinations, entries_of, operands}
@@ -26,16 +24,15 @@ use Rattle.clif_ir.specs.Consistent.{EntryExists, PassedExists, ValueExists}
 use Rattle.clif_meaning.specs.Acceptance.{allows, has_item}
 use Rattle.clif_meaning.specs.Event.{CallItem}
 use Rattle.clif_meaning.specs.Event as event
-use Rattle.clif_meaning.specs.Instruction.{Argument, Known}
+use Rattle.clif_meaning.specs.Instruction.{Known}
 use Rattle.clif_meaning.specs.Instruction as meaning
 use Rattle.clif_meaning.specs.Ledger.{AnExceptionTable, ExceptionTable, Ledger, answers_to, edge_named, edges_named, exception_table, has_value, item_context, item_edge, item_kind, ledger_with, unserved_exceptions}
 use Rattle.clif_meaning.specs.Name as named
 use Rattle.clif_meaning.specs.Request.{AnsweredCall, MakeExceptionTable, Request}
 use Rattle.clif_meaning.specs.View.{call_item_of}
 use Rattle.cranelift_frontend.specs.declared.builder.FunctionBuilder.{FunctionBuilder}
-use Rattle.cranelift_frontend.specs.Builder.{CanLead}
 use Rattle.cranelift_frontend.specs.Built.{Builds, numbers_of}
-use Rattle.cranelift_frontend.specs.Entries.{CanBeNamed, CreatesExceptionTable, MayServeTry, TakesExceptionTable, table_held}
+use Rattle.cranelift_frontend.specs.Entries.{CreatesExceptionTable, MayServeTry, TakesExceptionTable, table_held}
 use Rattle.cranelift_frontend.specs.Ledger.{NamesArguments, NamesEdges, NamesExceptions, ledger_of}
 use Rattle.cranelift_frontend.specs.LedgerLaws.{AsksForShape, RequestsAskForTheirShapes, TableCallsAddNothing}
 use Rattle.cranelift_frontend.specs.StandsFor.{StandsFor}
@@ -45,15 +42,17 @@ use Rattle.clif_calls.specs.declared.table.TableItem.{TableItem}
 use Rattle.clif_calls.specs.declared.table.TableItem.TheVariants as item
 use Rattle.clif_calls.specs.declared.table.ThrowingCall.{ThrowingCall}
 use Rattle.clif_calls.specs.declared.table.ThrowingCall.TheVariants as throwing
-use Rattle.clif_replay.specs.declared.script.Answer.{Answer}
-use Rattle.clif_replay.specs.declared.script.Answer.TheVariants as answer
-use Rattle.clif_replay.specs.Makes.{can_try, has_callee, throwing_shape}
-use Rattle.clif_replay.specs.Ready.{AnswerIs, IsReady, IsReadyAfter, TableAgrees, TablesAgree, all_items, all_values, can_seal, edge_at, is_open, item_in, tries, tries_at, value_of}
+use Rattle.clif_resolution.specs.declared.answers.Answer.{Answer}
+use Rattle.clif_resolution.specs.declared.answers.Answer.TheVariants as answer
+use Rattle.clif_resolution.specs.Callings.{can_try, has_callee, throwing_shape}
+use Rattle.clif_replay.specs.Ready.{AnswerIs, IsReady, IsReadyAfter, TableAgrees, TablesAgree}
+use Rattle.clif_resolution.specs.Answers.{all_items, all_values, edge_at, item_in, value_of}
+use Rattle.clif_resolution.specs.Conditions.{can_seal, is_open, tries, tries_at}
 use Rattle.clif_replay.specs.Requests.{item_of, name_of, throwing_request}
 use Rattle.clif_replay.proofs.Conditions.{all-exist, all-numbered, open-same, values-same}
 use Rattle.clif_replay.proofs.JumpTables.{arguments-exist, edges-lead, leads-same}
 use Rattle.clif_replay.proofs.Lasting.{as-many, exception-stays, exceptions-stay, held-missing, held-there, ledger-more, one-table-more, table-at, table-serves}
-use Rattle.clif_replay.proofs.Options.{map-some}
+use Rattle.clif_resolution.proofs.Options.{map-some}
 use Rattle.clif_replay.proofs.ReadyLaws.{edge-found, edge-missing, ready-answered, tables-still, value-found, value-missing}
 
 -- THE TABLE -------------------------------------------------------------------------------------------------------------
@@ -255,6 +254,14 @@ address-in-order false false values edges = refl
 none-tried : (opens values callee served : Bool) → served ≡ false → ((opens && values) && (callee && served)) ≡ false
 none-tried opens values callee served is = and_right (opens && values) (callee && served) (and_right callee served is)
 
+-- the contexts of a table that the ledger and the function hold alike are values
+contexts-there : (calls : List AnsweredCall) (names : List named.Name) (values : List ℕ) → NamesArguments calls (map Known names) (map arg.Value values)
+    → list_all (has_value (ledger_of calls)) names ≡ true
+contexts-there calls [] values names-them = refl
+contexts-there calls (name ∷ names) [] names-them = absurd names-them
+contexts-there calls (name ∷ names) (value ∷ values) names-them =
+    and_from (has_value (ledger_of calls) name) (list_all (has_value (ledger_of calls)) names) names-them.0.is_value (contexts-there calls names values names-them.1)
+
 -- a call is allowed where it may be made
 pub throwing-same : {declared : SignatureShape} (calls : List AnsweredCall) (b : FunctionBuilder) (answers : List Answer) → IsReady declared calls b answers
     → (called : ThrowingCall) → allows (ledger_of calls) (throwing_request (ledger_of calls) called) ≡ can_try b answers called
@@ -270,12 +277,13 @@ throwing-same calls b answers ready (throwing.TryCall function args table) = by 
         let held = exceptions-held calls b answers ready table made found in
         let there = held.1 in
         let signature = held.2.signature in
+        let named = contexts-there calls held.0.contexts (contexts_of made) held.2.contexts in
         let opens = open-same calls b answers ready in
         let values = values-same calls b answers ready args.items in
         let edges = leads-same calls b answers ready held.0.edges made.edges held.2.edges in
         let tables = ready.stands.ledger.tables in
         let right = ap (λ (test : Bool). (is_open b && all_values b.func.now answers args.items) && (nat_lt function (length b.func.now.tables.functions) && test)) (ap (tries_at b) found) in
-        rw (there, opens, values, edges, signature, tables)
+        rw (there, named, opens, values, edges, signature, tables)
         (function-in-order (nat_lt function (length b.func.now.tables.functions)) (nat_lt made.sig (length b.func.now.tables.signatures)) (is_open b)
         (all_values b.func.now answers args.items) (list_all (λ edge. can_seal b edge.block) made.edges) ∙ sym right)
 throwing-same calls b answers ready (throwing.TryCallIndirect callee args table) = by (table_held exception_tables b table) refl
@@ -290,12 +298,13 @@ throwing-same calls b answers ready (throwing.TryCallIndirect callee args table)
         let held = exceptions-held calls b answers ready table made found in
         let there = held.1 in
         let signature = held.2.signature in
+        let named = contexts-there calls held.0.contexts (contexts_of made) held.2.contexts in
         let opens = open-same calls b answers ready in
         let values = values-same calls b answers ready (callee ∷ args.items) in
         let edges = leads-same calls b answers ready held.0.edges made.edges held.2.edges in
         let tables = ready.stands.ledger.tables in
         let right = ap (λ (test : Bool). (is_open b && all_values b.func.now answers (callee ∷ args.items)) && (true && test)) (ap (tries_at b) found) in
-        rw (there, opens, values, edges, signature, tables)
+        rw (there, named, opens, values, edges, signature, tables)
         (address-in-order (nat_lt made.sig (length b.func.now.tables.signatures)) (is_open b) (all_values b.func.now answers (callee ∷ args.items))
         (list_all (λ edge. can_seal b edge.block) made.edges) ∙ sym right)
 

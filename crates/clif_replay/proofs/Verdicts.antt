@@ -18,8 +18,8 @@ use Rattle.clif_calls.specs.declared.call.Call.{Call}
 use Rattle.clif_calls.specs.declared.call.Call.TheVariants as call
 use Rattle.clif_calls.specs.declared.outside.OutsideCall.TheVariants as outside
 use Rattle.clif_calls.specs.declared.table.ThrowingCall.TheVariants as throwing
-use Rattle.clif_replay.specs.declared.script.CallError.{CallError}
-use Rattle.clif_replay.specs.declared.script.CallError.TheVariants as error
+use Rattle.clif_resolution.specs.declared.answers.CallError.{CallError}
+use Rattle.clif_resolution.specs.declared.answers.CallError.TheVariants as error
 use Rattle.clif_replay.specs.declared.script.ReplayError.{ReplayError}
 use Rattle.clif_replay.specs.declared.script.ReplayError.TheVariants as replay
 use Rattle.clif_replay.specs.Errors.{replay_error_at}

@@ -1,25 +1,13 @@
 -- How the refusal of a call is told as that of a script. Source: own.
 use Rattle.std.specs.Prelude.{ℕ, List, ◌++◌, codes}
 use Rattle.std.specs.Fmt.{decimal}
-use Rattle.clif_types.specs.declared.error.BuildError.{BuildError}
-use Rattle.clif_types.specs.declared.error.BuildError.TheVariants as build
-use Rattle.clif_replay.specs.declared.script.CallError.{CallError}
-use Rattle.clif_replay.specs.declared.script.CallError.TheVariants as call
+use Rattle.clif_resolution.specs.declared.answers.CallError.{CallError}
+use Rattle.clif_resolution.specs.declared.answers.CallError.TheVariants as call
 use Rattle.clif_replay.specs.declared.script.ReplayError.{ReplayError}
 use Rattle.clif_replay.specs.declared.script.ReplayError.TheVariants as replay
 
--- memory was refused
-abbrev pub call_memory : CallError
-call_memory = call.Memory
-
 abbrev pub replay_memory : ReplayError
 replay_memory = replay.Memory
-
--- the same refusal, where a builder answered it
-abbrev pub call_error_of : BuildError → CallError
-call_error_of build.Memory = call.Memory
-call_error_of build.Full = call.Full
-call_error_of build.Failed = call.Refused
 
 -- the same refusal, where the call at this place answered it
 abbrev pub replay_error_at : CallError → ℕ → ReplayError

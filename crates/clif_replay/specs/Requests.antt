@@ -3,7 +3,7 @@ use Rattle.std.specs.Prelude.{◌≡◌, ◌⊎◌, ℕ, List, [], ◌∷◌, �
 use Rattle.clif_ir.specs.Body.{Body}
 use Rattle.clif_tables.specs.Callees.{types_of}
 use Rattle.clif_meaning.specs.Name.{Name}
-use Rattle.clif_meaning.specs.Instruction.{Argument, CallPayload, CallResult, Binary, Brif, Compare, Compute, Concat, CondTrap, Convert, Edge, FloatConst, Iconst, Jump, Known, Load, Operation, Return, Select, Split, Stack, StackStore, Store, Trap, Unary}
+use Rattle.clif_meaning.specs.Instruction.{Argument, CallPayload, CallResult, Brif, Edge, Jump, Known, Return, Trap}
 use Rattle.clif_meaning.specs.Request.{Request, CreateBlock, SwitchToBlock, SealBlock, SealAllBlocks, InsertBlockAfter, SetColdBlock, EnsureInsertedBlock, AppendBlockParams, AppendFunctionParams, DeclareVar, DefVar, UseVar, MakeEntry, MakeEdge, MakeExceptionTable, MakeJumpTable, Annotate, Build, ChangeJumpDestination, Finalize, Script, AnsweredCall, script_of, Attempt, outright}
 use Rattle.clif_meaning.specs.Request as asked
 use Rattle.clif_meaning.specs.Ledger.{Ledger, empty_ledger, ledger_after, ledger_with, or_invalid, type_of}
@@ -30,11 +30,11 @@ use Rattle.clif_calls.specs.declared.table.ThrowingCall.{ThrowingCall}
 use Rattle.clif_calls.specs.declared.table.ThrowingCall.TheVariants as throwing
 use Rattle.clif_calls.specs.Plan.{edges_in, operands_in, plan_of}
 use Rattle.clif_calls.specs.declared.plan.Plan.{Plan}
-use Rattle.clif_calls.specs.declared.plan.Plan.TheVariants as plan
 use Rattle.clif_replay.specs.declared.script.ReplayError.{ReplayError}
 use Rattle.clif_replay.specs.declared.script.ReplayError.TheVariants as replay
 use Rattle.clif_replay.specs.Entries.{entry_in}
 use Rattle.clif_replay.specs.Limits.{MeetsFullTable}
+use Rattle.clif_resolution.specs.Plans.{operation_in, controlling_in}
 
 -- an answer's name: the place of the call, and the number among its answers
 abbrev pub name_of : named.Name → Name
@@ -59,54 +59,10 @@ item_of (item.Tag tag edge) = asked.TagTo tag (name_of edge)
 item_of (item.Default edge) = asked.DefaultTo (name_of edge)
 item_of (item.Context value) = asked.InContext (name_of value)
 
--- what an instruction of a plan does
-abbrev pub operation_in : Plan → Operation
-operation_in (plan.UnaryImm ty imm) = Compute (Iconst imm)
-operation_in (plan.UnaryIeee opcode bits) = Compute (FloatConst opcode bits)
-operation_in (plan.Unary opcode arg) = Compute (Unary opcode)
-operation_in (plan.Binary opcode args) = Compute (Binary opcode)
-operation_in (plan.Convert opcode ty arg) = Compute (Convert opcode)
-operation_in (plan.Concat args) = Compute Concat
-operation_in (plan.Split arg) = Compute Split
-operation_in (plan.IntCompare cond args) = Compute (Compare cond)
-operation_in (plan.Ternary args) = Compute Select
-operation_in (plan.Load flags ty arg offset) = Load flags offset
-operation_in (plan.Store flags args offset) = Store flags offset
-operation_in (plan.StackLoad opcode ty slot offset) = Stack opcode slot offset
-operation_in (plan.StackStore arg slot offset) = StackStore slot offset
-operation_in (plan.Trap code) = Trap code
-operation_in (plan.CondTrap opcode arg code) = CondTrap opcode code
-operation_in (plan.Jump destination) = Jump
-operation_in (plan.Brif condition block_then block_else) = Brif
-operation_in (plan.MultiAry args) = Return
-
--- the type of the first operand, by the types of names
-abbrev pub first_type : (named.Name → «Type») → List named.Name → «Type»
-first_type typed [] = Invalid
-first_type typed (name ∷ names) = typed name
-
--- the type at which it is made: its own, that of its first operand, or that of the second operand of `select`
-abbrev pub controlling_in : (named.Name → «Type») → Plan → «Type»
-controlling_in typed (plan.UnaryImm ty imm) = ty
-controlling_in typed (plan.Unary opcode arg) = typed arg
-controlling_in typed (plan.Binary opcode args) = first_type typed args
-controlling_in typed (plan.Convert opcode ty arg) = ty
-controlling_in typed (plan.Concat args) = first_type typed args
-controlling_in typed (plan.Split arg) = typed arg
-controlling_in typed (plan.IntCompare cond args) = first_type typed args
-controlling_in typed (plan.Ternary args) = first_type typed (drop 1 args)
-controlling_in typed (plan.Load flags ty arg offset) = ty
-controlling_in typed (plan.Store flags args offset) = first_type typed args
-controlling_in typed (plan.StackLoad opcode ty slot offset) = ty
-controlling_in typed (plan.StackStore arg slot offset) = typed arg
-controlling_in typed (plan.CondTrap opcode arg code) = typed arg
-controlling_in typed (plan.Brif condition block_then block_else) = typed condition
-controlling_in typed _ = Invalid
-
 -- the request of an instruction, which is made at types that the ledger tells
 abbrev pub request_in : Ledger → Plan → Request
 request_in ledger plan =
-    Build [] (record { operation = operation_in plan; controlling = controlling_in (λ name. or_invalid (type_of ledger (name_of name))) plan; operands = map name_of (operands_in plan); edges = map edge_of (edges_in plan) })
+    Build [] (record { operation = operation_in plan; controlling = controlling_in (λ name. or_invalid (type_of ledger (name_of name))) plan; operands = map name_of (operands_in plan); contexts = []; edges = map edge_of (edges_in plan) })
 
 -- the request of an outside call, of what the ledger's tables hold
 abbrev pub outside_request : Ledger → OutsideCall → Request

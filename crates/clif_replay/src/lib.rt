@@ -12,7 +12,6 @@ mod make_notes;
 mod make_outside;
 mod make_parameters;
 mod make_tables;
-mod names;
 mod script;
 
 pub use script::{ReplayError, replay};

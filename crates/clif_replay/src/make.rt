@@ -1,7 +1,7 @@
 //! The calls of a script, each made on a builder if its condition holds.
 ghost use Rattle.std.specs.Prelude.{◌≡◌, ◌<◌, length, slice_get, IsTrue, ◌↔◌};
 ghost use Rattle.clif_replay.specs.Makes.{MakesCall};
-ghost use Rattle.clif_replay.specs.Ready.{IsSound, is_open, can_define, can_use};
+ghost use Rattle.clif_replay.specs.Ready.{IsSound, can_define, can_use};
 
 use crate::make_blocks::{
     create_block, ensure_inserted_block, insert_block_after, seal_all_blocks, seal_block,
@@ -19,11 +19,10 @@ use crate::make_parameters::{
     append_block_params_for_function_returns,
 };
 use crate::make_tables::{block_call, br_table, create_jump_table};
-use crate::names::value_named;
-use crate::script::{Answer, CallError};
 use clif_calls::{Call, Name, Plan};
 use clif_opcodes::PooledConstOpcode;
 use clif_records::Variable;
+use clif_resolution::{Answer, CallError, has_current, value_named};
 use clif_types::{EntityRef, Type, Value};
 use cranelift_frontend::FunctionBuilder;
 
@@ -136,16 +135,6 @@ fn declare_var(
     }
     let variable = builder.declare_var(ty)?;
     Ok(Answer::Variable(variable))
-}
-
-// Whether there is a current block to which no terminator was appended.
-pub(crate) fn has_current(builder: &FunctionBuilder<'_>) -> bool
-    ensures { result ≡ is_open builder.now }
-{
-    match builder.current_block() {
-        None => false,
-        Some(block) => !builder.is_filled(block),
-    }
 }
 
 // Whether two types are equal.

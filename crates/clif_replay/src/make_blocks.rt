@@ -2,12 +2,10 @@
 ghost use Rattle.std.specs.Prelude.{◌≡◌, ◌<◌, length};
 ghost use Rattle.cranelift_frontend.specs.Builder.{is_free};
 ghost use Rattle.clif_replay.specs.Makes.{MakesCall};
-ghost use Rattle.clif_replay.specs.Ready.{IsSound, can_switch, can_seal, can_insert};
+ghost use Rattle.clif_replay.specs.Ready.{IsSound, can_switch, can_insert};
 
-use crate::make::has_current;
-use crate::names::block_named;
-use crate::script::{Answer, CallError};
 use clif_calls::{Call, Name};
+use clif_resolution::{Answer, CallError, block_named, has_current, may_seal};
 use clif_types::Block;
 use cranelift_frontend::FunctionBuilder;
 
@@ -59,13 +57,6 @@ fn may_leave(builder: &FunctionBuilder<'_>) -> bool
             builder.is_pristine(block) || builder.is_filled(block) || builder.is_unreachable()
         }
     }
-}
-
-// Whether a block isn't sealed.
-pub(crate) fn may_seal(builder: &FunctionBuilder<'_>, block: Block) -> bool
-    ensures { result ≡ can_seal builder.now block }
-{
-    !builder.is_sealed(block)
 }
 
 // `seal_block(block)`, where it isn't sealed.

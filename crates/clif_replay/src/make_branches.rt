@@ -5,10 +5,8 @@ ghost use Rattle.clif_ssa.specs.Ssa.{predecessors_of};
 ghost use Rattle.clif_replay.specs.Makes.{MakesCall};
 ghost use Rattle.clif_replay.specs.Ready.{IsSound, can_change};
 
-use crate::make_blocks::may_seal;
-use crate::names::{block_named, inst_named};
-use crate::script::{Answer, CallError};
 use clif_calls::{Call, Name};
+use clif_resolution::{Answer, CallError, block_named, inst_named, may_seal};
 use clif_types::{Block, Inst};
 use cranelift_frontend::FunctionBuilder;
 use cranelift_frontend::laws::leads_are_read_by_number;

@@ -7,11 +7,10 @@ ghost use Rattle.cranelift_frontend.specs.Entries.{PoolsConstant};
 ghost use Rattle.clif_replay.specs.Makes.{MakesConstant};
 ghost use Rattle.clif_replay.specs.Ready.{IsSound};
 
-use crate::make::has_current;
 use crate::make_instructions::{Lender, append};
-use crate::script::{Answer, CallError};
 use clif_ir::InstructionData;
 use clif_opcodes::{Demand, PooledConstOpcode};
+use clif_resolution::{Answer, CallError, has_current};
 use clif_types::{BuildError, Constant, Type};
 use cranelift_frontend::{FunctionBuilder, InstBuilderBase};
 

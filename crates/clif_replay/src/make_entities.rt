@@ -1,14 +1,14 @@
 //! The calls of a script that make entries of tables, each made on a builder if its condition holds.
-ghost use Rattle.std.specs.Prelude.{◌≡◌, ◌<◌, length, nat_lt, IsTrue};
+ghost use Rattle.std.specs.Prelude.{◌≡◌, ◌<◌, IsTrue};
 ghost use Rattle.clif_meaning.specs.Acceptance as acceptance;
 ghost use Rattle.cranelift_frontend.specs.Entries.{MakesEntry};
 ghost use Rattle.clif_replay.specs.Entries.{entry_in, number_made};
 ghost use Rattle.clif_replay.specs.Makes.{MakesCall};
 ghost use Rattle.clif_replay.specs.Ready.{IsSound};
 
-use crate::script::{Answer, CallError};
 use clif_calls::{Call, EntryCall};
-use clif_types::{BuildError, EntityRef, SigRef, StackSlotData};
+use clif_resolution::{Answer, CallError, has_signature};
+use clif_types::{BuildError, EntityRef, StackSlotData};
 use cranelift_frontend::FunctionBuilder;
 
 // How many shifts of an alignment there are: it is at most 2^31 bytes.
@@ -42,13 +42,6 @@ fn may_make(builder: &FunctionBuilder<'_>, call: &EntryCall) -> bool
         | EntryCall::CreateGlobalValue(_)
         | EntryCall::ImportSignature(_) => true,
     }
-}
-
-// Whether a signature was imported.
-pub(crate) fn has_signature(builder: &FunctionBuilder<'_>, signature: SigRef) -> bool
-    ensures { result ≡ nat_lt signature (length builder.now.func.now.tables.signatures) }
-{
-    builder.signature(signature).is_some()
 }
 
 // Puts an entry that may be made at the end of its table, and answers its number.

@@ -5,9 +5,8 @@ ghost use Rattle.cranelift_frontend.specs.Labels.{CollectsLabels};
 ghost use Rattle.clif_replay.specs.Makes.{LabelsValue, MakesCall};
 ghost use Rattle.clif_replay.specs.Ready.{IsSound};
 
-use crate::names::value_named;
-use crate::script::{Answer, CallError};
 use clif_calls::{Call, Name};
+use clif_resolution::{Answer, CallError, value_named};
 use clif_types::{SourceLoc, ValueLabel};
 use cranelift_frontend::FunctionBuilder;
 use cranelift_frontend::laws::notes_add_nothing;

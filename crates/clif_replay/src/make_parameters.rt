@@ -7,9 +7,8 @@ ghost use Rattle.clif_replay.specs.Makes.{MakesCall};
 ghost use Rattle.clif_replay.specs.Ready.{IsSound, can_append, can_append_function_params, last_params};
 
 use crate::make::one_value;
-use crate::names::block_named;
-use crate::script::{Answer, CallError};
 use clif_calls::{Call, Name};
+use clif_resolution::{Answer, CallError, block_named};
 use clif_types::{Block, Type};
 use cranelift_frontend::FunctionBuilder;
 

@@ -13,18 +13,16 @@ ghost use Rattle.clif_replay.specs.Requests.{IsBuiltBy, IsReplayed, IsStoppedByT
 ghost use Rattle.clif_ir.specs.Body.{empty_body};
 ghost use Rattle.cranelift_frontend.specs.Builder.{SameLoans};
 ghost use Rattle.cranelift_frontend.specs.Context.{empty_context};
-ghost use Rattle.clif_replay.specs.Errors.{call_error_of, replay_error_at, call_memory, replay_memory, replay_error_text};
+ghost use Rattle.clif_replay.specs.Errors.{replay_error_at, replay_memory, replay_error_text};
 
 use crate::make::make_call;
 use clif_calls::Call;
-use clif_ir::{BlockCall, Function};
-use clif_records::Variable;
-use clif_types::{
-    Block, BuildError, Inst, Signature, TargetFrontendConfig, Type, UserFuncName, Value,
-};
+use clif_ir::Function;
+use clif_resolution::{Answer, CallError};
+use clif_types::{Signature, TargetFrontendConfig, UserFuncName};
 use cranelift_frontend::laws::ledger_is_read_by_number;
 use cranelift_frontend::{FinalizeError, FunctionBuilder, FunctionBuilderContext};
-use std::alloc::{AllocError, AllocFailed, Global};
+use std::alloc::{AllocFailed, Global};
 use std::error::Error;
 use std::fmt;
 
@@ -61,62 +59,6 @@ impl fmt::Display for ReplayError {
 
 impl Error for ReplayError {}
 
-// What a call answered: its values have numbers that follow one another, and the results of an
-// instruction are asked of the function.
-#[derive(Drop)]
-pub(crate) enum Answer {
-    Nothing,
-    Block(Block),
-    Variable(Variable),
-    Values { first: Value, count: usize },
-    Inst(Inst),
-    // an entry of a table, which calls name by its number
-    Entry,
-    // an edge, of which tables get copies
-    Edge(BlockCall),
-    // a jump table, which calls name by its number
-    Table,
-    // an exception table, which calls name by its number
-    Exceptions,
-}
-
-// Why one call didn't succeed.
-#[derive(Clone, Copy, Debug, PartialEq, Eq)]
-pub(crate) enum CallError {
-    Misuse,
-    Refused,
-    Memory,
-    Full,
-}
-
-impl From<BuildError> for CallError {
-    ghost from_gives = { λ refusal error. error ≡ call_error_of refusal };
-
-    fn from(error: BuildError) -> CallError {
-        match error {
-            BuildError::Memory => CallError::Memory,
-            BuildError::Full => CallError::Full,
-            BuildError::Failed => CallError::Refused,
-        }
-    }
-}
-
-impl From<AllocError> for CallError {
-    ghost from_gives = { λ _ error. error ≡ call_memory };
-
-    fn from(_error: AllocError) -> CallError {
-        CallError::Memory
-    }
-}
-
-impl<T: Drop> From<AllocFailed<T>> for CallError {
-    ghost from_gives = { λ _ error. error ≡ call_memory };
-
-    fn from(_error: AllocFailed<T>) -> CallError {
-        CallError::Memory
-    }
-}
-
 impl<T: Drop> From<AllocFailed<T>> for ReplayError {
     ghost from_gives = { λ _ error. error ≡ replay_memory };
 
@@ -125,17 +67,15 @@ impl<T: Drop> From<AllocFailed<T>> for ReplayError {
     }
 }
 
-impl CallError {
-    // The same, of the call at a place.
-    fn at(self, place: usize) -> ReplayError
-        ensures { result ≡ replay_error_at self place }
-    {
-        match self {
-            CallError::Misuse => ReplayError::Misuse(place),
-            CallError::Refused => ReplayError::Refused(place),
-            CallError::Memory => ReplayError::Memory,
-            CallError::Full => ReplayError::Full,
-        }
+// The same, of the call at a place.
+fn told_at(error: CallError, place: usize) -> ReplayError
+    ensures { result ≡ replay_error_at error place }
+{
+    match error {
+        CallError::Misuse => ReplayError::Misuse(place),
+        CallError::Refused => ReplayError::Refused(place),
+        CallError::Memory => ReplayError::Memory,
+        CallError::Full => ReplayError::Full,
     }
 }
 
@@ -226,7 +166,7 @@ fn make_calls(
     for (place, call) in calls.iter().enumerate() {
         match make_call(builder, answers.as_slice(), types.as_slice(), call) {
             Ok(answer) => answers.push(answer)?,
-            Err(error) => return Err(error.at(place)),
+            Err(error) => return Err(told_at(error, place)),
         }
         if let Call::DeclareVar { ty } = call {
             types.push(*ty)?;

@@ -4,10 +4,9 @@ ghost use Rattle.std.specs.Prelude.{◌<◌, IfOk};
 
 use crate::command::Run;
 use crate::program::{tell_call, tell_no_text, tell_unbuilt, tell_unread};
-use clif_interpreter::{
-    ArgumentError, Comparison, Given, Place, Report, RunError, Told, Verdict, arguments_of, compare,
-};
+use clif_interpreter::{Place, RunError, Told};
 use clif_replay::{ReplayError, replay};
+use clif_runs::{ArgumentError, Comparison, Given, Report, Verdict, arguments_of, compare};
 use clif_text::{ReadError, Script, read};
 use clif_types::AbiParam;
 use cranelift_frontend::FunctionBuilderContext;

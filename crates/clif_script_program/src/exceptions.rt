@@ -3,13 +3,16 @@ use clif_calls::{Name, TableItem};
 use clif_types::{EntityRef, ExceptionTable, SigRef};
 use std::alloc::{AllocError, Global};
 
-/// An exception table: its signature, and the places of the calls that answered its edges, the normal one first.
+/// An exception table: its signature, the places of the calls that answered its edges, the normal one first, and the
+/// names of its contexts.
 #[derive(Drop)]
 pub struct Exceptions {
     /// The signature of the call that it serves.
     pub signature: SigRef,
     /// The places.
     pub edges: Vec<usize>,
+    /// The names of its contexts, in order.
+    pub contexts: Vec<Name>,
 }
 
 impl Exceptions {
@@ -20,15 +23,19 @@ impl Exceptions {
         normal: Name,
         items: &[TableItem],
     ) -> Result<Exceptions, AllocError> {
-        let mut edges = Vec::new(alloc);
+        let (mut edges, mut contexts) = (Vec::new(alloc), Vec::new(alloc));
         edges.push(normal.place)?;
         for item in items {
             match item {
                 TableItem::Tag(_, edge) | TableItem::Default(edge) => edges.push(edge.place)?,
-                TableItem::Context(_) => {}
+                TableItem::Context(value) => contexts.push(*value)?,
             }
         }
-        Ok(Exceptions { signature, edges })
+        Ok(Exceptions {
+            signature,
+            edges,
+            contexts,
+        })
     }
 }
 

@@ -150,7 +150,7 @@ fn misuses(rt: HostRuntime) -> Result<(), Fail> {
     Ok(())
 }
 
-const FAULTS: [(&str, &str); 15] = [
+const FAULTS: [(&str, &str); 19] = [
     ("set_srcloc", "expected a source place of 32 bits"),
     ("set_srcloc -1", "expected a source place of 32 bits"),
     (
@@ -165,9 +165,22 @@ const FAULTS: [(&str, &str); 15] = [
     ("set_val_label b 4294967295", "expected a label"),
     ("a = set_val_label b 1", "expected no names"),
     ("cursor", "expected a call"),
-    ("cursor create_block", "expected an instruction for cursor"),
-    ("cursor jump b", "expected an instruction for cursor"),
-    ("cursor cursor ineg b", "expected an instruction for cursor"),
+    (
+        "cursor frobnicate b",
+        "no instruction for cursor: frobnicate",
+    ),
+    (
+        "cursor create_block",
+        "no instruction for cursor: create_block",
+    ),
+    ("cursor jump b", "no instruction for cursor: jump"),
+    ("cursor call b", "no instruction for cursor: call"),
+    ("cursor try_call b", "no instruction for cursor: try_call"),
+    (
+        "cursor f128const 0x00000000000000000000000000000000",
+        "no instruction for cursor: f128const",
+    ),
+    ("cursor cursor ineg b", "no instruction for cursor: cursor"),
     ("@a, c, d = cursor ineg b", "expected at most 1 name"),
 ];
 

@@ -147,7 +147,7 @@ fn numbers(rt: HostRuntime) -> Result<(), Fail> {
 }
 
 /// Scripts without parameters, and what they give in each status but 3.
-const SCRIPTS: [(&str, Given); 17] = [
+const SCRIPTS: [(&str, Given); 19] = [
     (
         "b = create_block\nswitch_to_block b\nseal_block b\nreturn",
         (
@@ -271,6 +271,23 @@ const SCRIPTS: [(&str, Given); 17] = [
             4,
             "",
             "the promise doesn't cover this: a function of the C library is called by another signature than its own\nline 10: @c = call f (d p n)\n",
+        ),
+    ),
+    // the context of a try call is given before it
+    (
+        "s = import_signature () fast\nf = import_function %g s\nb = create_block\nc = create_block\np = append_block_param c i64\nswitch_to_block b\nseal_block b\nq = iconst.i64 3\ne = block_call c(q)\nt = create_exception_table s e context q\ntry_call f () t\nseal_block c\nswitch_to_block c\nreturn",
+        (
+            0,
+            "script: called %g()\nscript: returned nothing\nfunction: called %g()\nfunction: returned nothing\n",
+            "",
+        ),
+    ),
+    (
+        "s = import_signature () fast\nf = import_function %g s\nb = create_block\nc = create_block\np = append_block_param c i64\nswitch_to_block b\nseal_block b\nq = iconst.i64 3\ne = block_call c(q)\nt = create_exception_table s e context p\ntry_call f () t\nseal_block c\nswitch_to_block c\nreturn",
+        (
+            4,
+            "",
+            "the promise doesn't cover this: $4.0 is used before it is given\nline 11: try_call f () t\n",
         ),
     ),
 ];

@@ -34,7 +34,7 @@ use Rattle.clif_simulation.specs.Tables.{code, answered, program_so_far}
 use Rattle.clif_simulation.specs.Carries.{CallsNothing, carried, answered_edge, answered_instruction}
 use Rattle.clif_simulation.specs.Reading.{MovesAlike, MovesNothing, script_run_so_far, function_run_so_far}
 use Rattle.clif_simulation.proofs.Unbranched.{CarriesUnbranched, PlainlyEarlier}
-use Rattle.clif_simulation.proofs.Giving.{In, in_contained, name_keeps, value_keeps, same_or_other}
+use Rattle.clif_simulation.proofs.Giving.{In, first_contained, in_contained, name_keeps, value_keeps, same_or_other}
 use Rattle.clif_simulation.proofs.Agreement.{any_value, Agrees, GivesThere, given_agrees, UsesThere, used_agrees, AssignsThere, assigned_agrees}
 use Rattle.clif_simulation.proofs.Straight.{next_arm, straight, straight_end, straight_follows, visits_so_far, absent_name, absent_value, same_step}
 use Rattle.clif_simulation.proofs.OperandTypes.{OutcomesAlike}
@@ -566,7 +566,7 @@ module _ (calls : List AnsweredCall) (f : Body) (ssa : SsaState) (consistent : I
         let stands : slice_get items k ≡ Some (Instruct place instruction results) = item_here items k (Instruct place instruction results) rest here in
         let operands : map p.names instruction.operands ≡ map (value_bits right_run q) (map (answered calls) instruction.operands) =
         same_bits instruction.operands p.names (value_bits right_run q) (answered calls) (λ x there.
-        given_bits k p q a x (Entry.named_before calls f ssa carries entry is_entry placed k (Instruct place instruction results) stands x (in_contained instruction.operands x there))) in
+        given_bits k p q a x (Entry.named_before calls f ssa carries entry is_entry placed k (Instruct place instruction results) stands x (first_contained instruction.operands instruction.contexts x there))) in
         let outcome : Outcome = outcome_of world instruction.operation instruction.controlling (map left_run.name_type instruction.operands) (map p.names instruction.operands) p.memory in
         let same : outcome_of world instruction.operation instruction.controlling (map right_run.function.value_type (map (answered calls) instruction.operands)) (map (value_bits right_run q) (map (answered calls) instruction.operands)) q.memory
         ≡ outcome_of world instruction.operation instruction.controlling (map left_run.name_type instruction.operands) (map p.names instruction.operands) p.memory =

@@ -13,7 +13,7 @@ use Rattle.clif_instructions.specs.declared.insert_at.InsertAt.TheVariants.{Back
 use Rattle.clif_instructions.specs.declared.instructions.InstructionData.{InstructionData}
 use Rattle.clif_nodes.specs.declared.nodes.InstNode.{InstNode}
 use Rattle.clif_nodes.specs.declared.nodes.ValueNode.{ValueNode}
-use Rattle.clif_instructions.specs.Instruction.{operands, destinations}
+use Rattle.clif_instructions.specs.Instruction.{contexts, operands, destinations}
 use Rattle.clif_instructions.specs.Instruction as shapes
 use Rattle.clif_opcodes.specs.Kinds.{result_type}
 use Rattle.clif_opcodes.specs.declared.kinds.ResultKind.{ResultKind}
@@ -70,16 +70,16 @@ use Rattle.clif_simulation.proofs.Unbranched.{no_target}
 use Rattle.clif_simulation.proofs.Values.{is_value_at, false_is, values_added}
 
 -- an instruction as the machine sees it, by its parts
-abbrev placed_parts : Operation → «Type» → List ℕ → List (Edge ℕ ℕ) → List ℕ → List UserStackMapEntry → Placed
-placed_parts operation controlling arguments edges results stack_map =
-    record { instruction = record { operation = operation; controlling = controlling; operands = arguments; edges = edges }; results = results; stack_map = stack_map }
+abbrev placed_parts : Operation → «Type» → List ℕ → List ℕ → List (Edge ℕ ℕ) → List ℕ → List UserStackMapEntry → Placed
+placed_parts operation controlling arguments contexts edges results stack_map =
+    record { instruction = record { operation = operation; controlling = controlling; operands = arguments; contexts = contexts; edges = edges }; results = results; stack_map = stack_map }
 
-placed_same : (o p : Operation) (c d : «Type») (xs ys : List ℕ) (es fs : List (Edge ℕ ℕ)) (rs ss : List ℕ) (ms : List UserStackMapEntry)
-    → o ≡ p → c ≡ d → xs ≡ ys → es ≡ fs → rs ≡ ss → placed_parts o c xs es rs ms ≡ placed_parts p d ys fs ss ms
-placed_same o p c d xs ys es fs rs ss ms a b e g h =
-    ap (λ (q : Operation). placed_parts q c xs es rs ms) a ∙ ap (λ (t : «Type»). placed_parts p t xs es rs ms) b
-    ∙ ap (λ (zs : List ℕ). placed_parts p d zs es rs ms) e ∙ ap (λ (gs : List (Edge ℕ ℕ)). placed_parts p d ys gs rs ms) g
-    ∙ ap (λ (ts : List ℕ). placed_parts p d ys fs ts ms) h
+placed_same : (o p : Operation) (c d : «Type») (xs ys : List ℕ) (us vs : List ℕ) (es fs : List (Edge ℕ ℕ)) (rs ss : List ℕ) (ms : List UserStackMapEntry)
+    → o ≡ p → c ≡ d → xs ≡ ys → us ≡ vs → es ≡ fs → rs ≡ ss → placed_parts o c xs us es rs ms ≡ placed_parts p d ys vs fs ss ms
+placed_same o p c d xs ys us vs es fs rs ss ms a b e w g h =
+    ap (λ (q : Operation). placed_parts q c xs us es rs ms) a ∙ ap (λ (t : «Type»). placed_parts p t xs us es rs ms) b
+    ∙ ap (λ (zs : List ℕ). placed_parts p d zs us es rs ms) e ∙ ap (λ (zs : List ℕ). placed_parts p d ys zs es rs ms) w
+    ∙ ap (λ (gs : List (Edge ℕ ℕ)). placed_parts p d ys vs gs rs ms) g ∙ ap (λ (ts : List ℕ). placed_parts p d ys vs fs ts ms) h
 
 -- edges that pass what these pass are these
 passed_edges : (passed : ℕ → List BlockArg) (n : ℕ) (edges : List BlockCall) → ((k : ℕ) → passed (n + k) ≡ args_of (slice_get edges k)) → as_passed passed n (map edge_of edges) ≡ map edge_of edges
@@ -96,7 +96,9 @@ pub record SameBranch (calls : List AnsweredCall) (tables : TableLists) (shape :
   pub operation : operation_of tables shape ≡ instruction.operation
   pub arguments : operands shape ≡ map (answered calls) instruction.operands
   pub edges : edges_of shape ≡ map (answered_edge calls) instruction.edges
+  pub contexts_same : contexts shape ≡ map (answered calls) instruction.contexts
   pub earlier : AllByRecursion (IsEarlier calls) instruction.operands
+  pub contexts_earlier : AllByRecursion (IsEarlier calls) instruction.contexts
   pub edges_earlier : AllByRecursion (EdgeEarlier calls) instruction.edges
 
 -- the same of one without edges
@@ -105,7 +107,9 @@ pub record SameInstruction (calls : List AnsweredCall) (tables : TableLists) (sh
   pub arguments : operands shape ≡ map (answered calls) instruction.operands
   pub no_edges : edges_of shape ≡ []
   pub edges : instruction.edges ≡ []
+  pub contexts_same : contexts shape ≡ map (answered calls) instruction.contexts
   pub earlier : AllByRecursion (IsEarlier calls) instruction.operands
+  pub contexts_earlier : AllByRecursion (IsEarlier calls) instruction.contexts
 
 same_branch : (calls : List AnsweredCall) (tables : TableLists) (shape : InstructionData) (instruction : Instruction Name Name)
     → SameInstruction calls tables shape instruction → SameBranch calls tables shape instruction
@@ -113,7 +117,9 @@ same_branch calls tables shape instruction same = record {
   operation = same.operation;
   arguments = same.arguments;
   edges = same.no_edges ∙ sym (ap (map (answered_edge calls)) same.edges);
+  contexts_same = same.contexts_same;
   earlier = same.earlier;
+  contexts_earlier = same.contexts_earlier;
   edges_earlier = subst (AllByRecursion (EdgeEarlier calls)) (sym same.edges) tt;
 }
 
@@ -250,14 +256,14 @@ module _ (calls : List AnsweredCall) (f : Body) (s : SsaState) (c : Carries call
         ∙ keeps.placed c.own j below
 
     own_new : (operation : operation_of f.tables shape ≡ instruction.operation) (arguments : operands shape ≡ map (answered after) instruction.operands)
-        (edges : edges_of shape ≡ map (answered_edge after) instruction.edges) (results : List Name)
+        (named : contexts shape ≡ map (answered after) instruction.contexts) (edges : edges_of shape ≡ map (answered_edge after) instruction.edges) (results : List Name)
         → controlling_of g shape (inst_node h b shape types loc).results ≡ instruction.controlling → (inst_node h b shape types loc).results ≡ map (answered after) results
         → map (own_placed mine g) (i ∷ []) ≡ carried after (Instruct (length calls) instruction results)
-    own_new operation arguments edges results controlling result_is =
+    own_new operation arguments named edges results controlling result_is =
         ap (λ (p : Placed). p ∷ [])
         (ap (λ (stack_map : List UserStackMapEntry). record (own_placed mine g i) { stack_map = stack_map }) (no_maps i)
-        ∙ ap (λ (node : InstNode). placed_parts (operation_of g.tables node.shape) (controlling_of g node.shape node.results) (operands node.shape) (as_passed (mine.passed i) 0 (edges_of node.shape)) node.results []) node_is
-        ∙ placed_same _ _ _ _ _ _ _ _ _ _ [] (ap (λ (t : TableLists). operation_of t shape) same.tables ∙ operation) controlling arguments
+        ∙ ap (λ (node : InstNode). placed_parts (operation_of g.tables node.shape) (controlling_of g node.shape node.results) (operands node.shape) (contexts node.shape) (as_passed (mine.passed i) 0 (edges_of node.shape)) node.results []) node_is
+        ∙ placed_same _ _ _ _ _ _ _ _ _ _ _ _ [] (ap (λ (t : TableLists). operation_of t shape) same.tables ∙ operation) controlling arguments named
         (passed_edges (mine.passed i) 0 (destinations shape)
         (λ k. let plain_k : 0 + k ≡ k = omega arith in
         ap (mine.passed i) plain_k ∙ ap (λ (passes : ℕ → List BlockArg). passes k) (updated-same c.own.passed i (shape_passes shape) i refl))
@@ -340,6 +346,9 @@ module _ (calls : List AnsweredCall) (f : Body) (s : SsaState) (c : Carries call
     operands_after : operands shape ≡ map (answered after) instruction.operands
     operands_after = matches.arguments ∙ sym (numbers_kept calls call instruction.operands matches.earlier)
 
+    contexts_after : contexts shape ≡ map (answered after) instruction.contexts
+    contexts_after = matches.contexts_same ∙ sym (numbers_kept calls call instruction.contexts matches.contexts_earlier)
+
     edges_after : edges_of shape ≡ map (answered_edge after) instruction.edges
     edges_after = matches.edges ∙ sym (edges_kept calls call instruction.edges matches.edges_earlier)
 
@@ -386,10 +395,11 @@ module _ (calls : List AnsweredCall) (f : Body) (s : SsaState) (c : Carries call
     holds_made t declared leads have structured =
         holds_item calls call stays c.own mine f m s t c.holds (kept types) (keeps types).more (out_before f b) b B item current.named puts (i ∷ []) own_here own_elsewhere
         (λ d. refl) (typed_on calls call f m c.holds.values_typed (keeps types).types values_typed) (λ out. absurd (never_out f b out))
-        (own_new types matches.operation operands_after edges_after results controlling results_after) (longer_insts types, tt) (
+        (own_new types matches.operation operands_after contexts_after edges_after results controlling results_after) (longer_insts types, tt) (
           all_mapped (IsEarlier calls) (IsEarlier after) (earlier_name calls call) instruction.operands matches.earlier,
           earlier_results,
           all_mapped (EdgeEarlier calls) (EdgeEarlier after) (edge_earlier calls call stays) instruction.edges matches.edges_earlier,
+          all_mapped (IsEarlier calls) (IsEarlier after) (earlier_name calls call) instruction.contexts matches.contexts_earlier,
         )
         (ap (λ (n : ℕ). n ∷ []) number_is) (instruction_new calls call 0 refl) apart
         (plain calls f s c consistent b B current unfilled) (no_maps types) declared leads have (entry_on types) structured

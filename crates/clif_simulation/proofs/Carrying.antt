@@ -105,8 +105,10 @@ module _ (calls : List AnsweredCall) (call : AnsweredCall) where
       (numbers_kept instruction.operands earlier.0)
       ∙ ap (λ (results : List ℕ). record { instruction = record (answered_instruction after instruction) { operands = map (answered calls) instruction.operands }; results = results; stack_map = [] } ∷ [])
       (numbers_kept results earlier.1)
-      ∙ ap (λ (edges : List (Edge ℕ ℕ)). record { instruction = record (answered_instruction calls instruction) { edges = edges }; results = map (answered calls) results; stack_map = [] } ∷ [])
+      ∙ ap (λ (edges : List (Edge ℕ ℕ)). record { instruction = record (answered_instruction calls instruction) { contexts = map (answered after) instruction.contexts; edges = edges }; results = map (answered calls) results; stack_map = [] } ∷ [])
       (edges_kept instruction.edges earlier.2)
+      ∙ ap (λ (contexts : List ℕ). record { instruction = record (answered_instruction calls instruction) { contexts = contexts }; results = map (answered calls) results; stack_map = [] } ∷ [])
+      (numbers_kept instruction.contexts earlier.3)
   carried_stays (Use variable name) earlier = refl
   carried_stays (Assign variable name) earlier = refl
 
@@ -164,6 +166,7 @@ module _ (calls : List AnsweredCall) (call : AnsweredCall) where
       all_mapped (IsEarlier calls) (IsEarlier after) earlier_name instruction.operands earlier.0,
       all_mapped (IsEarlier calls) (IsEarlier after) earlier_name results earlier.1,
       all_mapped (EdgeEarlier calls) (EdgeEarlier after) edge_earlier instruction.edges earlier.2,
+      all_mapped (IsEarlier calls) (IsEarlier after) earlier_name instruction.contexts earlier.3,
     )
     earlier_stays (Use variable name) earlier = earlier_name name earlier
     earlier_stays (Assign variable name) earlier = earlier_name name earlier

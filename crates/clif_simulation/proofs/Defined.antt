@@ -2,10 +2,11 @@
 -- the construction passes by that on the arguments of parameters.
 use Rattle.std.proofs.Common.{◌≡◌, ◌⊎◌, ℕ, zero, suc, ◌+◌, ◌<◌, List, [], ◌∷◌, ◌++◌, length, map, flat_map, slice_get, Option, Some, Contains, inl, inr, refl, sym, ◌∙◌, ap, subst, arith}
 use Rattle.std.specs.Prelude.{slice_index}
+use Rattle.std.proofs.lemmas.List.{append-nil, map-append}
 use Rattle.std.proofs.lemmas.Option.{slice_get_within, get_or_from_slice_get}
 use Rattle.clif_ir.specs.Body.{Body, inst_at, block_at, resolved}
 use Rattle.clif_ir.specs.Consistent.{IsConsistent, EdgeExists, PassedExists}
-use Rattle.clif_instructions.specs.Instruction.{destinations, operands}
+use Rattle.clif_instructions.specs.Instruction.{contexts, destinations, operands}
 use Rattle.clif_ir.specs.Reading.{param_home}
 use Rattle.clif_instructions.specs.Members.{place_of}
 use Rattle.clif_instructions.specs.declared.block_call.BlockArg.{BlockArg}
@@ -25,7 +26,7 @@ use Rattle.clif_ssa.proofs.Housing.{place_at}
 use Rattle.clif_ssa.proofs.Losing.{stands_home}
 use Rattle.clif_meaning.specs.Name.{Name}
 use Rattle.clif_meaning.specs.Request.{AnsweredCall}
-use Rattle.clif_meaning.specs.Instruction.{Argument, Known, CallResult, CallPayload, Edge, Instruction}
+use Rattle.clif_meaning.specs.Instruction.{Argument, Known, CallResult, CallPayload, Edge, Instruction, named_operands}
 use Rattle.clif_meaning.specs.Program.{Item, Instruct}
 use Rattle.clif_meaning.specs.FunctionView.{Placed}
 use Rattle.clif_meaning.specs.View.{argument_of, edge_of, edges_of, items_of, placed_of, view_of}
@@ -168,13 +169,16 @@ module _ (calls : List AnsweredCall) (f : Body) (s : SsaState) (consistent : IsC
     operand_given : (q : Place ℕ) (path : List (Place ℕ)) (name : Name) (a : AtOwn q path name) (x : ℕ)
         → Contains (placed_names (resolved f) (slice_get (items_of f q.block) q.index)) x → IsFor q path x
     operand_given q path name a x names =
-        let here : Contains (map (resolved f) (operands (inst_at f a.i).shape)) x = subst (λ (o : Option Placed). Contains (placed_names (resolved f) o) x) a.here names in
-        let there = contained_at (map (resolved f) (operands (inst_at f a.i).shape)) x here in
-        let value = map_from (resolved f) (operands (inst_at f a.i).shape) there.0 x there.1 in
-        let same : operands (inst_at f a.i).shape ≡ map (answered calls) a.item.instruction.operands = ap (λ (p : Placed). p.instruction.operands) a.is_item in
-        let of_name = map_from (answered calls) a.item.instruction.operands there.0 value.0 (ap (λ (vs : List ℕ). slice_get vs there.0) (sym same) ∙ value.1) in
+        let values : List ℕ = operands (inst_at f a.i).shape ++ contexts (inst_at f a.i).shape in
+        let named : List Name = named_operands a.item.instruction in
+        let here : Contains (map (resolved f) values) x = subst (λ (o : Option Placed). Contains (placed_names (resolved f) o) x) a.here names in
+        let there = contained_at (map (resolved f) values) x here in
+        let value = map_from (resolved f) values there.0 x there.1 in
+        let same : values ≡ map (answered calls) named =
+        ap (λ (p : Placed). named_operands p.instruction) a.is_item ∙ sym (map-append (answered calls) a.item.instruction.operands a.item.instruction.contexts) in
+        let of_name = map_from (answered calls) named there.0 value.0 (ap (λ (vs : List ℕ). slice_get vs there.0) (sym same) ∙ value.1) in
         let on = OpenFlow.named_before nothing_comes calls f s consistent carries (placed_none calls placed) a.is.along q.block a.j name a.is.follows a.is.ends a.is.named
-        (Instruct a.item.place a.item.instruction a.item.results) a.item.stands of_name.0 (contained a.item.instruction.operands there.0 of_name.0 of_name.1) in
+        (Instruct a.item.place a.item.instruction a.item.results) a.item.stands of_name.0 (contained named there.0 of_name.0 of_name.1) in
         subst (IsFor q path) (ap (resolved f) of_name.2 ∙ value.2) (answer_given q path name a.j a.is of_name.0 on)
 
     -- the operand of a step of a zero is given at the place before
@@ -182,8 +186,11 @@ module _ (calls : List AnsweredCall) (f : Body) (s : SsaState) (consistent : IsC
         → (path : List (Place ℕ)) → IsPath (function_flow (view_of f)) (q ∷ path) → IsFor q path x
     zero_operand q x z names path walk = by path walk
       where
+        only_operands : operands (inst_at f z.i).shape ++ contexts (inst_at f z.i).shape ≡ operands (inst_at f z.i).shape
+        only_operands = ap (λ (vs : List ℕ). operands (inst_at f z.i).shape ++ vs) z.is_zero.no_contexts ∙ append-nil (operands (inst_at f z.i).shape)
+
         here : Contains (map (resolved f) (operands (inst_at f z.i).shape)) x
-        here = subst (λ (o : Option Placed). Contains (placed_names (resolved f) o) x) z.here names
+        here = subst (λ (vs : List ℕ). Contains (map (resolved f) vs) x) only_operands (subst (λ (o : Option Placed). Contains (placed_names (resolved f) o) x) z.here names)
 
         there : (k : ℕ) × (slice_get (map (resolved f) (operands (inst_at f z.i).shape)) k ≡ Some x)
         there = contained_at (map (resolved f) (operands (inst_at f z.i).shape)) x here

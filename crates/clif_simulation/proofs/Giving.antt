@@ -1,5 +1,5 @@
 -- Places that get bits all at once: which ones keep theirs, and names and their answers get the same.
-use Rattle.std.proofs.Common.{◌≡◌, ◌≢◌, ℕ, zero, suc, ◌<◌, Bool, true, false, List, [], ◌∷◌, map, length, slice_index_or, Contains, ◌⊎◌, inl, inr, refl, sym, ap, ap₂, subst, arith}
+use Rattle.std.proofs.Common.{◌≡◌, ◌≢◌, ℕ, zero, suc, ◌<◌, Bool, true, false, List, [], ◌∷◌, ◌++◌, map, length, slice_index_or, Contains, ◌⊎◌, inl, inr, refl, sym, ap, ap₂, subst, arith}
 use Rattle.std.proofs.lemmas.Bool.Decides.{nat_tests}
 use Rattle.clif_meaning.specs.Name.{Name, answer_of, same_name}
 use Rattle.clif_meaning.specs.Store.{assigned}
@@ -25,6 +25,15 @@ in_contained {X} (y ∷ ys) x h = by h (in_contained ys x)
     by : (x ≡ y) ⊎ In x ys → (In x ys → Contains ys x) → Contains (y ∷ ys) x
     by (inl here) later = (zero, omega arith, sym here)
     by (inr there) later = let found = later there in (suc found.0, omega (arith, found.1), found.2)
+
+-- what is in the first of two lists is among both
+in_first : {X : Type 0} (xs ys : List X) (x : X) → In x xs → In x (xs ++ ys)
+in_first [] ys x h = absurd h
+in_first (z ∷ xs) ys x (inl here) = inl here
+in_first (z ∷ xs) ys x (inr there) = inr (in_first xs ys x there)
+
+pub first_contained : {X : Type 0} (xs ys : List X) (x : X) → In x xs → Contains (xs ++ ys) x
+first_contained xs ys x there = in_contained (xs ++ ys) x (in_first xs ys x there)
 
 -- two names are one, and the test says so, or they aren't
 pub same_or_other : (a b : Name) → ((same_name a b ≡ true) × (a ≡ b)) ⊎ ((same_name a b ≡ false) × (a ≢ b))

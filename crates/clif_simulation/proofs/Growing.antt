@@ -15,7 +15,7 @@ use Rattle.clif_instructions.specs.declared.insert_at.InsertAt.{InsertAt}
 use Rattle.clif_instructions.specs.declared.instructions.InstructionData.{InstructionData}
 use Rattle.clif_instructions.specs.declared.instructions.InstructionData.TheVariants.{UnaryConst, Jump, Brif, BranchTable, Call, CallIndirect, TryCall, TryCallIndirect}
 use Rattle.clif_instructions.specs.Edges.{appended_to, with_argument_to, targets}
-use Rattle.clif_instructions.specs.Instruction.{AConstant, ASignatureRef, AFunctionRef, entries_of, operands, destinations, typing_of, with_argument}
+use Rattle.clif_instructions.specs.Instruction.{contexts, AConstant, ASignatureRef, AFunctionRef, entries_of, operands, destinations, typing_of, with_argument}
 use Rattle.clif_opcodes.specs.Kinds.{result_type}
 use Rattle.clif_opcodes.specs.declared.kinds.Control.{Control}
 use Rattle.clif_opcodes.specs.declared.kinds.Control.TheVariants as control
@@ -202,9 +202,9 @@ operation_kept t u keeps have _ exists = refl
 -- THE CALLER'S INSTRUCTIONS ----------------------------------------------------------------------------------------------
 
 -- an instruction by its parts
-abbrev parts : Operation → «Type» → List ℕ → List (Edge ℕ ℕ) → List ℕ → List UserStackMapEntry → Placed
-parts operation controlling arguments edges results stack_map =
-    record { instruction = record { operation = operation; controlling = controlling; operands = arguments; edges = edges }; results = results; stack_map = stack_map }
+abbrev parts : Operation → «Type» → List ℕ → List ℕ → List (Edge ℕ ℕ) → List ℕ → List UserStackMapEntry → Placed
+parts operation controlling arguments contexts edges results stack_map =
+    record { instruction = record { operation = operation; controlling = controlling; operands = arguments; contexts = contexts; edges = edges }; results = results; stack_map = stack_map }
 
 -- The second function has the instructions of the first, and maybe more; as the machine sees them they are the caller's.
 pub record KeepsInsts (f g : Body) : Type 0 where
@@ -221,7 +221,7 @@ insts_same f g insts values tables = record {
   placed = λ own i below.
       ap (λ (is : List InstNode). own_placed own (record g { insts = is }) i) insts
       ∙ ap (λ (vs : List ValueNode). own_placed own (record g { insts = f.insts; values = vs }) i) values
-      ∙ ap (λ (t : TableLists). parts (operation_of t (inst_at f i).shape) (controlling_of f (inst_at f i).shape (inst_at f i).results) (operands (inst_at f i).shape)
+      ∙ ap (λ (t : TableLists). parts (operation_of t (inst_at f i).shape) (controlling_of f (inst_at f i).shape (inst_at f i).results) (operands (inst_at f i).shape) (contexts (inst_at f i).shape)
       (as_passed (own.passed i) 0 (edges_of (inst_at f i).shape)) (inst_at f i).results (stack_map_at t i)) tables;
   targets = λ i k below. ap (λ (is : List InstNode). edge_target (record f { insts = is }) i k) insts;
   block = λ i below. ap (λ (is : List InstNode). branch_block (record f { insts = is }) i) insts;
@@ -277,6 +277,14 @@ operands_with b v (TryCall function args table) = refl
 operands_with b v (TryCallIndirect args table) = refl
 operands_with b v _ = refl
 
+contexts_with : (b v : ℕ) (shape : InstructionData) → contexts (with_argument b v shape) ≡ contexts shape
+contexts_with b v (Jump destination) = refl
+contexts_with b v (Brif arg blocks) = refl
+contexts_with b v (BranchTable arg table) = refl
+contexts_with b v (TryCall function args table) = refl
+contexts_with b v (TryCallIndirect args table) = refl
+contexts_with b v _ = refl
+
 controlling_with : (g : Body) (b v : ℕ) (shape : InstructionData) (values : List ℕ) → controlling_of g (with_argument b v shape) values ≡ controlling_of g shape values
 controlling_with g b v (Jump destination) values = refl
 controlling_with g b v (Brif arg blocks) values = refl
@@ -290,16 +298,18 @@ record SameButArguments (g : Body) (old new : InstructionData) : Type 0 where
   pub targets_same : targets (destinations new) ≡ targets (destinations old)
   pub operation : (t : TableLists) → operation_of t new ≡ operation_of t old
   pub operands_same : operands new ≡ operands old
+  pub contexts_same : contexts new ≡ contexts old
   pub controlling : (values : List ℕ) → controlling_of g new values ≡ controlling_of g old values
 
 same_with : (g : Body) (more : List (ℕ × ℕ)) (shape : InstructionData) → SameButArguments g shape (with_passed more shape)
-same_with g [] shape = record { targets_same = refl; operation = λ t. refl; operands_same = refl; controlling = λ values. refl }
+same_with g [] shape = record { targets_same = refl; operation = λ t. refl; operands_same = refl; contexts_same = refl; controlling = λ values. refl }
 same_with g (more ∷ others) shape =
     let rest = same_with g others (with_argument more.0 more.1 shape) in
     record {
       targets_same = rest.targets_same ∙ targets_with more.0 more.1 shape;
       operation = λ t. rest.operation t ∙ operation_with t more.0 more.1 shape;
       operands_same = rest.operands_same ∙ operands_with more.0 more.1 shape;
+      contexts_same = rest.contexts_same ∙ contexts_with more.0 more.1 shape;
       controlling = λ values. rest.controlling values ∙ controlling_with g more.0 more.1 shape values;
     }
 
@@ -362,11 +372,11 @@ insts_kept f g consistent on = record {
       let more = on.insts i below in
       let same = same_with g more.0 (inst_at f i).shape in
       ap (λ (stack_map : List UserStackMapEntry). record (own_placed own g i) { stack_map = stack_map }) (on.entries.maps i)
-      ∙ ap (λ (node : InstNode). parts (operation_of g.tables node.shape) (controlling_of g node.shape node.results) (operands node.shape) (as_passed (own.passed i) 0 (edges_of node.shape)) node.results (stack_map_at f.tables i)) more.1
+      ∙ ap (λ (node : InstNode). parts (operation_of g.tables node.shape) (controlling_of g node.shape node.results) (operands node.shape) (contexts node.shape) (as_passed (own.passed i) 0 (edges_of node.shape)) node.results (stack_map_at f.tables i)) more.1
       ∙ parts_same (inst_at f i).results (stack_map_at f.tables i) (same.operation g.tables ∙ operation_kept f.tables g.tables on.entries consistent.named_exist.signatures (inst_at f i).shape (consistent.entries_exist i))
       (same.controlling (inst_at f i).results
       ∙ controlling_kept f g on (inst_at f i).shape (inst_at f i).results (λ k h. (consistent.results_known i k h).0) (consistent.operands_exist i))
-      same.operands_same
+      same.operands_same same.contexts_same
       (edges_passed (own.passed i) 0 (destinations (with_passed more.0 (inst_at f i).shape)) (destinations (inst_at f i).shape) same.targets_same);
   targets = λ i k below.
       let more = on.insts i below in
@@ -378,8 +388,9 @@ insts_kept f g consistent on = record {
   maps = on.entries.maps;
 }
   where
-    parts_same : {o p : Operation} {c d : «Type»} {xs ys : List ℕ} {es fs : List (Edge ℕ ℕ)} (rs : List ℕ) (stack_map : List UserStackMapEntry)
-        → o ≡ p → c ≡ d → xs ≡ ys → es ≡ fs → parts o c xs es rs stack_map ≡ parts p d ys fs rs stack_map
-    parts_same {o} {p} {c} {d} {xs} {ys} {es} {fs} rs stack_map a b e g =
-        ap (λ (q : Operation). parts q c xs es rs stack_map) a ∙ ap (λ (t : «Type»). parts p t xs es rs stack_map) b
-        ∙ ap (λ (zs : List ℕ). parts p d zs es rs stack_map) e ∙ ap (λ (gs : List (Edge ℕ ℕ)). parts p d ys gs rs stack_map) g
+    parts_same : {o p : Operation} {c d : «Type»} {xs ys us vs : List ℕ} {es fs : List (Edge ℕ ℕ)} (rs : List ℕ) (stack_map : List UserStackMapEntry)
+        → o ≡ p → c ≡ d → xs ≡ ys → us ≡ vs → es ≡ fs → parts o c xs us es rs stack_map ≡ parts p d ys vs fs rs stack_map
+    parts_same {o} {p} {c} {d} {xs} {ys} {us} {vs} {es} {fs} rs stack_map a b e w g =
+        ap (λ (q : Operation). parts q c xs us es rs stack_map) a ∙ ap (λ (t : «Type»). parts p t xs us es rs stack_map) b
+        ∙ ap (λ (zs : List ℕ). parts p d zs us es rs stack_map) e ∙ ap (λ (zs : List ℕ). parts p d ys zs es rs stack_map) w
+        ∙ ap (λ (gs : List (Edge ℕ ℕ)). parts p d ys vs gs rs stack_map) g

@@ -8,7 +8,7 @@ pub mod Numbering
 pub mod Whole
 -- No branch leads to any block.
 pub mod Unbranched
--- No request builds an outside call.
+-- Scripts of which no request builds an outside call.
 mod NothingCalled
 -- A finished function that carries calls means what their program means.
 mod Giving

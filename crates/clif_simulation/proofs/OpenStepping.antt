@@ -43,7 +43,7 @@ use Rattle.clif_simulation.specs.Reading.{MovesAlike, MovesNothing, behind, Well
 use Rattle.clif_simulation.specs.Coming.{Arrival, Arrivals, Coming, MayCome, arrival_at, script_comes, function_comes}
 use Rattle.clif_simulation.specs.Interrupted.{AreOpen, taken_of, Unknowns, taken_by, ScriptStanding, FunctionStanding, function_answer, script_answer, item_edge, script_edge, script_goes, script_enters, function_edge, function_goes, function_enters, variables_entering, values_entering}
 use Rattle.clif_simulation.proofs.Whole.{Whole}
-use Rattle.clif_simulation.proofs.Giving.{in_contained}
+use Rattle.clif_simulation.proofs.Giving.{first_contained, in_contained}
 use Rattle.clif_simulation.proofs.Agreement.{Agrees, GivesThere, UsesThere, AssignsThere, ZerosAreZero, given_agrees, used_agrees, assigned_agrees, given_zeros, used_zeros, assigned_zeros}
 use Rattle.clif_simulation.proofs.Entry.{resolved_twice}
 use Rattle.clif_simulation.proofs.Fronts.{not_at_thing, placed_inst, steps_behind}
@@ -314,7 +314,7 @@ module _ (coming : Coming) (arrivals : Arrivals) (calls : List AnsweredCall) (f 
           same_operands : map a.state.names instruction.operands ≡ map (value_bits right_run c.state) (map (answered calls) instruction.operands)
           same_operands =
               same_bits instruction.operands a.state.names (value_bits right_run c.state) (answered calls) (λ x named_there.
-              operand_agrees x (in_contained instruction.operands x named_there))
+              operand_agrees x (first_contained instruction.operands instruction.contexts x named_there))
 
           same_outcome :
               outcome_of world (placed_inst f i).instruction.operation (placed_inst f i).instruction.controlling (map right_run.function.value_type (placed_inst f i).instruction.operands) (map (value_bits right_run c.state) (placed_inst f i).instruction.operands)

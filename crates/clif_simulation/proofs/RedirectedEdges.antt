@@ -9,7 +9,7 @@ use Rattle.clif_instructions.specs.declared.block_call.BlockCall.{BlockCall}
 use Rattle.clif_instructions.specs.declared.instructions.InstructionData.{InstructionData}
 use Rattle.clif_instructions.specs.declared.instructions.InstructionData.TheVariants.{Jump, Brif, BranchTable, TryCall, TryCallIndirect}
 use Rattle.clif_instructions.specs.Edges.{redirected, with_target_changed}
-use Rattle.clif_instructions.specs.Instruction.{destinations, operands, with_targets_changed}
+use Rattle.clif_instructions.specs.Instruction.{contexts, destinations, operands, with_targets_changed}
 use Rattle.clif_instructions.proofs.Lists.{at_set}
 use Rattle.clif_instructions.proofs.Members.{if_true, if_false}
 use Rattle.clif_nodes.specs.Nodes.{no_inst}
@@ -86,6 +86,14 @@ module _ (from to : ℕ) where
   operands_moved (TryCallIndirect args table) = refl
   operands_moved _ = refl
 
+  contexts_moved : (shape : InstructionData) → contexts (with_targets_changed from to shape) ≡ contexts shape
+  contexts_moved (Jump destination) = refl
+  contexts_moved (Brif arg blocks) = refl
+  contexts_moved (BranchTable arg table) = refl
+  contexts_moved (TryCall function args table) = refl
+  contexts_moved (TryCallIndirect args table) = refl
+  contexts_moved _ = refl
+
   controlling_moved : (f : Body) (shape : InstructionData) (results : List ℕ) → controlling_of f (with_targets_changed from to shape) results ≡ controlling_of f shape results
   controlling_moved f (Jump destination) results = refl
   controlling_moved f (Brif arg blocks) results = refl
@@ -101,6 +109,7 @@ module _ (from to : ℕ) where
       operation = operation_of f.tables node.shape;
       controlling = controlling_of f node.shape node.results;
       operands = operands node.shape;
+      contexts = contexts node.shape;
       edges = as_passed (own.passed i) 0 (edges_of node.shape);
     };
     results = node.results;
@@ -109,21 +118,22 @@ module _ (from to : ℕ) where
 
   seen_moved : (own : Own) (f : Body) (i : ℕ) (node : InstNode) → seen own f i (record node { shape = with_targets_changed from to node.shape }) ≡ redirected_placed from to (seen own f i node)
   seen_moved own f i node =
-      parts (operation_moved f.tables node.shape) (controlling_moved f node.shape node.results) (operands_moved node.shape)
+      parts (operation_moved f.tables node.shape) (controlling_moved f node.shape node.results) (operands_moved node.shape) (contexts_moved node.shape)
       (ap (λ (edges : List BlockCall). as_passed (own.passed i) 0 (map edge_of edges)) (moved_destinations from to node.shape)
       ∙ passed_redirected (own.passed i) 0 (destinations node.shape))
     where
-      of_parts : Operation → «Type» → List ℕ → List (Edge ℕ ℕ) → Placed
-      of_parts operation controlling values edges = record {
-        instruction = record { operation = operation; controlling = controlling; operands = values; edges = edges };
+      of_parts : Operation → «Type» → List ℕ → List ℕ → List (Edge ℕ ℕ) → Placed
+      of_parts operation controlling values named edges = record {
+        instruction = record { operation = operation; controlling = controlling; operands = values; contexts = named; edges = edges };
         results = node.results;
         stack_map = stack_map_at f.tables i;
       }
 
-      parts : {o p : Operation} {c d : «Type»} {xs ys : List ℕ} {es fs : List (Edge ℕ ℕ)} → o ≡ p → c ≡ d → xs ≡ ys → es ≡ fs → of_parts o c xs es ≡ of_parts p d ys fs
-      parts {o} {p} {c} {d} {xs} {ys} {es} {fs} a b e g =
-          ap (λ (q : Operation). of_parts q c xs es) a ∙ ap (λ (t : «Type»). of_parts p t xs es) b
-          ∙ ap (λ (zs : List ℕ). of_parts p d zs es) e ∙ ap (λ (gs : List (Edge ℕ ℕ)). of_parts p d ys gs) g
+      parts : {o p : Operation} {c d : «Type»} {xs ys us vs : List ℕ} {es fs : List (Edge ℕ ℕ)} → o ≡ p → c ≡ d → xs ≡ ys → us ≡ vs → es ≡ fs → of_parts o c xs us es ≡ of_parts p d ys vs fs
+      parts {o} {p} {c} {d} {xs} {ys} {us} {vs} {es} {fs} a b e w g =
+          ap (λ (q : Operation). of_parts q c xs us es) a ∙ ap (λ (t : «Type»). of_parts p t xs us es) b
+          ∙ ap (λ (zs : List ℕ). of_parts p d zs us es) e ∙ ap (λ (zs : List ℕ). of_parts p d ys zs es) w
+          ∙ ap (λ (gs : List (Edge ℕ ℕ)). of_parts p d ys vs gs) g
 
   -- the branch itself, and each other instruction
   pub branch_moved : (own : Own) (f : Body) (i : ℕ) → i < length f.insts → own_placed own (with_branch_target f i from to) i ≡ redirected_placed from to (own_placed own f i)

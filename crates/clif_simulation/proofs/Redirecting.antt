@@ -389,7 +389,7 @@ module _ (calls : List AnsweredCall) (f g : Body) (s t : SsaState) (consistent :
 
   item_earlier : (place : ℕ) (instruction : Instruction Name Name) (results : List Name) → NamesEarlier calls (Instruct place instruction results)
       → NamesEarlier calls (Instruct place (redirected_instruction from to instruction) results)
-  item_earlier place instruction results earlier = (earlier.0, earlier.1, redirected_earlier instruction.edges earlier.2)
+  item_earlier place instruction results earlier = (earlier.0, earlier.1, redirected_earlier instruction.edges earlier.2, earlier.3)
 
   first_is : (p q : Placed) (ps qs : List Placed) → p ∷ ps ≡ q ∷ qs → p ≡ q
   first_is p q ps qs same = cc

@@ -135,8 +135,8 @@ consistent number =
 pub carried : Carries second_calls (second_body 7) no_state
 carried =
     carries_plain five_calls two_blocks no_state five two_consistent 1 (block 1) (record { current = refl; named = refl }) refl (omega arith)
-    (UnaryImm (pos 7)) [] (record { operation = Compute (Iconst (pos 7)); controlling = i32; operands = []; edges = [] }) 0 (0 ∷ 0 ∷ [])
-    (record { operation = refl; arguments = refl; no_edges = refl; edges = refl; earlier = tt }) (i32 ∷ []) refl refl numbered refl
+    (UnaryImm (pos 7)) [] (record { operation = Compute (Iconst (pos 7)); controlling = i32; operands = []; contexts = []; edges = [] }) 0 (0 ∷ 0 ∷ [])
+    (record { operation = refl; arguments = refl; no_edges = refl; edges = refl; contexts_same = refl; earlier = tt; contexts_earlier = tt }) (i32 ∷ []) refl refl numbered refl
   where
     numbered : (k : ℕ) → k < 1 → slice_get (0 ∷ 0 ∷ []) (suc k) ≡ Some (0 + k)
     numbered zero below = refl
@@ -145,7 +145,7 @@ carried =
 -- The premises ------------------------------------------------------------------------------------------------------------
 
 abbrev constant : Item
-constant = Instruct 5 (record { operation = Compute (Iconst (pos 7)); controlling = i32; operands = []; edges = [] }) (answer_of 5 1 ∷ [])
+constant = Instruct 5 (record { operation = Compute (Iconst (pos 7)); controlling = i32; operands = []; contexts = []; edges = [] }) (answer_of 5 1 ∷ [])
 
 -- only the second block has an item
 items_are : (name : Name) → ((program_so_far second_calls).items name ≡ []) ⊎ ((name ≡ block 1) × ((program_so_far second_calls).items name ≡ constant ∷ []))

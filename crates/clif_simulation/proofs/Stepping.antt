@@ -42,7 +42,7 @@ use Rattle.clif_simulation.proofs.Whole.{Whole}
 use Rattle.clif_instructions.specs.declared.block_call.BlockArg.{BlockArg}
 use Rattle.clif_simulation.specs.Carries.{answered_argument, answered_edge, as_passed, carried, own_placed}
 use Rattle.clif_simulation.specs.Laws.{IsFinished}
-use Rattle.clif_simulation.proofs.Giving.{In, in_contained}
+use Rattle.clif_simulation.proofs.Giving.{In, first_contained, in_contained}
 use Rattle.clif_simulation.proofs.InLists.{among_all}
 use Rattle.clif_simulation.proofs.Agreement.{Agrees, GivesThere, ZerosAreZero, given_agrees, used_agrees, assigned_agrees, given_zeros, used_zeros, assigned_zeros, agrees_still, zeros_still}
 use Rattle.clif_simulation.proofs.Entered.{EntersThere, entered_agrees, entered_zeros}
@@ -332,7 +332,7 @@ module _ (calls : List AnsweredCall) (f : Body) (ssa : SsaState) (consistent : I
         same_operands =
             same_bits instruction.operands p.names (value_bits right_run q) (answered calls) (λ x named_there.
             operand_agrees b B k path (Instruct place instruction results ∷ rest) (i ∷ left) p q r (Instruct place instruction results) stands x
-            (in_contained instruction.operands x named_there))
+            (first_contained instruction.operands instruction.contexts x named_there))
 
         same_outcome :
             outcome_of world (placed_inst f i).instruction.operation (placed_inst f i).instruction.controlling (map right_run.function.value_type (placed_inst f i).instruction.operands) (map (value_bits right_run q) (placed_inst f i).instruction.operands) q.memory

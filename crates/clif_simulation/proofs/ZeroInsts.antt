@@ -10,7 +10,7 @@ use Rattle.clif_types.specs.Types.{bits_of, bytes_of, lane_count_of, lane_type_o
 use Rattle.clif_tables.specs.Lists.{TableLists}
 use Rattle.clif_ir.specs.Body.{Body, alias_of_origin, inst_at, resolved, value_at}
 use Rattle.clif_ir.specs.Consistent.{IsConsistent}
-use Rattle.clif_instructions.specs.Instruction.{destinations, operands}
+use Rattle.clif_instructions.specs.Instruction.{contexts, destinations, operands}
 use Rattle.clif_instructions.specs.declared.instructions.InstructionData.{InstructionData}
 use Rattle.clif_ir.proofs.Aliases.{follow_end}
 use Rattle.clif_paths.specs.Places.{start}
@@ -141,6 +141,7 @@ pub record IsZeroInst (f : Body) (blocks : Blocks) (block inst : ℕ) : Type 0 w
   pub exists : inst < length f.insts
   pub value_exists : value < length f.values
   pub no_edges : LeadsNowhere f inst
+  pub no_contexts : contexts (inst_at f inst).shape ≡ []
   pub gives : GivesZero f.tables (inst_at f inst).shape
   pub result : (inst_at f inst).results ≡ value ∷ []
   pub defined : IsZeroValue blocks block value
@@ -176,6 +177,7 @@ module _ (f : Body) (blocks : Blocks) (b : ℕ) where
         exists = at.exists;
         value_exists = at.value_exists;
         no_edges = ap destinations at.shape ∙ (plain_step z.ty k step.0 step.1).no_edges at.constant ((z.value + k) - 1);
+        no_contexts = ap contexts at.shape ∙ (plain_step z.ty k step.0 step.1).no_contexts at.constant ((z.value + k) - 1);
         gives =
             subst (GivesZero f.tables) (sym at.shape)
             (all_get StepGivesZero (zero_steps z.ty) k step.0 (steps_give_zero z.ty) step.1 f at.constant ((z.value + k) - 1) at.zeros);

@@ -35,7 +35,7 @@ with_callee = record no_entries {
 }
 
 abbrev pub call_instruction : Instruction Name Name
-call_instruction = record { operation = Call callee_name callee_signature; controlling = type.Invalid; operands = []; edges = [] }
+call_instruction = record { operation = Call callee_name callee_signature; controlling = type.Invalid; operands = []; contexts = []; edges = [] }
 
 -- a block, and a call in it
 abbrev pub before_call : List AnsweredCall

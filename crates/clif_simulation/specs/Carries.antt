@@ -1,5 +1,5 @@
 -- When a function, with the state of its construction, carries a list of calls: its blocks hold the program's
--- instructions in order, operands being the answers of the names, with only zeros before them, whatever the program is;
+-- instructions in order, operands and contexts being the answers of the names, with only zeros before them, whatever the program is;
 -- and the state on paths is sound where the entry is free. Its edges may pass more than the program's: arguments for
 -- variables. Source: own.
 use Rattle.std.specs.Prelude.{◌≡◌, ◌≢◌, ◌<◌, ◌⊎◌, ℕ, suc, List, [], ◌∷◌, length, map, flat_map, Some, None, IsTrue, Contains, false}
@@ -42,6 +42,7 @@ answered_instruction calls instruction = record {
   operation = instruction.operation;
   controlling = instruction.controlling;
   operands = map (answered calls) instruction.operands;
+  contexts = map (answered calls) instruction.contexts;
   edges = map (answered_edge calls) instruction.edges;
 }
 
@@ -132,6 +133,7 @@ pub record EdgeEarlier (calls : List AnsweredCall) (edge : Edge Name Name) : Typ
 abbrev pub NamesEarlier : List AnsweredCall → Item → Type 0
 NamesEarlier calls (Instruct place instruction results) =
     AllByRecursion (IsEarlier calls) instruction.operands × AllByRecursion (IsEarlier calls) results × AllByRecursion (EdgeEarlier calls) instruction.edges
+    × AllByRecursion (IsEarlier calls) instruction.contexts
 NamesEarlier calls (Use variable name) = IsEarlier calls name
 NamesEarlier calls (Assign variable name) = IsEarlier calls name
 

@@ -55,7 +55,7 @@ loop_calls =
     ∷ record { request = UseVar 0; numbers = 1 ∷ [] }
     ∷ record { request = iconst i32 (negsuc 0); numbers = 3 ∷ 2 ∷ [] }
     ∷ record {
-      request = Build [] (record { operation = Compute (operation.Binary binary.Iadd); controlling = i32; operands = answer_of 15 0 ∷ answer_of 16 1 ∷ []; edges = [] });
+      request = Build [] (record { operation = Compute (operation.Binary binary.Iadd); controlling = i32; operands = answer_of 15 0 ∷ answer_of 16 1 ∷ []; contexts = []; edges = [] });
       numbers = 4 ∷ 3 ∷ [];
     }
     ∷ record { request = DefVar 0 (answer_of 17 1); numbers = [] }

@@ -50,12 +50,12 @@ argument_text (passed.Returned place) = codes "ret" ++ decimal place
 argument_text (passed.Thrown place) = codes "exn" ++ decimal place
 
 -- ` $5.1 ret0`
-abbrev pub arguments_text : List Passed → List ℕ
-arguments_text args = flat_map (λ one. codes " " ++ argument_text one) args
+abbrev pub passed_text : List Passed → List ℕ
+passed_text args = flat_map (λ one. codes " " ++ argument_text one) args
 
 -- `$1.0( $5.1 ret0)`
 abbrev pub table_edge_text : TableEdge → List ℕ
-table_edge_text edge = answer_text edge.block ++ (codes "(" ++ (arguments_text edge.args.items ++ codes ")"))
+table_edge_text edge = answer_text edge.block ++ (codes "(" ++ (passed_text edge.args.items ++ codes ")"))
 
 -- `tag7 $8.0`, `default $8.0` or `context $5.1`
 abbrev pub item_text : TableItem → List ℕ
@@ -126,20 +126,20 @@ entry_text (entry.ImportSignature signature) = codes "import_signature " ++ sign
 entry_text (entry.ImportFunction function) = codes "import_function " ++ imported_text function
 
 -- `( $5.1 $6.1)`
-abbrev pub passed_text : List Name → List ℕ
-passed_text names = codes "(" ++ (answers_text names ++ codes ")")
+abbrev pub arguments_text : List Name → List ℕ
+arguments_text names = codes "(" ++ (answers_text names ++ codes ")")
 
 -- an outside call
 abbrev pub outside_text : OutsideCall → List ℕ
-outside_text (outside.Call function args) = codes "call fn" ++ (decimal function ++ passed_text args.items)
+outside_text (outside.Call function args) = codes "call fn" ++ (decimal function ++ arguments_text args.items)
 outside_text (outside.CallIndirect signature callee args) =
-    codes "call_indirect sig" ++ (decimal signature ++ (codes " " ++ (answer_text callee ++ passed_text args.items)))
+    codes "call_indirect sig" ++ (decimal signature ++ (codes " " ++ (answer_text callee ++ arguments_text args.items)))
 
 -- a call along the edges of an exception table
 abbrev pub throwing_text : ThrowingCall → List ℕ
-throwing_text (throwing.TryCall function args table) = codes "try_call fn" ++ (decimal function ++ (passed_text args.items ++ (codes " extable" ++ decimal table)))
+throwing_text (throwing.TryCall function args table) = codes "try_call fn" ++ (decimal function ++ (arguments_text args.items ++ (codes " extable" ++ decimal table)))
 throwing_text (throwing.TryCallIndirect callee args table) =
-    codes "try_call_indirect " ++ (answer_text callee ++ (passed_text args.items ++ (codes " extable" ++ decimal table)))
+    codes "try_call_indirect " ++ (answer_text callee ++ (arguments_text args.items ++ (codes " extable" ++ decimal table)))
 
 abbrev pub call_text : Call → List ℕ
 call_text call.CreateBlock = codes "create_block"

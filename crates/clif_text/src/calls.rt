@@ -153,14 +153,14 @@ fn read_cursor_call<'a>(
     };
     match &call {
         Call::Plain(instruction) => Ok(Call::Cursor(*instruction)),
-        _ => Err(LineError::wanted(Expected::CursorInstruction)),
+        _ => Err(LineError::Fault(Fault::NotForCursor(name))),
     }
 }
 
-// What is told behind `cursor`, where no instruction is read: another call isn't expected there.
+// What is told behind `cursor`, where no instruction is read: the word there is none that it makes.
 fn behind_cursor(error: LineError<'_>) -> LineError<'_> {
     match error {
-        LineError::Fault(Fault::UnknownCall(_)) => LineError::wanted(Expected::CursorInstruction),
+        LineError::Fault(Fault::UnknownCall(word)) => LineError::Fault(Fault::NotForCursor(word)),
         other => other,
     }
 }

@@ -1,6 +1,6 @@
 //! Scripts as text, written.
 ghost use Rattle.std.specs.Prelude.{◌≡◌, ◌++◌, Some, IfOk, string_bytes};
-ghost use Rattle.clif_text.specs.Texts.{answer_text, answers_text, argument_text, arguments_text, edge_text, entry_text, global_text, imported_name_text, imported_text, item_text, items_text, offset_text, outside_text, passed_text, plan_text, table_edge_text, throwing_text, call_text, calls_text, header_text};
+ghost use Rattle.clif_text.specs.Texts.{answer_text, answers_text, argument_text, passed_text, edge_text, entry_text, global_text, imported_name_text, imported_text, item_text, items_text, offset_text, outside_text, arguments_text, plan_text, table_edge_text, throwing_text, call_text, calls_text, header_text};
 ghost use Rattle.clif_text.specs.Operands.{operands_text};
 
 use clif_calls::{
@@ -75,10 +75,10 @@ impl fmt::Display for ArgumentText {
 
 // All of it, each behind a space.
 #[derive(Clone, Copy)]
-struct ArgumentsText<'a>(&'a [Passed]);
+struct PassedText<'a>(&'a [Passed]);
 
-impl fmt::Display for ArgumentsText<'_> {
-    ghost output = { λ text. Some (arguments_text text.0.now) };
+impl fmt::Display for PassedText<'_> {
+    ghost output = { λ text. Some (passed_text text.0.now) };
 
     fn fmt<W: fmt::Write>(&self, f: &mut fmt::Formatter<W>) -> fmt::Result {
         for passed in self.0 {
@@ -98,7 +98,7 @@ impl fmt::Display for TableEdgeText<'_> {
 
     fn fmt<W: fmt::Write>(&self, f: &mut fmt::Formatter<W>) -> fmt::Result {
         let block = AnswerText(self.0.block);
-        let args = ArgumentsText(self.0.args.as_slice());
+        let args = PassedText(self.0.args.as_slice());
         write!(f, "{block}({args})")
     }
 }
@@ -300,10 +300,10 @@ impl fmt::Display for EntryText<'_> {
 
 // What is passed, in parentheses.
 #[derive(Clone, Copy)]
-struct PassedText<'a>(&'a [Name]);
+struct ArgumentsText<'a>(&'a [Name]);
 
-impl fmt::Display for PassedText<'_> {
-    ghost output = { λ text. Some (passed_text text.0.now) };
+impl fmt::Display for ArgumentsText<'_> {
+    ghost output = { λ text. Some (arguments_text text.0.now) };
 
     fn fmt<W: fmt::Write>(&self, f: &mut fmt::Formatter<W>) -> fmt::Result {
         write!(f, "({})", AnswersText(self.0))
@@ -320,15 +320,15 @@ impl fmt::Display for OutsideText<'_> {
     fn fmt<W: fmt::Write>(&self, f: &mut fmt::Formatter<W>) -> fmt::Result {
         match self.0 {
             OutsideCall::Call { function, args } => {
-                write!(f, "call {function}{}", PassedText(args.as_slice()))
+                write!(f, "call {function}{}", ArgumentsText(args.as_slice()))
             }
             OutsideCall::CallIndirect {
                 signature,
                 callee,
                 args,
             } => {
-                let (callee, passed) = (AnswerText(*callee), PassedText(args.as_slice()));
-                write!(f, "call_indirect {signature} {callee}{passed}")
+                let (callee, arguments) = (AnswerText(*callee), ArgumentsText(args.as_slice()));
+                write!(f, "call_indirect {signature} {callee}{arguments}")
             }
         }
     }
@@ -350,15 +350,15 @@ impl fmt::Display for ThrowingText<'_> {
             } => write!(
                 f,
                 "try_call {function}{} {table}",
-                PassedText(args.as_slice())
+                ArgumentsText(args.as_slice())
             ),
             ThrowingCall::TryCallIndirect {
                 callee,
                 args,
                 table,
             } => {
-                let (callee, passed) = (AnswerText(*callee), PassedText(args.as_slice()));
-                write!(f, "try_call_indirect {callee}{passed} {table}")
+                let (callee, arguments) = (AnswerText(*callee), ArgumentsText(args.as_slice()));
+                write!(f, "try_call_indirect {callee}{arguments} {table}")
             }
         }
     }

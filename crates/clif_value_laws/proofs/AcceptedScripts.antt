@@ -7,12 +7,12 @@ use Rattle.std.proofs.lemmas.List.{append-nil, append_assoc}
 use Rattle.clif_types.specs.declared.types.«Type».{«Type»}
 use Rattle.clif_types.specs.Signature.{SignatureShape}
 use Rattle.clif_ssa.specs.Structured.{VariableTypes}
-use Rattle.clif_meaning.specs.Acceptance.{Accepted, Misuse, Refused, Verdict, allows, can_lead, can_operate, has_entry, is_open, is_refused, may_give, refusal_of, verdict_from, verdict_on}
+use Rattle.clif_meaning.specs.Acceptance.{Accepted, Misuse, Refused, Verdict, allows, can_lead, can_operate, has_entry, is_open, is_refused, may_give_all, refusal_of, verdict_from, verdict_on}
 use Rattle.clif_meaning.specs.Bits.{AreValues}
 use Rattle.clif_tables.specs.Callees.{types_of}
 use Rattle.clif_meaning.specs.FunctionView.{FunctionView}
 use Rattle.clif_meaning.specs.Headline.{script_run}
-use Rattle.clif_meaning.specs.Instruction.{Instruction, operation_entries}
+use Rattle.clif_meaning.specs.Instruction.{Instruction, named_operands, operation_entries}
 use Rattle.clif_meaning.specs.Ledger.{AValue, Ledger, answers_to, empty_ledger, has_value, ledger_after, ledger_with, or_invalid, type_of, value_answer_type, variable_type}
 use Rattle.clif_meaning.specs.Name.{Name, answer_of}
 use Rattle.clif_meaning.specs.Premises.{EachItem, EntryTakes, IsItemWellTyped, WellTyped, parameter_types}
@@ -68,8 +68,8 @@ AreTyped calls (name ∷ names) (ty ∷ types) = (type_of (ledger_of calls) name
 AreTyped calls [] (ty ∷ types) = ⊥
 AreTyped calls (name ∷ names) [] = ⊥
 
--- The results of an instruction have their types in the ledger. Where the calls may be made, its operands are values there, and
--- a use has its variable's type, where variables have these types.
+-- The results of an instruction have their types in the ledger. Where the calls may be made, its operands and contexts are values
+-- there, and a use has its variable's type, where variables have these types.
 abbrev pub HasGiven : (may_be_made : Type 0) → VariableTypes → List AnsweredCall → Item → Type 0
 HasGiven may types calls (Instruct place instruction results) =
     AreTyped calls results (result_types instruction.operation instruction.controlling) × (may → NamesValues calls (Instruct place instruction results))
@@ -94,11 +94,13 @@ second_of : (a b : Bool) → IsTrue (a && b) → IsTrue b
 second_of true b is = is
 second_of false b is = absurd (false_is is)
 
--- the second of five tests
-second_of_five : (a b c d e : Bool) → IsTrue (a && b && c && d && e) → IsTrue b
-second_of_five true true c d e is = refl
-second_of_five true false c d e is = absurd (false_is is)
-second_of_five false b c d e is = absurd (false_is is)
+-- the first and the fourth of seven tests
+first_and_fourth : (a b c d e f g : Bool) → IsTrue (a && b && c && d && e && f && g) → IsTrue a × IsTrue d
+first_and_fourth true true true true e f g is = (refl, refl)
+first_and_fourth true true true false e f g is = absurd (false_is is)
+first_and_fourth true true false d e f g is = absurd (false_is is)
+first_and_fourth true false c d e f g is = absurd (false_is is)
+first_and_fourth false b c d e f g is = absurd (false_is is)
 
 all_values : (ledger : Ledger) (names : List Name) → IsTrue (list_all (has_value ledger) names) → AllByRecursion (λ name. IsTrue (has_value ledger name)) names
 all_values ledger [] is = tt
@@ -159,7 +161,7 @@ module _ (calls : List AnsweredCall) (call : AnsweredCall) where
   item_kept : (may : Type 0) (types : VariableTypes) (item : Item) → HasGiven may types calls item → HasGiven may types after item
   item_kept may types (Instruct place instruction results) given = (
     typed_kept results (result_types instruction.operation instruction.controlling) given.0,
-    λ made. all_mapped (IsValue calls) (IsValue after) (value_stays calls call) instruction.operands (given.1 made),
+    λ made. all_mapped (IsValue calls) (IsValue after) (value_stays calls call) (named_operands instruction) (given.1 made),
   )
   item_kept may types (Use variable name) given = λ made. kept name (types variable) (given made)
   item_kept may types (Assign variable name) given = tt
@@ -187,14 +189,17 @@ module _ (calls : List AnsweredCall) (call : AnsweredCall) where
           second_of (is_open (ledger_of calls) (ledger_of calls).current) (is_some (variable_type (ledger_of calls) variable))
           (subst (λ (request : Request). IsTrue (allows (ledger_of calls) request)) is (allowed made))
 
-      operands_there : (entries : List GivenEntry) (instruction : Instruction Name Name) → call.request ≡ Build entries instruction → may → AllByRecursion (IsValue after) instruction.operands
+      operands_there : (entries : List GivenEntry) (instruction : Instruction Name Name) → call.request ≡ Build entries instruction → may
+          → AllByRecursion (IsValue after) (named_operands instruction)
       operands_there entries instruction is made =
-          all_mapped (IsValue calls) (IsValue after) (value_stays calls call) instruction.operands
-          (all_values (ledger_of calls) instruction.operands
-          (second_of_five (list_all (may_give (ledger_of calls)) entries && is_open (ledger_of calls) (ledger_of calls).current) (list_all (has_value (ledger_of calls)) instruction.operands)
-          (list_all (can_lead (ledger_of calls)) instruction.edges) (can_operate instruction.operation instruction.controlling)
-          (list_all (has_entry (ledger_of calls).tables) (operation_entries instruction.operation))
-          (subst (λ (request : Request). IsTrue (allows (ledger_of calls) request)) is (allowed made))))
+          let ledger : Ledger = ledger_of calls in
+          let are = first_and_fourth (list_all (has_value ledger) instruction.contexts) (may_give_all ledger entries) (is_open ledger ledger.current)
+          (list_all (has_value ledger) instruction.operands) (list_all (can_lead ledger) instruction.edges) (can_operate instruction.operation instruction.controlling)
+          (list_all (has_entry ledger.tables) (operation_entries instruction.operation))
+          (subst (λ (request : Request). IsTrue (allows ledger request)) is (allowed made)) in
+          all_mapped (IsValue calls) (IsValue after) (value_stays calls call) (named_operands instruction)
+          (all_append (IsValue calls) instruction.operands instruction.contexts
+          (all_values ledger instruction.operands are.1) (all_values ledger instruction.contexts are.0))
 
       by : (request : Request) → call.request ≡ request → EachItem P (extended before request)
       by (DefVar variable value) is = with_one P before before.current (Assign variable value) all tt

@@ -4,7 +4,7 @@ use Rattle.std.specs.Prelude.{if◌then◌else◌}
 use Rattle.std.specs.List.{AllByRecursion, flat_map, list_any}
 use Rattle.std.proofs.lemmas.List.{map-append}
 use Rattle.clif_types.specs.declared.types.«Type».{«Type»}
-use Rattle.clif_ir.specs.Body.{Body, block_at, inst_at}
+use Rattle.clif_ir.specs.Body.{Body, block_at}
 use Rattle.clif_ssa.specs.Own.{Own}
 use Rattle.clif_ssa.specs.Ssa.{SsaState, sealed_of}
 use Rattle.clif_ssa.specs.Sound.{entry_of}
@@ -28,7 +28,7 @@ use Rattle.clif_simulation.proofs.CarriedStructure.{matching_edges}
 use Rattle.clif_simulation.proofs.Carrying.{all_append, all_mapped}
 use Rattle.clif_simulation.proofs.LedgerValues.{value_type}
 use Rattle.clif_simulation.proofs.Whole.{are_declared, declared_types}
-use Rattle.clif_value_laws.specs.Functions.{CarriedFunctionsFit, NamesValues, run_of}
+use Rattle.clif_value_laws.specs.Functions.{CarriedFunctionsFit, OperandsAreValues, run_of}
 use Rattle.clif_value_laws.specs.ValuesFit.{EntryHas}
 use Rattle.clif_value_laws.proofs.AcceptedScripts.{AreTyped, HasGiven, calls_given, ledger_of, name_type}
 use Rattle.clif_value_laws.proofs.FunctionSteps.{GivesFitting, WorksFitting, working_runs_fit}
@@ -60,7 +60,7 @@ module _ (calls : List AnsweredCall) (f : Body) (typed : ValuesTyped calls f) wh
   abbrev returns : List «Type»
   returns = types_of f.signature.returns
 
-  item_fits : (item : Item) → IsItemWellTyped (ledger_of calls) (program_so_far calls) returns item → HasGiven ⊥ (declared_types calls) calls item → NamesValues calls item
+  item_fits : (item : Item) → IsItemWellTyped (ledger_of calls) (program_so_far calls) returns item → HasGiven ⊥ (declared_types calls) calls item → OperandsAreValues calls item
       → AllByRecursion (GivesFitting (view_of f)) (carried calls item)
   item_fits (Instruct place instruction results) well given values = (
     λ world bits memory holds.
@@ -78,7 +78,7 @@ module _ (calls : List AnsweredCall) (f : Body) (typed : ValuesTyped calls f) wh
   item_fits (Assign variable name) well given values = tt
 
   items_fit : (items : List Item) → AllByRecursion (IsItemWellTyped (ledger_of calls) (program_so_far calls) returns) items
-      → AllByRecursion (HasGiven ⊥ (declared_types calls) calls) items → AllByRecursion (NamesValues calls) items
+      → AllByRecursion (HasGiven ⊥ (declared_types calls) calls) items → AllByRecursion (OperandsAreValues calls) items
       → AllByRecursion (GivesFitting (view_of f)) (flat_map (carried calls) items)
   items_fit [] well given values = tt
   items_fit (item ∷ items) well given values =
@@ -98,7 +98,7 @@ of_insts f [] all = tt
 of_insts f (inst ∷ insts) all = (all.0, of_insts f insts all.1)
 
 module _ (calls : List AnsweredCall) (f : Body) (s : SsaState) (carries : Carries calls f s) (none_waits : NoneWaits s)
-    (values : EachItem (NamesValues calls) (program_so_far calls)) (well : WellTyped (ledger_of calls) (program_so_far calls) f.signature) where
+    (values : EachItem (OperandsAreValues calls) (program_so_far calls)) (well : WellTyped (ledger_of calls) (program_so_far calls) f.signature) where
   abbrev own : Own
   own = carries.own
 

@@ -4,7 +4,7 @@ use Rattle.std.specs.Prelude.{if◌then◌else◌, ◌||◌}
 use Rattle.std.specs.List.{AllByRecursion, flat_map, list_any}
 use Rattle.std.proofs.lemmas.Bool.{eqb-true}
 use Rattle.std.proofs.lemmas.List.Elements.{recursion_from_All}
-use Rattle.clif_ir.specs.Body.{Body, block_at, inst_at}
+use Rattle.clif_ir.specs.Body.{Body, block_at}
 use Rattle.clif_check.specs.WellTyped.{IsWellTyped, insts_in_order, insts_of}
 use Rattle.clif_check.proofs.Law.{agrees}
 use Rattle.clif_meaning.specs.View.{items_of, placed_of, view_of}

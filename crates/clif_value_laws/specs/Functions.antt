@@ -1,7 +1,7 @@
 -- Values of functions of the IR: of those that pass the check, and of those that carry a list of calls. Own.
 use Rattle.std.specs.Prelude.{◌≡◌, ℕ, Bool, List, All}
 use Rattle.std.specs.List.{AllByRecursion}
-use Rattle.clif_ir.specs.Body.{Body, inst_at}
+use Rattle.clif_ir.specs.Body.{Body}
 use Rattle.clif_check.specs.WellTyped.{IsWellTyped, insts_in_order, types_at}
 use Rattle.clif_meaning.specs.Acceptance.{Accepted, verdict_on}
 use Rattle.clif_meaning.specs.Bits.{AreValues}
@@ -9,7 +9,9 @@ use Rattle.clif_tables.specs.Callees.{types_of}
 use Rattle.clif_meaning.specs.FunctionMachine.{Collector, FunctionRun, function_machine}
 use Rattle.clif_meaning.specs.FunctionView.{Placed}
 use Rattle.clif_meaning.specs.Machine.{state_after}
+use Rattle.clif_meaning.specs.Instruction.{Instruction, named_operands}
 use Rattle.clif_meaning.specs.Ledger.{ledger_after}
+use Rattle.clif_meaning.specs.Name.{Name}
 use Rattle.clif_meaning.specs.Premises.{EachItem, WellTyped}
 use Rattle.clif_meaning.specs.Program.{Item, Instruct, Use, Assign, result_types}
 use Rattle.clif_meaning.specs.Request.{AnsweredCall, script_of}
@@ -50,13 +52,21 @@ FitsInRuns f =
 abbrev pub CheckedFunctionsFit : Type 0
 CheckedFunctionsFit = (f : Body) → IsChecked f → FitsInRuns f
 
--- the operands of an instruction are values in the ledger of the calls
-abbrev pub NamesValues : List AnsweredCall → Item → Type 0
-NamesValues calls (Instruct place instruction results) = AllByRecursion (IsValue calls) instruction.operands
-NamesValues calls (Use variable name) = Unit {0}
-NamesValues calls (Assign variable name) = Unit {0}
+-- these names of an instruction are values in the ledger of the calls
+abbrev pub NamesAreValues : (names : Instruction Name Name → List Name) → List AnsweredCall → Item → Type 0
+NamesAreValues names calls (Instruct place instruction results) = AllByRecursion (IsValue calls) (names instruction)
+NamesAreValues names calls (Use variable name) = Unit {0}
+NamesAreValues names calls (Assign variable name) = Unit {0}
 
--- Calls that may be made name values as operands.
+-- an instruction's operands are
+abbrev pub OperandsAreValues : List AnsweredCall → Item → Type 0
+OperandsAreValues calls item = NamesAreValues (λ instruction. instruction.operands) calls item
+
+-- what an instruction names itself is: its operands and its contexts
+abbrev pub NamesValues : List AnsweredCall → Item → Type 0
+NamesValues calls item = NamesAreValues (λ instruction. named_operands instruction) calls item
+
+-- Calls that may be made name values as operands and as contexts.
 abbrev pub AcceptedScriptsNameValues : Type 0
 AcceptedScriptsNameValues =
     (calls : List AnsweredCall) → verdict_on (script_of calls) ≡ Accepted → EachItem (NamesValues calls) (program_so_far calls)
@@ -66,5 +76,5 @@ AcceptedScriptsNameValues =
 abbrev pub CarriedFunctionsFit : Type 0
 CarriedFunctionsFit =
     (calls : List AnsweredCall) (f : Body) (s : SsaState)
-    → Carries calls f s → NoneWaits s → EachItem (NamesValues calls) (program_so_far calls)
+    → Carries calls f s → NoneWaits s → EachItem (OperandsAreValues calls) (program_so_far calls)
     → WellTyped (ledger_after (script_of calls)) (program_so_far calls) f.signature → FitsInRuns f

@@ -1,5 +1,5 @@
-//! Laws of values and their types: in each state of a run every variable, name and value fits its type. The functions here
-//! have empty bodies, and their contracts are the laws of the definitions.
+//! Laws of values and their types: in each state of a run every variable, name and value fits its type. The functions
+//! here have empty bodies, and their contracts are the laws of the definitions.
 #![tactic(auto)]
 
 ghost use Rattle.clif_meaning.specs.World.{World};
@@ -32,19 +32,19 @@ pub fn function_runs_fit()
     ensures { FunctionRunsFit }
 {}
 
-/// In each state of the run of a function that passes the check, and whose results and aliases have their types, the values
-/// fit their types.
+/// In each state of the run of a function that passes the check, and whose results and aliases have their types, the
+/// values fit their types.
 pub fn checked_functions_fit()
     ensures { CheckedFunctionsFit }
 {}
 
-/// The operands of the instructions of an accepted script are values.
+/// The operands and the contexts of the instructions of an accepted script are values.
 pub fn accepted_scripts_name_values()
     ensures { AcceptedScriptsNameValues }
 {}
 
-/// In each state of the run of a function that carries well-typed calls, whose operands are values, the values fit their types,
-/// once no parameter waits.
+/// In each state of the run of a function that carries well-typed calls, whose operands are values, the values fit
+/// their types, once no parameter waits.
 pub fn carried_functions_fit()
     ensures { CarriedFunctionsFit }
 {}

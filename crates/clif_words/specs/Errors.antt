@@ -46,7 +46,6 @@ expected_text expected.Bytes = codes "the bytes of a constant"
 expected_text expected.Condition = codes "a condition"
 expected_text expected.TrapCode = codes "a trap code"
 expected_text expected.Offset = codes "an offset"
-expected_text expected.CursorInstruction = codes "an instruction for cursor"
 expected_text expected.FunctionName = codes "the name of a function"
 expected_text expected.SymbolName = codes "the name of a symbol"
 expected_text expected.LibCall = codes "Memcpy, Memmove, Memset or Memcmp"
@@ -68,6 +67,7 @@ abbrev pub fault_text : Fault → List ℕ
 fault_text (fault.Expected what) = codes "expected " ++ expected_text what
 fault_text (fault.UnknownCall name) = codes "unknown call: " ++ name.now
 fault_text (fault.NotSupported name) = codes "not supported yet: " ++ name.now
+fault_text (fault.NotForCursor name) = codes "no instruction for cursor: " ++ name.now
 fault_text (fault.UnknownName name) = codes "unknown name: " ++ name.now
 fault_text (fault.UnknownType name) = codes "unknown type: " ++ name.now
 fault_text (fault.TooManyNames count) = codes "expected " ++ names_text count

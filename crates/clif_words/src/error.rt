@@ -68,8 +68,6 @@ pub enum Expected {
     TrapCode,
     /// A distance from an address.
     Offset,
-    /// An instruction that is made through `cursor`.
-    CursorInstruction,
     /// The name of a function, as `%sample` or `u0:0`.
     FunctionName,
     /// The name of a symbol, as that of a function.
@@ -128,7 +126,6 @@ impl fmt::Display for Expected {
             Expected::Condition => "a condition",
             Expected::TrapCode => "a trap code",
             Expected::Offset => "an offset",
-            Expected::CursorInstruction => "an instruction for cursor",
             Expected::FunctionName => "the name of a function",
             Expected::SymbolName => "the name of a symbol",
             Expected::LibCall => "Memcpy, Memmove, Memset or Memcmp",
@@ -153,6 +150,8 @@ pub enum Fault<'a> {
     UnknownCall(&'a str),
     /// The call or the header line of this name isn't understood so far.
     NotSupported(&'a str),
+    /// `cursor` stands before this, which is no instruction that it makes.
+    NotForCursor(&'a str),
     /// No line before gave this name.
     UnknownName(&'a str),
     /// No type has this name.
@@ -171,6 +170,7 @@ impl fmt::Display for Fault<'_> {
             Fault::Expected(expected) => write!(f, "expected {expected}"),
             Fault::UnknownCall(name) => write!(f, "unknown call: {name}"),
             Fault::NotSupported(name) => write!(f, "not supported yet: {name}"),
+            Fault::NotForCursor(name) => write!(f, "no instruction for cursor: {name}"),
             Fault::UnknownName(name) => write!(f, "unknown name: {name}"),
             Fault::UnknownType(name) => write!(f, "unknown type: {name}"),
             Fault::TooManyNames(0) => write!(f, "expected no names"),

@@ -98,6 +98,10 @@ fn refusals(rt: HostRuntime) -> Result<(), Fail> {
 fn unknown_words(rt: HostRuntime) -> Result<(), Fail> {
     let rows = [
         (Fault::UnknownCall("jmp"), "unknown call: jmp"),
+        (
+            Fault::NotForCursor("call"),
+            "no instruction for cursor: call",
+        ),
         (Fault::UnknownName("x"), "unknown name: x"),
         (Fault::UnknownType("i7"), "unknown type: i7"),
     ];
@@ -122,7 +126,6 @@ fn expectations(rt: HostRuntime) -> Result<(), Fail> {
         (Expected::Inst, "an instruction"),
         (Expected::SourceLoc, "a source place of 32 bits"),
         (Expected::ValueLabel, "a label"),
-        (Expected::CursorInstruction, "an instruction for cursor"),
     ];
     for (expected, text) in rows.iter() {
         let told = format!(in rt.alloc(); "{expected}")?;

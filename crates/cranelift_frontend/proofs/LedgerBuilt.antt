@@ -130,14 +130,14 @@ results-types place f g block shape types function k ty at =
 
 -- an instruction behind which its block goes on
 pub agrees-plain : (place : ℕ) (calls : List AnsweredCall) (ledger : Ledger) (f g : Body) (c d : ContextState) (p : Option ℕ) (block : ℕ) (shape : InstructionData) (entries : List GivenEntry)
-    (operation : Operation) (controlling : «Type») (types : List «Type») (operands : List Name) (inst : ℕ) (results : List ℕ)
+    (operation : Operation) (controlling : «Type») (types : List «Type») (operands contexts : List Name) (inst : ℕ) (results : List ℕ)
     → LedgerAgrees calls ledger f c p → p ≡ Some block → IsConsistent f → block < length f.blocks → g ≡ with_inst (inserted_in f block) block Back shape types place
     → SetsStatus c d block (begun (status_of c block)) → d.ssa ≡ c.ssa → d.variables ≡ c.variables → is_terminator operation ≡ false → program.result_types operation controlling ≡ types
     → ((new : Ledger) → AnswersAgree new g (length calls) (AnInstruction ∷ map AValue types) (inst ∷ results))
-    → LedgerAgrees (calls ++ record { request = Build entries (record { operation = operation; controlling = controlling; operands = operands; edges = [] }); numbers = inst ∷ results } ∷ [])
-    (ledger_with ledger (Build entries (record { operation = operation; controlling = controlling; operands = operands; edges = [] }))) g d p
-agrees-plain place calls ledger f g c d p block shape entries operation controlling types operands inst results agrees at consistent exists function sets ssa variables goes_on typed answers =
-    let request : Request = Build entries (record { operation = operation; controlling = controlling; operands = operands; edges = [] }) in
+    → LedgerAgrees (calls ++ record { request = Build entries (record { operation = operation; controlling = controlling; operands = operands; contexts = contexts; edges = [] }); numbers = inst ∷ results } ∷ [])
+    (ledger_with ledger (Build entries (record { operation = operation; controlling = controlling; operands = operands; contexts = contexts; edges = [] }))) g d p
+agrees-plain place calls ledger f g c d p block shape entries operation controlling types operands contexts inst results agrees at consistent exists function sets ssa variables goes_on typed answers =
+    let request : Request = Build entries (record { operation = operation; controlling = controlling; operands = operands; contexts = contexts; edges = [] }) in
     let call : AnsweredCall = record { request = request; numbers = inst ∷ results } in
     let current = name-of-some (block_name ledger) ledger.current block (agrees.current ∙ ap (option_map (block_name ledger)) at) in
     let new : Ledger = ledger_with ledger request in
@@ -158,18 +158,18 @@ agrees-plain place calls ledger f g c d p block shape entries operation controll
 
 -- with its results, which have the next numbers of values
 pub agrees-built : (place : ℕ) (calls : List AnsweredCall) (ledger : Ledger) (f g : Body) (c d : ContextState) (p : Option ℕ) (block : ℕ) (shape : InstructionData) (entries : List GivenEntry)
-    (operation : Operation) (controlling : «Type») (types : List «Type») (operands : List Name) (inst : ℕ)
+    (operation : Operation) (controlling : «Type») (types : List «Type») (operands contexts : List Name) (inst : ℕ)
     → LedgerAgrees calls ledger f c p → p ≡ Some block → IsConsistent f → block < length f.blocks → g ≡ with_inst (inserted_in f block) block Back shape types place
     → SetsStatus c d block (begun (status_of c block)) → d.ssa ≡ c.ssa → d.variables ≡ c.variables → inst ≡ length f.insts
     → is_terminator operation ≡ false → program.result_types operation controlling ≡ types
     → LedgerAgrees
-    (calls ++ record { request = Build entries (record { operation = operation; controlling = controlling; operands = operands; edges = [] }); numbers = inst ∷ range_with_len (length (inserted_in f block).values) (length types) } ∷ [])
-    (ledger_with ledger (Build entries (record { operation = operation; controlling = controlling; operands = operands; edges = [] }))) g d p
-agrees-built place calls ledger f g c d p block shape entries operation controlling types operands inst agrees at consistent exists function sets ssa variables is_inst goes_on typed =
+    (calls ++ record { request = Build entries (record { operation = operation; controlling = controlling; operands = operands; contexts = contexts; edges = [] }); numbers = inst ∷ range_with_len (length (inserted_in f block).values) (length types) } ∷ [])
+    (ledger_with ledger (Build entries (record { operation = operation; controlling = controlling; operands = operands; contexts = contexts; edges = [] }))) g d p
+agrees-built place calls ledger f g c d p block shape entries operation controlling types operands contexts inst agrees at consistent exists function sets ssa variables is_inst goes_on typed =
     let first : ℕ = length (inserted_in f block).values in
     let node : InstNode = inst_node (inserted_in f block) block shape types place in
     let there : slice_get g.insts inst ≡ Some node = ap (slice_get g.insts) is_inst ∙ node-there _ f g block shape types function in
-    agrees-plain _ calls ledger f g c d p block shape entries operation controlling types operands inst (range_with_len first (length types)) agrees at consistent exists function sets ssa variables goes_on typed
+    agrees-plain _ calls ledger f g c d p block shape entries operation controlling types operands contexts inst (range_with_len first (length types)) agrees at consistent exists function sets ssa variables goes_on typed
     (λ new. answers-results new g (length calls) inst first node types there refl (results-types _ f g block shape types function))
 
 -- the state of a block that gets its terminator

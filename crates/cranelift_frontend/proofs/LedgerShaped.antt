@@ -5,6 +5,7 @@ use Rattle.std.specs.List.{range_with_len}
 use Rattle.std.proofs.lemmas.Option.{get_or_from_slice_get, same_Some}
 use Rattle.clif_types.specs.declared.types.«Type».{«Type»}
 use Rattle.clif_types.specs.declared.types.«Type».TheVariants as type
+use Rattle.clif_instructions.specs.declared.block_call.BlockArg.TheVariants as arg
 use Rattle.clif_instructions.specs.declared.block_call.BlockCall.{BlockCall}
 use Rattle.clif_nodes.specs.declared.nodes.InstNode.{InstNode}
 use Rattle.clif_nodes.specs.declared.nodes.ValueNode.{ValueNode}
@@ -26,7 +27,7 @@ use Rattle.clif_opcodes.specs.declared.opcodes.StackOpcode.TheVariants as stack
 use Rattle.clif_opcodes.specs.declared.opcodes.UnaryOpcode.{UnaryOpcode}
 use Rattle.clif_instructions.specs.declared.instructions.InstructionData.{InstructionData}
 use Rattle.clif_instructions.specs.declared.instructions.InstructionData.TheVariants.{UnaryImm, UnaryIeee, UnaryConst, Unary, Binary, IntCompare, Concat, Split, Convert, Ternary, Load, Store, StackLoad, StackStore, Jump, Brif, BranchTable, MultiAry, Trap, CondTrap, Call, CallIndirect, TryCall, TryCallIndirect}
-use Rattle.clif_instructions.specs.ExceptionTables.{ExceptionShape}
+use Rattle.clif_instructions.specs.ExceptionTables.{ExceptionShape, contexts_of}
 use Rattle.clif_ir.specs.Body.{Body, inst_at, value_at}
 use Rattle.clif_nodes.specs.Nodes.{no_inst, no_value}
 use Rattle.clif_ir.specs.Changes.{inserted_in, with_inst, inst_node}
@@ -36,7 +37,7 @@ use Rattle.clif_tables.specs.Callees.{function_at, given_by_call, types_of, type
 use Rattle.clif_tables.specs.Lists.{TableLists}
 use Rattle.clif_instructions.specs.Edges.{targets}
 use Rattle.clif_meaning.specs.Name.{Name}
-use Rattle.clif_meaning.specs.Instruction.{Edge, Instruction, Operation, Iconst, Compute}
+use Rattle.clif_meaning.specs.Instruction.{Edge, Instruction, Known, Operation, Iconst, Compute}
 use Rattle.clif_meaning.specs.Instruction as operation
 use Rattle.clif_meaning.specs.Acceptance.{table_branch, tried_shape}
 use Rattle.clif_meaning.specs.Event.{CallItem, CallShape}
@@ -50,7 +51,7 @@ use Rattle.cranelift_frontend.specs.declared.builder.FunctionBuilder.{FunctionBu
 use Rattle.cranelift_frontend.specs.Context.{ContextState, SetsStatus, begun, status_of}
 use Rattle.cranelift_frontend.specs.Builder.{AppendsIn, CanLeadIn, HasCurrent}
 use Rattle.cranelift_frontend.specs.Construction.{IsDeclared}
-use Rattle.cranelift_frontend.specs.Ledger.{HasShape, LedgerAgrees, NamesEdge, NamesEdges, NamesExceptions, NamesValue, ledger_of}
+use Rattle.cranelift_frontend.specs.Ledger.{HasShape, LedgerAgrees, NamesArguments, NamesEdge, NamesEdges, NamesExceptions, NamesValue, ledger_of}
 use Rattle.cranelift_frontend.proofs.LedgerLists.{map-some}
 use Rattle.cranelift_frontend.proofs.LedgerKept.{concluded, named-value}
 use Rattle.cranelift_frontend.proofs.LedgerBuilt.{agrees-built, agrees-ended, node-there}
@@ -65,13 +66,17 @@ built entries instruction numbers = record { request = Build entries instruction
 
 -- an instruction without edges, by its other parts
 abbrev pub plain : Operation → «Type» → List Name → Instruction Name Name
-plain operation ty names = record { operation = operation; controlling = ty; operands = names; edges = [] }
+plain operation ty names = record { operation = operation; controlling = ty; operands = names; contexts = []; edges = [] }
 
-pub is-plain : (i : Instruction Name Name) (operation : Operation) (ty : «Type») → i.operation ≡ operation → i.controlling ≡ ty → i.edges ≡ [] → i ≡ plain operation ty i.operands
-is-plain i operation ty same_operation same_ty none =
-    ap (λ (o : Operation). record { operation = o; controlling = i.controlling; operands = i.operands; edges = i.edges }) same_operation
-    ∙ ap (λ (t : «Type»). record { operation = operation; controlling = t; operands = i.operands; edges = i.edges }) same_ty
-    ∙ ap (λ (es : List (Edge Name Name)). record { operation = operation; controlling = ty; operands = i.operands; edges = es }) none
+-- the same with contexts
+abbrev pub unedged : Operation → «Type» → (operands contexts : List Name) → Instruction Name Name
+unedged operation ty operands contexts = record { operation = operation; controlling = ty; operands = operands; contexts = contexts; edges = [] }
+
+pub is-unedged : (i : Instruction Name Name) (operation : Operation) (ty : «Type») → i.operation ≡ operation → i.controlling ≡ ty → i.edges ≡ [] → i ≡ unedged operation ty i.operands i.contexts
+is-unedged i operation ty same_operation same_ty none =
+    ap (λ (o : Operation). record { operation = o; controlling = i.controlling; operands = i.operands; contexts = i.contexts; edges = i.edges }) same_operation
+    ∙ ap (λ (t : «Type»). record { operation = operation; controlling = t; operands = i.operands; contexts = i.contexts; edges = i.edges }) same_ty
+    ∙ ap (λ (es : List (Edge Name Name)). record { operation = operation; controlling = ty; operands = i.operands; contexts = i.contexts; edges = es }) none
 
 -- names of no edges
 pub names-none : (calls : List AnsweredCall) (edges : List (Edge Name Name)) (made : List BlockCall) → made ≡ [] → NamesEdges calls edges made → edges ≡ []
@@ -114,8 +119,8 @@ module _ (place : ℕ) (calls : List AnsweredCall) (f g : Body) (c d : ContextSt
   Agrees i results = LedgerAgrees (calls ++ built entries i (inst ∷ results) ∷ []) (ledger_of (calls ++ built entries i (inst ∷ results) ∷ [])) g d p
 
   -- the instruction, where it has no edges
-  same-plain : destinations shape ≡ [] → instruction ≡ plain instruction.operation instruction.controlling instruction.operands
-  same-plain none = is-plain instruction instruction.operation instruction.controlling refl refl (names-none calls instruction.edges (destinations shape) none has.edges)
+  same-unedged : destinations shape ≡ [] → instruction ≡ unedged instruction.operation instruction.controlling instruction.operands instruction.contexts
+  same-unedged none = is-unedged instruction instruction.operation instruction.controlling refl refl (names-none calls instruction.edges (destinations shape) none has.edges)
 
   staying : StaysInBlock shape → d.ssa ≡ c.ssa → Agrees instruction (inst_at g inst).results
   staying known ssa =
@@ -123,9 +128,9 @@ module _ (place : ℕ) (calls : List AnsweredCall) (f g : Body) (c d : ContextSt
       let types : List «Type» = types_of_results f.tables shape ty in
       let results : List ℕ = range_with_len (length (inserted_in f block).values) (length types) in
       subst (Agrees instruction) (sym (results-of types refl))
-      (subst (λ (i : Instruction Name Name). Agrees i results) (sym (same-plain known.no_edges))
-      (concluded calls (built entries (plain instruction.operation instruction.controlling names) (inst ∷ results)) g d p
-      (agrees-built _ calls (ledger_of calls) f g c d p block shape entries instruction.operation instruction.controlling types names inst
+      (subst (λ (i : Instruction Name Name). Agrees i results) (sym (same-unedged known.no_edges))
+      (concluded calls (built entries (unedged instruction.operation instruction.controlling names instruction.contexts) (inst ∷ results)) g d p
+      (agrees-built _ calls (ledger_of calls) f g c d p block shape entries instruction.operation instruction.controlling types names instruction.contexts inst
       agrees at consistent exists (function_of types refl) (sets_status false known.goes_on) ssa variables appends.number
       (same_end calls f instruction shape ty has ∙ known.goes_on) (same_types calls f instruction shape ty has))))
 
@@ -179,7 +184,7 @@ named-type calls f c p agrees name value names =
     ap or_invalid named.1 ∙ sym (ap (λ (n : ValueNode). n.ty) (get_or_from_slice_get f.values value node.0 no_value node.1) ∙ node.2)
 
 pub iconst-shape : (calls : List AnsweredCall) (f : Body) (ty : «Type») (imm : ℤ) → HasShape calls f (plain (Compute (Iconst imm)) ty []) (UnaryImm imm) ty
-iconst-shape calls f ty imm = record { operation = refl; controlling = refl; typed = refl; operands_numbered = refl; edges = tt }
+iconst-shape calls f ty imm = record { operation = refl; controlling = refl; typed = refl; operands_numbered = refl; contexts_numbered = refl; edges = tt }
 
 pub unary-shape : (calls : List AnsweredCall) (f : Body) (c : ContextState) (p : Option ℕ) → LedgerAgrees calls (ledger_of calls) f c p
     → (opcode : UnaryOpcode) (a : Name) (x : ℕ) → NamesValue calls a x
@@ -190,6 +195,7 @@ unary-shape calls f c p agrees opcode a x first =
       typed = refl;
       controlling = named-type calls f c p agrees a x first;
       operands_numbered = ap (λ (o : Option ℕ). o ∷ []) first.number;
+      contexts_numbered = refl;
       edges = tt;
     }
 
@@ -203,13 +209,14 @@ binary-shape calls f c p agrees opcode a b x y first second =
       controlling = named-type calls f c p agrees a x first;
       operands_numbered =
           ap (λ (o : Option ℕ). o ∷ number_of calls b ∷ []) first.number ∙ ap (λ (o : Option ℕ). Some x ∷ o ∷ []) second.number;
+      contexts_numbered = refl;
       edges = tt;
     }
 
 pub convert-shape : (calls : List AnsweredCall) (f : Body) (opcode : ConvertOpcode) (ty : «Type») (a : Name) (x : ℕ) → NamesValue calls a x
     → HasShape calls f (plain (Compute (operation.Convert opcode)) ty (a ∷ [])) (Convert opcode x) ty
 convert-shape calls f opcode ty a x names =
-    record { operation = refl; controlling = refl; typed = refl; operands_numbered = ap (λ (o : Option ℕ). o ∷ []) names.number; edges = tt }
+    record { operation = refl; controlling = refl; typed = refl; operands_numbered = ap (λ (o : Option ℕ). o ∷ []) names.number; contexts_numbered = refl; edges = tt }
 
 pub select-shape : (calls : List AnsweredCall) (f : Body) (c : ContextState) (p : Option ℕ) → LedgerAgrees calls (ledger_of calls) f c p
     → (condition a b : Name) (n x y : ℕ) → NamesValue calls condition n → NamesValue calls a x → NamesValue calls b y
@@ -223,6 +230,7 @@ select-shape calls f c p agrees condition a b n x y tested first second =
           ap (λ (o : Option ℕ). o ∷ number_of calls a ∷ number_of calls b ∷ []) tested.number
           ∙ ap (λ (o : Option ℕ). Some n ∷ o ∷ number_of calls b ∷ []) first.number
           ∙ ap (λ (o : Option ℕ). Some n ∷ Some x ∷ o ∷ []) second.number;
+      contexts_numbered = refl;
       edges = tt;
     }
 
@@ -233,27 +241,27 @@ two-operands calls a b x y first second =
 
 pub float-shape : (calls : List AnsweredCall) (f : Body) (opcode : FloatConstOpcode) (bits : ℕ)
     → HasShape calls f (plain (Compute (operation.FloatConst opcode bits)) type.Invalid []) (UnaryIeee opcode bits) type.Invalid
-float-shape calls f F16const bits = record { operation = refl; controlling = refl; typed = refl; operands_numbered = refl; edges = tt }
-float-shape calls f F32const bits = record { operation = refl; controlling = refl; typed = refl; operands_numbered = refl; edges = tt }
-float-shape calls f F64const bits = record { operation = refl; controlling = refl; typed = refl; operands_numbered = refl; edges = tt }
+float-shape calls f F16const bits = record { operation = refl; controlling = refl; typed = refl; operands_numbered = refl; contexts_numbered = refl; edges = tt }
+float-shape calls f F32const bits = record { operation = refl; controlling = refl; typed = refl; operands_numbered = refl; contexts_numbered = refl; edges = tt }
+float-shape calls f F64const bits = record { operation = refl; controlling = refl; typed = refl; operands_numbered = refl; contexts_numbered = refl; edges = tt }
 
 pub compare-shape : (calls : List AnsweredCall) (f : Body) (c : ContextState) (p : Option ℕ) → LedgerAgrees calls (ledger_of calls) f c p
     → (condition : IntCC) (a b : Name) (x y : ℕ) → NamesValue calls a x → NamesValue calls b y
     → HasShape calls f (plain (Compute (operation.Compare condition)) (or_invalid (type_of (ledger_of calls) a)) (a ∷ b ∷ [])) (IntCompare condition (x ∷ y ∷ [])) (value_at f x).ty
 compare-shape calls f c p agrees condition a b x y first second =
-    record { operation = refl; controlling = named-type calls f c p agrees a x first; typed = refl; operands_numbered = two-operands calls a b x y first second; edges = tt }
+    record { operation = refl; controlling = named-type calls f c p agrees a x first; typed = refl; operands_numbered = two-operands calls a b x y first second; contexts_numbered = refl; edges = tt }
 
 pub concat-shape : (calls : List AnsweredCall) (f : Body) (c : ContextState) (p : Option ℕ) → LedgerAgrees calls (ledger_of calls) f c p
     → (a b : Name) (x y : ℕ) → NamesValue calls a x → NamesValue calls b y
     → HasShape calls f (plain (Compute operation.Concat) (or_invalid (type_of (ledger_of calls) a)) (a ∷ b ∷ [])) (Concat (x ∷ y ∷ [])) (value_at f x).ty
 concat-shape calls f c p agrees a b x y first second =
-    record { operation = refl; controlling = named-type calls f c p agrees a x first; typed = refl; operands_numbered = two-operands calls a b x y first second; edges = tt }
+    record { operation = refl; controlling = named-type calls f c p agrees a x first; typed = refl; operands_numbered = two-operands calls a b x y first second; contexts_numbered = refl; edges = tt }
 
 pub split-shape : (calls : List AnsweredCall) (f : Body) (c : ContextState) (p : Option ℕ) → LedgerAgrees calls (ledger_of calls) f c p
     → (a : Name) (x : ℕ) → NamesValue calls a x
     → HasShape calls f (plain (Compute operation.Split) (or_invalid (type_of (ledger_of calls) a)) (a ∷ [])) (Split x) (value_at f x).ty
 split-shape calls f c p agrees a x names =
-    record { operation = refl; controlling = named-type calls f c p agrees a x names; typed = refl; operands_numbered = ap (λ (o : Option ℕ). o ∷ []) names.number; edges = tt }
+    record { operation = refl; controlling = named-type calls f c p agrees a x names; typed = refl; operands_numbered = ap (λ (o : Option ℕ). o ∷ []) names.number; contexts_numbered = refl; edges = tt }
 
 -- a constant that is there has its bytes in the instruction's operation
 pooled-operation : (f : Body) (opcode : PooledConstOpcode) (bytes : List ℕ) (constant : ℕ) → slice_get f.tables.constants constant ≡ Some bytes
@@ -264,28 +272,28 @@ pooled-operation f opcode bytes constant found =
 pub f128const-shape : (calls : List AnsweredCall) (f : Body) (bytes : List ℕ) (constant : ℕ) → slice_get f.tables.constants constant ≡ Some bytes
     → HasShape calls f (plain (Compute (operation.PooledConst F128const bytes)) type.Invalid []) (UnaryConst F128const constant) type.Invalid
 f128const-shape calls f bytes constant found =
-    record { operation = pooled-operation f F128const bytes constant found; controlling = refl; typed = refl; operands_numbered = refl; edges = tt }
+    record { operation = pooled-operation f F128const bytes constant found; controlling = refl; typed = refl; operands_numbered = refl; contexts_numbered = refl; edges = tt }
 
 pub vconst-shape : (calls : List AnsweredCall) (f : Body) (ty : «Type») (bytes : List ℕ) (constant : ℕ) → slice_get f.tables.constants constant ≡ Some bytes
     → HasShape calls f (plain (Compute (operation.PooledConst Vconst bytes)) ty []) (UnaryConst Vconst constant) ty
 vconst-shape calls f ty bytes constant found =
-    record { operation = pooled-operation f Vconst bytes constant found; controlling = refl; typed = refl; operands_numbered = refl; edges = tt }
+    record { operation = pooled-operation f Vconst bytes constant found; controlling = refl; typed = refl; operands_numbered = refl; contexts_numbered = refl; edges = tt }
 
 pub load-shape : (calls : List AnsweredCall) (f : Body) (flags : MemFlagsShape) (ty : «Type») (a : Name) (x : ℕ) (offset : ℤ) → NamesValue calls a x
     → HasShape calls f (plain (operation.Load flags offset) ty (a ∷ [])) (Load flags x offset) ty
 load-shape calls f flags ty a x offset names =
-    record { operation = refl; controlling = refl; typed = refl; operands_numbered = ap (λ (o : Option ℕ). o ∷ []) names.number; edges = tt }
+    record { operation = refl; controlling = refl; typed = refl; operands_numbered = ap (λ (o : Option ℕ). o ∷ []) names.number; contexts_numbered = refl; edges = tt }
 
 pub store-shape : (calls : List AnsweredCall) (f : Body) (c : ContextState) (p : Option ℕ) → LedgerAgrees calls (ledger_of calls) f c p
     → (flags : MemFlagsShape) (a b : Name) (x y : ℕ) (offset : ℤ) → NamesValue calls a x → NamesValue calls b y
     → HasShape calls f (plain (operation.Store flags offset) (or_invalid (type_of (ledger_of calls) a)) (a ∷ b ∷ [])) (Store flags (x ∷ y ∷ []) offset) type.Invalid
 store-shape calls f c p agrees flags a b x y offset first second =
-    record { operation = refl; controlling = named-type calls f c p agrees a x first; typed = refl; operands_numbered = two-operands calls a b x y first second; edges = tt }
+    record { operation = refl; controlling = named-type calls f c p agrees a x first; typed = refl; operands_numbered = two-operands calls a b x y first second; contexts_numbered = refl; edges = tt }
 
 pub stack-shape : (calls : List AnsweredCall) (f : Body) (opcode : StackOpcode) (ty : «Type») (slot : ℕ) (offset : ℤ)
     → HasShape calls f (plain (operation.Stack opcode slot offset) ty []) (StackLoad opcode slot offset) ty
-stack-shape calls f stack.StackAddr ty slot offset = record { operation = refl; controlling = refl; typed = refl; operands_numbered = refl; edges = tt }
-stack-shape calls f stack.StackLoad ty slot offset = record { operation = refl; controlling = refl; typed = refl; operands_numbered = refl; edges = tt }
+stack-shape calls f stack.StackAddr ty slot offset = record { operation = refl; controlling = refl; typed = refl; operands_numbered = refl; contexts_numbered = refl; edges = tt }
+stack-shape calls f stack.StackLoad ty slot offset = record { operation = refl; controlling = refl; typed = refl; operands_numbered = refl; contexts_numbered = refl; edges = tt }
 
 pub stack_store-shape : (calls : List AnsweredCall) (f : Body) (c : ContextState) (p : Option ℕ) → LedgerAgrees calls (ledger_of calls) f c p
     → (a : Name) (x slot : ℕ) (offset : ℤ) → NamesValue calls a x
@@ -295,11 +303,12 @@ stack_store-shape calls f c p agrees a x slot offset names = record {
   controlling = named-type calls f c p agrees a x names;
   typed = refl;
   operands_numbered = ap (λ (o : Option ℕ). o ∷ []) names.number;
+  contexts_numbered = refl;
   edges = tt;
 }
 
 pub trap-shape : (calls : List AnsweredCall) (f : Body) (code : TrapCode) → HasShape calls f (plain (operation.Trap code) type.Invalid []) (Trap code) type.Invalid
-trap-shape calls f code = record { operation = refl; controlling = refl; typed = refl; operands_numbered = refl; edges = tt }
+trap-shape calls f code = record { operation = refl; controlling = refl; typed = refl; operands_numbered = refl; contexts_numbered = refl; edges = tt }
 
 pub cond_trap-shape : (calls : List AnsweredCall) (f : Body) (c : ContextState) (p : Option ℕ) → LedgerAgrees calls (ledger_of calls) f c p
     → (opcode : CondTrapOpcode) (a : Name) (x : ℕ) (code : TrapCode) → NamesValue calls a x
@@ -309,17 +318,18 @@ cond_trap-shape calls f c p agrees opcode a x code names = record {
   controlling = named-type calls f c p agrees a x names;
   typed = refl;
   operands_numbered = ap (λ (o : Option ℕ). o ∷ []) names.number;
+  contexts_numbered = refl;
   edges = tt;
 }
 
 pub jump-shape : (calls : List AnsweredCall) (f : Body) (edge : Edge Name Name) (made : BlockCall) → NamesEdge calls edge made
-    → HasShape calls f (record { operation = operation.Jump; controlling = type.Invalid; operands = []; edges = edge ∷ [] }) (Jump made) type.Invalid
-jump-shape calls f edge made names = record { operation = refl; controlling = refl; typed = refl; operands_numbered = refl; edges = (names, tt) }
+    → HasShape calls f (record { operation = operation.Jump; controlling = type.Invalid; operands = []; contexts = []; edges = edge ∷ [] }) (Jump made) type.Invalid
+jump-shape calls f edge made names = record { operation = refl; controlling = refl; typed = refl; operands_numbered = refl; contexts_numbered = refl; edges = (names, tt) }
 
 pub brif-shape : (calls : List AnsweredCall) (f : Body) (c : ContextState) (p : Option ℕ) → LedgerAgrees calls (ledger_of calls) f c p
     → (condition : Name) (value : ℕ) (taken other : Edge Name Name) (block_then block_else : BlockCall) (blocks : List BlockCall) → blocks ≡ block_then ∷ block_else ∷ []
     → NamesValue calls condition value → NamesEdge calls taken block_then → NamesEdge calls other block_else
-    → HasShape calls f (record { operation = operation.Brif; controlling = or_invalid (type_of (ledger_of calls) condition); operands = condition ∷ []; edges = taken ∷ other ∷ [] })
+    → HasShape calls f (record { operation = operation.Brif; controlling = or_invalid (type_of (ledger_of calls) condition); operands = condition ∷ []; contexts = []; edges = taken ∷ other ∷ [] })
     (Brif value blocks) type.Invalid
 brif-shape calls f c p agrees condition value taken other block_then block_else blocks same names first second =
     record {
@@ -327,6 +337,7 @@ brif-shape calls f c p agrees condition value taken other block_then block_else 
       typed = refl;
       controlling = named-type calls f c p agrees condition value names;
       operands_numbered = ap (λ (o : Option ℕ). o ∷ []) names.number;
+      contexts_numbered = refl;
       edges = subst (NamesEdges calls (taken ∷ other ∷ [])) (sym same) (first, (second, tt));
     }
 
@@ -344,12 +355,13 @@ table-shape calls f index value edges table names named = record {
   typed = refl;
   controlling = refl;
   operands_numbered = ap (λ (o : Option ℕ). o ∷ []) names.number;
+  contexts_numbered = refl;
   edges = named;
 }
 
 pub return-shape : (calls : List AnsweredCall) (f : Body) (names : List Name) (values : List ℕ) → map (number_of calls) names ≡ map Some values
     → HasShape calls f (plain operation.Return type.Invalid names) (MultiAry values) type.Invalid
-return-shape calls f names values numbered = record { operation = refl; controlling = refl; typed = refl; operands_numbered = numbered; edges = tt }
+return-shape calls f names values numbered = record { operation = refl; controlling = refl; typed = refl; operands_numbered = numbered; contexts_numbered = refl; edges = tt }
 
 -- what is called is in tables that calls of a list make
 pub call-shape : (calls : List AnsweredCall) (f : Body) (c : ContextState) (p : Option ℕ) → LedgerAgrees calls (ledger_of calls) f c p
@@ -360,6 +372,7 @@ call-shape calls f c p agrees function names values numbered = record {
   controlling = refl;
   typed = refl;
   operands_numbered = numbered;
+  contexts_numbered = refl;
   edges = tt;
 }
 
@@ -373,8 +386,18 @@ call_indirect-shape calls f c p agrees signature callee address names values cal
   controlling = refl;
   typed = refl;
   operands_numbered = ap₂ (λ (o : Option ℕ) (os : List (Option ℕ)). o ∷ os) called.number numbered;
+  contexts_numbered = refl;
   edges = tt;
 }
+
+-- the names of contexts, as numbers
+contexts-numbered : (calls : List AnsweredCall) (names : List Name) (values : List ℕ) → NamesArguments calls (map Known names) (map arg.Value values)
+    → map (number_of calls) names ≡ map Some values
+contexts-numbered calls [] [] named = refl
+contexts-numbered calls [] (value ∷ values) named = absurd named
+contexts-numbered calls (name ∷ names) [] named = absurd named
+contexts-numbered calls (name ∷ names) (value ∷ values) named =
+    ap₂ (λ (o : Option ℕ) (os : List (Option ℕ)). o ∷ os) named.0.number (contexts-numbered calls names values named.1)
 
 -- the table's signature and items are those of the ledger's table
 same-tried : (calls : List AnsweredCall) (f : Body) (c : ContextState) (p : Option ℕ) → LedgerAgrees calls (ledger_of calls) f c p
@@ -386,25 +409,27 @@ same-tried calls f c p agrees held table named =
 pub try_call-shape : (calls : List AnsweredCall) (f : Body) (c : ContextState) (p : Option ℕ) → LedgerAgrees calls (ledger_of calls) f c p
     → (function : ℕ) (names : List Name) (values : List ℕ) (held : ExceptionTable) (table : ExceptionShape) → map (number_of calls) names ≡ map Some values
     → NamesExceptions calls held table
-    → HasShape calls f (record { operation = operation.TryCall (function_at (ledger_of calls).tables function).name (tried_shape (ledger_of calls) held); controlling = type.Invalid; operands = names; edges = held.edges })
+    → HasShape calls f (record { operation = operation.TryCall (function_at (ledger_of calls).tables function).name (tried_shape (ledger_of calls) held); controlling = type.Invalid; operands = names; contexts = held.contexts; edges = held.edges })
     (TryCall function values table) type.Invalid
 try_call-shape calls f c p agrees function names values held table numbered named = record {
   operation = ap₂ (λ (tables : TableLists) (call : CallShape). operation.TryCall (function_at tables function).name call) agrees.tables (same-tried calls f c p agrees held table named);
   controlling = refl;
   typed = refl;
   operands_numbered = numbered;
+  contexts_numbered = contexts-numbered calls held.contexts (contexts_of table) named.contexts;
   edges = named.edges;
 }
 
 pub try_call_indirect-shape : (calls : List AnsweredCall) (f : Body) (c : ContextState) (p : Option ℕ) → LedgerAgrees calls (ledger_of calls) f c p
     → (callee : Name) (address : ℕ) (names : List Name) (values : List ℕ) (held : ExceptionTable) (table : ExceptionShape) → NamesValue calls callee address
     → map (number_of calls) names ≡ map Some values → NamesExceptions calls held table
-    → HasShape calls f (record { operation = operation.TryCallIndirect (tried_shape (ledger_of calls) held); controlling = type.Invalid; operands = callee ∷ names; edges = held.edges })
+    → HasShape calls f (record { operation = operation.TryCallIndirect (tried_shape (ledger_of calls) held); controlling = type.Invalid; operands = callee ∷ names; contexts = held.contexts; edges = held.edges })
     (TryCallIndirect (address ∷ values) table) type.Invalid
 try_call_indirect-shape calls f c p agrees callee address names values held table called numbered named = record {
   operation = ap operation.TryCallIndirect (same-tried calls f c p agrees held table named);
   controlling = refl;
   typed = refl;
   operands_numbered = ap₂ (λ (o : Option ℕ) (os : List (Option ℕ)). o ∷ os) called.number numbered;
+  contexts_numbered = contexts-numbered calls held.contexts (contexts_of table) named.contexts;
   edges = named.edges;
 }

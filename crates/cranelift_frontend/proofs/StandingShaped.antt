@@ -11,7 +11,7 @@ use Rattle.clif_ir.specs.Body.{Body, inst_at}
 use Rattle.clif_ir.specs.Changes.{inserted_in, inst_node, with_inst}
 use Rattle.clif_ir.specs.Consistent.{IsConsistent}
 use Rattle.clif_instructions.specs.declared.insert_at.InsertAt.TheVariants.{Back}
-use Rattle.clif_instructions.specs.Instruction.{destinations, is_branch, operands}
+use Rattle.clif_instructions.specs.Instruction.{contexts, destinations, is_branch, operands}
 use Rattle.clif_tables.specs.Callees.{types_of_results}
 use Rattle.clif_instructions.specs.Members.{stands_in}
 use Rattle.clif_instructions.specs.Edges.{targets}
@@ -99,7 +99,16 @@ module _ (place : ℕ) (declared : SignatureShape) (calls : List AnsweredCall) (
   branch =
       let all = all_named calls instruction.operands (operands shape) has.operands_numbered in
       let edges = edges_named calls (name-number calls (ledger_of calls) f c p stands.ledger) instruction.edges (destinations shape) has.edges in
-      record { operation = sym has.operation; arguments = all.0; edges = edges.0; earlier = all.1; edges_earlier = edges.1 }
+      let named = all_named calls instruction.contexts (contexts shape) has.contexts_numbered in
+      record {
+        operation = sym has.operation;
+        arguments = all.0;
+        contexts_same = named.0;
+        edges = edges.0;
+        earlier = all.1;
+        contexts_earlier = named.1;
+        edges_earlier = edges.1;
+      }
 
   plainly : destinations shape ≡ [] → SameInstruction calls f.tables shape instruction
   plainly none = record {
@@ -107,7 +116,9 @@ module _ (place : ℕ) (declared : SignatureShape) (calls : List AnsweredCall) (
     arguments = branch.arguments;
     no_edges = ap (map edge_of) none;
     edges = none_named calls instruction.edges (subst (NamesEdges calls instruction.edges) none has.edges);
+    contexts_same = branch.contexts_same;
     earlier = branch.earlier;
+    contexts_earlier = branch.contexts_earlier;
   }
 
   finished : (types : List «Type») → types_of_results f.tables shape ty ≡ types → Carries (calls ++ call ∷ []) (with_inst (inserted_in f block) block Back shape types place) d.ssa

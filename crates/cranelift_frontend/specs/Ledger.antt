@@ -7,7 +7,7 @@ use Rattle.clif_instructions.specs.declared.block_call.BlockArg.{BlockArg}
 use Rattle.clif_instructions.specs.declared.block_call.BlockArg.TheVariants as arg
 use Rattle.clif_instructions.specs.declared.block_call.BlockCall.{BlockCall}
 use Rattle.clif_instructions.specs.ExceptionTables.{ExceptionShape, contexts_of}
-use Rattle.clif_instructions.specs.Instruction.{destinations, operands, result_types}
+use Rattle.clif_instructions.specs.Instruction.{contexts, destinations, operands, result_types}
 use Rattle.clif_meaning.specs.Instruction.{Argument, CallPayload, CallResult, Edge, Instruction, Known}
 use Rattle.clif_meaning.specs.View.{call_item_of, made_at, operation_of}
 use Rattle.clif_tables.specs.Lists.{TableLists}
@@ -95,6 +95,7 @@ pub record HasShape (calls : List AnsweredCall) (f : Body) (instruction : Instru
   -- results' types follow from the one that is given
   pub typed : result_types shape ty ≡ result_types shape (made_at f shape ty)
   pub operands_numbered : map (number_of calls) instruction.operands ≡ map Some (operands shape)
+  pub contexts_numbered : map (number_of calls) instruction.contexts ≡ map Some (contexts shape)
   pub edges : NamesEdges calls instruction.edges (destinations shape)
 
 -- a block of the ledger is the builder's block with number `k`, is sealed, pristine and filled exactly where that one

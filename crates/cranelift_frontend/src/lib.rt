@@ -16,6 +16,7 @@ pub mod laws;
 
 pub use builder::FunctionBuilder;
 pub use clif_check::{CheckError, CheckErrorKind, check};
+pub use clif_constant_operands::ConstantOperands;
 pub use clif_cursor::FuncCursor;
 pub use clif_inst_builder::{InstBuilder, InstBuilderBase};
 pub use clif_ir::write::DisplayFunction;

@@ -2,10 +2,9 @@
 ghost use Rattle.std.specs.Prelude.{◌<◌, IfOk};
 
 use crate::command::Run;
-use clif_interpreter::{
-    ArgumentError, Comparison, Given, Report, RunError, Told, Verdict, arguments_of, compare,
-};
+use clif_interpreter::{RunError, Told};
 use clif_ir::Function;
+use clif_runs::{ArgumentError, Comparison, Given, Report, Verdict, arguments_of, compare};
 use clif_types::PointerWidth;
 use std::alloc::Global;
 use std::{io, str};

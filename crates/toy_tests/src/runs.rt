@@ -1,7 +1,8 @@
 //! Runs of what the compiler builds: the variable program and the function end alike, with what the program computes.
 #![tactic(auto)]
 
-use clif_interpreter::{End, Given, Verdict, compare};
+use clif_interpreter::End;
+use clif_runs::{Given, Verdict, compare};
 use clif_types::PointerWidth;
 use std::alloc::Global;
 use std::process::Abort;

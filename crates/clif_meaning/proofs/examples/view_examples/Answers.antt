@@ -14,4 +14,6 @@ returns c = record {
   no_alias = refl;
   answers_seven = λ world. refl;
   means_the_same = ViewRow.same;
+  contexts = refl;
+  operands = refl;
 }

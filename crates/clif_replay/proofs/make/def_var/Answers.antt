@@ -1,6 +1,6 @@
 use Rattle.std.proofs.Common.{List, [], sym, ◌∙◌, ap, refl, subst}
 use Rattle.std.proofs.lemmas.Result.{err_from_is_err_and}
-use Rattle.clif_replay.specs.declared.script.Answer.TheVariants as answer
+use Rattle.clif_resolution.specs.declared.answers.Answer.TheVariants as answer
 use Rattle.clif_replay.proofs.Making.{answered-sound, made-answer, made-misuse, made-refused}
 use Rattle.std.specs.Prelude.{slice_get, slice_index_or, Some}
 use Rattle.std.proofs.lemmas.Bool.{and_parts}
@@ -10,7 +10,8 @@ use Rattle.clif_ir.specs.Body.{Body, value_at}
 use Rattle.clif_meaning.specs.SameType.{same_type}
 use Rattle.clif_meaning.proofs.SameTypes.{type_is}
 use Rattle.clif_replay.specs.Requests.{name_of}
-use Rattle.clif_replay.specs.Ready.{AnswerExists, value_of, is_open}
+use Rattle.clif_resolution.specs.Answers.{AnswerExists, value_of}
+use Rattle.clif_resolution.specs.Conditions.{is_open}
 use Rattle.clif_replay.proofs.ReadyLaws.{ready-more, value-found, value-exists, answers-exist}
 use Rattle.clif_replay.proofs.Conditions
 use Rattle.clif_replay.proofs.make.def_var.Goals as goal

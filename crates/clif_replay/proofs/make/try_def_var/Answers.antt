@@ -5,9 +5,9 @@ use Rattle.clif_meaning.specs.Request.{DefVar}
 use Rattle.cranelift_frontend.specs.Attempts.{RefusesAssignment}
 use Rattle.cranelift_frontend.specs.Calls.{IsTold, answered}
 use Rattle.cranelift_frontend.specs.Ledger.{NamesValue}
-use Rattle.clif_replay.specs.declared.script.Answer.TheVariants as answer
+use Rattle.clif_resolution.specs.declared.answers.Answer.TheVariants as answer
 use Rattle.clif_replay.specs.Requests.{name_of}
-use Rattle.clif_replay.specs.Ready.{AnswerExists, value_of}
+use Rattle.clif_resolution.specs.Answers.{AnswerExists, value_of}
 use Rattle.clif_replay.proofs.Making.{answered-sound, made-answer, made-denied, made-refusal}
 use Rattle.clif_replay.proofs.ReadyLaws.{answers-exist, ready-more, value-exists, value-found}
 use Rattle.clif_replay.proofs.Conditions

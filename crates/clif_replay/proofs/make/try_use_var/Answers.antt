@@ -6,8 +6,8 @@ use Rattle.clif_meaning.specs.Ledger.{or_invalid, variable_type}
 use Rattle.cranelift_frontend.specs.Attempts.{RefusesUse, use_told}
 use Rattle.cranelift_frontend.specs.Ledger.{ledger_of}
 use Rattle.cranelift_frontend.specs.StandsFor.{StandsFor}
-use Rattle.clif_replay.specs.declared.script.Answer.{Answer}
-use Rattle.clif_replay.specs.declared.script.Answer.TheVariants as answer
+use Rattle.clif_resolution.specs.declared.answers.Answer.{Answer}
+use Rattle.clif_resolution.specs.declared.answers.Answer.TheVariants as answer
 use Rattle.clif_replay.specs.Ready.{IsReadyAfter}
 use Rattle.clif_replay.proofs.Making.{answered-sound, made-answer, made-denied, made-failed, made-refusal, use-met}
 use Rattle.clif_replay.proofs.ReadyLaws.{ready-more}

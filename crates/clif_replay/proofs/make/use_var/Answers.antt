@@ -1,13 +1,13 @@
 use Rattle.std.proofs.Common.{List, [], ◌∷◌, sym, ◌∙◌, ap, refl, subst}
 use Rattle.std.proofs.lemmas.Result.{err_from_is_err_and}
-use Rattle.clif_replay.specs.declared.script.Answer.TheVariants as answer
+use Rattle.clif_resolution.specs.declared.answers.Answer.TheVariants as answer
 use Rattle.clif_replay.proofs.Making.{answered-sound, made-answer, made-misuse, made-refused, use-met}
 use Rattle.std.proofs.lemmas.Bool.{and_parts}
 use Rattle.clif_types.specs.declared.types.«Type».{«Type»}
 use Rattle.clif_meaning.specs.Request.{UseVar}
 use Rattle.clif_meaning.specs.Ledger.{or_invalid, variable_type}
 use Rattle.cranelift_frontend.specs.Ledger.{ledger_of}
-use Rattle.clif_replay.specs.declared.script.Answer.{Answer}
+use Rattle.clif_resolution.specs.declared.answers.Answer.{Answer}
 use Rattle.clif_replay.specs.Ready.{IsReadyAfter, can_use}
 use Rattle.clif_replay.proofs.ReadyLaws.{ready-more}
 use Rattle.clif_replay.proofs.Conditions

@@ -1,6 +1,6 @@
 use Rattle.std.proofs.Common.{[], sym, ◌∙◌, refl}
 use Rattle.std.proofs.lemmas.Result.{err_from_is_err_and}
-use Rattle.clif_replay.specs.declared.script.Answer.TheVariants as answer
+use Rattle.clif_resolution.specs.declared.answers.Answer.TheVariants as answer
 use Rattle.clif_replay.proofs.Making.{answered-sound, made-answer, made-misuse, made-refused}
 use Rattle.clif_replay.proofs.ReadyLaws.{ready-more}
 use Rattle.clif_replay.proofs.Conditions.{has-current, open-same}

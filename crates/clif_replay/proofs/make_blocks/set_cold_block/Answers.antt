@@ -1,6 +1,6 @@
 use Rattle.std.proofs.Common.{[], sym, ◌∙◌, ap, refl}
 use Rattle.cranelift_frontend.specs.Context.{ContextState}
-use Rattle.clif_replay.specs.declared.script.Answer.TheVariants as answer
+use Rattle.clif_resolution.specs.declared.answers.Answer.TheVariants as answer
 use Rattle.clif_replay.specs.Requests.{name_of}
 use Rattle.clif_replay.proofs.Making.{made-answer, made-misuse}
 use Rattle.clif_replay.proofs.ReadyLaws.{ready-more, block-found, block-there}

@@ -4,7 +4,7 @@ use Rattle.std.proofs.lemmas.Result.{err_from_is_err_and}
 use Rattle.clif_ssa.specs.Limits.{IsFull}
 use Rattle.clif_meaning.specs.Acceptance.{has_bytes}
 use Rattle.cranelift_frontend.specs.Context.{ContextState}
-use Rattle.clif_replay.specs.declared.script.Answer.TheVariants as answer
+use Rattle.clif_resolution.specs.declared.answers.Answer.TheVariants as answer
 use Rattle.clif_replay.proofs.Making.{answered-sound, full-either, made-answer, made-between, made-misuse, made-refused}
 use Rattle.clif_replay.proofs.ReadyLaws.{ready-more}
 use Rattle.clif_replay.proofs.Conditions.{has-current, pooled-same}

@@ -5,7 +5,7 @@ use Rattle.clif_calls.specs.declared.entry.EntryCall.{EntryCall}
 use Rattle.cranelift_frontend.specs.Context.{ContextState}
 use Rattle.cranelift_frontend.specs.Entries.{MakesEntry}
 use Rattle.clif_replay.specs.Entries.{entry_in}
-use Rattle.clif_replay.specs.declared.script.Answer.TheVariants as answer
+use Rattle.clif_resolution.specs.declared.answers.Answer.TheVariants as answer
 use Rattle.clif_replay.proofs.Entries.{entry-answered, entry-same}
 use Rattle.clif_replay.proofs.Making.{answered-sound, made-answer, made-misuse, made-refused, memory-told}
 use Rattle.clif_replay.proofs.ReadyLaws.{ready-more}

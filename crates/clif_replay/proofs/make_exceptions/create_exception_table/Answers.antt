@@ -1,12 +1,12 @@
-use Rattle.std.proofs.Common.{◌≡◌, List, ap, sym, ◌∙◌, subst, refl}
-use Rattle.std.specs.Prelude.{Bool, Err, Ok, Option, Some, map, ◌&&◌, is_some}
+use Rattle.std.proofs.Common.{◌≡◌, ap, sym, ◌∙◌, subst, refl}
+use Rattle.std.specs.Prelude.{Bool, Err, Some, map, ◌&&◌, is_some}
 use Rattle.std.proofs.lemmas.Bool.{and_right}
 use Rattle.std.proofs.lemmas.Result.{err_from_is_err_and}
 use Rattle.clif_instructions.specs.declared.exception_table.ExceptionTableData.{ExceptionTableData}
 use Rattle.clif_ir.specs.Body.{Body}
 use Rattle.cranelift_frontend.specs.Context.{ContextState}
-use Rattle.clif_replay.specs.Ready.{AnswersExist, all_items, edge_at, item_in}
-use Rattle.clif_replay.specs.declared.script.Answer.TheVariants as answer
+use Rattle.clif_resolution.specs.Answers.{AnswersExist, all_items, edge_at, item_in}
+use Rattle.clif_resolution.specs.declared.answers.Answer.TheVariants as answer
 use Rattle.clif_replay.proofs.Making.{answered-sound, made-answer, made-misused, made-missed, made-refused}
 use Rattle.clif_replay.proofs.ReadyLaws.{answers-exist}
 use Rattle.clif_replay.proofs.Throwing.{exceptions-ready, exceptions-same, exceptions-there}

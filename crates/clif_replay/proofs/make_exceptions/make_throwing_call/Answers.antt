@@ -1,10 +1,9 @@
-use Rattle.std.proofs.Common.{◌≡◌, ℕ, ◌<◌, ◌≤◌, List, length, ap, sym, ◌∙◌, subst}
+use Rattle.std.proofs.Common.{◌≡◌, ℕ, ◌<◌, ◌≤◌, length, ap, sym, ◌∙◌, subst}
 use Rattle.std.specs.Prelude.{Err, Ok, slice_index}
 use Rattle.std.specs.List.{All}
 use Rattle.std.proofs.lemmas.Result.{err_from_is_err_and}
 use Rattle.clif_types.specs.declared.types.«Type».TheVariants.{Invalid}
 use Rattle.clif_instructions.specs.Instruction.{contexts, destinations, entries_of, operands}
-use Rattle.clif_instructions.specs.declared.block_call.BlockCall.{BlockCall}
 use Rattle.clif_instructions.specs.declared.instructions.InstructionData.{InstructionData}
 use Rattle.clif_ir.specs.Consistent.{EntryExists, ValueExists}
 use Rattle.clif_ssa.specs.Limits.{IsFull}
@@ -13,8 +12,7 @@ use Rattle.cranelift_frontend.specs.Builder.{CanLead}
 use Rattle.cranelift_frontend.specs.Built.{Builds}
 use Rattle.cranelift_frontend.specs.Context.{ContextState}
 use Rattle.cranelift_frontend.specs.Entries.{MayServeTry, TakesExceptionTable}
-use Rattle.clif_calls.specs.Tables.{table_of}
-use Rattle.clif_replay.specs.declared.script.Answer.TheVariants as answer
+use Rattle.clif_resolution.specs.declared.answers.Answer.TheVariants as answer
 use Rattle.clif_replay.proofs.Conditions.{has-current}
 use Rattle.clif_replay.proofs.Making.{answered-sound, full-either, made-answer, made-misused, made-refused}
 use Rattle.clif_replay.proofs.ReadyLaws.{answers-exist}

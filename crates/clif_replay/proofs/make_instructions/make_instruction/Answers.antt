@@ -1,6 +1,6 @@
 use Rattle.std.proofs.Common.{◌∙◌, [], ap, refl}
 use Rattle.std.proofs.lemmas.Result.{err_from_is_err_and}
-use Rattle.clif_replay.specs.declared.script.Answer.TheVariants as answer
+use Rattle.clif_resolution.specs.declared.answers.Answer.TheVariants as answer
 use Rattle.clif_replay.proofs.Making.{answered-sound, made-answer, made-misused, made-refused}
 use Rattle.std.specs.Prelude.{Err}
 use Rattle.clif_replay.proofs.ReadyLaws.{answers-exist, ready-more, value-exists}
@@ -8,8 +8,8 @@ use Rattle.clif_replay.proofs.Conditions.{has-current}
 use Rattle.clif_replay.proofs.Planning.{contexts-exist, destinations-lead, entries-exist, instruction-named, operands-exist, opens-planned, plan-same, planned-full}
 use Rattle.clif_replay.proofs.make_instructions.make_instruction.Goals as goal
 
-pub checked-requires : goal.checked-requires
-checked-requires c = record {
+pub plan_found-requires : goal.plan_found-requires
+plan_found-requires c = record {
   answers = answers-exist c.requires.calls c.args.builder.now c.args.answers.now c.requires.ready;
   values = value-exists c.requires.calls c.args.builder.now c.args.answers.now c.requires.ready;
 }
@@ -17,7 +17,7 @@ checked-requires c = record {
 pub returns-in_err-planned : goal.returns-in_err-planned
 returns-in_err-planned c =
     let p = err_from_is_err_and c.from_residual.result c.from_residual.ensures.1 in
-    made-misused c.args.builder.now c.args.answers.now c.checked.result c.from_residual.result c.in_err-planned.field-0.0 c.in_err-planned.was (p.1 ∙ ap Err p.2) c.checked.ensures
+    made-misused c.args.builder.now c.args.answers.now c.plan_found.result c.from_residual.result c.in_err-planned.field-0.0 c.in_err-planned.was (p.1 ∙ ap Err p.2) c.plan_found.ensures
     (λ none declared calls ready. plan-same calls c.args.builder.now c.args.answers.now ready c.args.plan.now ∙ none)
 
 pub append-requires-clause-current : goal.append-requires-clause-current

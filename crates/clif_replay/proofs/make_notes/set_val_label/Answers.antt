@@ -1,10 +1,10 @@
-use Rattle.std.proofs.Common.{◌∙◌, ap, refl, sym, subst}
+use Rattle.std.proofs.Common.{◌∙◌, ap, sym, subst}
 use Rattle.std.specs.Prelude.{slice_index_or}
 use Rattle.std.proofs.lemmas.Result.{err_from_is_err_and}
 use Rattle.clif_ir.specs.Body.{Body}
 use Rattle.cranelift_frontend.specs.Context.{ContextState}
-use Rattle.clif_replay.specs.declared.script.Answer.TheVariants as answer
-use Rattle.clif_replay.specs.Ready.{AnswerExists, value_of}
+use Rattle.clif_resolution.specs.declared.answers.Answer.TheVariants as answer
+use Rattle.clif_resolution.specs.Answers.{AnswerExists, value_of}
 use Rattle.clif_replay.proofs.Making.{answered-sound, made-answer, made-misuse, made-refused}
 use Rattle.clif_replay.proofs.Notes.{note-none, note-ready, note-some}
 use Rattle.clif_replay.proofs.ReadyLaws.{answers-exist, value-exists}

@@ -6,20 +6,20 @@ use Rattle.clif_instructions.specs.Instruction.{contexts, destinations}
 use Rattle.clif_instructions.specs.declared.instructions.InstructionData.{InstructionData}
 use Rattle.clif_ir.specs.Consistent.{ValueExists}
 use Rattle.cranelift_frontend.specs.Builder.{CanLead}
-use Rattle.clif_replay.specs.declared.script.Answer.TheVariants as answer
+use Rattle.clif_resolution.specs.declared.answers.Answer.TheVariants as answer
 use Rattle.clif_replay.proofs.Conditions.{has-current}
 use Rattle.clif_replay.proofs.Making.{answered-sound, made-answer, made-misused, made-refused}
 use Rattle.clif_replay.proofs.Outside.{outside-contexts, outside-edges, outside-exist, outside-full, outside-imported, outside-open, outside-ready, outside-same}
 use Rattle.clif_replay.proofs.ReadyLaws.{answers-exist}
 use Rattle.clif_replay.proofs.make_outside.make_outside_call.Goals as goal
 
-pub checked-requires : goal.checked-requires
-checked-requires c = answers-exist c.requires.calls c.args.builder.now c.args.answers.now c.requires.ready
+pub outside_call_found-requires : goal.outside_call_found-requires
+outside_call_found-requires c = answers-exist c.requires.calls c.args.builder.now c.args.answers.now c.requires.ready
 
 pub returns-in_err-shape : goal.returns-in_err-shape
 returns-in_err-shape c =
     let p = err_from_is_err_and c.from_residual.result c.from_residual.ensures.1 in
-    made-misused c.args.builder.now c.args.answers.now c.checked.result c.from_residual.result c.in_err-shape.field-0.0 c.in_err-shape.was (p.1 ∙ ap Err p.2) c.checked.ensures
+    made-misused c.args.builder.now c.args.answers.now c.outside_call_found.result c.from_residual.result c.in_err-shape.field-0.0 c.in_err-shape.was (p.1 ∙ ap Err p.2) c.outside_call_found.ensures
     (λ none declared calls ready. outside-same calls c.args.builder.now c.args.answers.now ready c.args.called.now ∙ none)
 
 pub append-requires-clause-current : goal.append-requires-clause-current

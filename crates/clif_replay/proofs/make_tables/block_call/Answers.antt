@@ -1,12 +1,13 @@
-use Rattle.std.proofs.Common.{List, ap, sym, ◌∙◌, subst}
+use Rattle.std.proofs.Common.{List, ap, ◌∙◌, subst}
 use Rattle.std.specs.Prelude.{Err, Ok}
 use Rattle.std.proofs.lemmas.Result.{err_from_is_err_and}
 use Rattle.clif_instructions.specs.declared.block_call.BlockArg.{BlockArg}
 use Rattle.cranelift_frontend.specs.Context.{ContextState}
 use Rattle.cranelift_frontend.specs.Entries.{MakesEdge}
-use Rattle.clif_replay.specs.declared.script.Answer.TheVariants as answer
-use Rattle.clif_replay.proofs.JumpTables.{edge-ready, edge-same, edge-there}
-use Rattle.clif_replay.proofs.Making.{answered-sound, made-answer, made-misused, made-refused}
+use Rattle.clif_resolution.specs.declared.answers.Answer.TheVariants as answer
+use Rattle.clif_replay.proofs.JumpTables.{edge-ready, edge-same}
+use Rattle.clif_resolution.proofs.Found.{edge-there}
+use Rattle.clif_replay.proofs.Making.{answered-sound, made-answer, made-misused}
 use Rattle.clif_replay.proofs.ReadyLaws.{answers-exist}
 use Rattle.clif_replay.proofs.make_tables.block_call.Goals as goal
 

@@ -1,14 +1,15 @@
-use Rattle.std.proofs.Common.{◌≡◌, ap, sym, ◌∙◌, subst, refl}
-use Rattle.std.specs.Prelude.{Bool, Err, Ok, Option, Some, ◌&&◌, is_some, slice_index_or, true}
+use Rattle.std.proofs.Common.{◌≡◌, ap, sym, ◌∙◌, subst}
+use Rattle.std.specs.Prelude.{Ok, ◌&&◌, is_some, slice_index_or, true}
 use Rattle.std.proofs.lemmas.Bool.{and_from, and_right}
 use Rattle.std.proofs.lemmas.Result.{err_from_is_err_and}
 use Rattle.clif_ir.specs.Body.{Body}
 use Rattle.cranelift_frontend.specs.Context.{ContextState}
-use Rattle.clif_replay.specs.declared.script.Answer.TheVariants as answer
-use Rattle.clif_replay.specs.Ready.{AnswerExists, is_open, serves, value_of}
+use Rattle.clif_resolution.specs.declared.answers.Answer.TheVariants as answer
+use Rattle.clif_resolution.specs.Answers.{AnswerExists, value_of}
+use Rattle.clif_resolution.specs.Conditions.{is_open, serves}
 use Rattle.clif_replay.proofs.Conditions.{has-current}
 use Rattle.clif_replay.proofs.JumpTables.{Branched, branch-closed, branch-missing, branch-ready, branch-same, branched, serving}
-use Rattle.clif_replay.proofs.Making.{Judges, answered-sound, made-answer, made-misuse, made-refused}
+use Rattle.clif_replay.proofs.Making.{answered-sound, made-answer, made-misuse, made-refused}
 use Rattle.clif_replay.proofs.ReadyLaws.{answers-exist, value-exists}
 use Rattle.clif_replay.proofs.make_tables.br_table.Goals as goal
 

@@ -1,4 +1,4 @@
-use Rattle.std.proofs.Common.{◌≡◌, List, ◌∷◌, ap, sym, ◌∙◌, subst, refl}
+use Rattle.std.proofs.Common.{◌≡◌, List, ◌∷◌, ap, ◌∙◌, subst}
 use Rattle.std.specs.Prelude.{Bool, Err, Ok, Option, Some, map, ◌&&◌, is_some}
 use Rattle.std.specs.List.{list_all}
 use Rattle.std.proofs.lemmas.Bool.{and_right}
@@ -7,8 +7,8 @@ use Rattle.clif_instructions.specs.declared.block_call.BlockCall.{BlockCall}
 use Rattle.cranelift_frontend.specs.Context.{ContextState}
 use Rattle.cranelift_frontend.specs.Entries.{CreatesJumpTable}
 use Rattle.clif_calls.specs.declared.call.Name.{Name}
-use Rattle.clif_replay.specs.Ready.{edge_at}
-use Rattle.clif_replay.specs.declared.script.Answer.TheVariants as answer
+use Rattle.clif_resolution.specs.Answers.{edge_at}
+use Rattle.clif_resolution.specs.declared.answers.Answer.TheVariants as answer
 use Rattle.clif_replay.proofs.JumpTables.{all-there, edges-same, table-ready}
 use Rattle.clif_replay.proofs.Making.{answered-sound, made-answer, made-misused, made-missed, made-refused}
 use Rattle.clif_replay.proofs.make_tables.create_jump_table.Goals as goal

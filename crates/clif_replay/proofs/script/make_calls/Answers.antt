@@ -2,12 +2,12 @@ use Rattle.std.proofs.Common.{◌≡◌, ◌<◌, List, [], ◌∷◌, ◌++◌,
 use Rattle.std.proofs.lemmas.Grind.{common_steps}
 use Rattle.clif_meaning.specs.Request.{AnsweredCall}
 use Rattle.cranelift_frontend.specs.Ledger.{ledger_of}
-use Rattle.clif_replay.specs.declared.script.Answer.{Answer}
+use Rattle.clif_resolution.specs.declared.answers.Answer.{Answer}
 use Rattle.clif_replay.specs.Ready.{IsJudged, IsReady}
 use Rattle.clif_replay.specs.Requests.{IsReplayed, request_of}
 use Rattle.std.specs.Prelude.{ℕ, Bool, true, length, Err, Result, Some}
-use Rattle.clif_replay.specs.declared.script.CallError.{CallError}
-use Rattle.clif_replay.specs.declared.script.CallError.TheVariants as error
+use Rattle.clif_resolution.specs.declared.answers.CallError.{CallError}
+use Rattle.clif_resolution.specs.declared.answers.CallError.TheVariants as error
 use Rattle.clif_replay.specs.declared.script.ReplayError.{ReplayError}
 use Rattle.clif_replay.specs.declared.script.ReplayError.TheVariants.{Full, Misuse, Refused}
 use Rattle.std.proofs.lemmas.Option.{slice_get-get_or}
@@ -41,8 +41,8 @@ returns-in-Err-clause-judged c = λ i told.
     let made = c.loop-place.invariant.made.0 in
     let declared = c.args.builder.now.func.now.signature in
     let ready = subst (λ (xs : List Answer). IsReady declared made c.loop-place.builder xs) (sym c.as_slice.ensures.value) c.loop-place.invariant.made.1 in
-    misuse-told declared c.args.calls.now c.loop-place.place i c.index-calls-place.result made c.in-Err.error c.at.result c.loop-place-test.true c.index-calls-place.is c.loop-place.invariant.made.2
-    (c.in-Err.ensures.judged declared made ready) c.at.ensures (same c.at.result i told)
+    misuse-told declared c.args.calls.now c.loop-place.place i c.index-calls-place.result made c.in-Err.error c.told_at.result c.loop-place-test.true c.index-calls-place.is c.loop-place.invariant.made.2
+    (c.in-Err.ensures.judged declared made ready) c.told_at.ensures (same c.told_at.result i told)
   where
     same : (e : ReplayError) (k : ℕ) → ◌≡◌ {A = Result (Unit {0}) ReplayError} (Err e) (Err (Misuse k)) → e ≡ Misuse k
     same e k h = cc
@@ -62,7 +62,7 @@ returns-in-Err-clause-table_full c = λ told.
     let invariant = c.loop-place.invariant in
     let builder = c.loop-place.builder in
     let call = c.index-calls-place.result in
-    let is_full = full-told c.in-Err.error c.loop-place.place c.at.result c.at.ensures (same-full c.at.result told) in
+    let is_full = full-told c.in-Err.error c.loop-place.place c.told_at.result c.told_at.ensures (same-full c.told_at.result told) in
     let ready = subst (λ (xs : List Answer). IsReady c.args.builder.now.func.now.signature invariant.made.0 builder xs) (sym c.as_slice.ensures.value) invariant.made.1 in
     let judged = c.in-Err.ensures.judged c.args.builder.now.func.now.signature invariant.made.0 ready in
     record {
@@ -115,12 +115,12 @@ pub returns-in-Err-clause-sound : goal.returns-in-Err-clause-sound
 returns-in-Err-clause-sound c = tt
 
 pub returns-in-Err-clause-misuse : goal.returns-in-Err-clause-misuse
-returns-in-Err-clause-misuse c = λ i told. subst (λ (k : ℕ). k < length c.args.calls.now) (sym (misuse-place c.in-Err.error c.loop-place.place i c.at.result c.at.ensures told)) c.loop-place-test.true
+returns-in-Err-clause-misuse c = λ i told. subst (λ (k : ℕ). k < length c.args.calls.now) (sym (misuse-place c.in-Err.error c.loop-place.place i c.told_at.result c.told_at.ensures told)) c.loop-place-test.true
 
 pub returns-in-Err-clause-tried : goal.returns-in-Err-clause-tried
 returns-in-Err-clause-tried c = λ i told.
     let call = c.index-calls-place.result in
-    let refusal = refusal-at c.in-Err.error c.loop-place.place i c.at.result c.at.ensures (same-refusal c.at.result i told) in
+    let refusal = refusal-at c.in-Err.error c.loop-place.place i c.told_at.result c.told_at.ensures (same-refusal c.told_at.result i told) in
     refused-there c.args.calls.now c.loop-place.place i call (slice_get-get_or c.args.calls.now c.loop-place.place call c.loop-place-test.true ∙ ap Some (sym c.index-calls-place.is))
     (c.in-Err.ensures.refused (ap Err refusal.0)) refusal.1
 
@@ -129,5 +129,5 @@ returns-in-Err-clause-refused c = λ i told.
     let made = c.loop-place.invariant.made.0 in
     let declared = c.args.builder.now.func.now.signature in
     let ready = subst (λ (xs : List Answer). IsReady declared made c.loop-place.builder xs) (sym c.as_slice.ensures.value) c.loop-place.invariant.made.1 in
-    refusal-told declared c.args.calls.now c.loop-place.place i c.index-calls-place.result made c.in-Err.error c.at.result c.loop-place-test.true c.index-calls-place.is c.loop-place.invariant.made.2
-    (c.in-Err.ensures.judged declared made ready) c.at.ensures (same-refusal c.at.result i told)
+    refusal-told declared c.args.calls.now c.loop-place.place i c.index-calls-place.result made c.in-Err.error c.told_at.result c.loop-place-test.true c.index-calls-place.is c.loop-place.invariant.made.2
+    (c.in-Err.ensures.judged declared made ready) c.told_at.ensures (same-refusal c.told_at.result i told)

@@ -1,0 +1,258 @@
+-- Joined calls whose emissions are performed have a run that the plain calls' run expands.
+use Rattle.std.proofs.Common.{◌≡◌, ◌+◌, inl, inr, ℕ, suc, Bool, List, [], ◌∷◌, ◌++◌, length, map, refl, sym, ◌∙◌, ap, subst, arith, append_assoc}
+use Rattle.std.specs.Prelude.{fold, slice_get}
+use Rattle.std.specs.List.{AllZip}
+use Rattle.clif_meaning.specs.FunctionView.{FunctionView}
+use Rattle.clif_meaning.specs.Headline.{in_spill_slot, script_run}
+use Rattle.clif_meaning.specs.Instruction.{Instruction}
+use Rattle.clif_meaning.specs.Ledger.{Ledger, VariableState, answers_to, empty_ledger, is_marked, ledger_after, ledger_with, marked, or_invalid, type_of}
+use Rattle.clif_meaning.specs.Name.{Name, answer_of}
+use Rattle.clif_meaning.specs.Program.{Program, Item, program_of}
+use Rattle.clif_meaning.specs.Request.{Request, CreateBlock, SwitchToBlock, SealBlock, SealAllBlocks, InsertBlockAfter, SetColdBlock, EnsureInsertedBlock, AppendBlockParams, AppendFunctionParams, DeclareVar, DefVar, UseVar, MakeEntry, MakeEdge, MakeJumpTable, MakeExceptionTable, Annotate, Build, ChangeJumpDestination, Finalize, Script}
+use Rattle.clif_meaning.specs.Tracked.{tracked_by, tracked_from}
+use Rattle.clif_meaning.specs.World.{World}
+use Rattle.clif_expansion.specs.Code.{Does, NameTypes, PerformsItem}
+use Rattle.clif_expansion.specs.Emission.{building, reading_emitted}
+use Rattle.clif_expansion.specs.Expansion.{IsCutProgram, IsExpandedRun, types_in}
+use Rattle.clif_expansion.specs.JoinedCalls.{AreJoinedCalls, Asking, Emitting, Starting}
+use Rattle.clif_expansion.specs.JoinedRuns.{JoinedCallsMeanTheSame, calls_run, tracked_by_call, tracked_by_calls}
+use Rattle.clif_expansion.specs.Joining.{IsJoined, IsReadRequest, answers_at, reading_after}
+use Rattle.clif_expansion.specs.Laying.{IsLaid, IsLaidProgram}
+use Rattle.clif_expansion.specs.PerformedCalls.{ArePerformed, HaveTypes}
+use Rattle.clif_expansion.specs.Reading.{IsReadAs, Reading}
+use Rattle.clif_expansion.specs.ScriptCall.{Ask, Emit, ScriptCall, call_answers, ledger_of, ledger_with_call, program_of_calls}
+use Rattle.clif_expansion.proofs.CalledPrograms.{EachKnown, go}
+use Rattle.clif_expansion.proofs.EmittedPrograms.{emitted_before, one_longer}
+use Rattle.clif_expansion.proofs.JoinedCalls.{fold_on, joined_calls}
+use Rattle.clif_expansion.proofs.JoinedPrograms.{IsCalledSo, LastsLater, cut_each}
+use Rattle.clif_expansion.proofs.JoinedStates.{any_read, chosen, zip_joined}
+use Rattle.clif_expansion.proofs.Joins
+use Rattle.clif_expansion.proofs.Joins.{KeepsReading, names_later, read_there}
+use Rattle.clif_expansion.proofs.LaidCodes
+use Rattle.clif_expansion.proofs.LaidPaths
+use Rattle.clif_expansion.proofs.LaterCodes.{item_performed_later, laid_later}
+use Rattle.clif_expansion.proofs.LedgerTypes.{call_types_before, types_before}
+use Rattle.clif_expansion.proofs.ReadConditions
+use Rattle.clif_expansion.proofs.Same
+
+-- PERFORMED ---------------------------------------------------------------------------------------------------------------
+
+module _ (pointer_width : ℕ) (types : NameTypes) where
+  -- what is known of each emission's code
+  abbrev IsDone : Reading → List Item → Item → Type 0
+  IsDone reading code item = PerformsItem pointer_width reading types code item × ((program : Program) → IsLaid reading program code item)
+
+  lasts : LastsLater IsDone
+  lasts reading later keeps generated code item is = (
+    item_performed_later reading later keeps generated pointer_width types code item is.0,
+    λ program. laid_later reading later keeps generated program code item (is.1 program),
+  )
+
+  each_done : (reading : Reading) (plain : Script) (calls : List ScriptCall) (are : AreJoinedCalls reading plain calls)
+      → HaveTypes (ledger_after plain) types.plain → HaveTypes (ledger_of calls) types.script → ArePerformed pointer_width reading plain calls are
+      → EachKnown IsDone lasts reading plain calls are
+  each_done reading plain calls Starting have' have are = tt
+  each_done reading plain calls (Asking old script earlier ask request are is) have' have done =
+      each_done old script earlier are
+      (types_before (ledger_after script) (ask ∷ []) types.plain (subst (λ (l : Ledger). HaveTypes l types.plain) (fold_on ledger_with empty_ledger script (ask ∷ [])) have'))
+      (call_types_before (ledger_of earlier) (Ask request) types.script (subst (λ (l : Ledger). HaveTypes l types.script) (fold_on ledger_with_call empty_ledger earlier (Ask request ∷ [])) have))
+      done
+  each_done reading plain calls (Emitting old script earlier code last whole are line stays whole_stays same) have' have done =
+      let behind' : HaveTypes (fold ledger_with (ledger_after script) (map building code ++ building last ∷ [])) types.plain =
+      subst (λ (l : Ledger). HaveTypes l types.plain) (fold_on ledger_with empty_ledger script (map building code ++ building last ∷ [])) have' in
+      let after : HaveTypes (ledger_with_call (ledger_of earlier) (Emit whole)) types.script =
+      subst (λ (l : Ledger). HaveTypes l types.script) (fold_on ledger_with_call empty_ledger earlier (Emit whole ∷ [])) have in (
+        each_done old script earlier are
+            (types_before (ledger_after script) (map building code ++ building last ∷ []) types.plain behind')
+            (call_types_before (ledger_of earlier) (Emit whole) types.script after) done.0,
+        (done.1.performs types behind' after, done.1.laid),
+      )
+
+  does : (reading : Reading) (program : Program) (code : List Item) (item : Item) → IsCalledSo IsDone reading code item → Does pointer_width reading types program code item
+  does reading program (plain ∷ []) item (inl asked) = inl asked.0
+  does reading program [] item (inl asked) = absurd asked
+  does reading program (plain ∷ second ∷ code) item (inl asked) = absurd asked
+  does reading program code item (inr (is, known)) = inr (inl known.0)
+
+  laid : (reading : Reading) (program : Program) (code : List Item) (item : Item) → IsCalledSo IsDone reading code item → IsLaid reading program code item
+  laid reading program (plain ∷ []) item (inl asked) = LaidCodes.itself reading program (plain ∷ []) item asked.0
+  laid reading program [] item (inl asked) = absurd asked
+  laid reading program (plain ∷ second ∷ code) item (inl asked) = absurd asked
+  laid reading program code item (inr (is, known)) = known.1 program
+
+  recut : (reading : Reading) (Stands : List Item → Item → Type 0) → ((code : List Item) (item : Item) → IsCalledSo IsDone reading code item → Stands code item)
+      → (plain program : Program) → IsCutProgram reading (IsCalledSo IsDone reading) plain program → IsCutProgram reading Stands plain program
+  recut reading Stands each plain program cut = record {
+    entry = cut.entry;
+    parameters = cut.parameters;
+    items = λ x block is. cut_each (IsCalledSo IsDone reading) Stands each (plain.items x) (program.items block) (cut.items x block is);
+  }
+
+-- TRACKED NAMES -----------------------------------------------------------------------------------------------------------
+
+calls_behind : (script : Script) (ledger : Ledger) → length (fold ledger_with ledger script).answers ≡ length ledger.answers + length script
+calls_behind [] ledger = omega arith
+calls_behind (request ∷ script) ledger =
+    let more = one_longer ledger.answers (answers_to ledger request) in
+    let rest = calls_behind script (ledger_with ledger request) in
+    omega (arith, more, rest)
+
+from_zero : (n : ℕ) → 0 + n ≡ n
+from_zero n = omega arith
+
+calls_behind_calls : (calls : List ScriptCall) (ledger : Ledger) → length (fold ledger_with_call ledger calls).answers ≡ length ledger.answers + length calls
+calls_behind_calls [] ledger = omega arith
+calls_behind_calls (call ∷ calls) ledger =
+    let more = one_longer ledger.answers (call_answers ledger call) in
+    let rest = calls_behind_calls calls (ledger_with_call ledger call) in
+    omega (arith, more, rest)
+
+module _ (marks : Ledger) where
+  further : (place n : ℕ) → suc place + n ≡ place + suc n
+  further place n = omega arith
+
+  none_more : (n : ℕ) → n ≡ n + 0
+  none_more n = omega arith
+
+  tracked_behind : (place : ℕ) (script more : Script) → tracked_from marks place (script ++ more) ≡ tracked_from marks place script ++ tracked_from marks (place + length script) more
+  tracked_behind place [] more = ap (λ (n : ℕ). tracked_from marks n more) (none_more place)
+  tracked_behind place (request ∷ script) more =
+      ap (λ (xs : List Name). tracked_by marks place request ++ xs)
+      (tracked_behind (suc place) script more ∙ ap (λ (n : ℕ). tracked_from marks (suc place) script ++ tracked_from marks n more) (further place (length script)))
+      ∙ sym (append_assoc (tracked_by marks place request) (tracked_from marks (suc place) script) (tracked_from marks (place + suc (length script)) more))
+
+  calls_tracked_behind : (place : ℕ) (calls more : List ScriptCall) → tracked_by_calls marks place (calls ++ more) ≡ tracked_by_calls marks place calls ++ tracked_by_calls marks (place + length calls) more
+  calls_tracked_behind place [] more = ap (λ (n : ℕ). tracked_by_calls marks n more) (none_more place)
+  calls_tracked_behind place (call ∷ calls) more =
+      ap (λ (xs : List Name). tracked_by_call marks place call ++ xs)
+      (calls_tracked_behind (suc place) calls more ∙ ap (λ (n : ℕ). tracked_by_calls marks (suc place) calls ++ tracked_by_calls marks n more) (further place (length calls)))
+      ∙ sym (append_assoc (tracked_by_call marks place call) (tracked_by_calls marks (suc place) calls) (tracked_by_calls marks (place + suc (length calls)) more))
+
+  -- behind a whole list
+  tracked_last : (script more : Script) → tracked_from marks 0 (script ++ more) ≡ tracked_from marks 0 script ++ tracked_from marks (length script) more
+  tracked_last script more = tracked_behind 0 script more ∙ ap (λ (n : ℕ). tracked_from marks 0 script ++ tracked_from marks n more) (from_zero (length script))
+
+  calls_tracked_last : (calls more : List ScriptCall) → tracked_by_calls marks 0 (calls ++ more) ≡ tracked_by_calls marks 0 calls ++ tracked_by_calls marks (length calls) more
+  calls_tracked_last calls more = calls_tracked_behind 0 calls more ∙ ap (λ (n : ℕ). tracked_by_calls marks 0 calls ++ tracked_by_calls marks n more) (from_zero (length calls))
+
+  -- what is built tracks nothing
+  built_track : (place : ℕ) (code : List (Instruction Name Name)) (last : Instruction Name Name) → tracked_from marks place (map building code ++ building last ∷ []) ≡ []
+  built_track place [] last = refl
+  built_track place (first ∷ code) last = built_track (suc place) code last
+
+module _ (marks' marks : Ledger) (same : (v : ℕ) → is_marked marks' v ≡ is_marked marks v) where
+  -- what a call tracks is read as what the script's call tracks
+  call_tracks : (reading : Reading) (ledger' ledger : Ledger) (joined : IsJoined reading ledger' ledger) (ask request : Request) → IsReadRequest reading ask request
+      → AllZip (IsReadAs (reading_after reading ledger' ledger)) (tracked_by marks' (length ledger'.answers) ask) (tracked_by marks (length ledger.answers) request)
+  call_tracks reading ledger' ledger joined (DefVar number x) (DefVar variable value) is =
+      chosen (AllZip (IsReadAs (reading_after reading ledger' ledger))) (is_marked marks' number) (is_marked marks variable) (x ∷ []) [] (value ∷ []) []
+      (same number ∙ ap (is_marked marks) is.0) (Joins.keeps reading ledger' ledger joined x value is.1, tt) tt
+  call_tracks reading ledger' ledger joined (UseVar number) (UseVar variable) is =
+      chosen (AllZip (IsReadAs (reading_after reading ledger' ledger))) (is_marked marks' number) (is_marked marks variable)
+      (answer_of (length ledger'.answers) 0 ∷ []) [] (answer_of (length ledger.answers) 0 ∷ []) []
+      (same number ∙ ap (is_marked marks) is) (read_there reading (length ledger'.answers) 0 (answers_at (length ledger.answers)), tt) tt
+  call_tracks reading ledger' ledger joined CreateBlock CreateBlock is = tt
+  call_tracks reading ledger' ledger joined (SwitchToBlock x) (SwitchToBlock block) is = tt
+  call_tracks reading ledger' ledger joined (SealBlock x) (SealBlock block) is = tt
+  call_tracks reading ledger' ledger joined SealAllBlocks SealAllBlocks is = tt
+  call_tracks reading ledger' ledger joined (InsertBlockAfter x behind) (InsertBlockAfter block after) is = tt
+  call_tracks reading ledger' ledger joined (SetColdBlock x) (SetColdBlock block) is = tt
+  call_tracks reading ledger' ledger joined EnsureInsertedBlock EnsureInsertedBlock is = tt
+  call_tracks reading ledger' ledger joined (AppendBlockParams x types') (AppendBlockParams block types) is = tt
+  call_tracks reading ledger' ledger joined (AppendFunctionParams x types') (AppendFunctionParams block types) is = tt
+  call_tracks reading ledger' ledger joined (DeclareVar ty') (DeclareVar ty) is = tt
+  call_tracks reading ledger' ledger joined (MakeEntry entry') (MakeEntry entry) is = tt
+  call_tracks reading ledger' ledger joined (MakeEdge edge') (MakeEdge edge) is = tt
+  call_tracks reading ledger' ledger joined (MakeJumpTable first names) (MakeJumpTable default entries) is = tt
+  call_tracks reading ledger' ledger joined (MakeExceptionTable number first listed) (MakeExceptionTable signature normal items) is = tt
+  call_tracks reading ledger' ledger joined (Annotate names) (Annotate values) is = tt
+  call_tracks reading ledger' ledger joined (Build entries' instruction') (Build entries instruction) is = tt
+  call_tracks reading ledger' ledger joined (ChangeJumpDestination jump at there) (ChangeJumpDestination branch from to) is = tt
+  call_tracks reading ledger' ledger joined Finalize Finalize is = tt
+  call_tracks reading ledger' ledger joined _ _ is = absurd is
+
+  behind : (reading : Reading) (script more : Script) (earlier further : List ScriptCall)
+      → AllZip (IsReadAs reading) (tracked_from marks' 0 script) (tracked_by_calls marks 0 earlier)
+      → AllZip (IsReadAs reading) (tracked_from marks' (length script) more) (tracked_by_calls marks (length earlier) further)
+      → AllZip (IsReadAs reading) (tracked_from marks' 0 (script ++ more)) (tracked_by_calls marks 0 (earlier ++ further))
+  behind reading script more earlier further before last =
+      subst (λ (xs : List Name). AllZip (IsReadAs reading) xs (tracked_by_calls marks 0 (earlier ++ further))) (sym (tracked_last marks' script more))
+      (subst (λ (xs : List Name). AllZip (IsReadAs reading) (tracked_from marks' 0 script ++ tracked_from marks' (length script) more) xs) (sym (calls_tracked_last marks earlier further))
+      (zip_joined (IsReadAs reading) (tracked_from marks' 0 script) (tracked_from marks' (length script) more) (tracked_by_calls marks 0 earlier) (tracked_by_calls marks (length earlier) further) before last))
+
+  tracked : (reading : Reading) (plain : Script) (calls : List ScriptCall) → AreJoinedCalls reading plain calls
+      → AllZip (IsReadAs reading) (tracked_from marks' 0 plain) (tracked_by_calls marks 0 calls)
+  tracked reading plain calls Starting = tt
+  tracked reading plain calls (Asking old script earlier ask request are is) =
+      let joined = joined_calls old script earlier are in
+      let places' : length (ledger_after script).answers ≡ length script = calls_behind script empty_ledger ∙ from_zero (length script) in
+      let places : length (ledger_of earlier).answers ≡ length earlier = calls_behind_calls earlier empty_ledger ∙ from_zero (length earlier) in
+      behind (reading_after old (ledger_after script) (ledger_of earlier)) script (ask ∷ []) earlier (Ask request ∷ [])
+      (names_later old (reading_after old (ledger_after script) (ledger_of earlier)) (Joins.keeps old (ledger_after script) (ledger_of earlier) joined) _ _ (tracked old script earlier are))
+      (zip_joined (IsReadAs (reading_after old (ledger_after script) (ledger_of earlier))) (tracked_by marks' (length script) ask) [] (tracked_by marks (length earlier) request) []
+      (subst (λ (n : ℕ). AllZip (IsReadAs (reading_after old (ledger_after script) (ledger_of earlier))) (tracked_by marks' n ask) (tracked_by marks (length earlier) request)) places'
+      (subst (λ (n : ℕ). AllZip (IsReadAs (reading_after old (ledger_after script) (ledger_of earlier))) (tracked_by marks' (length (ledger_after script).answers) ask) (tracked_by marks n request)) places
+      (call_tracks old (ledger_after script) (ledger_of earlier) joined ask request is))) tt)
+  tracked reading plain calls (Emitting old script earlier code last whole are line stays whole_stays types) =
+      let joined = joined_calls old script earlier are in
+      let keeps : KeepsReading old (reading_emitted old (ledger_after script) (ledger_of earlier) code) =
+      λ x name is. emitted_before old (ledger_after script) (ledger_of earlier) code x (joined.made x name is).0 ∙ is in
+      behind (reading_emitted old (ledger_after script) (ledger_of earlier) code) script (map building code ++ building last ∷ []) earlier (Emit whole ∷ [])
+      (names_later old (reading_emitted old (ledger_after script) (ledger_of earlier) code) keeps _ _ (tracked old script earlier are))
+      (subst (λ (xs : List Name). AllZip (IsReadAs (reading_emitted old (ledger_after script) (ledger_of earlier) code)) xs []) (sym (built_track marks' (length script) code last)) tt)
+
+-- RUNS --------------------------------------------------------------------------------------------------------------------
+
+module _ (reading : Reading) (plain : Script) (calls : List ScriptCall) (are : AreJoinedCalls reading plain calls) (function : FunctionView) (world : World)
+    (done : ArePerformed world.pointer_width reading plain calls are) where
+  abbrev hidden : ℕ → Bool
+  hidden = in_spill_slot plain function world
+
+  abbrev types : NameTypes
+  types = types_in (script_run plain function world) (calls_run calls hidden world)
+
+  joined : IsJoined reading (ledger_after plain) (ledger_of calls)
+  joined = joined_calls reading plain calls are
+
+  marks : (v : ℕ) → is_marked (ledger_after plain) v ≡ is_marked (ledger_of calls) v
+  marks v = ap (λ (variables : List VariableState). marked (slice_get variables v)) joined.ledgers.states.variables
+
+  run : IsExpandedRun reading (script_run plain function world) (calls_run calls hidden world)
+  run = record {
+    one_to_one = joined.one_to_one;
+    program = recut world.pointer_width types reading (Does world.pointer_width reading types (program_of plain)) (does world.pointer_width types reading (program_of plain))
+        (program_of plain) (program_of_calls calls)
+        (go (IsDone world.pointer_width types) (lasts world.pointer_width types) reading plain calls are
+        (each_done world.pointer_width types reading plain calls are (λ x ty is. ap or_invalid is) (λ x ty is. ap or_invalid is) done)).cut;
+    variable_type = λ v. ap or_invalid (ReadConditions.variable_same reading (ledger_after plain) (ledger_of calls) joined v v refl);
+    name_type = λ x name is. ap or_invalid (ReadConditions.type_same reading (ledger_after plain) (ledger_of calls) joined x name is);
+    is_marked = marks;
+    is_tracked = λ x name is.
+        any_read reading joined.one_to_one x name (tracked_from (ledger_after plain) 0 plain) (tracked_by_calls (ledger_of calls) 0 calls) is
+        (tracked (ledger_after plain) (ledger_of calls) marks reading plain calls are);
+    hidden = λ address. refl;
+    world = refl;
+  }
+
+module _ (pointer_width : ℕ) (reading : Reading) (plain : Script) (calls : List ScriptCall) (are : AreJoinedCalls reading plain calls) (done : ArePerformed pointer_width reading plain calls are) where
+  abbrev ledger_types : NameTypes
+  ledger_types = record { plain = λ x. or_invalid (type_of (ledger_after plain) x); script = λ x. or_invalid (type_of (ledger_of calls) x) }
+
+  laid_program : IsLaidProgram reading (program_of plain) (program_of_calls calls)
+  laid_program =
+      recut pointer_width ledger_types reading (IsLaid reading (program_of plain)) (laid pointer_width ledger_types reading (program_of plain))
+      (program_of plain) (program_of_calls calls)
+      (go (IsDone pointer_width ledger_types) (lasts pointer_width ledger_types) reading plain calls are
+      (each_done pointer_width ledger_types reading plain calls are (λ x ty is. ap or_invalid is) (λ x ty is. ap or_invalid is) done)).cut
+
+pub joined_mean : JoinedCallsMeanTheSame
+joined_mean = record {
+  same_meaning = λ reading plain calls are function world done sound.
+      Same.expanding_means_the_same reading (script_run plain function world) (calls_run calls (in_spill_slot plain function world) world) (run reading plain calls are function world done) sound;
+  claims_true = λ reading plain calls are function world done sound.
+      Same.expanding_keeps_premises.claims_true reading (script_run plain function world) (calls_run calls (in_spill_slot plain function world) world) (run reading plain calls are function world done) sound;
+  spares_spill_slots = λ reading plain calls are function world done sound spares.
+      Same.expanding_keeps_premises.spares_spill_slots reading (script_run plain function world) (calls_run calls (in_spill_slot plain function world) world) (run reading plain calls are function world done) sound spares;
+  well_placed = λ pointer_width reading plain calls are done placed.
+      LaidPaths.laying_keeps_places reading (program_of plain) (program_of_calls calls) (joined_calls reading plain calls are).one_to_one (laid_program pointer_width reading plain calls are done) placed;
+}

@@ -1,0 +1,39 @@
+-- Emissions that are performed: behind its last call the code of each emission performs the instruction that is emitted, and is laid.
+-- Names have the types that ledgers give them. Own.
+use Rattle.std.specs.Prelude.{◌≡◌, ℕ, List, [], ◌∷◌, ◌++◌, fold, length, map, Some}
+use Rattle.clif_types.specs.declared.types.«Type».{«Type»}
+use Rattle.clif_meaning.specs.Instruction.{Instruction}
+use Rattle.clif_meaning.specs.Ledger.{Ledger, ledger_after, ledger_with, type_of}
+use Rattle.clif_meaning.specs.Name.{Name}
+use Rattle.clif_meaning.specs.Program.{Program}
+use Rattle.clif_meaning.specs.Request.{Script}
+use Rattle.clif_expansion.specs.Code.{NameTypes, PerformsItem}
+use Rattle.clif_expansion.specs.Emission.{building, reading_emitted}
+use Rattle.clif_expansion.specs.JoinedCalls.{AreJoinedCalls, Asking, Emitting, Starting}
+use Rattle.clif_expansion.specs.JoinedPrograms.{built_items}
+use Rattle.clif_expansion.specs.Laying.{IsLaid}
+use Rattle.clif_expansion.specs.Reading.{Reading}
+use Rattle.clif_expansion.specs.ScriptCall.{Emit, ScriptCall, emitted_item, ledger_of, ledger_with_call}
+
+-- a value has the type that the ledger gives it, and what isn't one so far may have any type
+abbrev pub HaveTypes : Ledger → (Name → «Type») → Type 0
+HaveTypes ledger types = (x : Name) (ty : «Type») → type_of ledger x ≡ Some ty → types x ≡ ty
+
+-- Code that is built behind these ledgers, of instructions and a last one, does what the instruction does that is emitted: it
+-- performs it, whatever types later names have, and is laid.
+pub record IsPerformed (pointer_width : ℕ) (reading : Reading) (plain_ledger ledger : Ledger) (code : List (Instruction Name Name)) (last instruction : Instruction Name Name) : Type 0 where
+  pub performs : (types : NameTypes)
+      → HaveTypes (fold ledger_with plain_ledger (map building code ++ building last ∷ [])) types.plain
+      → HaveTypes (ledger_with_call ledger (Emit instruction)) types.script
+      → PerformsItem pointer_width (reading_emitted reading plain_ledger ledger code) types
+      (built_items (length plain_ledger.answers) (code ++ last ∷ [])) (emitted_item (length ledger.answers) instruction)
+  pub laid : (program : Program)
+      → IsLaid (reading_emitted reading plain_ledger ledger code) program
+      (built_items (length plain_ledger.answers) (code ++ last ∷ [])) (emitted_item (length ledger.answers) instruction)
+
+-- each emission of joined calls is performed, where pointers have this width
+abbrev pub ArePerformed : (pointer_width : ℕ) (reading : Reading) (plain : Script) (calls : List ScriptCall) → AreJoinedCalls reading plain calls → Type 0
+ArePerformed pointer_width reading plain calls Starting = Unit {0}
+ArePerformed pointer_width reading plain calls (Asking before script earlier asked request are is) = ArePerformed pointer_width before script earlier are
+ArePerformed pointer_width reading plain calls (Emitting before script earlier code last instruction are line stays whole types) =
+    ArePerformed pointer_width before script earlier are × IsPerformed pointer_width before (ledger_after script) (ledger_of earlier) code last instruction

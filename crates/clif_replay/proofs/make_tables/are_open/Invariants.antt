@@ -1,8 +1,0 @@
-use Rattle.std.proofs.Common.{◌≡◌, take}
-use Rattle.std.specs.Prelude.{true}
-use Rattle.std.specs.List.{list_all}
-use Rattle.clif_replay.specs.Ready.{can_seal}
-use Rattle.clif_replay.proofs.make_tables.are_open.Given as goal
-
-abbrev pub invariant-loop-edge : goal.invariant-loop-edge
-invariant-loop-edge l = list_all (λ edge. can_seal l.builder edge.block) (take l.edge-index l.edges) ≡ true

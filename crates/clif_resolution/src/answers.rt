@@ -1,0 +1,78 @@
+//! What calls answered, and why one didn't succeed.
+ghost use Rattle.std.specs.Prelude.{◌≡◌, ◌<◌};
+ghost use Rattle.clif_resolution.specs.Errors.{call_error_of, call_memory};
+
+use clif_ir::BlockCall;
+use clif_records::Variable;
+use clif_types::{Block, BuildError, Inst, Value};
+use std::alloc::{AllocError, AllocFailed};
+
+/// What a call answered: its values have numbers that follow one another, and the results of an
+/// instruction are asked of the function.
+#[derive(Drop)]
+pub enum Answer {
+    /// nothing
+    Nothing,
+    /// a block
+    Block(Block),
+    /// a variable
+    Variable(Variable),
+    /// values, whose numbers follow one another
+    Values {
+        /// the first of them
+        first: Value,
+        /// how many there are
+        count: usize,
+    },
+    /// an instruction
+    Inst(Inst),
+    /// an entry of a table, which calls name by its number
+    Entry,
+    /// an edge, of which tables get copies
+    Edge(BlockCall),
+    /// a jump table, which calls name by its number
+    Table,
+    /// an exception table, which calls name by its number
+    Exceptions,
+}
+
+/// Why one call didn't succeed.
+#[derive(Clone, Copy, Debug, PartialEq, Eq)]
+pub enum CallError {
+    /// a condition of the call doesn't hold, or a name in it leads to no such answer
+    Misuse,
+    /// the builder refused the call, for another cause than the two below
+    Refused,
+    /// memory was refused
+    Memory,
+    /// a table is full
+    Full,
+}
+
+impl From<BuildError> for CallError {
+    ghost from_gives = { λ refusal error. error ≡ call_error_of refusal };
+
+    fn from(error: BuildError) -> CallError {
+        match error {
+            BuildError::Memory => CallError::Memory,
+            BuildError::Full => CallError::Full,
+            BuildError::Failed => CallError::Refused,
+        }
+    }
+}
+
+impl From<AllocError> for CallError {
+    ghost from_gives = { λ _ error. error ≡ call_memory };
+
+    fn from(_error: AllocError) -> CallError {
+        CallError::Memory
+    }
+}
+
+impl<T: Drop> From<AllocFailed<T>> for CallError {
+    ghost from_gives = { λ _ error. error ≡ call_memory };
+
+    fn from(_error: AllocFailed<T>) -> CallError {
+        CallError::Memory
+    }
+}

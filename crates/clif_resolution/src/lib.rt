@@ -1,0 +1,19 @@
+//! What the calls of a script name is found: the blocks, values and edges that the calls before them answered, and the
+//! instruction that a call asks for. A builder is read, and nothing is made.
+#![tactic(auto)]
+
+mod answers;
+mod conditions;
+mod exceptions;
+mod names;
+mod outside;
+mod plans;
+mod tables;
+
+pub use answers::{Answer, CallError};
+pub use conditions::{has_current, has_signature, may_seal};
+pub use exceptions::{items_found, operands_found, with_table};
+pub use names::{block_named, inst_named, value_named};
+pub use outside::outside_call_found;
+pub use plans::{Planned, plan_found};
+pub use tables::{edge_copied, edge_found, edges_copied, may_serve};

@@ -1,0 +1,67 @@
+//! The instructions of outside calls, found with what their names lead to.
+ghost use Rattle.std.specs.Prelude.{◌≡◌};
+ghost use Rattle.clif_calls.specs.Outside.{operands_of};
+ghost use Rattle.clif_resolution.specs.Answers.{Finds, AnswersExist, all_values};
+ghost use Rattle.clif_resolution.specs.Callings.{IsOutsideShape, can_call, outside_shape};
+
+use crate::answers::{Answer, CallError};
+use crate::conditions::has_current;
+use crate::names::values_named;
+use clif_calls::OutsideCall;
+use clif_ir::{Function, InstructionData, ValueList};
+use cranelift_frontend::FunctionBuilder;
+
+/// The instruction of an outside call, where it may be made.
+///
+/// # Errors
+///
+/// `Misuse`, where a name leads to no such answer or a condition doesn't hold; or memory is refused.
+pub fn outside_call_found(
+    builder: &FunctionBuilder<'_>,
+    answers: &[Answer],
+    called: &OutsideCall,
+) -> Result<InstructionData, CallError>
+    requires { AnswersExist builder.now.func.now answers.now }
+    ensures { Finds (IsOutsideShape builder.now.func.now answers.now called.now)
+        (can_call builder.now answers.now called.now) result }
+{
+    if !has_current(builder) {
+        return Err(CallError::Misuse);
+    }
+    let shape = shaped(builder.func(), answers, called)?;
+    if !builder.func().has_entries(&shape) {
+        return Err(CallError::Misuse);
+    }
+    Ok(shape)
+}
+
+// The same, with what its names lead to.
+fn shaped(
+    func: &Function,
+    answers: &[Answer],
+    called: &OutsideCall,
+) -> Result<InstructionData, CallError>
+    requires { AnswersExist func.now answers.now }
+    ensures { Finds (IsOutsideShape func.now answers.now called.now)
+        (all_values func.now answers.now (operands_of called.now)) result }
+{
+    let names = called.operands(func.allocator())?;
+    let args = values_named(func, answers, names.as_slice())?;
+    Ok(with_values(called, args))
+}
+
+// The instruction of an outside call, with these values.
+fn with_values(called: &OutsideCall, args: ValueList) -> InstructionData
+    ensures { result ≡ outside_shape called.now args }
+{
+    match called {
+        OutsideCall::Call { function, .. } => InstructionData::Call {
+            func_ref: *function,
+            args,
+        },
+        OutsideCall::CallIndirect { signature, .. } => InstructionData::CallIndirect {
+            sig_ref: *signature,
+            args,
+        },
+    }
+}

@@ -1,0 +1,215 @@
+//! A script and the function that is built of it run side by side.
+ghost use Rattle.std.specs.Prelude.{◌<◌};
+
+use crate::shown::Shown;
+use crate::table::Answers;
+use clif_calls::{Call, OutsideAnswer};
+use clif_interpreter::{End, Ending, Memory, RunError, World, function, script};
+use clif_ir::Function;
+use clif_types::{AbiParam, PointerWidth, Signature};
+use std::alloc::{AllocError, Global};
+use std::fmt;
+
+/// The address of the first accessible byte, a multiple of 256.
+const START: u64 = 0x1000;
+
+/// How many bytes are accessible.
+const SIZE: usize = 0xf000;
+
+/// The address from which on the stack slots lie.
+const SLOTS: u64 = 0x8000;
+
+/// What two runs are given.
+#[derive(Clone, Copy)]
+pub struct Given<'a> {
+    /// The bits of the arguments.
+    pub arguments: &'a [u128],
+    /// What outside calls return. What isn't named returns zeros.
+    pub answers: &'a [OutsideAnswer],
+    /// The width of a pointer.
+    pub pointer_width: PointerWidth,
+    /// The bound on the steps of each.
+    pub steps: u64,
+}
+
+/// What both runs show.
+#[derive(Drop)]
+pub struct Comparison {
+    /// How the script's run ended.
+    pub script: Ending,
+    /// How the function's run ended. A function that can't go on is wrong.
+    pub function: Result<Ending, RunError>,
+    /// The bound on the steps of each.
+    pub steps: u64,
+}
+
+/// How two runs compare. It prints as `the runs differ`.
+#[derive(Clone, Copy)]
+pub enum Verdict {
+    /// They show the same outside calls, and end with the same values or trap, and the same memory.
+    Equal,
+    /// One of them hasn't ended within this bound on steps.
+    Unknown(u64),
+    /// They differ.
+    Differ,
+    /// They differ in memory alone, first in the byte at this address.
+    DifferInMemory(u64),
+}
+
+impl Verdict {
+    /// The exit status of a program that compares: 0 where they are equal, 3 where they differ, and 5 where one hasn't ended.
+    pub fn status(self) -> u8
+        ensures { result < 6 }
+    {
+        match self {
+            Verdict::Equal => 0,
+            Verdict::Differ | Verdict::DifferInMemory(_) => 3,
+            Verdict::Unknown(_) => 5,
+        }
+    }
+}
+
+impl fmt::Display for Verdict {
+    fn fmt<W: fmt::Write>(&self, f: &mut fmt::Formatter<W>) -> fmt::Result {
+        match self {
+            Verdict::Equal => f.write_str("the runs are equal"),
+            Verdict::Differ => f.write_str("the runs differ"),
+            Verdict::DifferInMemory(address) => {
+                write!(f, "the runs differ in memory at address {address:#x}")
+            }
+            Verdict::Unknown(steps) => {
+                write!(f, "stopped after {steps} steps: --steps N allows more")
+            }
+        }
+    }
+}
+
+// Memory as the runs begin: each byte is the low byte of its address.
+fn first_memory(alloc: Global) -> Result<Memory, AllocError> {
+    let mut memory = Memory::zeros(alloc, START, SIZE)?;
+    for place in 0..SIZE {
+        memory.put(place, (place % 256) as u8);
+    }
+    Ok(memory)
+}
+
+/// Runs a script and its function on the same.
+///
+/// The bytes from address 0x1000 up to 0xffff are accessible, and no others. Each is the low byte of its address at
+/// first. Stack slots lie from 0x8000 on, in order, each at the next address that its alignment allows.
+///
+/// # Errors
+///
+/// Those of [`script::run`].
+pub fn compare(
+    alloc: Global,
+    calls: &[Call],
+    signature: &Signature,
+    func: &Function,
+    given: &Given<'_>,
+) -> Result<Comparison, RunError> {
+    let memory = match first_memory(alloc) {
+        Ok(memory) => memory,
+        Err(_) => return Err(RunError::memory()),
+    };
+    let world = World {
+        arguments: given.arguments,
+        memory: &memory,
+        pointer_width: given.pointer_width,
+        slots: SLOTS,
+        outside: &Answers(given.answers),
+    };
+    let script = script::run(alloc, calls, signature, &world, given.steps)?;
+    let function = function::run(alloc, func, &world, given.steps);
+    let steps = given.steps;
+    Ok(Comparison {
+        script,
+        function,
+        steps,
+    })
+}
+
+impl Comparison {
+    /// How the runs compare.
+    pub fn verdict(&self) -> Verdict {
+        match &self.function {
+            _ if self.is_cut() => Verdict::Unknown(self.steps),
+            Ok(function) => compared(&self.script, function),
+            Err(_) => Verdict::Differ,
+        }
+    }
+
+    // Whether one of the runs hasn't ended.
+    fn is_cut(&self) -> bool {
+        let is_function_cut = match &self.function {
+            Ok(function) => is_out_of_steps(&function.end),
+            Err(_) => false,
+        };
+        is_function_cut || is_out_of_steps(&self.script.end)
+    }
+}
+
+/// Two runs of a function that returns these types. It prints a line for each outside call and one for
+/// the end of each run: `script: called %f(64)`, `script: returned 7`, and the same of the function. A function that can't go on
+/// has its reason in place of them.
+#[derive(Clone, Copy)]
+pub struct Report<'a> {
+    /// The runs.
+    pub runs: &'a Comparison,
+    /// What the function returns.
+    pub returns: &'a [AbiParam],
+}
+
+impl fmt::Display for Report<'_> {
+    fn fmt<W: fmt::Write>(&self, f: &mut fmt::Formatter<W>) -> fmt::Result {
+        self.write_run(f, "script", &self.runs.script)?;
+        match &self.runs.function {
+            Ok(ending) => self.write_run(f, "function", ending),
+            Err(error) => writeln!(f, "function: {error}"),
+        }
+    }
+}
+
+impl Report<'_> {
+    // What one of them shows.
+    fn write_run<W: fmt::Write>(
+        &self,
+        f: &mut fmt::Formatter<W>,
+        name: &str,
+        ending: &Ending,
+    ) -> fmt::Result {
+        for event in &ending.events {
+            writeln!(f, "{name}: called {event}")?;
+        }
+        let shown = Shown {
+            end: &ending.end,
+            returns: self.returns,
+            steps: self.runs.steps,
+        };
+        writeln!(f, "{name}: {shown}")
+    }
+}
+
+fn compared(script: &Ending, function: &Ending) -> Verdict {
+    if script.end != function.end || script.events != function.events {
+        return Verdict::Differ;
+    }
+    match first_difference(script.memory.bytes(), function.memory.bytes()) {
+        Some(place) => Verdict::DifferInMemory(START.saturating_add(place as u64)),
+        None => Verdict::Equal,
+    }
+}
+
+fn is_out_of_steps(end: &End) -> bool {
+    matches!(end, End::OutOfSteps)
+}
+
+// The first place at which two lists of bytes differ.
+fn first_difference(left: &[u8], right: &[u8]) -> Option<usize> {
+    for (place, (a, b)) in left.iter().zip(right.iter()).enumerate() {
+        if *a != *b {
+            return Some(place);
+        }
+    }
+    None
+}

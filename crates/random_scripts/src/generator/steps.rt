@@ -1,0 +1,144 @@
+//! The steps of a block that don't end it.
+use super::{Generator, VARIABLES};
+use crate::worlds::START;
+use clif_calls::{Call, Name, OutsideCall, PlainInstruction};
+use clif_records::Variable;
+use clif_types::types::I64;
+use clif_types::{EntityRef, FuncRef, MemFlagsData, SigRef};
+use rand::RngExt;
+use rand::seq::IndexedRandom;
+use std::alloc::AllocError;
+
+/// What a block may do.
+#[derive(Clone, Copy)]
+enum Step {
+    Constant,
+    Add,
+    Subtract,
+    UseVar,
+    DefVar,
+    Call,
+    CallIndirect,
+    Load,
+    Store,
+}
+
+const STEPS: [Step; 9] = [
+    Step::Constant,
+    Step::Add,
+    Step::Subtract,
+    Step::UseVar,
+    Step::DefVar,
+    Step::Call,
+    Step::CallIndirect,
+    Step::Load,
+    Step::Store,
+];
+
+impl Generator {
+    // A step at random.
+    pub(super) fn step(&mut self) -> Result<(), AllocError> {
+        let Some(step) = STEPS.as_slice().choose(&mut self.random) else {
+            return Ok(());
+        };
+        match *step {
+            Step::Constant => {
+                let value = self.random.random_range(0i64..100);
+                let value = self.constant(value)?;
+                self.give(value)
+            }
+            Step::Add => {
+                let (x, y) = (self.value(), self.value());
+                let value = self.instruction(PlainInstruction::Iadd { x, y })?;
+                self.give(value)
+            }
+            Step::Subtract => {
+                let (x, y) = (self.value(), self.value());
+                let value = self.instruction(PlainInstruction::Isub { x, y })?;
+                self.give(value)
+            }
+            Step::UseVar => {
+                let variable = self.variable();
+                let value = self.call(Call::UseVar { variable })?;
+                self.give(value)
+            }
+            Step::DefVar => {
+                let variable = self.variable();
+                let value = self.value();
+                self.call(Call::DefVar { variable, value })?;
+                Ok(())
+            }
+            Step::Call => {
+                let args = self.operands()?;
+                self.outside(OutsideCall::Call {
+                    function: FuncRef::new(0),
+                    args,
+                })
+            }
+            Step::CallIndirect => {
+                let args = self.operands()?;
+                let callee = self.value();
+                self.outside(OutsideCall::CallIndirect {
+                    signature: SigRef::new(0),
+                    callee,
+                    args,
+                })
+            }
+            Step::Load => self.load(),
+            Step::Store => self.store(),
+        }
+    }
+
+    // A value that later steps of the block may name.
+    fn give(&mut self, value: Name) -> Result<(), AllocError> {
+        self.values.push(value)?;
+        Ok(())
+    }
+
+    // One of the variables that don't count blocks.
+    fn variable(&mut self) -> Variable {
+        Variable::new(self.random.random_range(1usize..VARIABLES))
+    }
+
+    // What is passed to a call.
+    pub(super) fn operands(&mut self) -> Result<Vec<Name>, AllocError> {
+        let (x, y) = (self.value(), self.value());
+        Ok(vec![in self.alloc; x, y]?)
+    }
+
+    // A call, whose two results may be named.
+    fn outside(&mut self, call: OutsideCall) -> Result<(), AllocError> {
+        let place = self.call(Call::Outside(call))?.place;
+        self.give(Name { place, answer: 1 })?;
+        self.give(Name { place, answer: 2 })
+    }
+
+    // The address of eight accessible bytes.
+    fn address(&mut self) -> Result<Name, AllocError> {
+        let offset = self.random.random_range(0i64..9);
+        self.constant(offset.saturating_add(START as i64))
+    }
+
+    fn load(&mut self) -> Result<(), AllocError> {
+        let p = self.address()?;
+        let value = self.instruction(PlainInstruction::Load {
+            ty: I64,
+            flags: MemFlagsData::new(),
+            p,
+            offset: 0,
+        })?;
+        self.give(value)
+    }
+
+    fn store(&mut self) -> Result<(), AllocError> {
+        let p = self.address()?;
+        let x = self.value();
+        self.call(Call::Plain(PlainInstruction::Store {
+            flags: MemFlagsData::new(),
+            x,
+            p,
+            offset: 0,
+        }))?;
+        Ok(())
+    }
+}
