@@ -8,6 +8,8 @@ mod agreement;
 #[cfg(test)]
 mod changes;
 #[cfg(test)]
+mod constants;
+#[cfg(test)]
 mod instructions;
 #[cfg(test)]
 mod memory;

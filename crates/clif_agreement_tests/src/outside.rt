@@ -73,6 +73,20 @@ given = use_var last
 return result, given
 ";
 
+// A function of the C library gives its destination, and is no outside call.
+const LIBRARY: &str = "\
+function %library (i64) -> i64 system_v
+s = import_signature (i64, i64, i64) -> i64 system_v
+f = import_function libcall Memcpy s
+entry = create_block
+x = append_block_params_for_function_params entry
+switch_to_block entry
+seal_block entry
+none = iconst.i64 0
+r = call f (x x none)
+return r
+";
+
 // A call of `%f` with this argument.
 fn named(alloc: Global, argument: u128) -> Result<Event, AllocError> {
     Ok(Event {
@@ -159,6 +173,30 @@ fn calling_loop(rt: HostRuntime) -> Result<(), Fail> {
         outside: &TenTimes,
     };
     let ending = ended(alloc)?;
+    script_ends(&rt, alloc, &text, &world, &ending)?;
+    function_ends(&rt, alloc, &func, &world, &ending)
+}
+
+// No event is shown, so the world neither answers nor changes memory.
+#[test]
+fn calls_of_the_library(rt: HostRuntime) -> Result<(), Fail> {
+    let alloc = rt.alloc();
+    let text = script_of(alloc, LIBRARY)?;
+    let mut ctx = FunctionBuilderContext::new(alloc);
+    let func = built(alloc, &text, &mut ctx)?;
+    let before = zeros(alloc)?;
+    let world = World {
+        arguments: &[64],
+        memory: &before,
+        pointer_width: text.config.pointer_width,
+        slots: before.start(),
+        outside: &TenTimes,
+    };
+    let ending = Ending {
+        events: Vec::new(alloc),
+        end: End::Returned(vec![in alloc; 64]?),
+        memory: zeros(alloc)?,
+    };
     script_ends(&rt, alloc, &text, &world, &ending)?;
     function_ends(&rt, alloc, &func, &world, &ending)
 }

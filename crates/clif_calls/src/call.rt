@@ -1,5 +1,6 @@
 //! The calls of a script, and the names of their answers.
 use crate::entry::EntryCall;
+use crate::immediate::ImmediateCall;
 use crate::outside::OutsideCall;
 use crate::table::{TableEdge, TableItem, ThrowingCall};
 use clif_records::Variable;
@@ -213,8 +214,8 @@ pub enum PlainInstruction {
 
 /// One call on a builder, with names in place of what earlier calls answered.
 ///
-/// Each variant but `Entry`, `Plain`, `Cursor`, `Outside` and `Throwing` is the builder's method, or the instruction, of its
-/// name, and has its conditions. A variable is named by its number.
+/// Each variant but `Entry`, `Plain`, `Cursor`, `Outside`, `Immediate` and `Throwing` is the builder's method, or the
+/// instruction, of its name, and has its conditions. A variable is named by its number.
 #[derive(Drop)]
 pub enum Call {
     /// `create_block()`: answers the block.
@@ -311,6 +312,9 @@ pub enum Call {
     Cursor(PlainInstruction),
     /// An outside call, an instruction that ends no block.
     Outside(OutsideCall),
+    /// An instruction with a constant as an operand, which makes the constant and the plain instruction: its answer 0 is the
+    /// value.
+    Immediate(ImmediateCall),
     /// `set_srcloc(srcloc)`: answers nothing, and has no condition. Each later instruction gets this place in the source.
     SetSrcloc {
         srcloc: SourceLoc,

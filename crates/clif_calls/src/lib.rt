@@ -4,6 +4,7 @@
 mod answer;
 mod call;
 mod entry;
+mod immediate;
 mod outside;
 mod plan;
 mod table;
@@ -11,6 +12,7 @@ mod table;
 pub use answer::OutsideAnswer;
 pub use call::{Call, Edge, Name, PlainInstruction};
 pub use entry::EntryCall;
+pub use immediate::ImmediateCall;
 pub use outside::OutsideCall;
 pub use plan::Plan;
 pub use table::{Passed, TableEdge, TableItem, ThrowingCall};

@@ -472,6 +472,11 @@ called : (reading : Reading) (code : List Item) (item : Item) → IsCalledSo not
 called reading code item (inl asked) = inl asked
 called reading code item (inr (is, known)) = inr is
 
+-- the current blocks are read
+pub joined_currents : (reading : Reading) (plain : Script) (calls : List ScriptCall) → AreJoinedCalls reading plain calls
+    → IsReadBlock reading (program_of plain).current (program_of_calls calls).current
+joined_currents reading plain calls are = (go nothing (λ a b c d e f g. tt) reading plain calls are (none_known reading plain calls are)).current
+
 pub joined_programs : JoinedCallsHaveJoinedPrograms
 joined_programs reading plain calls are =
     let cut = (go nothing (λ a b c d e f g. tt) reading plain calls are (none_known reading plain calls are)).cut in

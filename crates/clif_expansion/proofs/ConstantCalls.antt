@@ -192,7 +192,7 @@ module _ (arithmetic : Arithmetic) (number : ℤ) (can : (ty : «Type») → can
         let value = and_parts (has_value ledger name) true there.1 in
         let int = and_parts (is_int ty) (has_64_bits number) (sym (emits ty) ∙ ready.1) in
         allowed_at plain ty x
-        (record { opened = opened reading plain ledger joined ∙ there.0; value = has_value_same reading plain ledger joined x name is ∙ value.0 }) int.0
+        (record { opened = opened reading plain ledger joined.ledgers joined.one_to_one ∙ there.0; value = has_value_same reading plain ledger joined.ledgers joined.one_to_one x name is ∙ value.0 }) int.0
 
     stands : StandsForEmission arithmetic whole number
     stands = record {

@@ -180,7 +180,7 @@ module _ (marks' marks : Ledger) (same : (v : ℕ) → is_marked marks' v ≡ is
       (subst (λ (xs : List Name). AllZip (IsReadAs reading) (tracked_from marks' 0 script ++ tracked_from marks' (length script) more) xs) (sym (calls_tracked_last marks earlier further))
       (zip_joined (IsReadAs reading) (tracked_from marks' 0 script) (tracked_from marks' (length script) more) (tracked_by_calls marks 0 earlier) (tracked_by_calls marks (length earlier) further) before last))
 
-  tracked : (reading : Reading) (plain : Script) (calls : List ScriptCall) → AreJoinedCalls reading plain calls
+  pub tracked : (reading : Reading) (plain : Script) (calls : List ScriptCall) → AreJoinedCalls reading plain calls
       → AllZip (IsReadAs reading) (tracked_from marks' 0 plain) (tracked_by_calls marks 0 calls)
   tracked reading plain calls Starting = tt
   tracked reading plain calls (Asking old script earlier ask request are is) =
@@ -224,8 +224,8 @@ module _ (reading : Reading) (plain : Script) (calls : List ScriptCall) (are : A
         (program_of plain) (program_of_calls calls)
         (go (IsDone world.pointer_width types) (lasts world.pointer_width types) reading plain calls are
         (each_done world.pointer_width types reading plain calls are (λ x ty is. ap or_invalid is) (λ x ty is. ap or_invalid is) done)).cut;
-    variable_type = λ v. ap or_invalid (ReadConditions.variable_same reading (ledger_after plain) (ledger_of calls) joined v v refl);
-    name_type = λ x name is. ap or_invalid (ReadConditions.type_same reading (ledger_after plain) (ledger_of calls) joined x name is);
+    variable_type = λ v. ap or_invalid (ReadConditions.variable_same reading (ledger_after plain) (ledger_of calls) joined.ledgers joined.one_to_one v v refl);
+    name_type = λ x name is. ap or_invalid (ReadConditions.type_same reading (ledger_after plain) (ledger_of calls) joined.ledgers joined.one_to_one x name is);
     is_marked = marks;
     is_tracked = λ x name is.
         any_read reading joined.one_to_one x name (tracked_from (ledger_after plain) 0 plain) (tracked_by_calls (ledger_of calls) 0 calls) is

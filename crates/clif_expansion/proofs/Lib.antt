@@ -30,3 +30,4 @@ pub mod LaterCodes
 pub mod JoinedRuns
 pub mod PerformedConstants
 pub mod JoinedRunExamples
+pub mod calls

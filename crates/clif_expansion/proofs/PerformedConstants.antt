@@ -2,16 +2,22 @@
 use Rattle.std.proofs.Common.{◌≡◌, ◌<◌, ◌+◌, ℕ, ℤ, suc, pos, negsuc, true, List, [], ◌∷◌, ◌++◌, length, refl, sym, ◌∙◌, ap, subst, arith}
 use Rattle.std.specs.Prelude.{IsTrue, ◌^◌, ◌&&◌, fold}
 use Rattle.std.proofs.lemmas.Bool.{and_parts, ltb-true}
+use Rattle.std.specs.List.{AllByRecursion}
 use Rattle.clif_opcodes.specs.declared.opcodes.BinaryOpcode.TheVariants.{Iadd}
+use Rattle.clif_opcodes.specs.declared.kinds.OperandKind.TheVariants.{Narrower}
 use Rattle.clif_opcodes.specs.declared.opcodes.ConvertOpcode.TheVariants.{Sextend}
+use Rattle.clif_opcodes.specs.Typing.{AreOfKinds}
 use Rattle.clif_types.specs.declared.types.LaneType.TheVariants as lane
 use Rattle.clif_types.specs.declared.types.«Type».{«Type»}
 use Rattle.clif_types.specs.declared.types.«Type».TheVariants as type
 use Rattle.clif_types.specs.Types.{is_int}
+use Rattle.clif_meaning.specs.Access.{library_call}
 use Rattle.clif_meaning.specs.Acceptance.{can_operate, is_open}
 use Rattle.clif_meaning.specs.Instruction.{AddConstant, Arithmetic, Binary, Compare, CompareConstant, Compute, Convert, Iconst, Instruction}
-use Rattle.clif_meaning.specs.Ledger.{AValue, AnInstruction, Ledger, has_value, ledger_after, ledger_with, value_answer_type}
+use Rattle.clif_meaning.specs.Ledger.{AValue, AnInstruction, Ledger, has_value, ledger_after, ledger_with, type_of, value_answer_type}
+use Rattle.clif_meaning.specs.Library.{pointer_of}
 use Rattle.clif_meaning.specs.Name.{Name, answer_of}
+use Rattle.clif_meaning.specs.Premises.{IfLibraryCall}
 use Rattle.clif_meaning.specs.Program.{Item, Instruct, answers_from, result_names}
 use Rattle.clif_meaning.specs.Request.{Script}
 use Rattle.clif_expansion.specs.Code.{NameTypes, Performs, PerformsItem}
@@ -22,12 +28,12 @@ use Rattle.clif_expansion.specs.JoinedCalls.{Emitting}
 use Rattle.clif_expansion.specs.JoinedPrograms.{built_items}
 use Rattle.clif_expansion.specs.Joining.{IsJoined}
 use Rattle.clif_expansion.specs.Laying.{IsLaid}
-use Rattle.clif_expansion.specs.PerformedCalls.{HaveTypes, IsPerformed}
+use Rattle.clif_expansion.specs.PerformedCalls.{HaveTypes, IsPerformed, IsTypedInLine}
 use Rattle.clif_expansion.specs.Reading.{Generated, IsReadAs, Reading}
 use Rattle.clif_expansion.specs.ScriptCall.{can_emit, emitted_item, emitted_types, has_64_bits, ledger_of}
 use Rattle.clif_expansion.proofs.ConstantCalls.{all_in_line}
 use Rattle.clif_expansion.proofs.Constants.{constants_are_performed}
-use Rattle.clif_expansion.proofs.EmittedPrograms.{emitted_before, emitted_inner, emitted_result}
+use Rattle.clif_expansion.proofs.EmittedPrograms.{emitted_before, emitted_inner, emitted_result, one_longer}
 use Rattle.clif_expansion.proofs.JoinedCalls.{joined_calls}
 use Rattle.clif_expansion.proofs.Joins.{answers_last}
 use Rattle.clif_expansion.proofs.LaidCodes
@@ -48,7 +54,10 @@ module _ (arithmetic whole : Arithmetic) (number : ℤ) (emits : (ty : «Type»)
     (stays : (ty : «Type») (operands : List Name) → StaysInLine (computing arithmetic ty operands)) (whole_stays : (ty : «Type») (operands : List Name) → StaysInLine (computing whole ty operands))
     (answer_type : «Type» → «Type») (gives : (ty : «Type») (operands : List Name) → emitted_types (computing arithmetic ty operands) ≡ answer_type ty ∷ [])
     (whole_gives : (ty : «Type») (operands : List Name) → emitted_types (computing whole ty operands) ≡ answer_type ty ∷ [])
-    (performs : PerformsWith arithmetic whole number) where
+    (performs : PerformsWith arithmetic whole number)
+    (arithmetic_typed : (types : Name → «Type») (returns : List «Type») (ty : «Type») (a b : Name) → IsTrue (is_int ty) → types a ≡ ty → types b ≡ ty
+    → IsTypedInLine types returns (computing arithmetic ty (a ∷ b ∷ [])))
+    (whole_takes : (types : Name → «Type») (returns : List «Type») (ty : «Type») (a : Name) → IsTypedInLine types returns (computing whole ty (a ∷ [])) → types a ≡ ty) where
   -- WHAT IS BUILT ---------------------------------------------------------------------------------------------------------
 
   last_item : (ty : «Type») (place : ℕ) (operands : List Name)
@@ -150,6 +159,78 @@ module _ (arithmetic whole : Arithmetic) (number : ℤ) (emits : (ty : «Type»)
     named type.Invalid x types have = record { narrow_named = tt; constant_generated = once type.Invalid }
     named (type.Vector l k) x types have = record { narrow_named = tt; constant_generated = once (type.Vector l k) }
 
+    -- WHAT TYPES IT HAS ---------------------------------------------------------------------------------------------------
+
+    abbrev AreTyped : «Type» → Name → (Name → «Type») → List «Type» → Type 0
+    AreTyped ty x types returns =
+        HaveTypes (fold ledger_with plain (constant_calls arithmetic ty number n x)) types → IsTrue (is_int ty) → types x ≡ ty
+        → AllByRecursion (IsTypedInLine types returns) (constant_instructions ty number n ++ constant_last arithmetic ty n x ∷ [])
+
+    -- the constant has the type of the operand
+    single : (ty : «Type») (x : Name) (types : Name → «Type») (returns : List «Type»)
+        → HaveTypes (fold ledger_with plain (building (computing (Iconst number) ty []) ∷ building (computing arithmetic ty (x ∷ answer_of n 1 ∷ [])) ∷ [])) types
+        → IsTrue (is_int ty) → types x ≡ ty
+        → AllByRecursion (IsTypedInLine types returns) (computing (Iconst number) ty [] ∷ computing arithmetic ty (x ∷ answer_of n 1 ∷ []) ∷ [])
+    single ty x types returns have int same =
+        let constant : types (answer_of n 1) ≡ ty =
+        types_before (ledger_with plain (building (computing (Iconst number) ty []))) (building (computing arithmetic ty (x ∷ answer_of n 1 ∷ [])) ∷ []) types have (answer_of n 1) ty
+        (ap value_answer_type (answers_last plain.answers (AnInstruction ∷ AValue ty ∷ []) 1)) in
+        (record { made_at = int; operands = tt; edges = tt }, (arithmetic_typed types returns ty x (answer_of n 1) int same constant, tt))
+
+    -- or its sign is repeated
+    double : (x : Name) (types : Name → «Type») (returns : List «Type») → AreTyped wide x types returns
+    double x types returns have int same =
+        let first : Ledger = ledger_with plain (building (computing (Iconst number) i64 [])) in
+        let repeated : Instruction Name Name = computing (Convert Sextend) wide (answer_of n 1 ∷ []) in
+        let narrow : types (answer_of n 1) ≡ i64 =
+        types_before first (building repeated ∷ building (constant_last arithmetic wide n x) ∷ []) types have (answer_of n 1) i64
+        (ap value_answer_type (answers_last plain.answers (AnInstruction ∷ AValue i64 ∷ []) 1)) in
+        let behind_first : suc n ≡ length first.answers = sym (one_longer plain.answers (AnInstruction ∷ AValue i64 ∷ [])) in
+        let constant : types (answer_of (suc n) 1) ≡ wide =
+        types_before (ledger_with first (building repeated)) (building (constant_last arithmetic wide n x) ∷ []) types have (answer_of (suc n) 1) wide
+        (ap (λ (k : ℕ). type_of (ledger_with first (building repeated)) (answer_of k 1)) behind_first
+        ∙ ap value_answer_type (answers_last first.answers (AnInstruction ∷ AValue wide ∷ []) 1)) in (
+          record { made_at = refl; operands = tt; edges = tt },
+          (
+            record {
+              made_at = refl;
+              operands = subst (λ (t : «Type»). AreOfKinds wide (Narrower ∷ []) (t ∷ [])) (sym narrow) ((refl, omega arith), tt);
+              edges = tt;
+            },
+            (arithmetic_typed types returns wide x (answer_of (suc n) 1) int same constant, tt),
+          ),
+        )
+
+    code_typed : (ty : «Type») (x : Name) (types : Name → «Type») (returns : List «Type») → AreTyped ty x types returns
+    code_typed (type.Lane lane.I128) x types returns have int same = double x types returns have int same
+    code_typed (type.Lane lane.I8) x types returns have int same = single (type.Lane lane.I8) x types returns have int same
+    code_typed (type.Lane lane.I16) x types returns have int same = single (type.Lane lane.I16) x types returns have int same
+    code_typed (type.Lane lane.I32) x types returns have int same = single (type.Lane lane.I32) x types returns have int same
+    code_typed (type.Lane lane.I64) x types returns have int same = single (type.Lane lane.I64) x types returns have int same
+    code_typed (type.Lane lane.F16) x types returns have int same = single (type.Lane lane.F16) x types returns have int same
+    code_typed (type.Lane lane.F32) x types returns have int same = single (type.Lane lane.F32) x types returns have int same
+    code_typed (type.Lane lane.F64) x types returns have int same = single (type.Lane lane.F64) x types returns have int same
+    code_typed (type.Lane lane.F128) x types returns have int same = single (type.Lane lane.F128) x types returns have int same
+    code_typed type.Invalid x types returns have int same = single type.Invalid x types returns have int same
+    code_typed (type.Vector l k) x types returns have int same = single (type.Vector l k) x types returns have int same
+
+    abbrev CallsNothing : «Type» → ℕ → Name → Type 0
+    CallsNothing ty pointer_width x =
+        AllByRecursion (λ each. IfLibraryCall (pointer_of pointer_width) (library_call each.operation)) (constant_instructions ty number n ++ constant_last arithmetic ty n x ∷ [])
+
+    calls_nothing : (ty : «Type») (pointer_width : ℕ) (x : Name) → CallsNothing ty pointer_width x
+    calls_nothing (type.Lane lane.I128) pointer_width x = (tt, (tt, (tt, tt)))
+    calls_nothing (type.Lane lane.I8) pointer_width x = (tt, (tt, tt))
+    calls_nothing (type.Lane lane.I16) pointer_width x = (tt, (tt, tt))
+    calls_nothing (type.Lane lane.I32) pointer_width x = (tt, (tt, tt))
+    calls_nothing (type.Lane lane.I64) pointer_width x = (tt, (tt, tt))
+    calls_nothing (type.Lane lane.F16) pointer_width x = (tt, (tt, tt))
+    calls_nothing (type.Lane lane.F32) pointer_width x = (tt, (tt, tt))
+    calls_nothing (type.Lane lane.F64) pointer_width x = (tt, (tt, tt))
+    calls_nothing (type.Lane lane.F128) pointer_width x = (tt, (tt, tt))
+    calls_nothing type.Invalid pointer_width x = (tt, (tt, tt))
+    calls_nothing (type.Vector l k) pointer_width x = (tt, (tt, tt))
+
     done : (pointer_width : ℕ) (ty : «Type») (x name : Name) → IsJoined reading plain ledger → IsReadAs reading x name → IsTrue (is_int ty) → Has64Bits number
         → IsPerformed pointer_width reading plain ledger (constant_instructions ty number n) (constant_last arithmetic ty n x) (computing whole ty (name ∷ []))
     done pointer_width ty x name joined is int small =
@@ -165,6 +246,8 @@ module _ (arithmetic whole : Arithmetic) (number : ℤ) (emits : (ty : «Type»)
               subst (λ (i : Item). IsLaid (emitted ty) program (code_at ty n x) i) (emitted_so ty m name)
               (subst (λ (code : List Item). IsLaid (emitted ty) program code item) (sym (same_code ty n x))
               (LaidCodes.codes_are_laid.constants (emitted ty) program arithmetic whole ty number n m (answer_of n 1) (constant_name ty n) x (given_at ty n) name (answer_of m 0) operand given));
+          typed = λ types returns have' agree typed. code_typed ty x types.plain returns have' int (agree x name operand ∙ whole_takes types.script returns ty name typed);
+          as_named = calls_nothing ty pointer_width x;
         }
 
   -- JOINED CALLS ----------------------------------------------------------------------------------------------------------
@@ -192,10 +275,14 @@ constant_calls_are_performed = record {
       stands (Binary Iadd) (AddConstant number) number (λ ty. refl) (λ ty operands. record { no_edges = refl; goes_on = refl }) (λ ty operands. record { no_edges = refl; goes_on = refl })
       (λ ty. ty) (λ ty operands. refl) (λ ty operands. refl)
       (λ pointer_width reading types ty place narrow constant plain given x result.
-      constants_are_performed.adds pointer_width reading types ty number place narrow constant plain given x result) (λ ty. refl);
+      constants_are_performed.adds pointer_width reading types ty number place narrow constant plain given x result)
+      (λ types returns ty a b int first second. record { made_at = int; operands = (first, (second, tt)); edges = tt })
+      (λ types returns ty a typed. typed.operands.0) (λ ty. refl);
   compares = λ condition number.
       stands (Compare condition) (CompareConstant condition number) number (λ ty. refl) (λ ty operands. record { no_edges = refl; goes_on = refl }) (λ ty operands. record { no_edges = refl; goes_on = refl })
       (λ ty. type.Lane lane.I8) (λ ty operands. refl) (λ ty operands. refl)
       (λ pointer_width reading types ty place narrow constant plain given x result.
-      constants_are_performed.compares pointer_width reading types condition ty number place narrow constant plain given x result) (λ ty. refl);
+      constants_are_performed.compares pointer_width reading types condition ty number place narrow constant plain given x result)
+      (λ types returns ty a b int first second. record { made_at = int; operands = (first, (second, tt)); edges = tt })
+      (λ types returns ty a typed. typed.operands.0) (λ ty. refl);
 }

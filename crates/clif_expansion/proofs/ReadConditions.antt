@@ -11,8 +11,8 @@ use Rattle.clif_meaning.specs.Ledger.{ABlock, AVariable, AValue, AnInstruction, 
 use Rattle.clif_meaning.specs.Name.{Name, same_name}
 use Rattle.clif_meaning.specs.Request.{Request, CreateBlock, SwitchToBlock, SealBlock, SealAllBlocks, InsertBlockAfter, SetColdBlock, EnsureInsertedBlock, AppendBlockParams, AppendFunctionParams, DeclareVar, DefVar, UseVar, MakeEntry, MakeEdge, MakeJumpTable, MakeExceptionTable, Annotate, GivenEntry, ServedBy, TriedBy, Imported, TableItem, TagTo, DefaultTo, InContext, Build, ChangeJumpDestination, Finalize}
 use Rattle.clif_expansion.specs.Expansion.{IsReadBlock}
-use Rattle.clif_expansion.specs.Joining.{ConditionsAreRead, IsJoined, IsReadAnswer, IsReadException, IsReadRefusal, IsReadRequest, IsReadState, IsReadTable, IsReadTableItem}
-use Rattle.clif_expansion.specs.Reading.{IsReadArgument, IsReadAs, IsReadEdge, IsReadInstruction, Reading}
+use Rattle.clif_expansion.specs.Joining.{AreJoinedLedgers, ConditionsAreRead, IsReadAnswer, IsReadException, IsReadRefusal, IsReadRequest, IsReadState, IsReadTable, IsReadTableItem}
+use Rattle.clif_expansion.specs.Reading.{IsOneToOne, IsReadArgument, IsReadAs, IsReadEdge, IsReadInstruction, Reading}
 use Rattle.clif_expansion.proofs.JoinedStates.{any_read, inserted_read}
 use Rattle.clif_expansion.proofs.Names.{same_read}
 
@@ -129,12 +129,12 @@ exception_same reading (table' ∷ tables') (table ∷ tables) (suc k) are = exc
 
 -- CONDITIONS --------------------------------------------------------------------------------------------------------------
 
-module _ (reading : Reading) (plain ledger : Ledger) (joined : IsJoined reading plain ledger) where
+module _ (reading : Reading) (plain ledger : Ledger) (ledgers : AreJoinedLedgers reading plain ledger) (one_to_one : IsOneToOne reading) where
   state_read : (x block : Name) → IsReadAs reading x block → IsReadSomeState reading (block_state plain x) (block_state ledger block)
   state_read x block is =
       found reading (λ state. same_name state.block x) (λ state. same_name state.block block)
-      (λ state' state read. same_read reading joined.one_to_one state'.block x state.block block read.block is)
-      plain.blocks ledger.blocks joined.ledgers.states.blocks
+      (λ state' state read. same_read reading one_to_one state'.block x state.block block read.block is)
+      plain.blocks ledger.blocks ledgers.states.blocks
 
   tested : (f g : BlockState → Bool) → ((state' state : BlockState) → IsReadState reading state' state → f state' ≡ g state) → (x block : Name) → IsReadAs reading x block
       → state_has f (block_state plain x) ≡ state_has g (block_state ledger block)
@@ -143,7 +143,7 @@ module _ (reading : Reading) (plain ledger : Ledger) (joined : IsJoined reading 
   block_same : (x block : Name) → IsReadAs reading x block → has_block plain x ≡ has_block ledger block
   block_same x block is = some_same reading (block_state plain x) (block_state ledger block) (state_read x block is)
 
-  filled_same : (x block : Name) → IsReadAs reading x block → is_filled plain x ≡ is_filled ledger block
+  pub filled_same : (x block : Name) → IsReadAs reading x block → is_filled plain x ≡ is_filled ledger block
   filled_same x block is = tested (λ state. state.is_filled) (λ state. state.is_filled) (λ state' state read. read.is_filled) x block is
 
   sealed_same : (x block : Name) → IsReadAs reading x block → is_sealed plain x ≡ is_sealed ledger block
@@ -160,20 +160,20 @@ module _ (reading : Reading) (plain ledger : Ledger) (joined : IsJoined reading 
   leads_same : (jump branch x block : Name) → IsReadAs reading jump branch → IsReadAs reading x block → leads_to plain jump x ≡ leads_to ledger branch block
   leads_same jump branch x block by is =
       tested (λ state. list_any (same_name jump) state.predecessors) (λ state. list_any (same_name branch) state.predecessors)
-      (λ state' state read. any_read reading joined.one_to_one jump branch state'.predecessors state.predecessors by read.predecessors) x block is
+      (λ state' state read. any_read reading one_to_one jump branch state'.predecessors state.predecessors by read.predecessors) x block is
 
   is_inserted_same : (x block : Name) → IsReadAs reading x block → is_inserted plain x ≡ is_inserted ledger block
-  is_inserted_same x block is = inserted_read reading joined.one_to_one plain ledger x block joined.ledgers.states is
+  is_inserted_same x block is = inserted_read reading one_to_one plain ledger x block ledgers.states is
 
   begins_same : (x block : Name) (layout' layout : List Name) → IsReadAs reading x block → AllZip (IsReadAs reading) layout' layout → begins_with layout' x ≡ begins_with layout block
   begins_same x block [] [] is are = refl
   begins_same x block [] (entry ∷ layout) is are = absurd are
   begins_same x block (entry' ∷ layout') [] is are = absurd are
-  begins_same x block (entry' ∷ layout') (entry ∷ layout) is are = same_read reading joined.one_to_one entry' x entry block are.0 is
+  begins_same x block (entry' ∷ layout') (entry ∷ layout) is are = same_read reading one_to_one entry' x entry block are.0 is
 
   unreachable_same : (x block : Name) → IsReadAs reading x block → is_unreachable plain x ≡ is_unreachable ledger block
   unreachable_same x block is =
-      let layout = joined.ledgers.states.layout in
+      let layout = ledgers.states.layout in
       λ i. not (both_empty (IsReadAs reading) plain.layout ledger.layout layout i) && not (begins_same x block plain.layout ledger.layout is layout i)
       && sealed_same x block is i && not (led_same x block is i)
 
@@ -190,10 +190,10 @@ module _ (reading : Reading) (plain ledger : Ledger) (joined : IsJoined reading 
   leave_same (Some x) None is = absurd is
 
   pub opened : is_open plain plain.current ≡ is_open ledger ledger.current
-  opened = open_same plain.current ledger.current joined.ledgers.states.current
+  opened = open_same plain.current ledger.current ledgers.states.current
 
   pub type_same : (x name : Name) → IsReadAs reading x name → type_of plain x ≡ type_of ledger name
-  type_same x name is = value_same reading (answer_at plain x) (answer_at ledger name) (joined.ledgers.answers x name is)
+  type_same x name is = value_same reading (answer_at plain x) (answer_at ledger name) (ledgers.answers x name is)
 
   pub has_value_same : (x name : Name) → IsReadAs reading x name → has_value plain x ≡ has_value ledger name
   has_value_same x name is = ap (λ (ty : Option «Type»). is_some ty) (type_same x name is)
@@ -211,9 +211,9 @@ module _ (reading : Reading) (plain ledger : Ledger) (joined : IsJoined reading 
   lead_same edge' edge is = λ i. block_same edge'.target edge.target is.target i && not (sealed_same edge'.target edge.target is.target i) && arguments_same edge' edge is i
 
   give_same : (entry : GivenEntry) → may_give plain entry ≡ may_give ledger entry
-  give_same (ServedBy table) = table_same reading plain.jump_tables ledger.jump_tables table joined.ledgers.states.jump_tables
-  give_same (TriedBy table) = exception_same reading plain.exception_tables ledger.exception_tables table joined.ledgers.states.exception_tables
-  give_same (Imported entry) = ap (λ (tables : TableLists). has_entry tables entry) joined.ledgers.states.tables
+  give_same (ServedBy table) = table_same reading plain.jump_tables ledger.jump_tables table ledgers.states.jump_tables
+  give_same (TriedBy table) = exception_same reading plain.exception_tables ledger.exception_tables table ledgers.states.exception_tables
+  give_same (Imported entry) = ap (λ (tables : TableLists). has_entry tables entry) ledgers.states.tables
 
   gives_same : (entries : List GivenEntry) → list_all (may_give plain) entries ≡ list_all (may_give ledger) entries
   gives_same [] = refl
@@ -224,14 +224,14 @@ module _ (reading : Reading) (plain ledger : Ledger) (joined : IsJoined reading 
 
   pub variable_same : (number variable : ℕ) → number ≡ variable → variable_type plain number ≡ variable_type ledger variable
   variable_same number variable is =
-      ap₂ (λ (variables : List VariableState) (v : ℕ). option_map (λ (state : VariableState). state.ty) (slice_get variables v)) joined.ledgers.states.variables is
+      ap₂ (λ (variables : List VariableState) (v : ℕ). option_map (λ (state : VariableState). state.ty) (slice_get variables v)) ledgers.states.variables is
 
   assign_same : (number variable : ℕ) (x value : Name) → number ≡ variable → IsReadAs reading x value
       → can_assign (variable_type plain number) (type_of plain x) ≡ can_assign (variable_type ledger variable) (type_of ledger value)
   assign_same number variable x value same is = ap₂ can_assign (variable_same number variable same) (type_same x value is)
 
   named_same : (x name : Name) → IsReadAs reading x name → is_some (edge_named plain x) ≡ is_some (edge_named ledger name)
-  named_same x name is = edge_same reading (answer_at plain x) (answer_at ledger name) (joined.ledgers.answers x name is)
+  named_same x name is = edge_same reading (answer_at plain x) (answer_at ledger name) (ledgers.answers x name is)
 
   edges_same : (names' names : List Name) → AllZip (IsReadAs reading) names' names → list_all (λ name. is_some (edge_named plain name)) names' ≡ list_all (λ name. is_some (edge_named ledger name)) names
   edges_same names' names are =
@@ -254,12 +254,12 @@ module _ (reading : Reading) (plain ledger : Ledger) (joined : IsJoined reading 
       let given : may_give_all plain entries' ≡ may_give_all ledger entries =
       ap (λ (es : List GivenEntry). may_give_all plain es) same ∙ ap (λ (each : Bool). tables_differ entries && each) (gives_same entries) in
       λ i. contexts i && given i && opened i && operands i && edges i && can_operate (operation i) (is.controlling i)
-      && list_all (has_entry (joined.ledgers.states.tables i)) (operation_entries (operation i))
+      && list_all (has_entry (ledgers.states.tables i)) (operation_entries (operation i))
 
   allowed : (asked request : Request) → IsReadRequest reading asked request → allows plain asked ≡ allows ledger request
   allowed CreateBlock CreateBlock is = refl
   allowed (SwitchToBlock x) (SwitchToBlock block) is =
-      let leave = leave_same plain.current ledger.current joined.ledgers.states.current in
+      let leave = leave_same plain.current ledger.current ledgers.states.current in
       λ i. block_same x block is i && not (filled_same x block is i) && leave i
   allowed (SealBlock x) (SealBlock block) is = λ i. block_same x block is i && not (sealed_same x block is i)
   allowed SealAllBlocks SealAllBlocks is = refl
@@ -272,7 +272,7 @@ module _ (reading : Reading) (plain ledger : Ledger) (joined : IsJoined reading 
   allowed (DeclareVar ty') (DeclareVar ty) is = ap is_type is
   allowed (DefVar number x) (DefVar variable value) is = λ i. opened i && assign_same number variable x value is.0 is.1 i
   allowed (UseVar number) (UseVar variable) is = λ i. opened i && is_some (variable_same number variable is i)
-  allowed (MakeEntry entry') (MakeEntry entry) is = ap₂ can_make joined.ledgers.states.tables is
+  allowed (MakeEntry entry') (MakeEntry entry) is = ap₂ can_make ledgers.states.tables is
   allowed (MakeEdge edge') (MakeEdge edge) is = λ i. block_same edge'.target edge.target is.target i && arguments_same edge' edge is i
   allowed (MakeJumpTable first names) (MakeJumpTable default entries) is = edges_same (first ∷ names) (default ∷ entries) is
   allowed (MakeExceptionTable number first listed) (MakeExceptionTable signature normal items) is =
@@ -280,7 +280,7 @@ module _ (reading : Reading) (plain ledger : Ledger) (joined : IsJoined reading 
   allowed (Annotate names) (Annotate values) is = values_same names values is
   allowed (Build entries' instruction') (Build entries instruction) is = built entries' entries instruction' instruction is.0 is.1
   allowed (ChangeJumpDestination jump at there) (ChangeJumpDestination branch from to) is =
-      let branches = instruction_same reading (answer_at plain jump) (answer_at ledger branch) (joined.ledgers.answers jump branch is.0) in
+      let branches = instruction_same reading (answer_at plain jump) (answer_at ledger branch) (ledgers.answers jump branch is.0) in
       λ i. branches i && leads_same jump branch at from is.0 is.1 i && not (sealed_same at from is.1 i) && block_same there to is.2 i && not (sealed_same there to is.2 i)
   allowed Finalize Finalize is = refl
   allowed _ _ is = absurd is
@@ -327,7 +327,7 @@ module _ (reading : Reading) (plain ledger : Ledger) (joined : IsJoined reading 
   refused : (asked request : Request) → IsReadRequest reading asked request → IsReadRefusal reading (refusal_of plain asked) (refusal_of ledger request)
   refused Finalize Finalize is =
       unfinished_read (find is_unfinished plain.blocks) (find is_unfinished ledger.blocks)
-      (found reading is_unfinished is_unfinished finished_same plain.blocks ledger.blocks joined.ledgers.states.blocks)
+      (found reading is_unfinished is_unfinished finished_same plain.blocks ledger.blocks ledgers.states.blocks)
   refused CreateBlock CreateBlock is = tt
   refused (SwitchToBlock x) (SwitchToBlock block) is = tt
   refused (SealBlock x) (SealBlock block) is = tt
@@ -351,7 +351,7 @@ module _ (reading : Reading) (plain ledger : Ledger) (joined : IsJoined reading 
 
 pub conditions_are_read : ConditionsAreRead
 conditions_are_read = record {
-  allowed = λ reading plain ledger asked request joined is. allowed reading plain ledger joined asked request is;
-  blamed = λ reading plain ledger asked request joined is. blamed reading plain ledger joined asked request is;
-  refused = λ reading plain ledger asked request joined is. refused reading plain ledger joined asked request is;
+  allowed = λ reading plain ledger asked request ledgers one_to_one is. allowed reading plain ledger ledgers one_to_one asked request is;
+  blamed = λ reading plain ledger asked request ledgers one_to_one is. blamed reading plain ledger ledgers one_to_one asked request is;
+  refused = λ reading plain ledger asked request ledgers one_to_one is. refused reading plain ledger ledgers one_to_one asked request is;
 }

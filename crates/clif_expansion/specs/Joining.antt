@@ -146,9 +146,9 @@ pub record AskingKeepsJoins : Type 0 where
 
 -- What the script may call the builder is called with names read, and what it is refused for it is refused for.
 pub record ConditionsAreRead : Type 0 where
-  pub allowed : (reading : Reading) (plain ledger : Ledger) (asked request : Request) → IsJoined reading plain ledger → IsReadRequest reading asked request
+  pub allowed : (reading : Reading) (plain ledger : Ledger) (asked request : Request) → AreJoinedLedgers reading plain ledger → IsOneToOne reading → IsReadRequest reading asked request
       → allows plain asked ≡ allows ledger request
-  pub blamed : (reading : Reading) (plain ledger : Ledger) (asked request : Request) → IsJoined reading plain ledger → IsReadRequest reading asked request
+  pub blamed : (reading : Reading) (plain ledger : Ledger) (asked request : Request) → AreJoinedLedgers reading plain ledger → IsOneToOne reading → IsReadRequest reading asked request
       → blames_variable plain asked ≡ blames_variable ledger request
-  pub refused : (reading : Reading) (plain ledger : Ledger) (asked request : Request) → IsJoined reading plain ledger → IsReadRequest reading asked request
+  pub refused : (reading : Reading) (plain ledger : Ledger) (asked request : Request) → AreJoinedLedgers reading plain ledger → IsOneToOne reading → IsReadRequest reading asked request
       → IsReadRefusal reading (refusal_of plain asked) (refusal_of ledger request)

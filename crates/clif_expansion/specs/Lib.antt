@@ -21,3 +21,7 @@ pub mod JoinedPrograms
 pub mod PerformedCalls
 pub mod JoinedRuns
 pub mod JoinedRunExamples
+pub mod CallsVerdict
+pub mod CallsHeadline
+pub mod HeadlineLaws
+pub mod HeadlineExamples

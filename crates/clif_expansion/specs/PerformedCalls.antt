@@ -1,26 +1,36 @@
--- Emissions that are performed: behind its last call the code of each emission performs the instruction that is emitted, and is laid.
--- Names have the types that ledgers give them. Own.
+-- Emissions that are performed: behind its last call the code of each emission performs the instruction that is emitted, is laid, and
+-- is well typed where that instruction is. Names have the types that ledgers give them. Own.
 use Rattle.std.specs.Prelude.{◌≡◌, ℕ, List, [], ◌∷◌, ◌++◌, fold, length, map, Some}
+use Rattle.std.specs.List.{AllByRecursion}
 use Rattle.clif_types.specs.declared.types.«Type».{«Type»}
+use Rattle.clif_meaning.specs.Access.{library_call}
 use Rattle.clif_meaning.specs.Instruction.{Instruction}
 use Rattle.clif_meaning.specs.Ledger.{Ledger, ledger_after, ledger_with, type_of}
+use Rattle.clif_meaning.specs.Library.{pointer_of}
 use Rattle.clif_meaning.specs.Name.{Name}
+use Rattle.clif_meaning.specs.Premises.{IfLibraryCall}
 use Rattle.clif_meaning.specs.Program.{Program}
 use Rattle.clif_meaning.specs.Request.{Script}
+use Rattle.clif_meaning.specs.Typing.{IsWellTyped}
 use Rattle.clif_expansion.specs.Code.{NameTypes, PerformsItem}
 use Rattle.clif_expansion.specs.Emission.{building, reading_emitted}
 use Rattle.clif_expansion.specs.JoinedCalls.{AreJoinedCalls, Asking, Emitting, Starting}
 use Rattle.clif_expansion.specs.JoinedPrograms.{built_items}
 use Rattle.clif_expansion.specs.Laying.{IsLaid}
-use Rattle.clif_expansion.specs.Reading.{Reading}
+use Rattle.clif_expansion.specs.Reading.{Agree, Reading}
 use Rattle.clif_expansion.specs.ScriptCall.{Emit, ScriptCall, emitted_item, ledger_of, ledger_with_call}
 
 -- a value has the type that the ledger gives it, and what isn't one so far may have any type
 abbrev pub HaveTypes : Ledger → (Name → «Type») → Type 0
 HaveTypes ledger types = (x : Name) (ty : «Type») → type_of ledger x ≡ Some ty → types x ≡ ty
 
+-- an instruction without edges is well typed: no block has parameters that would matter
+abbrev pub IsTypedInLine : (Name → «Type») → List «Type» → Instruction Name Name → Type 0
+IsTypedInLine types returns instruction = IsWellTyped types (λ block. []) returns instruction
+
 -- Code that is built behind these ledgers, of instructions and a last one, does what the instruction does that is emitted: it
--- performs it, whatever types later names have, and is laid.
+-- performs it, whatever types later names have, is laid, is well typed where the instruction is, and calls functions of the C
+-- library by their signatures.
 pub record IsPerformed (pointer_width : ℕ) (reading : Reading) (plain_ledger ledger : Ledger) (code : List (Instruction Name Name)) (last instruction : Instruction Name Name) : Type 0 where
   pub performs : (types : NameTypes)
       → HaveTypes (fold ledger_with plain_ledger (map building code ++ building last ∷ [])) types.plain
@@ -30,6 +40,11 @@ pub record IsPerformed (pointer_width : ℕ) (reading : Reading) (plain_ledger l
   pub laid : (program : Program)
       → IsLaid (reading_emitted reading plain_ledger ledger code) program
       (built_items (length plain_ledger.answers) (code ++ last ∷ [])) (emitted_item (length ledger.answers) instruction)
+  pub typed : (types : NameTypes) (returns : List «Type»)
+      → HaveTypes (fold ledger_with plain_ledger (map building code ++ building last ∷ [])) types.plain
+      → Agree (reading_emitted reading plain_ledger ledger code) types.plain types.script
+      → IsTypedInLine types.script returns instruction → AllByRecursion (IsTypedInLine types.plain returns) (code ++ last ∷ [])
+  pub as_named : AllByRecursion (λ each. IfLibraryCall (pointer_of pointer_width) (library_call each.operation)) (code ++ last ∷ [])
 
 -- each emission of joined calls is performed, where pointers have this width
 abbrev pub ArePerformed : (pointer_width : ℕ) (reading : Reading) (plain : Script) (calls : List ScriptCall) → AreJoinedCalls reading plain calls → Type 0

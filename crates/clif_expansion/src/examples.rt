@@ -2,6 +2,7 @@
 
 ghost use Rattle.clif_expansion.specs.Constants.{ConstantExamples};
 ghost use Rattle.clif_expansion.specs.Examples.{ExpansionExamples};
+ghost use Rattle.clif_expansion.specs.HeadlineExamples.{HeadlineExamples};
 ghost use Rattle.clif_expansion.specs.JoinedRunExamples.{JoinedRunExamples};
 ghost use Rattle.clif_expansion.specs.LayingExamples.{LayingExamples};
 ghost use Rattle.clif_expansion.specs.ScriptCallExamples.{ScriptCallExamples};
@@ -40,4 +41,12 @@ pub fn script_call_examples()
 /// in which 300 is said to have 8 bits isn't.
 pub fn joined_run_examples()
     ensures { (world : World) → JoinedRunExamples world }
+{}
+
+/// The calls that return the sum of five and seven meet the premises and are accepted; a function that returns 12 means
+/// what they mean, and one that returns 7 doesn't. The sum at another type isn't well typed, and the sum of no value is
+/// a misuse at its place. Code that compares at another type, or calls the library by another signature, performs no
+/// comparison.
+pub fn headline_examples()
+    ensures { HeadlineExamples }
 {}

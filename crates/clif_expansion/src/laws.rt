@@ -1,8 +1,10 @@
 //! The laws.
 
+ghost use Rattle.clif_expansion.specs.CallsVerdict.{VerdictsAreRead};
 ghost use Rattle.clif_expansion.specs.ConstantCalls.{ConstantCallsArePerformed, ConstantsAreEmitted};
 ghost use Rattle.clif_expansion.specs.Constants.{ConstantsAreOperands, ConstantsArePerformed};
 ghost use Rattle.clif_expansion.specs.Emission.{EmittingKeepsJoins};
+ghost use Rattle.clif_expansion.specs.HeadlineLaws.{AskingMeansTheSame, CallsMeanWhatPlainCallsMean, CallsNameValues, JoinedCallsKeepPremises};
 ghost use Rattle.clif_expansion.specs.JoinedCalls.{JoinedCallsHaveJoinedLedgers};
 ghost use Rattle.clif_expansion.specs.JoinedPrograms.{JoinedCallsHaveJoinedPrograms};
 ghost use Rattle.clif_expansion.specs.JoinedRuns.{JoinedCallsMeanTheSame};
@@ -112,4 +114,32 @@ pub fn joined_calls_mean_the_same()
 /// plain calls.
 pub fn constant_calls_are_performed()
     ensures { ConstantCallsArePerformed }
+{}
+
+/// What a script may call, what it is refused for, and whom a refusal blames is the same for its plain calls; and the
+/// verdict on calls is found call by call.
+pub fn verdicts_are_read()
+    ensures { VerdictsAreRead }
+{}
+
+/// A script that emits nothing has the premises, the theorem and the edges of its calls of the builder.
+pub fn asking_means_the_same()
+    ensures { AskingMeansTheSame }
+{}
+
+/// Targets, types, tracked names, edges and calls of the C library are as the premises ask in the plain program, where
+/// they are so in the script's.
+pub fn joined_calls_keep_premises()
+    ensures { JoinedCallsKeepPremises }
+{}
+
+/// In the run of well-typed calls that may be made the values fit their types, so the run is sound where its claims are
+/// true.
+pub fn calls_name_values()
+    ensures { CallsNameValues }
+{}
+
+/// So a function that means what the plain calls mean means what the script's calls mean.
+pub fn calls_mean_what_plain_calls_mean()
+    ensures { CallsMeanWhatPlainCallsMean }
 {}

@@ -3,10 +3,11 @@
 use crate::error::{Cause, Operand, Place, RunError};
 use crate::outside::{Callee, Event, Outside, Payload, call_library, cut, show};
 use crate::run::{End, Ending, World};
-use clif_calls::{Call, Edge, Name, OutsideCall, Passed, TableEdge, ThrowingCall};
+use clif_calls::{Call, Edge, ImmediateCall, Name, OutsideCall, Passed, TableEdge, ThrowingCall};
 use clif_operations::{Fault, Operation, Outcome, Store, Typed, bits_of, carry_out, kept};
 use clif_script_program::instruction::{
     Edges, Instruction, branch_by_table, constant_of, edge_of, instruction_of, plan_of,
+    with_constant_of,
 };
 use clif_script_program::program::{Program, ProgramBlock};
 use clif_types::{
@@ -245,6 +246,14 @@ impl<O: Outside> State<'_, '_, '_, O> {
         }
     }
 
+    // Makes an instruction with a constant as an operand at a place, which gives its one answer.
+    fn with_constant(&mut self, place: usize, called: ImmediateCall) -> Result<Next, Cause> {
+        let (operation, x) = with_constant_of(called);
+        let value = operation.result(self.value(x)?)?;
+        self.give(Name { place, answer: 0 }, value)?;
+        Ok(Next::Item)
+    }
+
     // The bits of a call's arguments, which have the types of the signature's parameters.
     fn arguments(&self, signature: &Signature, names: &[Name]) -> Result<Vec<u128>, Cause> {
         let params = signature.params.as_slice();
@@ -452,6 +461,7 @@ impl<O: Outside> State<'_, '_, '_, O> {
                 self.assign(variable.index(), value)?;
                 Ok(Next::Item)
             }
+            Call::Immediate(called) => self.with_constant(place, *called),
             _ => self.call(place, call),
         }
     }

@@ -8,8 +8,10 @@ pub mod fault;
 pub mod library;
 pub mod memory;
 pub mod operation;
+pub mod with_constant;
 
 pub use fault::Fault;
 pub use library::{LibraryCall, is_library_signature, library_result};
 pub use memory::{Memory, Slots};
 pub use operation::{Operation, Outcome, Store, Typed, bits_of, carry_out, kept};
+pub use with_constant::WithConstant;

@@ -41,7 +41,7 @@ key_test q k =
 turned : (q k : ℕ) → (q == k) ≡ (k == q)
 turned q k = elim (cases_eq q k) [ inl is ↦ grind (arith, common_steps, is) | inr other ↦ grind (arith, common_steps, other) ]
 
-lookup_found : (es : List (ℕ × ℕ)) (q : ℕ) → lookup (λ k. q == k) es ≡ map.find nat_cmp q es
+pub lookup_found : (es : List (ℕ × ℕ)) (q : ℕ) → lookup (λ k. q == k) es ≡ map.find nat_cmp q es
 lookup_found [] q = refl
 lookup_found (e ∷ es) q = λ i. cond (sym (key_test q e.0) i) (Some e.1) (lookup_found es q i)
 

@@ -4,3 +4,6 @@ pub mod Fewest
 pub mod CaseMaps
 pub mod Tables
 pub mod Greatest
+pub mod Searching
+pub mod Separate
+pub mod Keys

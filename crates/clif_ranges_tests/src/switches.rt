@@ -1,6 +1,9 @@
 //! The ranges of small switches.
 #![tactic(auto)]
 
+ghost use Rattle.std.specs.Prelude.{IfOk};
+ghost use Rattle.clif_ranges.specs.Search.{AreSeparate};
+
 use clif_ranges::{CaseRange, ranges_of};
 use clif_types::Block;
 use std::alloc::Global;
@@ -9,7 +12,9 @@ use std::process::Abort;
 use std::test::Fail;
 
 // The ranges of cases: keys, and the numbers of their blocks.
-fn gathered(alloc: Global, rows: &[(u128, u8)]) -> Result<Vec<CaseRange>, Fail> {
+pub(crate) fn gathered(alloc: Global, rows: &[(u128, u8)]) -> Result<Vec<CaseRange>, Fail>
+    ensures { IfOk result (λ ranges. AreSeparate ranges.items) }
+{
     let mut cases = BTreeMap::new(alloc);
     for (key, number) in rows {
         cases.insert(*key, Block::from_u32(u32::from(*number)))?;

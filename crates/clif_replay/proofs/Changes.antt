@@ -19,7 +19,7 @@ use Rattle.clif_resolution.specs.declared.answers.Answer.{Answer}
 use Rattle.clif_replay.specs.Ready.{IsReady, can_change}
 use Rattle.clif_resolution.specs.Answers.{block_of, inst_of}
 use Rattle.clif_resolution.specs.Conditions.{can_seal}
-use Rattle.clif_replay.specs.Requests.{name_of}
+use Rattle.clif_replay.specs.Requests.{Naming}
 use Rattle.clif_replay.proofs.Conditions.{no-state, sealed-same}
 use Rattle.clif_replay.proofs.Placements.{Stands-from_test, test-from_Stands}
 use Rattle.clif_replay.proofs.ReadyLaws.{block-found, block-missing, inst-found, inst-missing, read}
@@ -30,17 +30,17 @@ stands-same true x xs tells = sym (test-from_Stands x xs (tells.0 refl))
 stands-same false x xs tells = sym (false_from_ne_true (stands_in x xs) (λ there. false≢true (tells.1 (Stands-from_test x xs there))))
 
 -- no instruction
-pub change-no_branch : {declared : SignatureShape} (calls : List AnsweredCall) (b : FunctionBuilder) (answers : List Answer) → IsReady declared calls b answers
-    → (branch from to : Name) → inst_of answers branch ≡ None → allows (ledger_of calls) (ChangeJumpDestination (name_of branch) (name_of from) (name_of to)) ≡ false
+pub change-no_branch : {naming : Naming} {declared : SignatureShape} (calls : List AnsweredCall) (b : FunctionBuilder) (answers : List Answer) → IsReady naming declared calls b answers
+    → (branch from to : Name) → inst_of answers branch ≡ None → allows (ledger_of calls) (ChangeJumpDestination (naming branch) (naming from) (naming to)) ≡ false
 change-no_branch calls b answers ready branch from to missing = let none = inst-missing calls b answers ready branch missing in rw none refl
 
 -- no block that it could lead to
-pub change-no_source : {declared : SignatureShape} (calls : List AnsweredCall) (b : FunctionBuilder) (answers : List Answer) → IsReady declared calls b answers
-    → (branch from to : Name) → block_of answers from ≡ None → allows (ledger_of calls) (ChangeJumpDestination (name_of branch) (name_of from) (name_of to)) ≡ false
-change-no_source calls b answers ready branch from to missing =
-    by (has_instruction (ledger_of calls) (name_of branch)) (leads_to (ledger_of calls) (name_of branch) (name_of from)) (is_sealed (ledger_of calls) (name_of from))
-    (has_block (ledger_of calls) (name_of to)) (is_sealed (ledger_of calls) (name_of to))
-    (no-state (block_state (ledger_of calls) (name_of from)) (λ (state : BlockState). list_any (same_name (name_of branch)) state.predecessors)
+pub change-no_source : {naming : Naming} {declared : SignatureShape} (calls : List AnsweredCall) (b : FunctionBuilder) (answers : List Answer) → IsReady naming declared calls b answers
+    → (branch from to : Name) → block_of answers from ≡ None → allows (ledger_of calls) (ChangeJumpDestination (naming branch) (naming from) (naming to)) ≡ false
+change-no_source {naming} calls b answers ready branch from to missing =
+    by (has_instruction (ledger_of calls) (naming branch)) (leads_to (ledger_of calls) (naming branch) (naming from)) (is_sealed (ledger_of calls) (naming from))
+    (has_block (ledger_of calls) (naming to)) (is_sealed (ledger_of calls) (naming to))
+    (no-state (block_state (ledger_of calls) (naming from)) (λ (state : BlockState). list_any (same_name (naming branch)) state.predecessors)
     (block-missing calls b answers ready from missing))
   where
     by : (there leads closed has full : Bool) → leads ≡ false → ((((there && leads) && not closed) && has) && not full) ≡ false
@@ -48,11 +48,11 @@ change-no_source calls b answers ready branch from to missing =
     by false leads closed has full is = refl
 
 -- no block that it is to lead to
-pub change-no_target : {declared : SignatureShape} (calls : List AnsweredCall) (b : FunctionBuilder) (answers : List Answer) → IsReady declared calls b answers
-    → (branch from to : Name) → block_of answers to ≡ None → allows (ledger_of calls) (ChangeJumpDestination (name_of branch) (name_of from) (name_of to)) ≡ false
-change-no_target calls b answers ready branch from to missing =
-    by (has_instruction (ledger_of calls) (name_of branch)) (leads_to (ledger_of calls) (name_of branch) (name_of from)) (is_sealed (ledger_of calls) (name_of from))
-    (has_block (ledger_of calls) (name_of to)) (is_sealed (ledger_of calls) (name_of to)) (block-missing calls b answers ready to missing)
+pub change-no_target : {naming : Naming} {declared : SignatureShape} (calls : List AnsweredCall) (b : FunctionBuilder) (answers : List Answer) → IsReady naming declared calls b answers
+    → (branch from to : Name) → block_of answers to ≡ None → allows (ledger_of calls) (ChangeJumpDestination (naming branch) (naming from) (naming to)) ≡ false
+change-no_target {naming} calls b answers ready branch from to missing =
+    by (has_instruction (ledger_of calls) (naming branch)) (leads_to (ledger_of calls) (naming branch) (naming from)) (is_sealed (ledger_of calls) (naming from))
+    (has_block (ledger_of calls) (naming to)) (is_sealed (ledger_of calls) (naming to)) (block-missing calls b answers ready to missing)
   where
     by : (there leads closed has full : Bool) → has ≡ false → ((((there && leads) && not closed) && has) && not full) ≡ false
     by true true true has full is = refl
@@ -60,25 +60,25 @@ change-no_target calls b answers ready branch from to missing =
     by true false closed has full is = refl
     by false leads closed has full is = refl
 
-pub change-some : LeadsAreReadByNumber → {declared : SignatureShape} (calls : List AnsweredCall) (b : FunctionBuilder) (answers : List Answer) → IsReady declared calls b answers
+pub change-some : LeadsAreReadByNumber → {naming : Naming} {declared : SignatureShape} (calls : List AnsweredCall) (b : FunctionBuilder) (answers : List Answer) → IsReady naming declared calls b answers
     → (branch from to : Name) (inst source target : ℕ) → inst_of answers branch ≡ Some inst → block_of answers from ≡ Some source → block_of answers to ≡ Some target
-    → allows (ledger_of calls) (ChangeJumpDestination (name_of branch) (name_of from) (name_of to)) ≡ can_change b inst source target
-change-some law {declared} calls b answers ready branch from to inst source target found_branch found_from found_to =
-    by (has_instruction (ledger_of calls) (name_of branch)) (leads_to (ledger_of calls) (name_of branch) (name_of from)) (is_sealed (ledger_of calls) (name_of from))
-    (has_block (ledger_of calls) (name_of to)) (is_sealed (ledger_of calls) (name_of to))
+    → allows (ledger_of calls) (ChangeJumpDestination (naming branch) (naming from) (naming to)) ≡ can_change b inst source target
+change-some law {naming} {declared} calls b answers ready branch from to inst source target found_branch found_from found_to =
+    by (has_instruction (ledger_of calls) (naming branch)) (leads_to (ledger_of calls) (naming branch) (naming from)) (is_sealed (ledger_of calls) (naming from))
+    (has_block (ledger_of calls) (naming to)) (is_sealed (ledger_of calls) (naming to))
     (stands_in inst (predecessors_of b.ctx.now.ssa source)) (is_yes (sealed_of b.ctx.now.ssa source)) (is_yes (sealed_of b.ctx.now.ssa target))
-    names_branch.is_instruction (law declared calls b (name_of branch) (name_of from) inst source ready.stands names_branch names_from)
-    (sealed-same calls b answers ready (name_of from) source ((read calls b answers ready).named (name_of from) source names_from))
+    names_branch.is_instruction (law declared calls b (naming branch) (naming from) inst source ready.stands names_branch names_from)
+    (sealed-same calls b answers ready (naming from) source ((read calls b answers ready).named (naming from) source names_from))
     names_to.is_block
-    (sealed-same calls b answers ready (name_of to) target ((read calls b answers ready).named (name_of to) target names_to))
+    (sealed-same calls b answers ready (naming to) target ((read calls b answers ready).named (naming to) target names_to))
   where
-    names_branch : NamesInstruction calls (name_of branch) inst
+    names_branch : NamesInstruction calls (naming branch) inst
     names_branch = inst-found calls b answers ready branch inst found_branch
 
-    names_from : NamesBlock calls (name_of from) source
+    names_from : NamesBlock calls (naming from) source
     names_from = block-found calls b answers ready from source found_from
 
-    names_to : NamesBlock calls (name_of to) target
+    names_to : NamesBlock calls (naming to) target
     names_to = block-found calls b answers ready to target found_to
 
     cases : (l s t : Bool) → ((((true && l) && not s) && true) && not t) ≡ ((l && not s) && not t)

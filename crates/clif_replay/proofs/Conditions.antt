@@ -34,7 +34,7 @@ use Rattle.cranelift_frontend.specs.Ledger.{NamesArguments, NamesEdge, block_nam
 use Rattle.clif_calls.specs.declared.call.Edge.{Edge}
 use Rattle.clif_calls.specs.declared.call.Name.{Name}
 use Rattle.clif_resolution.specs.declared.answers.Answer.{Answer}
-use Rattle.clif_replay.specs.Requests.{edge_of, name_of}
+use Rattle.clif_replay.specs.Requests.{Naming, edge_of}
 use Rattle.clif_replay.specs.Ready.{IsReady, can_append, can_append_function_params, can_define, can_switch, can_use}
 use Rattle.clif_resolution.specs.Conditions.{IsFound, can_seal, is_open, is_open_at, is_target, may_lead}
 use Rattle.clif_resolution.specs.Answers.{all_values, block_of, value_of}
@@ -43,19 +43,19 @@ use Rattle.clif_replay.proofs.Options.{name-of-none, name-of-some, some-is}
 use Rattle.clif_replay.proofs.ReadyLaws.{block-found, block-missing, block-there, read, value-exists, value-found, value-missing}
 use Rattle.clif_resolution.proofs.Found.{passed-values}
 
-filled-same : {declared : SignatureShape} (calls : List AnsweredCall) (b : FunctionBuilder) (answers : List Answer) → IsReady declared calls b answers
+filled-same : {naming : Naming} {declared : SignatureShape} (calls : List AnsweredCall) (b : FunctionBuilder) (answers : List Answer) → IsReady naming declared calls b answers
     → (name : meaning.Name) (block : ℕ) → block_name (ledger_of calls) block ≡ Some name → is_filled (ledger_of calls) name ≡ is_filled_status (status_of b.ctx.now block)
 filled-same calls b answers ready name block named =
     let s = (read calls b answers ready).state block name named in
     ap (state_has (λ (state : BlockState). state.is_filled)) s.found ∙ s.agrees.is_filled
 
-pristine-same : {declared : SignatureShape} (calls : List AnsweredCall) (b : FunctionBuilder) (answers : List Answer) → IsReady declared calls b answers
+pristine-same : {naming : Naming} {declared : SignatureShape} (calls : List AnsweredCall) (b : FunctionBuilder) (answers : List Answer) → IsReady naming declared calls b answers
     → (name : meaning.Name) (block : ℕ) → block_name (ledger_of calls) block ≡ Some name → is_pristine (ledger_of calls) name ≡ is_empty_status (status_of b.ctx.now block)
 pristine-same calls b answers ready name block named =
     let s = (read calls b answers ready).state block name named in
     ap (state_has (λ (state : BlockState). state.is_pristine)) s.found ∙ s.agrees.is_pristine
 
-pub sealed-same : {declared : SignatureShape} (calls : List AnsweredCall) (b : FunctionBuilder) (answers : List Answer) → IsReady declared calls b answers
+pub sealed-same : {naming : Naming} {declared : SignatureShape} (calls : List AnsweredCall) (b : FunctionBuilder) (answers : List Answer) → IsReady naming declared calls b answers
     → (name : meaning.Name) (block : ℕ) → block_name (ledger_of calls) block ≡ Some name → is_sealed (ledger_of calls) name ≡ is_yes (sealed_of b.ctx.now.ssa block)
 sealed-same calls b answers ready name block named =
     let s = (read calls b answers ready).state block name named in
@@ -68,7 +68,7 @@ same-empty calls [] (k ∷ numbers) same = let no_way : ⊥ = cc in absurd no_wa
 same-empty calls (name ∷ names) [] same = let no_way : ⊥ = cc in absurd no_way
 same-empty calls (name ∷ names) (k ∷ numbers) same = refl
 
-predecessors-same : {declared : SignatureShape} (calls : List AnsweredCall) (b : FunctionBuilder) (answers : List Answer) → IsReady declared calls b answers
+predecessors-same : {naming : Naming} {declared : SignatureShape} (calls : List AnsweredCall) (b : FunctionBuilder) (answers : List Answer) → IsReady naming declared calls b answers
     → (name : meaning.Name) (block : ℕ) → block_name (ledger_of calls) block ≡ Some name
     → has_predecessors (ledger_of calls) name ≡ not (is_nothing (predecessors_of b.ctx.now.ssa block))
 predecessors-same calls b answers ready name block named =
@@ -77,7 +77,7 @@ predecessors-same calls b answers ready name block named =
     ∙ ap not (same-empty calls s.state.predecessors (predecessors_of b.ctx.now.ssa block) s.agrees.predecessors)
 
 -- there is a current block that isn't filled
-pub open-same : {declared : SignatureShape} (calls : List AnsweredCall) (b : FunctionBuilder) (answers : List Answer) → IsReady declared calls b answers
+pub open-same : {naming : Naming} {declared : SignatureShape} (calls : List AnsweredCall) (b : FunctionBuilder) (answers : List Answer) → IsReady naming declared calls b answers
     → acceptance.is_open (ledger_of calls) (ledger_of calls).current ≡ is_open b
 open-same calls b answers ready = by b.position refl
   where
@@ -102,7 +102,7 @@ elsewhere-same ledger block name test (x ∷ names) (k ∷ numbers) same =
     ap not (test k x here)
 
 -- whether the current block may be left
-pub leave-same : {declared : SignatureShape} (calls : List AnsweredCall) (b : FunctionBuilder) (answers : List Answer) → IsReady declared calls b answers
+pub leave-same : {naming : Naming} {declared : SignatureShape} (calls : List AnsweredCall) (b : FunctionBuilder) (answers : List Answer) → IsReady naming declared calls b answers
     → can_leave (ledger_of calls) (ledger_of calls).current ≡ is_free b
 leave-same calls b answers ready = by b.position refl
   where
@@ -137,32 +137,32 @@ leave-same calls b answers ready = by b.position refl
         ∙ ap (λ (o : Option ℕ). is_free_at o b.func.now b.ctx.now) (sym at)
 
 -- `switch_to_block`
-pub switch-none : {declared : SignatureShape} (calls : List AnsweredCall) (b : FunctionBuilder) (answers : List Answer) → IsReady declared calls b answers
-    → (name : Name) → block_of answers name ≡ None → allows (ledger_of calls) (SwitchToBlock (name_of name)) ≡ false
+pub switch-none : {naming : Naming} {declared : SignatureShape} (calls : List AnsweredCall) (b : FunctionBuilder) (answers : List Answer) → IsReady naming declared calls b answers
+    → (name : Name) → block_of answers name ≡ None → allows (ledger_of calls) (SwitchToBlock (naming name)) ≡ false
 switch-none calls b answers ready name missing = let none = block-missing calls b answers ready name missing in rw none refl
 
-pub switch-some : {declared : SignatureShape} (calls : List AnsweredCall) (b : FunctionBuilder) (answers : List Answer) → IsReady declared calls b answers
-    → (name : Name) (block : ℕ) → block_of answers name ≡ Some block → allows (ledger_of calls) (SwitchToBlock (name_of name)) ≡ can_switch b block
-switch-some calls b answers ready name block found =
+pub switch-some : {naming : Naming} {declared : SignatureShape} (calls : List AnsweredCall) (b : FunctionBuilder) (answers : List Answer) → IsReady naming declared calls b answers
+    → (name : Name) (block : ℕ) → block_of answers name ≡ Some block → allows (ledger_of calls) (SwitchToBlock (naming name)) ≡ can_switch b block
+switch-some {naming} calls b answers ready name block found =
     let names = block-found calls b answers ready name block found in
     let there = names.is_block in
-    let named = (read calls b answers ready).named (name_of name) block names in
-    let filled = filled-same calls b answers ready (name_of name) block named in
+    let named = (read calls b answers ready).named (naming name) block names in
+    let filled = filled-same calls b answers ready (naming name) block named in
     let leaves = leave-same calls b answers ready in
     rw (there, filled, leaves) refl
 
 -- `seal_block`
-pub seal-none : {declared : SignatureShape} (calls : List AnsweredCall) (b : FunctionBuilder) (answers : List Answer) → IsReady declared calls b answers
-    → (name : Name) → block_of answers name ≡ None → allows (ledger_of calls) (SealBlock (name_of name)) ≡ false
+pub seal-none : {naming : Naming} {declared : SignatureShape} (calls : List AnsweredCall) (b : FunctionBuilder) (answers : List Answer) → IsReady naming declared calls b answers
+    → (name : Name) → block_of answers name ≡ None → allows (ledger_of calls) (SealBlock (naming name)) ≡ false
 seal-none calls b answers ready name missing = let none = block-missing calls b answers ready name missing in rw none refl
 
-pub seal-some : {declared : SignatureShape} (calls : List AnsweredCall) (b : FunctionBuilder) (answers : List Answer) → IsReady declared calls b answers
-    → (name : Name) (block : ℕ) → block_of answers name ≡ Some block → allows (ledger_of calls) (SealBlock (name_of name)) ≡ can_seal b block
-seal-some calls b answers ready name block found =
+pub seal-some : {naming : Naming} {declared : SignatureShape} (calls : List AnsweredCall) (b : FunctionBuilder) (answers : List Answer) → IsReady naming declared calls b answers
+    → (name : Name) (block : ℕ) → block_of answers name ≡ Some block → allows (ledger_of calls) (SealBlock (naming name)) ≡ can_seal b block
+seal-some {naming} calls b answers ready name block found =
     let names = block-found calls b answers ready name block found in
     let there = names.is_block in
-    let named = (read calls b answers ready).named (name_of name) block names in
-    let sealed = sealed-same calls b answers ready (name_of name) block named in
+    let named = (read calls b answers ready).named (naming name) block names in
+    let sealed = sealed-same calls b answers ready (naming name) block named in
     rw (there, sealed) refl
 
 -- `append_block_param`
@@ -175,17 +175,17 @@ empty-is Empty is = refl
 empty-is Partial is = let no_way : ⊥ = cc in absurd no_way
 empty-is Filled is = let no_way : ⊥ = cc in absurd no_way
 
-pub append-none : {declared : SignatureShape} (calls : List AnsweredCall) (b : FunctionBuilder) (answers : List Answer) → IsReady declared calls b answers
-    → (name : Name) (types : List «Type») → block_of answers name ≡ None → allows (ledger_of calls) (AppendBlockParams (name_of name) types) ≡ false
-append-none calls b answers ready name types missing =
-    no-state (block_state (ledger_of calls) (name_of name)) (λ (state : BlockState). state.is_pristine) (block-missing calls b answers ready name missing)
+pub append-none : {naming : Naming} {declared : SignatureShape} (calls : List AnsweredCall) (b : FunctionBuilder) (answers : List Answer) → IsReady naming declared calls b answers
+    → (name : Name) (types : List «Type») → block_of answers name ≡ None → allows (ledger_of calls) (AppendBlockParams (naming name) types) ≡ false
+append-none {naming} calls b answers ready name types missing =
+    no-state (block_state (ledger_of calls) (naming name)) (λ (state : BlockState). state.is_pristine) (block-missing calls b answers ready name missing)
 
-pub append-some : {declared : SignatureShape} (calls : List AnsweredCall) (b : FunctionBuilder) (answers : List Answer) → IsReady declared calls b answers
-    → (name : Name) (block : ℕ) (types : List «Type») → block_of answers name ≡ Some block → allows (ledger_of calls) (AppendBlockParams (name_of name) types) ≡ can_append b block
-append-some calls b answers ready name block types found =
+pub append-some : {naming : Naming} {declared : SignatureShape} (calls : List AnsweredCall) (b : FunctionBuilder) (answers : List Answer) → IsReady naming declared calls b answers
+    → (name : Name) (block : ℕ) (types : List «Type») → block_of answers name ≡ Some block → allows (ledger_of calls) (AppendBlockParams (naming name) types) ≡ can_append b block
+append-some {naming} calls b answers ready name block types found =
     let names = block-found calls b answers ready name block found in
-    let named = (read calls b answers ready).named (name_of name) block names in
-    pristine-same calls b answers ready (name_of name) block named
+    let named = (read calls b answers ready).named (naming name) block names in
+    pristine-same calls b answers ready (naming name) block named
 
 -- `append_block_params_for_function_params`
 pub alone-from : (branches : List ℕ) (has : Bool) → (IsTrue has ↔ (branches ≢ [])) → not has ≡ is_nothing branches
@@ -198,23 +198,23 @@ pub nothing-is : (branches : List ℕ) → is_nothing branches ≡ true → bran
 nothing-is [] is = refl
 nothing-is (branch ∷ branches) is = absurd (false≢true is)
 
-pub function-params-none : {declared : SignatureShape} (calls : List AnsweredCall) (b : FunctionBuilder) (answers : List Answer) → IsReady declared calls b answers
-    → (name : Name) (types : List «Type») → block_of answers name ≡ None → allows (ledger_of calls) (AppendFunctionParams (name_of name) types) ≡ false
-function-params-none calls b answers ready name types missing =
-    ap (λ (test : Bool). test && not (has_predecessors (ledger_of calls) (name_of name))) (append-none calls b answers ready name types missing)
+pub function-params-none : {naming : Naming} {declared : SignatureShape} (calls : List AnsweredCall) (b : FunctionBuilder) (answers : List Answer) → IsReady naming declared calls b answers
+    → (name : Name) (types : List «Type») → block_of answers name ≡ None → allows (ledger_of calls) (AppendFunctionParams (naming name) types) ≡ false
+function-params-none {naming} calls b answers ready name types missing =
+    ap (λ (test : Bool). test && not (has_predecessors (ledger_of calls) (naming name))) (append-none calls b answers ready name types missing)
 
-pub function-params-some : {declared : SignatureShape} (calls : List AnsweredCall) (b : FunctionBuilder) (answers : List Answer) → IsReady declared calls b answers
+pub function-params-some : {naming : Naming} {declared : SignatureShape} (calls : List AnsweredCall) (b : FunctionBuilder) (answers : List Answer) → IsReady naming declared calls b answers
     → (name : Name) (block : ℕ) (types : List «Type») → block_of answers name ≡ Some block
-    → allows (ledger_of calls) (AppendFunctionParams (name_of name) types) ≡ can_append_function_params b block
-function-params-some calls b answers ready name block types found =
+    → allows (ledger_of calls) (AppendFunctionParams (naming name) types) ≡ can_append_function_params b block
+function-params-some {naming} calls b answers ready name block types found =
     let names = block-found calls b answers ready name block found in
-    let named = (read calls b answers ready).named (name_of name) block names in
-    ap (λ (test : Bool). test && not (has_predecessors (ledger_of calls) (name_of name))) (append-some calls b answers ready name block types found)
-    ∙ ap (λ (test : Bool). can_append b block && not test) (predecessors-same calls b answers ready (name_of name) block named)
+    let named = (read calls b answers ready).named (naming name) block names in
+    ap (λ (test : Bool). test && not (has_predecessors (ledger_of calls) (naming name))) (append-some calls b answers ready name block types found)
+    ∙ ap (λ (test : Bool). can_append b block && not test) (predecessors-same calls b answers ready (naming name) block named)
     ∙ ap (λ (test : Bool). can_append b block && test) (not-not (is_nothing (predecessors_of b.ctx.now.ssa block)))
 
 -- an instruction of a pooled constant
-pub pooled-same : {declared : SignatureShape} (calls : List AnsweredCall) (b : FunctionBuilder) (answers : List Answer) → IsReady declared calls b answers
+pub pooled-same : {naming : Naming} {declared : SignatureShape} (calls : List AnsweredCall) (b : FunctionBuilder) (answers : List Answer) → IsReady naming declared calls b answers
     → (opcode : PooledConstOpcode) (ty : «Type») (bytes : List ℕ) → allows (ledger_of calls) (pooled_const opcode ty bytes) ≡ is_open b && has_bytes opcode ty bytes
 pooled-same calls b answers ready opcode ty bytes =
     let opens = open-same calls b answers ready in
@@ -238,30 +238,30 @@ no-type : (o : Option «Type») → is_some o ≡ false → o ≡ None
 no-type None is = refl
 no-type (Some ty) is = let no_way : ⊥ = cc in absurd no_way
 
-pub define-none : {declared : SignatureShape} (calls : List AnsweredCall) (b : FunctionBuilder) (answers : List Answer) → IsReady declared calls b answers
-    → (variable : ℕ) (name : Name) → value_of b.func.now answers name ≡ None → allows (ledger_of calls) (DefVar variable (name_of name)) ≡ false
-define-none calls b answers ready variable name missing =
-    let none : type_of (ledger_of calls) (name_of name) ≡ None = no-type (type_of (ledger_of calls) (name_of name)) (value-missing calls b answers ready name missing) in
+pub define-none : {naming : Naming} {declared : SignatureShape} (calls : List AnsweredCall) (b : FunctionBuilder) (answers : List Answer) → IsReady naming declared calls b answers
+    → (variable : ℕ) (name : Name) → value_of b.func.now answers name ≡ None → allows (ledger_of calls) (DefVar variable (naming name)) ≡ false
+define-none {naming} calls b answers ready variable name missing =
+    let none : type_of (ledger_of calls) (naming name) ≡ None = no-type (type_of (ledger_of calls) (naming name)) (value-missing calls b answers ready name missing) in
     and_right _ _ (ap (can_assign (variable_type (ledger_of calls) variable)) none ∙ no-value-assigned (variable_type (ledger_of calls) variable))
 
-pub define-undeclared : {declared : SignatureShape} (calls : List AnsweredCall) (b : FunctionBuilder) (answers : List Answer) → IsReady declared calls b answers
+pub define-undeclared : {naming : Naming} {declared : SignatureShape} (calls : List AnsweredCall) (b : FunctionBuilder) (answers : List Answer) → IsReady naming declared calls b answers
     → (variable : ℕ) (name : meaning.Name) → slice_get b.ctx.now.variables variable ≡ None → allows (ledger_of calls) (DefVar variable name) ≡ false
 define-undeclared calls b answers ready variable name missing =
     let none : variable_type (ledger_of calls) variable ≡ None = (read calls b answers ready).variable variable ∙ missing in
     and_right _ _ (ap (λ (o : Option «Type»). can_assign o (type_of (ledger_of calls) name)) none ∙ no-variable-assigned (type_of (ledger_of calls) name))
 
 -- the ledger's type of a value is the function's
-pub value-type-same : {declared : SignatureShape} (calls : List AnsweredCall) (b : FunctionBuilder) (answers : List Answer) → IsReady declared calls b answers
-    → (name : Name) (value : ℕ) → value_of b.func.now answers name ≡ Some value → type_of (ledger_of calls) (name_of name) ≡ Some (value_at b.func.now value).ty
-value-type-same calls b answers ready name value found =
+pub value-type-same : {naming : Naming} {declared : SignatureShape} (calls : List AnsweredCall) (b : FunctionBuilder) (answers : List Answer) → IsReady naming declared calls b answers
+    → (name : Name) (value : ℕ) → value_of b.func.now answers name ≡ Some value → type_of (ledger_of calls) (naming name) ≡ Some (value_at b.func.now value).ty
+value-type-same {naming} calls b answers ready name value found =
     let names = value-found calls b answers ready name value found in
-    let typed = (read calls b answers ready).value (name_of name) value names in
+    let typed = (read calls b answers ready).value (naming name) value names in
     let node = map-some (λ (n : ValueNode). n.ty) (slice_get b.func.now.values value) typed.0 typed.2 in
     typed.1 ∙ ap Some (sym (ap (λ (n : ValueNode). n.ty) (get_or_from_slice_get b.func.now.values value node.0 no_value node.1) ∙ node.2))
 
-pub define-some : {declared : SignatureShape} (calls : List AnsweredCall) (b : FunctionBuilder) (answers : List Answer) → IsReady declared calls b answers
+pub define-some : {naming : Naming} {declared : SignatureShape} (calls : List AnsweredCall) (b : FunctionBuilder) (answers : List Answer) → IsReady naming declared calls b answers
     → (variable : ℕ) (name : Name) (value : ℕ) (ty : «Type») → value_of b.func.now answers name ≡ Some value → slice_get b.ctx.now.variables variable ≡ Some ty
-    → allows (ledger_of calls) (DefVar variable (name_of name)) ≡ can_define b ty value
+    → allows (ledger_of calls) (DefVar variable (naming name)) ≡ can_define b ty value
 define-some calls b answers ready variable name value ty found declared =
     let opens = open-same calls b answers ready in
     let of_value = value-type-same calls b answers ready name value found in
@@ -269,7 +269,7 @@ define-some calls b answers ready variable name value ty found declared =
     rw (opens, of_variable, of_value) refl
 
 -- `use_var`
-pub use-same : {declared : SignatureShape} (calls : List AnsweredCall) (b : FunctionBuilder) (answers : List Answer) → IsReady declared calls b answers
+pub use-same : {naming : Naming} {declared : SignatureShape} (calls : List AnsweredCall) (b : FunctionBuilder) (answers : List Answer) → IsReady naming declared calls b answers
     → (variable : ℕ) → allows (ledger_of calls) (UseVar variable) ≡ can_use b b.ctx.now.variables variable
 use-same calls b answers ready variable =
     let opens = open-same calls b answers ready in
@@ -277,20 +277,20 @@ use-same calls b answers ready variable =
     rw (opens, of_variable) refl
 
 -- the values that names lead to are there
-pub values-same : {declared : SignatureShape} (calls : List AnsweredCall) (b : FunctionBuilder) (answers : List Answer) → IsReady declared calls b answers
-    → (names : List Name) → list_all (has_value (ledger_of calls)) (map name_of names) ≡ all_values b.func.now answers names
-values-same calls b answers ready [] = refl
-values-same calls b answers ready (name ∷ names) =
+pub values-same : {naming : Naming} {declared : SignatureShape} (calls : List AnsweredCall) (b : FunctionBuilder) (answers : List Answer) → IsReady naming declared calls b answers
+    → (names : List Name) → list_all (has_value (ledger_of calls)) (map naming names) ≡ all_values b.func.now answers names
+values-same {naming} calls b answers ready [] = refl
+values-same {naming} calls b answers ready (name ∷ names) =
     let rest = values-same calls b answers ready names in
-    let here : has_value (ledger_of calls) (name_of name) ≡ is_some (value_of b.func.now answers name) = by (value_of b.func.now answers name) refl in
+    let here : has_value (ledger_of calls) (naming name) ≡ is_some (value_of b.func.now answers name) = by (value_of b.func.now answers name) refl in
     cc
   where
-    by : (o : Option ℕ) → value_of b.func.now answers name ≡ o → has_value (ledger_of calls) (name_of name) ≡ is_some (value_of b.func.now answers name)
+    by : (o : Option ℕ) → value_of b.func.now answers name ≡ o → has_value (ledger_of calls) (naming name) ≡ is_some (value_of b.func.now answers name)
     by None is = value-missing calls b answers ready name is ∙ ap is_some (sym is)
     by (Some value) is = (value-found calls b answers ready name value is).is_value ∙ ap is_some (sym is)
 
 -- a current block that isn't filled
-pub has-current : {declared : SignatureShape} (calls : List AnsweredCall) (b : FunctionBuilder) (answers : List Answer) → IsReady declared calls b answers → is_open b ≡ true → HasCurrent b
+pub has-current : {naming : Naming} {declared : SignatureShape} (calls : List AnsweredCall) (b : FunctionBuilder) (answers : List Answer) → IsReady naming declared calls b answers → is_open b ≡ true → HasCurrent b
 has-current calls b answers ready opens = by b.position refl opens
   where
     not_filled : (s : BlockStatus) → not (is_filled_status s) ≡ true → s ≢ Filled
@@ -305,7 +305,7 @@ has-current calls b answers ready opens = by b.position refl opens
         (block, at, (read calls b answers ready).exists block current.0 current.2, not_filled (status_of b.ctx.now block) is)
 
 -- the values that names lead to exist, and have the names' numbers
-pub all-exist : {declared : SignatureShape} (calls : List AnsweredCall) (b : FunctionBuilder) (answers : List Answer) → IsReady declared calls b answers
+pub all-exist : {naming : Naming} {declared : SignatureShape} (calls : List AnsweredCall) (b : FunctionBuilder) (answers : List Answer) → IsReady naming declared calls b answers
     → (names : List Name) (values : List ℕ) → map (value_of b.func.now answers) names ≡ map Some values
     → (k : ℕ) → k < length values → slice_index values k < length b.func.now.values
 all-exist calls b answers ready [] [] found k inside = absurd (omega (arith, inside))
@@ -316,15 +316,15 @@ all-exist calls b answers ready (name ∷ names) (value ∷ values) found zero i
 all-exist calls b answers ready (name ∷ names) (value ∷ values) found (suc k) inside =
     let rest : map (value_of b.func.now answers) names ≡ map Some values = cc in all-exist calls b answers ready names values rest k (omega (arith, inside))
 
-pub all-numbered : {declared : SignatureShape} (calls : List AnsweredCall) (b : FunctionBuilder) (answers : List Answer) → IsReady declared calls b answers
-    → (names : List Name) (values : List ℕ) → map (value_of b.func.now answers) names ≡ map Some values → map (number_of calls) (map name_of names) ≡ map Some values
-all-numbered calls b answers ready [] [] found = refl
-all-numbered calls b answers ready [] (value ∷ values) found = let no_way : ⊥ = cc in absurd no_way
-all-numbered calls b answers ready (name ∷ names) [] found = let no_way : ⊥ = cc in absurd no_way
-all-numbered calls b answers ready (name ∷ names) (value ∷ values) found =
+pub all-numbered : {naming : Naming} {declared : SignatureShape} (calls : List AnsweredCall) (b : FunctionBuilder) (answers : List Answer) → IsReady naming declared calls b answers
+    → (names : List Name) (values : List ℕ) → map (value_of b.func.now answers) names ≡ map Some values → map (number_of calls) (map naming names) ≡ map Some values
+all-numbered {naming} calls b answers ready [] [] found = refl
+all-numbered {naming} calls b answers ready [] (value ∷ values) found = let no_way : ⊥ = cc in absurd no_way
+all-numbered {naming} calls b answers ready (name ∷ names) [] found = let no_way : ⊥ = cc in absurd no_way
+all-numbered {naming} calls b answers ready (name ∷ names) (value ∷ values) found =
     let here : value_of b.func.now answers name ≡ Some value = cc in
     let rest : map (value_of b.func.now answers) names ≡ map Some values = cc in
-    let number : number_of calls (name_of name) ≡ Some value = (value-found calls b answers ready name value here).number in
+    let number : number_of calls (naming name) ≡ Some value = (value-found calls b answers ready name value here).number in
     let others = all-numbered calls b answers ready names values rest in
     cc
 
@@ -343,7 +343,7 @@ same_from_iff false a b tells = sym (false_from_ne_true (same_type a b) (λ same
 -- TRYING ----------------------------------------------------------------------------------------------------------
 
 -- `try_use_var`
-pub try-use-closed : {declared : SignatureShape} (calls : List AnsweredCall) (b : FunctionBuilder) (answers : List Answer) → IsReady declared calls b answers
+pub try-use-closed : {naming : Naming} {declared : SignatureShape} (calls : List AnsweredCall) (b : FunctionBuilder) (answers : List Answer) → IsReady naming declared calls b answers
     → (variable : ℕ) → is_open b ≡ false → (allows (ledger_of calls) (UseVar variable) ≡ false) × (blames_variable (ledger_of calls) (UseVar variable) ≡ false)
 try-use-closed calls b answers ready variable closed =
     let opens = open-same calls b answers ready ∙ closed in (
@@ -351,7 +351,7 @@ try-use-closed calls b answers ready variable closed =
       ap (λ (test : Bool). test && not (is_some (variable_type (ledger_of calls) variable))) opens,
     )
 
-pub try-use-undeclared : {declared : SignatureShape} (calls : List AnsweredCall) (b : FunctionBuilder) (answers : List Answer) → IsReady declared calls b answers
+pub try-use-undeclared : {naming : Naming} {declared : SignatureShape} (calls : List AnsweredCall) (b : FunctionBuilder) (answers : List Answer) → IsReady naming declared calls b answers
     → (variable : ℕ) → is_open b ≡ true → slice_get b.ctx.now.variables variable ≡ None
     → (allows (ledger_of calls) (UseVar variable) ≡ false) × (blames_variable (ledger_of calls) (UseVar variable) ≡ true)
 try-use-undeclared calls b answers ready variable here none =
@@ -362,31 +362,31 @@ try-use-undeclared calls b answers ready variable here none =
     )
 
 -- a variable that is declared may be used
-pub use-declared : {declared : SignatureShape} (calls : List AnsweredCall) (b : FunctionBuilder) (answers : List Answer) → IsReady declared calls b answers
+pub use-declared : {naming : Naming} {declared : SignatureShape} (calls : List AnsweredCall) (b : FunctionBuilder) (answers : List Answer) → IsReady naming declared calls b answers
     → (variable : ℕ) → is_open b ≡ true → variable < length b.ctx.now.variables → allows (ledger_of calls) (UseVar variable) ≡ true
 use-declared calls b answers ready variable here declared =
     let ty = get-below b.ctx.now.variables variable declared in
     use-same calls b answers ready variable ∙ and_from (is_open b) (is_some (slice_get b.ctx.now.variables variable)) here (ap is_some ty.1)
 
 -- `try_def_var`
-pub try-define-none : {declared : SignatureShape} (calls : List AnsweredCall) (b : FunctionBuilder) (answers : List Answer) → IsReady declared calls b answers
+pub try-define-none : {naming : Naming} {declared : SignatureShape} (calls : List AnsweredCall) (b : FunctionBuilder) (answers : List Answer) → IsReady naming declared calls b answers
     → (variable : ℕ) (name : Name) → value_of b.func.now answers name ≡ None
-    → (allows (ledger_of calls) (DefVar variable (name_of name)) ≡ false) × (blames_variable (ledger_of calls) (DefVar variable (name_of name)) ≡ false)
-try-define-none calls b answers ready variable name missing =
+    → (allows (ledger_of calls) (DefVar variable (naming name)) ≡ false) × (blames_variable (ledger_of calls) (DefVar variable (naming name)) ≡ false)
+try-define-none {naming} calls b answers ready variable name missing =
     let none = value-missing calls b answers ready name missing in (
       define-none calls b answers ready variable name missing,
-      ap (λ (test : Bool). test && not (can_assign (variable_type (ledger_of calls) variable) (type_of (ledger_of calls) (name_of name))))
-          (and_right (acceptance.is_open (ledger_of calls) (ledger_of calls).current) (has_value (ledger_of calls) (name_of name)) none),
+      ap (λ (test : Bool). test && not (can_assign (variable_type (ledger_of calls) variable) (type_of (ledger_of calls) (naming name))))
+          (and_right (acceptance.is_open (ledger_of calls) (ledger_of calls).current) (has_value (ledger_of calls) (naming name)) none),
     )
 
-pub try-define-closed : {declared : SignatureShape} (calls : List AnsweredCall) (b : FunctionBuilder) (answers : List Answer) → IsReady declared calls b answers
+pub try-define-closed : {naming : Naming} {declared : SignatureShape} (calls : List AnsweredCall) (b : FunctionBuilder) (answers : List Answer) → IsReady naming declared calls b answers
     → (variable : ℕ) (name : Name) → is_open b ≡ false
-    → (allows (ledger_of calls) (DefVar variable (name_of name)) ≡ false) × (blames_variable (ledger_of calls) (DefVar variable (name_of name)) ≡ false)
-try-define-closed calls b answers ready variable name closed =
+    → (allows (ledger_of calls) (DefVar variable (naming name)) ≡ false) × (blames_variable (ledger_of calls) (DefVar variable (naming name)) ≡ false)
+try-define-closed {naming} calls b answers ready variable name closed =
     let opens = open-same calls b answers ready ∙ closed in
-    let assigns : Bool = can_assign (variable_type (ledger_of calls) variable) (type_of (ledger_of calls) (name_of name)) in (
+    let assigns : Bool = can_assign (variable_type (ledger_of calls) variable) (type_of (ledger_of calls) (naming name)) in (
       ap (λ (test : Bool). test && assigns) opens,
-      ap (λ (test : Bool). test && has_value (ledger_of calls) (name_of name) && not assigns) opens,
+      ap (λ (test : Bool). test && has_value (ledger_of calls) (naming name) && not assigns) opens,
     )
 
 -- a value of another type can't be assigned
@@ -394,55 +394,55 @@ mistyped-assigned : (o : Option «Type») (ty : «Type») → o ≢ Some ty → 
 mistyped-assigned None ty other = refl
 mistyped-assigned (Some own) ty other = false_from_ne_true (same_type own ty) (λ same. other (ap Some (type_is own ty same)))
 
-pub try-define-mistyped : {declared : SignatureShape} (calls : List AnsweredCall) (b : FunctionBuilder) (answers : List Answer) → IsReady declared calls b answers
+pub try-define-mistyped : {naming : Naming} {declared : SignatureShape} (calls : List AnsweredCall) (b : FunctionBuilder) (answers : List Answer) → IsReady naming declared calls b answers
     → (variable : ℕ) (name : Name) (value : ℕ) → is_open b ≡ true → value_of b.func.now answers name ≡ Some value → slice_get b.ctx.now.variables variable ≢ Some (value_at b.func.now value).ty
-    → (allows (ledger_of calls) (DefVar variable (name_of name)) ≡ false) × (blames_variable (ledger_of calls) (DefVar variable (name_of name)) ≡ true)
-try-define-mistyped calls b answers ready variable name value here found other =
+    → (allows (ledger_of calls) (DefVar variable (naming name)) ≡ false) × (blames_variable (ledger_of calls) (DefVar variable (naming name)) ≡ true)
+try-define-mistyped {naming} calls b answers ready variable name value here found other =
     let opens = open-same calls b answers ready ∙ here in
     let of_value = value-type-same calls b answers ready name value found in
     let of_variable = (read calls b answers ready).variable variable in
-    let denied : can_assign (variable_type (ledger_of calls) variable) (type_of (ledger_of calls) (name_of name)) ≡ false =
-    ap (λ (o : Option «Type»). can_assign o (type_of (ledger_of calls) (name_of name))) of_variable
+    let denied : can_assign (variable_type (ledger_of calls) variable) (type_of (ledger_of calls) (naming name)) ≡ false =
+    ap (λ (o : Option «Type»). can_assign o (type_of (ledger_of calls) (naming name))) of_variable
     ∙ ap (can_assign (slice_get b.ctx.now.variables variable)) of_value ∙ mistyped-assigned (slice_get b.ctx.now.variables variable) (value_at b.func.now value).ty other in (
-      ap (λ (test : Bool). test && can_assign (variable_type (ledger_of calls) variable) (type_of (ledger_of calls) (name_of name))) opens ∙ denied,
-      ap (λ (test : Bool). test && has_value (ledger_of calls) (name_of name) && not (can_assign (variable_type (ledger_of calls) variable) (type_of (ledger_of calls) (name_of name)))) opens
-          ∙ ap (λ (test : Bool). test && not (can_assign (variable_type (ledger_of calls) variable) (type_of (ledger_of calls) (name_of name)))) (ap is_some of_value)
+      ap (λ (test : Bool). test && can_assign (variable_type (ledger_of calls) variable) (type_of (ledger_of calls) (naming name))) opens ∙ denied,
+      ap (λ (test : Bool). test && has_value (ledger_of calls) (naming name) && not (can_assign (variable_type (ledger_of calls) variable) (type_of (ledger_of calls) (naming name)))) opens
+          ∙ ap (λ (test : Bool). test && not (can_assign (variable_type (ledger_of calls) variable) (type_of (ledger_of calls) (naming name)))) (ap is_some of_value)
           ∙ ap not denied,
     )
 
 -- a value of the variable's type may be assigned
-pub define-typed : {declared : SignatureShape} (calls : List AnsweredCall) (b : FunctionBuilder) (answers : List Answer) → IsReady declared calls b answers
+pub define-typed : {naming : Naming} {declared : SignatureShape} (calls : List AnsweredCall) (b : FunctionBuilder) (answers : List Answer) → IsReady naming declared calls b answers
     → (variable : ℕ) (name : Name) (value : ℕ) → is_open b ≡ true → value_of b.func.now answers name ≡ Some value → slice_get b.ctx.now.variables variable ≡ Some (value_at b.func.now value).ty
-    → allows (ledger_of calls) (DefVar variable (name_of name)) ≡ true
+    → allows (ledger_of calls) (DefVar variable (naming name)) ≡ true
 define-typed calls b answers ready variable name value here found typed =
     let ty : «Type» = (value_at b.func.now value).ty in
     define-some calls b answers ready variable name value ty found typed ∙ and_from (is_open b) (same_type ty ty) here (same_type_refl ty)
 
 -- EDGES -----------------------------------------------------------------------------------------------------------
 
-pub arguments-same : (ledger : Ledger) (names : List Name) → list_all (has_argument ledger) (map (λ name. Known (name_of name)) names) ≡ list_all (has_value ledger) (map name_of names)
-arguments-same ledger [] = refl
-arguments-same ledger (name ∷ names) = ap (λ (rest : Bool). has_value ledger (name_of name) && rest) (arguments-same ledger names)
+pub arguments-same : (naming : Naming) (ledger : Ledger) (names : List Name) → list_all (has_argument ledger) (map (λ name. Known (naming name)) names) ≡ list_all (has_value ledger) (map naming names)
+arguments-same naming ledger [] = refl
+arguments-same naming ledger (name ∷ names) = ap (λ (rest : Bool). has_value ledger (naming name) && rest) (arguments-same naming ledger names)
 
-target-same : {declared : SignatureShape} (calls : List AnsweredCall) (b : FunctionBuilder) (answers : List Answer) → IsReady declared calls b answers
-    → (name : Name) → (has_block (ledger_of calls) (name_of name) && not (is_sealed (ledger_of calls) (name_of name))) ≡ is_target b (block_of answers name)
-target-same calls b answers ready name = by (block_of answers name) refl
+target-same : {naming : Naming} {declared : SignatureShape} (calls : List AnsweredCall) (b : FunctionBuilder) (answers : List Answer) → IsReady naming declared calls b answers
+    → (name : Name) → (has_block (ledger_of calls) (naming name) && not (is_sealed (ledger_of calls) (naming name))) ≡ is_target b (block_of answers name)
+target-same {naming} calls b answers ready name = by (block_of answers name) refl
   where
-    by : (o : Option ℕ) → block_of answers name ≡ o → (has_block (ledger_of calls) (name_of name) && not (is_sealed (ledger_of calls) (name_of name))) ≡ is_target b (block_of answers name)
+    by : (o : Option ℕ) → block_of answers name ≡ o → (has_block (ledger_of calls) (naming name) && not (is_sealed (ledger_of calls) (naming name))) ≡ is_target b (block_of answers name)
     by None at = seal-none calls b answers ready name at ∙ ap (is_target b) (sym at)
     by (Some block) at = seal-some calls b answers ready name block at ∙ ap (is_target b) (sym at)
 
 -- an edge may be made in the ledger where it may be made here
-pub lead-same : {declared : SignatureShape} (calls : List AnsweredCall) (b : FunctionBuilder) (answers : List Answer) → IsReady declared calls b answers
-    → (edge : Edge) → can_lead (ledger_of calls) (edge_of edge) ≡ may_lead b answers edge
-lead-same calls b answers ready edge =
-    ap (λ (test : Bool). test && list_all (has_argument (ledger_of calls)) (map (λ name. Known (name_of name)) edge.args.items)) (target-same calls b answers ready edge.block)
+pub lead-same : {naming : Naming} {declared : SignatureShape} (calls : List AnsweredCall) (b : FunctionBuilder) (answers : List Answer) → IsReady naming declared calls b answers
+    → (edge : Edge) → can_lead (ledger_of calls) (edge_of naming edge) ≡ may_lead b answers edge
+lead-same {naming} calls b answers ready edge =
+    ap (λ (test : Bool). test && list_all (has_argument (ledger_of calls)) (map (λ name. Known (naming name)) edge.args.items)) (target-same calls b answers ready edge.block)
     ∙ ap (λ (all : Bool). is_target b (block_of answers edge.block) && all)
-    (arguments-same (ledger_of calls) edge.args.items ∙ values-same calls b answers ready edge.args.items)
+    (arguments-same naming (ledger_of calls) edge.args.items ∙ values-same calls b answers ready edge.args.items)
 
 -- what names lead to is passed
-passed-named : {declared : SignatureShape} (calls : List AnsweredCall) (b : FunctionBuilder) (answers : List Answer) → IsReady declared calls b answers
-    → (names : List Name) (values : List ℕ) → map (value_of b.func.now answers) names ≡ map Some values → NamesArguments calls (map (λ name. Known (name_of name)) names) (map arg.Value values)
+passed-named : {naming : Naming} {declared : SignatureShape} (calls : List AnsweredCall) (b : FunctionBuilder) (answers : List Answer) → IsReady naming declared calls b answers
+    → (names : List Name) (values : List ℕ) → map (value_of b.func.now answers) names ≡ map Some values → NamesArguments calls (map (λ name. Known (naming name)) names) (map arg.Value values)
 passed-named calls b answers ready [] [] found = tt
 passed-named calls b answers ready [] (value ∷ values) found = let no_way : ⊥ = cc in absurd no_way
 passed-named calls b answers ready (name ∷ names) [] found = let no_way : ⊥ = cc in absurd no_way
@@ -451,13 +451,13 @@ passed-named calls b answers ready (name ∷ names) (value ∷ values) found =
     let rest : map (value_of b.func.now answers) names ≡ map Some values = cc in
     (value-found calls b answers ready name value here, passed-named calls b answers ready names values rest)
 
-pub found-names : {declared : SignatureShape} (calls : List AnsweredCall) (b : FunctionBuilder) (answers : List Answer) → IsReady declared calls b answers
-    → (edge : Edge) (call : BlockCall) → IsFound b answers edge call → NamesEdge calls (edge_of edge) call
-found-names calls b answers ready edge call found =
+pub found-names : {naming : Naming} {declared : SignatureShape} (calls : List AnsweredCall) (b : FunctionBuilder) (answers : List Answer) → IsReady naming declared calls b answers
+    → (edge : Edge) (call : BlockCall) → IsFound b answers edge call → NamesEdge calls (edge_of naming edge) call
+found-names {naming} calls b answers ready edge call found =
     let passed = passed-values b.func.now answers edge.args.items call.args found.passed in
     record {
       target = block-found calls b answers ready edge.block call.block found.target;
-      arguments = subst (λ (xs : List BlockArg). NamesArguments calls (map (λ name. Known (name_of name)) edge.args.items) xs) (sym passed.2)
+      arguments = subst (λ (xs : List BlockArg). NamesArguments calls (map (λ name. Known (naming name)) edge.args.items) xs) (sym passed.2)
           (passed-named calls b answers ready edge.args.items passed.0 passed.1);
     }
 
@@ -467,7 +467,7 @@ passed-exist f [] exist k d inside = absurd (omega (arith, inside))
 passed-exist f (value ∷ values) exist zero d inside = exist zero (omega arith)
 passed-exist f (value ∷ values) exist (suc k) d inside = passed-exist f values (λ j below. exist (suc j) (omega (arith, below))) k d (omega (arith, inside))
 
-pub found-exists : {declared : SignatureShape} (calls : List AnsweredCall) (b : FunctionBuilder) (answers : List Answer) → IsReady declared calls b answers
+pub found-exists : {naming : Naming} {declared : SignatureShape} (calls : List AnsweredCall) (b : FunctionBuilder) (answers : List Answer) → IsReady naming declared calls b answers
     → (edge : Edge) (call : BlockCall) → IsFound b answers edge call → CanLead b call
 found-exists calls b answers ready edge call found =
     let passed = passed-values b.func.now answers edge.args.items call.args found.passed in

@@ -25,6 +25,7 @@ use Rattle.clif_resolution.specs.Conditions.{is_open, is_open_at}
 use Rattle.clif_resolution.specs.declared.answers.Answer.{Answer}
 use Rattle.clif_replay.proofs.Conditions.{pooled-same}
 use Rattle.clif_replay.proofs.Making.{Judges}
+use Rattle.clif_replay.specs.Requests.{Naming}
 
 -- where its opcode tells the type, none is given
 made-at : (f : Body) (opcode : PooledConstOpcode) (constant : ℕ) (ty : «Type») → (opcode ≡ F128const → ty ≡ Invalid) → ty ≡ made_at f (UnaryConst opcode constant) ty
@@ -52,18 +53,18 @@ constant-count tables Vconst constant = omega arith
 
 -- it may be made in an open block, with as many bytes as its type has
 pub constant-allowed : (b : FunctionBuilder) (answers : List Answer) (opcode : PooledConstOpcode) (ty : «Type») (bytes : List ℕ) → is_open b ≡ true → has_bytes opcode ty bytes ≡ true
-    → Judges (λ declared ledger. pooled_const opcode ty bytes) b answers true
-constant-allowed b answers opcode ty bytes opens fits declared calls ready =
+    → Judges (λ naming declared ledger. pooled_const opcode ty bytes) b answers true
+constant-allowed b answers opcode ty bytes opens fits naming declared calls ready =
     pooled-same calls b answers ready opcode ty bytes ∙ and_from (is_open b) (has_bytes opcode ty bytes) opens fits
 
 -- a builder that pooled a constant stands for the same calls, and its block is open where it was
-pub pooled-ready : {declared : SignatureShape} (calls : List AnsweredCall) (old new : FunctionBuilder) (answers : List Answer) → StandsFor declared calls new
-    → KeepsTables old new → IsReady declared calls old answers → IsReady declared calls new answers
+pub pooled-ready : {naming : Naming} {declared : SignatureShape} (calls : List AnsweredCall) (old new : FunctionBuilder) (answers : List Answer) → StandsFor declared calls new
+    → KeepsTables old new → IsReady naming declared calls old answers → IsReady naming declared calls new answers
 pooled-ready calls old new answers stands tables ready = record {
   reads = ready.reads;
   stands = stands;
-  count = ready.count;
   answered = ready.answered;
+  later = ready.later;
   edges = ready.edges;
   tables = subst (TablesAgree (NamesEdges calls) (ledger_of calls).jump_tables) (sym tables.0) ready.tables;
   exceptions = subst (TablesAgree (NamesExceptions calls) (ledger_of calls).exception_tables) (sym tables.1) ready.exceptions;

@@ -11,6 +11,7 @@ use Rattle.cranelift_frontend.specs.Ledger.{ledger_of, tables_of_calls}
 use Rattle.clif_resolution.specs.declared.answers.Answer.{Answer}
 use Rattle.clif_resolution.specs.declared.answers.Answer.TheVariants as answer
 use Rattle.clif_replay.specs.Ready.{AnswerIs, IsReady}
+use Rattle.clif_replay.specs.Requests.{Naming}
 
 -- neither constants nor jump tables are asked for
 can-make-aside : (tables : TableLists) (entry : TableEntry) → can_make (tables_of_calls tables) entry ≡ can_make tables entry
@@ -28,12 +29,12 @@ count-aside tables (ASignature signature) = refl
 count-aside tables (AFunction function) = refl
 
 -- an entry may be made in the ledger where it may be made here
-pub entry-same : {declared : SignatureShape} (calls : List AnsweredCall) (b : FunctionBuilder) (answers : List Answer) → IsReady declared calls b answers
+pub entry-same : {naming : Naming} {declared : SignatureShape} (calls : List AnsweredCall) (b : FunctionBuilder) (answers : List Answer) → IsReady naming declared calls b answers
     → (entry : TableEntry) → allows (ledger_of calls) (MakeEntry entry) ≡ can_make b.func.now.tables entry
 entry-same calls b answers ready entry = ap (λ (tables : TableLists). can_make tables entry) ready.stands.ledger.tables ∙ can-make-aside b.func.now.tables entry
 
 -- and is answered by its number
-pub entry-answered : {declared : SignatureShape} (calls : List AnsweredCall) (b : FunctionBuilder) (answers : List Answer) → IsReady declared calls b answers
+pub entry-answered : {naming : Naming} {declared : SignatureShape} (calls : List AnsweredCall) (b : FunctionBuilder) (answers : List Answer) → IsReady naming declared calls b answers
     → (entry : TableEntry) (number : ℕ) → number ≡ count_for b.func.now.tables entry → AnswerIs answer.Entry (answers_to (ledger_of calls) (MakeEntry entry)) (number ∷ [])
 entry-answered calls b answers ready entry number is =
     (entry, number, ap (λ (n : ℕ). AnEntry entry n ∷ []) (ap (λ (tables : TableLists). count_for tables entry) ready.stands.ledger.tables ∙ count-aside b.func.now.tables entry ∙ sym is), refl)

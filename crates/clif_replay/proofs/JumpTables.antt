@@ -36,7 +36,7 @@ use Rattle.clif_calls.specs.declared.table.Passed.TheVariants as passed
 use Rattle.clif_calls.specs.declared.table.TableEdge.{TableEdge}
 use Rattle.clif_resolution.specs.declared.answers.Answer.{Answer}
 use Rattle.clif_resolution.specs.declared.answers.Answer.TheVariants as answer
-use Rattle.clif_replay.specs.Requests.{name_of, passed_of, table_edge_of}
+use Rattle.clif_replay.specs.Requests.{Naming, passed_of, table_edge_of}
 use Rattle.clif_resolution.specs.Conditions.{IsEdge, can_seal, has_edge, is_open, serves, serves_at}
 use Rattle.clif_replay.specs.Ready.{IsReady, IsReadyAfter, TableAgrees, TablesAgree}
 use Rattle.clif_resolution.specs.Answers.{all_passed, block_of, edge_at, passed_in, value_of}
@@ -49,85 +49,85 @@ use Rattle.clif_replay.proofs.ReadyLaws.{block-found, block-missing, edge-found,
 
 -- EDGES -----------------------------------------------------------------------------------------------------------------
 
-block-same : {declared : SignatureShape} (calls : List AnsweredCall) (b : FunctionBuilder) (answers : List Answer) → IsReady declared calls b answers
-    → (name : Name) → has_block (ledger_of calls) (name_of name) ≡ is_some (block_of answers name)
-block-same calls b answers ready name = by (block_of answers name) refl
+block-same : {naming : Naming} {declared : SignatureShape} (calls : List AnsweredCall) (b : FunctionBuilder) (answers : List Answer) → IsReady naming declared calls b answers
+    → (name : Name) → has_block (ledger_of calls) (naming name) ≡ is_some (block_of answers name)
+block-same {naming} calls b answers ready name = by (block_of answers name) refl
   where
-    by : (o : Option ℕ) → block_of answers name ≡ o → has_block (ledger_of calls) (name_of name) ≡ is_some (block_of answers name)
+    by : (o : Option ℕ) → block_of answers name ≡ o → has_block (ledger_of calls) (naming name) ≡ is_some (block_of answers name)
     by None at = block-missing calls b answers ready name at ∙ ap is_some (sym at)
     by (Some block) at = (block-found calls b answers ready name block at).is_block ∙ ap is_some (sym at)
 
 -- what an edge of a table passes is there in the ledger where it is here
-passed-same : {declared : SignatureShape} (calls : List AnsweredCall) (b : FunctionBuilder) (answers : List Answer) → IsReady declared calls b answers
-    → (args : List Passed) → list_all (has_argument (ledger_of calls)) (map passed_of args) ≡ all_passed b.func.now answers args
-passed-same calls b answers ready [] = refl
-passed-same calls b answers ready (one ∷ args) =
-    ap (λ (test : Bool). test && list_all (has_argument (ledger_of calls)) (map passed_of args)) (by one)
+passed-same : {naming : Naming} {declared : SignatureShape} (calls : List AnsweredCall) (b : FunctionBuilder) (answers : List Answer) → IsReady naming declared calls b answers
+    → (args : List Passed) → list_all (has_argument (ledger_of calls)) (map (passed_of naming) args) ≡ all_passed b.func.now answers args
+passed-same {naming} calls b answers ready [] = refl
+passed-same {naming} calls b answers ready (one ∷ args) =
+    ap (λ (test : Bool). test && list_all (has_argument (ledger_of calls)) (map (passed_of naming) args)) (by one)
     ∙ ap (λ (rest : Bool). is_some (passed_in b.func.now answers one) && rest) (passed-same calls b answers ready args)
   where
-    of_value : (name : Name) (o : Option ℕ) → value_of b.func.now answers name ≡ o → has_value (ledger_of calls) (name_of name) ≡ is_some (option_map arg.Value (value_of b.func.now answers name))
+    of_value : (name : Name) (o : Option ℕ) → value_of b.func.now answers name ≡ o → has_value (ledger_of calls) (naming name) ≡ is_some (option_map arg.Value (value_of b.func.now answers name))
     of_value name None is = value-missing calls b answers ready name is ∙ ap (λ (v : Option ℕ). is_some (option_map arg.Value v)) (sym is)
     of_value name (Some value) is = (value-found calls b answers ready name value is).is_value ∙ ap (λ (v : Option ℕ). is_some (option_map arg.Value v)) (sym is)
 
-    by : (other : Passed) → has_argument (ledger_of calls) (passed_of other) ≡ is_some (passed_in b.func.now answers other)
+    by : (other : Passed) → has_argument (ledger_of calls) (passed_of naming other) ≡ is_some (passed_in b.func.now answers other)
     by (passed.Value name) = of_value name (value_of b.func.now answers name) refl
     by (passed.Returned place) = refl
     by (passed.Thrown place) = refl
 
 -- an edge is there in the ledger where it is here
-pub edge-same : {declared : SignatureShape} (calls : List AnsweredCall) (b : FunctionBuilder) (answers : List Answer) → IsReady declared calls b answers
-    → (edge : TableEdge) → allows (ledger_of calls) (MakeEdge (table_edge_of edge)) ≡ has_edge b answers edge
-edge-same calls b answers ready edge =
-    ap (λ (test : Bool). test && list_all (has_argument (ledger_of calls)) (map passed_of edge.args.items)) (block-same calls b answers ready edge.block)
+pub edge-same : {naming : Naming} {declared : SignatureShape} (calls : List AnsweredCall) (b : FunctionBuilder) (answers : List Answer) → IsReady naming declared calls b answers
+    → (edge : TableEdge) → allows (ledger_of calls) (MakeEdge (table_edge_of naming edge)) ≡ has_edge b answers edge
+edge-same {naming} calls b answers ready edge =
+    ap (λ (test : Bool). test && list_all (has_argument (ledger_of calls)) (map (passed_of naming) edge.args.items)) (block-same calls b answers ready edge.block)
     ∙ ap (λ (all : Bool). is_some (block_of answers edge.block) && all) (passed-same calls b answers ready edge.args.items)
 
 -- it is named
-passed-names : {declared : SignatureShape} (calls : List AnsweredCall) (b : FunctionBuilder) (answers : List Answer) → IsReady declared calls b answers
-    → (args : List Passed) (made : List BlockArg) → map (passed_in b.func.now answers) args ≡ map Some made → NamesArguments calls (map passed_of args) made
-passed-names calls b answers ready [] [] found = tt
-passed-names calls b answers ready [] (a ∷ made) found = let no_way : ⊥ = cc in absurd no_way
-passed-names calls b answers ready (one ∷ args) [] found = let no_way : ⊥ = cc in absurd no_way
-passed-names calls b answers ready (one ∷ args) (a ∷ made) found =
+passed-names : {naming : Naming} {declared : SignatureShape} (calls : List AnsweredCall) (b : FunctionBuilder) (answers : List Answer) → IsReady naming declared calls b answers
+    → (args : List Passed) (made : List BlockArg) → map (passed_in b.func.now answers) args ≡ map Some made → NamesArguments calls (map (passed_of naming) args) made
+passed-names {naming} calls b answers ready [] [] found = tt
+passed-names {naming} calls b answers ready [] (a ∷ made) found = let no_way : ⊥ = cc in absurd no_way
+passed-names {naming} calls b answers ready (one ∷ args) [] found = let no_way : ⊥ = cc in absurd no_way
+passed-names {naming} calls b answers ready (one ∷ args) (a ∷ made) found =
     let here : passed_in b.func.now answers one ≡ Some a = cc in
     let rest : map (passed_in b.func.now answers) args ≡ map Some made = cc in
     (by one here, passed-names calls b answers ready args made rest)
   where
-    by : (other : Passed) → passed_in b.func.now answers other ≡ Some a → NamesArgument calls (passed_of other) a
+    by : (other : Passed) → passed_in b.func.now answers other ≡ Some a → NamesArgument calls (passed_of naming other) a
     by (passed.Value name) is =
         let value = map-some arg.Value (value_of b.func.now answers name) a is in
-        subst (NamesArgument calls (Known (name_of name))) value.2 (value-found calls b answers ready name value.0 value.1)
+        subst (NamesArgument calls (Known (naming name))) value.2 (value-found calls b answers ready name value.0 value.1)
     by (passed.Returned place) is = subst (NamesArgument calls (CallResult place)) (same_Some (arg.TryCallRet place) a is) refl
     by (passed.Thrown place) is = subst (NamesArgument calls (CallPayload place)) (same_Some (arg.TryCallExn place) a is) refl
 
-edge-names : {declared : SignatureShape} (calls : List AnsweredCall) (b : FunctionBuilder) (answers : List Answer) → IsReady declared calls b answers
-    → (edge : TableEdge) (call : BlockCall) → IsEdge b answers edge call → NamesEdge calls (table_edge_of edge) call
+edge-names : {naming : Naming} {declared : SignatureShape} (calls : List AnsweredCall) (b : FunctionBuilder) (answers : List Answer) → IsReady naming declared calls b answers
+    → (edge : TableEdge) (call : BlockCall) → IsEdge b answers edge call → NamesEdge calls (table_edge_of naming edge) call
 edge-names calls b answers ready edge call found = record {
   target = block-found calls b answers ready edge.block call.block found.target;
   arguments = passed-names calls b answers ready edge.args.items call.args found.passed;
 }
 
 -- names lead to edges where they name edges
-pub edges-same : {declared : SignatureShape} (calls : List AnsweredCall) (b : FunctionBuilder) (answers : List Answer) → IsReady declared calls b answers
-    → (names : List Name) → list_all (λ name. is_some (edge_named (ledger_of calls) name)) (map name_of names) ≡ list_all (λ name. is_some (edge_at answers name)) names
-edges-same calls b answers ready [] = refl
-edges-same calls b answers ready (name ∷ names) =
-    ap (λ (test : Bool). test && list_all (λ name. is_some (edge_named (ledger_of calls) name)) (map name_of names)) (by (edge_at answers name) refl)
+pub edges-same : {naming : Naming} {declared : SignatureShape} (calls : List AnsweredCall) (b : FunctionBuilder) (answers : List Answer) → IsReady naming declared calls b answers
+    → (names : List Name) → list_all (λ name. is_some (edge_named (ledger_of calls) name)) (map naming names) ≡ list_all (λ name. is_some (edge_at answers name)) names
+edges-same {naming} calls b answers ready [] = refl
+edges-same {naming} calls b answers ready (name ∷ names) =
+    ap (λ (test : Bool). test && list_all (λ name. is_some (edge_named (ledger_of calls) name)) (map naming names)) (by (edge_at answers name) refl)
     ∙ ap (λ (rest : Bool). is_some (edge_at answers name) && rest) (edges-same calls b answers ready names)
   where
-    by : (o : Option BlockCall) → edge_at answers name ≡ o → is_some (edge_named (ledger_of calls) (name_of name)) ≡ is_some (edge_at answers name)
+    by : (o : Option BlockCall) → edge_at answers name ≡ o → is_some (edge_named (ledger_of calls) (naming name)) ≡ is_some (edge_at answers name)
     by None at = edge-missing calls b answers ready name at ∙ ap is_some (sym at)
     by (Some made) at = ap is_some (edge-found calls b answers ready name made at).1 ∙ ap is_some (sym at)
 
-pub edges-names : {declared : SignatureShape} (calls : List AnsweredCall) (b : FunctionBuilder) (answers : List Answer) → IsReady declared calls b answers
-    → (names : List Name) (made : List BlockCall) → map (edge_at answers) names ≡ map Some made → NamesEdges calls (edges_named (ledger_of calls) (map name_of names)) made
-edges-names calls b answers ready [] [] found = tt
-edges-names calls b answers ready [] (other ∷ made) found = let no_way : ⊥ = cc in absurd no_way
-edges-names calls b answers ready (name ∷ names) [] found = let no_way : ⊥ = cc in absurd no_way
-edges-names calls b answers ready (name ∷ names) (other ∷ made) found =
+pub edges-names : {naming : Naming} {declared : SignatureShape} (calls : List AnsweredCall) (b : FunctionBuilder) (answers : List Answer) → IsReady naming declared calls b answers
+    → (names : List Name) (made : List BlockCall) → map (edge_at answers) names ≡ map Some made → NamesEdges calls (edges_named (ledger_of calls) (map naming names)) made
+edges-names {naming} calls b answers ready [] [] found = tt
+edges-names {naming} calls b answers ready [] (other ∷ made) found = let no_way : ⊥ = cc in absurd no_way
+edges-names {naming} calls b answers ready (name ∷ names) [] found = let no_way : ⊥ = cc in absurd no_way
+edges-names {naming} calls b answers ready (name ∷ names) (other ∷ made) found =
     let here : edge_at answers name ≡ Some other = cc in
     let rest : map (edge_at answers) names ≡ map Some made = cc in
     let edge = edge-found calls b answers ready name other here in
-    subst (λ (o : Option (meaning.Edge named.Name named.Name)). NamesEdges calls (cons_option o (edges_named (ledger_of calls) (map name_of names))) (other ∷ made)) (sym edge.1)
+    subst (λ (o : Option (meaning.Edge named.Name named.Name)). NamesEdges calls (cons_option o (edges_named (ledger_of calls) (map naming names))) (other ∷ made)) (sym edge.1)
     (edge.2, edges-names calls b answers ready names made rest)
 
 pub all-there : (answers : List Answer) (names : List Name) (made : List BlockCall) → map (edge_at answers) names ≡ map Some made → list_all (λ name. is_some (edge_at answers name)) names ≡ true
@@ -141,7 +141,7 @@ all-there answers (name ∷ names) (other ∷ made) found =
 -- TABLES ----------------------------------------------------------------------------------------------------------------
 
 -- the edges of a table that serves nothing so far
-pub table-named : {declared : SignatureShape} (calls : List AnsweredCall) (b : FunctionBuilder) (answers : List Answer) → IsReady declared calls b answers
+pub table-named : {naming : Naming} {declared : SignatureShape} (calls : List AnsweredCall) (b : FunctionBuilder) (answers : List Answer) → IsReady naming declared calls b answers
     → (table : ℕ) (made : List BlockCall) → table_edges b table ≡ Some made
     → (edges : List (meaning.Edge named.Name named.Name)) × (unserved_edges (ledger_of calls) table ≡ Some edges) × NamesEdges calls edges made
 table-named calls b answers ready table made found =
@@ -149,7 +149,7 @@ table-named calls b answers ready table made found =
     (subst (TableAgrees (NamesEdges calls) (unserved_edges (ledger_of calls) table)) found
     (table-at (NamesEdges calls) (ledger_of calls).jump_tables b.func.now.tables.jump_tables table ready.tables))
 
-table-missing : {declared : SignatureShape} (calls : List AnsweredCall) (b : FunctionBuilder) (answers : List Answer) → IsReady declared calls b answers
+table-missing : {naming : Naming} {declared : SignatureShape} (calls : List AnsweredCall) (b : FunctionBuilder) (answers : List Answer) → IsReady naming declared calls b answers
     → (table : ℕ) → table_edges b table ≡ None → unserved_edges (ledger_of calls) table ≡ None
 table-missing calls b answers ready table missing =
     held-missing (NamesEdges calls) (unserved_edges (ledger_of calls) table)
@@ -173,7 +173,7 @@ passed-there calls (argument ∷ arguments) (a ∷ args) names =
     by (CallPayload index) made is = refl
 
 -- an edge may be made where its target isn't sealed
-pub leads-same : {declared : SignatureShape} (calls : List AnsweredCall) (b : FunctionBuilder) (answers : List Answer) → IsReady declared calls b answers
+pub leads-same : {naming : Naming} {declared : SignatureShape} (calls : List AnsweredCall) (b : FunctionBuilder) (answers : List Answer) → IsReady naming declared calls b answers
     → (edges : List (meaning.Edge named.Name named.Name)) (made : List BlockCall) → NamesEdges calls edges made
     → list_all (can_lead (ledger_of calls)) edges ≡ list_all (λ edge. can_seal b edge.block) made
 leads-same calls b answers ready [] [] names = refl
@@ -196,9 +196,9 @@ leads-same calls b answers ready (edge ∷ edges) (other ∷ made) (names, more)
 -- THE BRANCH ------------------------------------------------------------------------------------------------------------
 
 -- a branch by a table is allowed where the block is open, the index is there and the table serves
-pub branch-same : {declared : SignatureShape} (calls : List AnsweredCall) (b : FunctionBuilder) (answers : List Answer) → IsReady declared calls b answers
-    → (index : Name) (table : ℕ) → allows (ledger_of calls) (br_table (ledger_of calls) (name_of index) table) ≡ ((is_open b && is_some (value_of b.func.now answers index)) && serves b table)
-branch-same calls b answers ready index table = by (table_edges b table) refl
+pub branch-same : {naming : Naming} {declared : SignatureShape} (calls : List AnsweredCall) (b : FunctionBuilder) (answers : List Answer) → IsReady naming declared calls b answers
+    → (index : Name) (table : ℕ) → allows (ledger_of calls) (br_table (ledger_of calls) (naming index) table) ≡ ((is_open b && is_some (value_of b.func.now answers index)) && serves b table)
+branch-same {naming} calls b answers ready index table = by (table_edges b table) refl
   where
     closed : (opens value : Bool) → ((((((false && opens) && value) && true) && true) && true) ≡ false)
     closed opens value = refl
@@ -210,7 +210,7 @@ branch-same calls b answers ready index table = by (table_edges b table) refl
     all false value edges = refl
 
     by : (u : Option (List BlockCall)) → table_edges b table ≡ u
-        → allows (ledger_of calls) (br_table (ledger_of calls) (name_of index) table) ≡ ((is_open b && is_some (value_of b.func.now answers index)) && serves b table)
+        → allows (ledger_of calls) (br_table (ledger_of calls) (naming index) table) ≡ ((is_open b && is_some (value_of b.func.now answers index)) && serves b table)
     by None found =
         let missing = table-missing calls b answers ready table found in
         let right = and_right (is_open b && is_some (value_of b.func.now answers index)) (serves b table) (ap (serves_at b) found) in
@@ -233,7 +233,7 @@ branch-missing b o table none =
     ap (λ (test : Bool). test && serves b table) (and_right (is_open b) (is_some o) (ap is_some none))
 
 -- the edges of a table that serves may be made
-argument-exists : {declared : SignatureShape} (calls : List AnsweredCall) (b : FunctionBuilder) (answers : List Answer) → IsReady declared calls b answers
+argument-exists : {naming : Naming} {declared : SignatureShape} (calls : List AnsweredCall) (b : FunctionBuilder) (answers : List Answer) → IsReady naming declared calls b answers
     → (argument : Argument named.Name) (made : BlockArg) → NamesArgument calls argument made → PassedExists b.func.now made
 argument-exists calls b answers ready (Known name) (arg.Value value) is =
     let typed = (read calls b answers ready).value name value is in
@@ -244,7 +244,7 @@ argument-exists calls b answers ready argument (arg.TryCallExn place) is = tt
 argument-exists calls b answers ready (CallResult index) (arg.Value value) is = absurd is
 argument-exists calls b answers ready (CallPayload index) (arg.Value value) is = absurd is
 
-pub arguments-exist : {declared : SignatureShape} (calls : List AnsweredCall) (b : FunctionBuilder) (answers : List Answer) → IsReady declared calls b answers
+pub arguments-exist : {naming : Naming} {declared : SignatureShape} (calls : List AnsweredCall) (b : FunctionBuilder) (answers : List Answer) → IsReady naming declared calls b answers
     → (arguments : List (Argument named.Name)) (made : List BlockArg) → NamesArguments calls arguments made → All (PassedExists b.func.now) made
 arguments-exist calls b answers ready arguments [] names k d below = absurd (omega (arith, below))
 arguments-exist calls b answers ready [] (a ∷ made) names k d below = absurd names
@@ -252,7 +252,7 @@ arguments-exist calls b answers ready (argument ∷ arguments) (a ∷ made) name
 arguments-exist calls b answers ready (argument ∷ arguments) (a ∷ made) names (suc k) d below =
     arguments-exist calls b answers ready arguments made names.1 k d (omega (arith, below))
 
-pub edges-lead : {declared : SignatureShape} (calls : List AnsweredCall) (b : FunctionBuilder) (answers : List Answer) → IsReady declared calls b answers
+pub edges-lead : {naming : Naming} {declared : SignatureShape} (calls : List AnsweredCall) (b : FunctionBuilder) (answers : List Answer) → IsReady naming declared calls b answers
     → (edges : List (meaning.Edge named.Name named.Name)) (made : List BlockCall) → NamesEdges calls edges made → list_all (λ edge. can_seal b edge.block) made ≡ true → All (CanLead b) made
 edges-lead calls b answers ready edges [] names opens k d below = absurd (omega (arith, below))
 edges-lead calls b answers ready [] (other ∷ made) names opens k d below = absurd names
@@ -265,7 +265,7 @@ edges-lead calls b answers ready (edge ∷ edges) (other ∷ made) names opens z
 edges-lead calls b answers ready (edge ∷ edges) (other ∷ made) names opens (suc k) d below =
     edges-lead calls b answers ready edges made names.1 (and_parts (can_seal b other.block) (list_all (λ edge. can_seal b edge.block) made) opens).1 k d (omega (arith, below))
 
-pub serving : {declared : SignatureShape} (calls : List AnsweredCall) (b : FunctionBuilder) (answers : List Answer) → IsReady declared calls b answers
+pub serving : {naming : Naming} {declared : SignatureShape} (calls : List AnsweredCall) (b : FunctionBuilder) (answers : List Answer) → IsReady naming declared calls b answers
     → (table : ℕ) → serves b table ≡ true → MayServe b table
 serving calls b answers ready table is = by (table_edges b table) refl
   where
@@ -306,46 +306,46 @@ branched old new index table answer sound (inr (error, takes, is)) =
 -- AFTER THE CALLS ---------------------------------------------------------------------------------------------------------
 
 -- an edge was made
-pub edge-ready : TableCallsAddNothing → {declared : SignatureShape} (calls : List AnsweredCall) (old new : FunctionBuilder) (answers : List Answer) (edge : TableEdge) (found made : BlockCall)
-    → IsReady declared calls old answers → IsEdge old answers edge found → made ≡ found → MakesEdge found.block found.args old new (Ok made)
-    → IsReadyAfter declared calls (MakeEdge (table_edge_of edge)) new answers (answer.Edge made)
-edge-ready law {declared} calls old new answers edge found made ready is same makes = (
+pub edge-ready : TableCallsAddNothing → {naming : Naming} {declared : SignatureShape} (calls : List AnsweredCall) (old new : FunctionBuilder) (answers : List Answer) (edge : TableEdge) (found made : BlockCall)
+    → IsReady naming declared calls old answers → IsEdge old answers edge found → made ≡ found → MakesEdge found.block found.args old new (Ok made)
+    → IsReadyAfter naming declared calls (MakeEdge (table_edge_of naming edge)) new answers (answer.Edge made)
+edge-ready law {naming} {declared} calls old new answers edge found made ready is same makes = (
   0 ∷ [],
-  ready-answered calls call old new answers (answer.Edge made) ready stands (table_edge_of edge, refl, refl) there tables
+  ready-answered calls call old new answers (answer.Edge made) ready stands (table_edge_of naming edge, refl, refl) there tables
       (exceptions-still calls call old new answers ready stands refl makes.grows.8),
 )
   where
     call : AnsweredCall
-    call = record { request = MakeEdge (table_edge_of edge); numbers = 0 ∷ [] }
+    call = record { request = MakeEdge (table_edge_of naming edge); numbers = 0 ∷ [] }
 
     stands : StandsFor declared (calls ++ call ∷ []) new
-    stands = law.edge declared calls new (table_edge_of edge) 0 (makes.sets.stands declared calls ready.stands)
+    stands = law.edge declared calls new (table_edge_of naming edge) 0 (makes.sets.stands declared calls ready.stands)
 
     there : (other : BlockCall) → ◌≡◌ {A = Answer} (answer.Edge made) (answer.Edge other)
-        → (e : meaning.Edge named.Name named.Name) × (edge_named (ledger_of (calls ++ call ∷ [])) (named.answer_of (length answers) 0) ≡ Some e) × NamesEdge (calls ++ call ∷ []) e other
+        → (e : meaning.Edge named.Name named.Name) × (edge_named (ledger_of (calls ++ call ∷ [])) (named.answer_of (length calls) 0) ≡ Some e) × NamesEdge (calls ++ call ∷ []) e other
     there other is_other =
         let one : made ≡ other = cc in (
-          table_edge_of edge,
+          table_edge_of naming edge,
           new_edge,
-          subst (NamesEdge (calls ++ call ∷ []) (table_edge_of edge)) (sym same ∙ one)
-              (edge-stays ready.reads calls call old new ready.stands stands (table_edge_of edge) found (edge-names calls old answers ready edge found is)),
+          subst (NamesEdge (calls ++ call ∷ []) (table_edge_of naming edge)) (sym same ∙ one)
+              (edge-stays ready.reads calls (call ∷ []) old new ready.stands stands (table_edge_of naming edge) found (edge-names calls old answers ready edge found is)),
         )
       where
-        new_edge : edge_named (ledger_of (calls ++ call ∷ [])) (named.answer_of (length answers) 0) ≡ Some (table_edge_of edge)
+        new_edge : edge_named (ledger_of (calls ++ call ∷ [])) (named.answer_of (length calls) 0) ≡ Some (table_edge_of naming edge)
         new_edge =
-            ap (λ (l : Ledger). edge_named l (named.answer_of (length answers) 0)) (ledger-more calls call)
-            ∙ ap (λ (k : ℕ). edge_named (ledger_with (ledger_of calls) (MakeEdge (table_edge_of edge))) (named.answer_of k 0)) (ready.count ∙ sym ready.stands.ledger.places)
+            ap (λ (l : Ledger). edge_named l (named.answer_of (length calls) 0)) (ledger-more calls call)
+            ∙ ap (λ (k : ℕ). edge_named (ledger_with (ledger_of calls) (MakeEdge (table_edge_of naming edge))) (named.answer_of k 0)) (sym ready.stands.ledger.places)
             ∙ ap (λ (o : Option (List Answered)). answered_edge (option_and_then (λ (xs : List Answered). slice_get xs 0) o))
-            (get-last (ledger_of calls).answers (AnEdge (table_edge_of edge) ∷ []))
+            (get-last (ledger_of calls).answers (AnEdge (table_edge_of naming edge) ∷ []))
 
     tables : TablesAgree (NamesEdges (calls ++ call ∷ [])) (ledger_of (calls ++ call ∷ [])).jump_tables new.func.now.tables.jump_tables
     tables = tables-still calls call old new answers ready stands refl makes.grows.6
 
 -- a table was made
-pub table-ready : TableCallsAddNothing → {declared : SignatureShape} (calls : List AnsweredCall) (old new : FunctionBuilder) (answers : List Answer) (default : Name) (entries : List Name)
-    (edges : List BlockCall) (number : ℕ) → IsReady declared calls old answers → map (edge_at answers) (default ∷ entries) ≡ map Some edges → CreatesJumpTable edges old new (Ok number)
-    → IsReadyAfter declared calls (MakeJumpTable (name_of default) (map name_of entries)) new answers answer.Table
-table-ready law {declared} calls old new answers default entries edges number ready found creates = (
+pub table-ready : TableCallsAddNothing → {naming : Naming} {declared : SignatureShape} (calls : List AnsweredCall) (old new : FunctionBuilder) (answers : List Answer) (default : Name) (entries : List Name)
+    (edges : List BlockCall) (number : ℕ) → IsReady naming declared calls old answers → map (edge_at answers) (default ∷ entries) ≡ map Some edges → CreatesJumpTable edges old new (Ok number)
+    → IsReadyAfter naming declared calls (MakeJumpTable (naming default) (map naming entries)) new answers answer.Table
+table-ready law {naming} {declared} calls old new answers default entries edges number ready found creates = (
   number ∷ [],
   ready-answered calls call old new answers answer.Table ready stands (number, ap (λ (n : ℕ). AJumpTable n ∷ []) (sym counts), refl)
       (λ made same. let no_way : ⊥ = cc in absurd no_way) tables
@@ -353,36 +353,36 @@ table-ready law {declared} calls old new answers default entries edges number re
 )
   where
     call : AnsweredCall
-    call = record { request = MakeJumpTable (name_of default) (map name_of entries); numbers = number ∷ [] }
+    call = record { request = MakeJumpTable (naming default) (map naming entries); numbers = number ∷ [] }
 
     counts : number ≡ length (ledger_of calls).jump_tables
     counts = creates.number ∙ sym (as-many (NamesEdges calls) (ledger_of calls).jump_tables old.func.now.tables.jump_tables ready.tables)
 
     stands : StandsFor declared (calls ++ call ∷ []) new
-    stands = law.table declared calls new (name_of default) (map name_of entries) number counts (creates.sets.stands declared calls ready.stands)
+    stands = law.table declared calls new (naming default) (map naming entries) number counts (creates.sets.stands declared calls ready.stands)
 
     tables : TablesAgree (NamesEdges (calls ++ call ∷ [])) (ledger_of (calls ++ call ∷ [])).jump_tables new.func.now.tables.jump_tables
     tables =
         subst (TablesAgree (NamesEdges (calls ++ call ∷ [])) (ledger_of (calls ++ call ∷ [])).jump_tables) (sym (ap (λ (f : Body). f.tables.jump_tables) creates.sets.function))
         (subst (λ (lists : List (Option (List (meaning.Edge named.Name named.Name)))). TablesAgree (NamesEdges (calls ++ call ∷ [])) lists (with_jump_table old.func.now.tables edges).jump_tables)
         (sym (ap (λ (l : Ledger). l.jump_tables) (ledger-more calls call)))
-        (one-table-more (NamesEdges (calls ++ call ∷ [])) (ledger_of calls).jump_tables old.func.now.tables.jump_tables (edges_named (ledger_of calls) (map name_of (default ∷ entries))) edges
-        (tables-stay ready.reads calls call old new ready.stands stands (ledger_of calls).jump_tables old.func.now.tables.jump_tables ready.tables)
-        (edges-stay ready.reads calls call old new ready.stands stands (edges_named (ledger_of calls) (map name_of (default ∷ entries))) edges
+        (one-table-more (NamesEdges (calls ++ call ∷ [])) (ledger_of calls).jump_tables old.func.now.tables.jump_tables (edges_named (ledger_of calls) (map naming (default ∷ entries))) edges
+        (tables-stay ready.reads calls (call ∷ []) old new ready.stands stands (ledger_of calls).jump_tables old.func.now.tables.jump_tables ready.tables)
+        (edges-stay ready.reads calls (call ∷ []) old new ready.stands stands (edges_named (ledger_of calls) (map naming (default ∷ entries))) edges
         (edges-names calls old answers ready (default ∷ entries) edges found))))
 
 -- a table served a branch
-pub branch-ready : RequestsAskForTheirShapes → {declared : SignatureShape} (calls : List AnsweredCall) (old new : FunctionBuilder) (answers : List Answer) (index : Name) (value table inst : ℕ)
-    → IsReady declared calls old answers → value_of old.func.now answers index ≡ Some value → Branched old new value table (Ok inst)
-    → IsReadyAfter declared calls (br_table (ledger_of calls) (name_of index) table) new answers (answer.Inst inst)
-branch-ready shapes {declared} calls old new answers index value table inst ready found branch = (
+pub branch-ready : RequestsAskForTheirShapes → {naming : Naming} {declared : SignatureShape} (calls : List AnsweredCall) (old new : FunctionBuilder) (answers : List Answer) (index : Name) (value table inst : ℕ)
+    → IsReady naming declared calls old answers → value_of old.func.now answers index ≡ Some value → Branched old new value table (Ok inst)
+    → IsReadyAfter naming declared calls (br_table (ledger_of calls) (naming index) table) new answers (answer.Inst inst)
+branch-ready shapes {naming} {declared} calls old new answers index value table inst ready found branch = (
   numbers_of new inst,
   ready-answered calls call old new answers (answer.Inst inst) ready stands ([], (inst_at new.func.now inst).results, refl, refl) (λ made same. let no_way : ⊥ = cc in absurd no_way) tables
       (exceptions-still calls call old new answers ready stands exceptions-left (branch.builds.grows.8 ∙ ap (λ (f : Body). f.tables.exception_tables) branch.takes.sets.function)),
 )
   where
     call : AnsweredCall
-    call = record { request = br_table (ledger_of calls) (name_of index) table; numbers = numbers_of new inst }
+    call = record { request = br_table (ledger_of calls) (naming index) table; numbers = numbers_of new inst }
 
     between : FunctionBuilder
     between = branch.between
@@ -395,7 +395,7 @@ branch-ready shapes {declared} calls old new answers index value table inst read
 
     stands : StandsFor declared (calls ++ call ∷ []) new
     stands =
-        let asked = (shapes calls between.func.now between.ctx.now between.position taken.ledger).br_table (name_of index) value table edges.0 branch.edges
+        let asked = (shapes calls between.func.now between.ctx.now between.position taken.ledger).br_table (naming index) value table edges.0 branch.edges
         (value-found calls old answers ready index value found) edges.1 edges.2 in
         subst (λ (r : Request). StandsFor declared (calls ++ record { request = r; numbers = numbers_of new inst } ∷ []) new) (sym asked.2)
         (branch.builds.stands declared calls asked.0 asked.1 taken asked.3)
@@ -410,4 +410,4 @@ branch-ready shapes {declared} calls old new answers index value table inst read
         (subst (λ (lists : List (Option (List (meaning.Edge named.Name named.Name)))). TablesAgree (NamesEdges (calls ++ call ∷ [])) lists (slice_set old.func.now.tables.jump_tables table None))
         (sym (ap (λ (l : Ledger). l.jump_tables) (ledger-more calls call)))
         (table-serves (NamesEdges (calls ++ call ∷ [])) (ledger_of calls).jump_tables old.func.now.tables.jump_tables table
-        (tables-stay ready.reads calls call old new ready.stands stands (ledger_of calls).jump_tables old.func.now.tables.jump_tables ready.tables)))
+        (tables-stay ready.reads calls (call ∷ []) old new ready.stands stands (ledger_of calls).jump_tables old.func.now.tables.jump_tables ready.tables)))

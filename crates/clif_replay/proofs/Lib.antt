@@ -15,3 +15,13 @@ pub mod Replays
 pub mod Notes
 pub mod Changes
 pub mod Outside
+pub mod Chains
+pub mod Emissions
+pub mod Emitted
+pub mod NamingExamples
+pub mod Whole
+pub mod Narrowing
+pub mod ReadCalls
+pub mod Known
+pub mod Stepping
+pub mod EmissionExamples

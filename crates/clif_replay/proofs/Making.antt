@@ -28,28 +28,29 @@ use Rattle.clif_resolution.specs.Answers.{Finds}
 use Rattle.clif_replay.specs.Makes.{Makes}
 use Rattle.clif_replay.specs.Ready.{IsJudged, IsReady, IsReadyAfter}
 use Rattle.clif_resolution.proofs.Options.{get-below}
+use Rattle.clif_replay.specs.Requests.{Naming}
 
 -- the request is allowed in each ledger with which the builder agrees, or in none
-abbrev pub Judges : (SignatureShape → Ledger → Request) → FunctionBuilder → List Answer → Bool → Type 0
+abbrev pub Judges : (Naming → SignatureShape → Ledger → Request) → FunctionBuilder → List Answer → Bool → Type 0
 Judges asks b answers allowed =
-    (declared : SignatureShape) (calls : List AnsweredCall) → IsReady declared calls b answers → allows (ledger_of calls) (asks declared (ledger_of calls)) ≡ allowed
+    (naming : Naming) (declared : SignatureShape) (calls : List AnsweredCall) → IsReady naming declared calls b answers → allows (ledger_of calls) (asks naming declared (ledger_of calls)) ≡ allowed
 
 pub loans-stay : (b : FunctionBuilder) → SameLoans b b
 loans-stay b = record { func = refl; ctx = refl }
 
 -- the request isn't allowed, and its variable is to blame for that, or isn't
-abbrev pub Denies : (SignatureShape → Ledger → Request) → Bool → FunctionBuilder → List Answer → Bool → Type 0
+abbrev pub Denies : (Naming → SignatureShape → Ledger → Request) → Bool → FunctionBuilder → List Answer → Bool → Type 0
 Denies asks tried b answers blamed =
-    (declared : SignatureShape) (calls : List AnsweredCall) → IsReady declared calls b answers
-    → (allows (ledger_of calls) (asks declared (ledger_of calls)) ≡ false) × ((tried && blames_variable (ledger_of calls) (asks declared (ledger_of calls))) ≡ blamed)
+    (naming : Naming) (declared : SignatureShape) (calls : List AnsweredCall) → IsReady naming declared calls b answers
+    → (allows (ledger_of calls) (asks naming declared (ledger_of calls)) ≡ false) × ((tried && blames_variable (ledger_of calls) (asks naming declared (ledger_of calls))) ≡ blamed)
 
 -- it isn't allowed, and isn't refused either
-pub made-denied : {asks : SignatureShape → Ledger → Request} {tried : Bool} {Meets : Type 0} {types : List «Type»} (b : FunctionBuilder) (answers : List Answer) → Denies asks tried b answers false
+pub made-denied : {asks : Naming → SignatureShape → Ledger → Request} {tried : Bool} {Meets : Type 0} {types : List «Type»} (b : FunctionBuilder) (answers : List Answer) → Denies asks tried b answers false
     → Makes asks tried Meets types b b answers (Err error.Misuse)
 made-denied b answers denies = record {
   loans = loans-stay b;
   name = tt;
-  ready = λ declared calls ready. tt;
+  ready = λ naming declared calls ready. tt;
   judged = denies;
   sound = tt;
   refused = λ same. absurd (no-refusal same);
@@ -64,17 +65,17 @@ made-denied b answers denies = record {
     no-full same = cc
 
 -- it isn't allowed, and isn't only tried
-pub made-misuse : {asks : SignatureShape → Ledger → Request} {Meets : Type 0} {types : List «Type»} (b : FunctionBuilder) (answers : List Answer) → Judges asks b answers false
+pub made-misuse : {asks : Naming → SignatureShape → Ledger → Request} {Meets : Type 0} {types : List «Type»} (b : FunctionBuilder) (answers : List Answer) → Judges asks b answers false
     → Makes asks false Meets types b b answers (Err error.Misuse)
-made-misuse b answers judges = made-denied b answers (λ declared calls ready. (judges declared calls ready, refl))
+made-misuse b answers judges = made-denied b answers (λ naming declared calls ready. (judges naming declared calls ready, refl))
 
 -- it was tried, and the builder refused it because of its variable
-pub made-refusal : {asks : SignatureShape → Ledger → Request} {Meets : Type 0} {types : List «Type»} (old new : FunctionBuilder) (answers : List Answer) → SameLoans old new → Denies asks true old answers true
+pub made-refusal : {asks : Naming → SignatureShape → Ledger → Request} {Meets : Type 0} {types : List «Type»} (old new : FunctionBuilder) (answers : List Answer) → SameLoans old new → Denies asks true old answers true
     → Makes asks true Meets types old new answers (Err error.Refused)
 made-refusal old new answers loans denies = record {
   loans = loans;
   name = tt;
-  ready = λ declared calls ready. tt;
+  ready = λ naming declared calls ready. tt;
   judged = denies;
   sound = tt;
   refused = λ same. refl;
@@ -90,9 +91,9 @@ pub answered-sound : {T : Type 0} (failed : Bool) (told : Result T BuildError) (
 answered-sound failed told x fails was = fails ∙ ap is_err was
 
 -- it was made
-pub made-answer : {asks : SignatureShape → Ledger → Request} {tried : Bool} {Meets : Type 0} {types : List «Type»} (old new : FunctionBuilder) (answers : List Answer) (a : Answer)
+pub made-answer : {asks : Naming → SignatureShape → Ledger → Request} {tried : Bool} {Meets : Type 0} {types : List «Type»} (old new : FunctionBuilder) (answers : List Answer) (a : Answer)
     → SameLoans old new → new.func.now.name ≡ old.func.now.name → new.failed ≡ false → new.ctx.now.variables ≡ types → Judges asks old answers true
-    → ((declared : SignatureShape) (calls : List AnsweredCall) → IsReady declared calls old answers → IsReadyAfter declared calls (asks declared (ledger_of calls)) new answers a)
+    → ((naming : Naming) (declared : SignatureShape) (calls : List AnsweredCall) → IsReady naming declared calls old answers → IsReadyAfter naming declared calls (asks naming declared (ledger_of calls)) new answers a)
     → Makes asks tried Meets types old new answers (Ok a)
 made-answer old new answers a loans name sound variables judges ready = record {
   loans = loans;
@@ -109,23 +110,23 @@ made-answer old new answers a loans name sound variables judges ready = record {
     no-error e same = cc
 
 -- a refusal is told as itself
-told-full : (e : BuildError) → ◌≡◌ {A = Result Answer CallError} (Err (call_error_of e)) (Err error.Full) → e ≡ build.Full
+pub told-full : (e : BuildError) → ◌≡◌ {A = Result Answer CallError} (Err (call_error_of e)) (Err error.Full) → e ≡ build.Full
 told-full build.Memory same = let no_way : ⊥ = cc in absurd no_way
 told-full build.Full same = refl
 told-full build.Failed same = let no_way : ⊥ = cc in absurd no_way
 
-told-refused : (e : BuildError) → ◌≡◌ {A = Result Answer CallError} (Err (call_error_of e)) (Err error.Refused) → e ≡ build.Failed
+pub told-refused : (e : BuildError) → ◌≡◌ {A = Result Answer CallError} (Err (call_error_of e)) (Err error.Refused) → e ≡ build.Failed
 told-refused build.Memory same = let no_way : ⊥ = cc in absurd no_way
 told-refused build.Full same = let no_way : ⊥ = cc in absurd no_way
 told-refused build.Failed same = refl
 
-judged-from : (allowed refused : Bool) (e : BuildError) → (e ≡ build.Full → allowed ≡ true) → e ≢ build.Failed → IsJudged allowed refused (Err (call_error_of e))
+pub judged-from : (allowed refused : Bool) (e : BuildError) → (e ≡ build.Full → allowed ≡ true) → e ≢ build.Failed → IsJudged allowed refused (Err (call_error_of e))
 judged-from allowed refused build.Memory is sound = tt
 judged-from allowed refused build.Full is sound = is refl
 judged-from allowed refused build.Failed is sound = absurd (sound refl)
 
 -- the builder refused it, which hadn't failed; where a table was full it may be made
-pub made-failed : {T : Type 0} {asks : SignatureShape → Ledger → Request} {tried : Bool} {Meets : Type 0} {types : List «Type»} (old new : FunctionBuilder) (answers : List Answer) (told : Result T BuildError)
+pub made-failed : {T : Type 0} {asks : Naming → SignatureShape → Ledger → Request} {tried : Bool} {Meets : Type 0} {types : List «Type»} (old new : FunctionBuilder) (answers : List Answer) (told : Result T BuildError)
     (e : BuildError) (y : CallError) (r : Result Answer CallError) → told ≡ Err e → r ≡ Err y → y ≡ call_error_of e → SameLoans old new → old.failed ≡ false
     → ((told ≡ Err build.Failed) ↔ IsTrue old.failed) → (told ≡ Err build.Full → Judges asks old answers true) → (told ≡ Err build.Full → Meets)
     → Makes asks tried Meets types old new answers r
@@ -133,8 +134,8 @@ made-failed {asks = asks} {tried = tried} {Meets = Meets} {types = types} old ne
     subst (λ (x : Result Answer CallError). Makes asks tried Meets types old new answers x) (sym (is ∙ ap Err gives)) (record {
       loans = loans;
       name = tt;
-      ready = λ declared calls ready. tt;
-      judged = λ declared calls ready. judged-from _ _ e (λ same. judges (was ∙ ap Err same) declared calls ready) (λ same. not-failed (was ∙ ap Err same));
+      ready = λ naming declared calls ready. tt;
+      judged = λ naming declared calls ready. judged-from _ _ e (λ same. judges (was ∙ ap Err same) naming declared calls ready) (λ same. not-failed (was ∙ ap Err same));
       sound = tt;
       refused = λ same. absurd (not-failed (was ∙ ap Err (told-refused e same)));
       full = λ same. full (was ∙ ap Err (told-full e same));
@@ -145,7 +146,7 @@ made-failed {asks = asks} {tried = tried} {Meets = Meets} {types = types} old ne
     not-failed same = let has : old.failed ≡ true = failed.0 same in cc
 
 -- the same of one that may be made
-pub made-refused : {T : Type 0} {asks : SignatureShape → Ledger → Request} {tried : Bool} {Meets : Type 0} {types : List «Type»} (old new : FunctionBuilder) (answers : List Answer) (told : Result T BuildError)
+pub made-refused : {T : Type 0} {asks : Naming → SignatureShape → Ledger → Request} {tried : Bool} {Meets : Type 0} {types : List «Type»} (old new : FunctionBuilder) (answers : List Answer) (told : Result T BuildError)
     (e : BuildError) (y : CallError) (r : Result Answer CallError) → told ≡ Err e → r ≡ Err y → y ≡ call_error_of e → SameLoans old new → old.failed ≡ false
     → ((told ≡ Err build.Failed) ↔ IsTrue old.failed) → Judges asks old answers true → (told ≡ Err build.Full → Meets)
     → Makes asks tried Meets types old new answers r
@@ -153,13 +154,13 @@ made-refused old new answers told e y r was is gives loans sound failed judges f
     made-failed old new answers told e y r was is gives loans sound failed (λ same. judges) full
 
 -- memory was refused before the builder was called
-pub made-memory : {asks : SignatureShape → Ledger → Request} {tried : Bool} {Meets : Type 0} {types : List «Type»} (b : FunctionBuilder) (answers : List Answer)
+pub made-memory : {asks : Naming → SignatureShape → Ledger → Request} {tried : Bool} {Meets : Type 0} {types : List «Type»} (b : FunctionBuilder) (answers : List Answer)
     → Makes asks tried Meets types b b answers (Err error.Memory)
 made-memory b answers = record {
   loans = loans-stay b;
   name = tt;
-  ready = λ declared calls ready. tt;
-  judged = λ declared calls ready. tt;
+  ready = λ naming declared calls ready. tt;
+  judged = λ naming declared calls ready. tt;
   sound = tt;
   refused = λ same. absurd (no-refusal same);
   full = λ same. absurd (no-full same);
@@ -172,13 +173,13 @@ made-memory b answers = record {
     no-refusal : ◌≡◌ {A = Result Answer CallError} (Err error.Memory) (Err error.Refused) → ⊥
     no-refusal same = cc
 
-pub memory-told : {asks : SignatureShape → Ledger → Request} {tried : Bool} {Meets : Type 0} {types : List «Type»} (b : FunctionBuilder) (answers : List Answer)
+pub memory-told : {asks : Naming → SignatureShape → Ledger → Request} {tried : Bool} {Meets : Type 0} {types : List «Type»} (b : FunctionBuilder) (answers : List Answer)
     (e : CallError) (r : Result Answer CallError) → r ≡ Err e → e ≡ error.Memory → Makes asks tried Meets types b b answers r
 memory-told {asks = asks} {tried = tried} {Meets = Meets} {types = types} b answers e r is gives =
     subst (λ (x : Result Answer CallError). Makes asks tried Meets types b b answers x) (sym (is ∙ ap Err gives)) (made-memory b answers)
 
 -- what it names isn't there, or memory was refused
-pub made-missed : {X : Type 0} {asks : SignatureShape → Ledger → Request} {Meets : Type 0} {types : List «Type»} (b : FunctionBuilder) (answers : List Answer)
+pub made-missed : {X : Type 0} {asks : Naming → SignatureShape → Ledger → Request} {Meets : Type 0} {types : List «Type»} (b : FunctionBuilder) (answers : List Answer)
     (v : Result X CallError) (r : Result Answer CallError) (e : CallError) → v ≡ Err e → r ≡ Err e → (v ≡ Err error.Misuse → Judges asks b answers false) → v ≢ Err error.Refused
     → v ≢ Err error.Full → Makes asks false Meets types b b answers r
 made-missed {asks = asks} {Meets = Meets} {types = types} b answers v r e was is judges never_refused never_full =
@@ -190,7 +191,7 @@ made-missed {asks = asks} {Meets = Meets} {types = types} b answers v r e was is
     by error.Full was = absurd (never_full was)
     by error.Memory was = made-memory b answers
 
-pub made-misused : {X : Type 0} {Found : X → Type 0} {there : Bool} {asks : SignatureShape → Ledger → Request} {Meets : Type 0} {types : List «Type»} (b : FunctionBuilder) (answers : List Answer)
+pub made-misused : {X : Type 0} {Found : X → Type 0} {there : Bool} {asks : Naming → SignatureShape → Ledger → Request} {Meets : Type 0} {types : List «Type»} (b : FunctionBuilder) (answers : List Answer)
     (v : Result X CallError) (r : Result Answer CallError) (e : CallError) → v ≡ Err e → r ≡ Err e → Finds Found there v → (there ≡ false → Judges asks b answers false)
     → Makes asks false Meets types b b answers r
 made-misused b answers v r e was is finds judges = made-missed b answers v r e was is (λ misuse. judges (finds.misuse misuse)) finds.never_refused finds.never_full
@@ -201,15 +202,15 @@ full-either f (inl insts) = inr insts
 full-either f (inr values) = inl values
 
 -- A builder that was changed before its call was made, but stands for the same calls, made the call.
-pub made-between : {asks : SignatureShape → Ledger → Request} {tried : Bool} {Meets Met : Type 0} {types : List «Type»} (old between new : FunctionBuilder) (answers : List Answer) (r : Result Answer CallError)
+pub made-between : {asks : Naming → SignatureShape → Ledger → Request} {tried : Bool} {Meets Met : Type 0} {types : List «Type»} (old between new : FunctionBuilder) (answers : List Answer) (r : Result Answer CallError)
     → SameLoans old between → between.func.now.name ≡ old.func.now.name
-    → ((declared : SignatureShape) (calls : List AnsweredCall) → IsReady declared calls old answers → IsReady declared calls between answers)
+    → ((naming : Naming) (declared : SignatureShape) (calls : List AnsweredCall) → IsReady naming declared calls old answers → IsReady naming declared calls between answers)
     → (Met → Meets) → Makes asks tried Met types between new answers r → Makes asks tried Meets types old new answers r
 made-between old between new answers r loans name goes_on meets made = record {
   loans = record { func = made.loans.func ∙ loans.func; ctx = made.loans.ctx ∙ loans.ctx };
   name = named r made.name;
-  ready = λ declared calls ready. made.ready declared calls (goes_on declared calls ready);
-  judged = λ declared calls ready. made.judged declared calls (goes_on declared calls ready);
+  ready = λ naming declared calls ready. made.ready naming declared calls (goes_on naming declared calls ready);
+  judged = λ naming declared calls ready. made.judged naming declared calls (goes_on naming declared calls ready);
   sound = made.sound;
   refused = made.refused;
   full = λ same. meets (made.full same);

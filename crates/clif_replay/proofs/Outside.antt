@@ -31,7 +31,7 @@ use Rattle.clif_resolution.specs.Callings.{IsOutsideShape, can_call, is_imported
 use Rattle.clif_replay.specs.Ready.{AnswerIs, IsReady, IsReadyAfter}
 use Rattle.clif_resolution.specs.Answers.{all_values, value_of}
 use Rattle.clif_resolution.specs.Conditions.{is_open}
-use Rattle.clif_replay.specs.Requests.{name_of, outside_request}
+use Rattle.clif_replay.specs.Requests.{Naming, outside_request}
 use Rattle.clif_replay.proofs.Conditions.{all-exist, all-numbered, open-same, values-same}
 use Rattle.clif_replay.proofs.Lasting.{LeavesTables}
 use Rattle.clif_resolution.proofs.Planning.{all-entries-exist, entries-tested}
@@ -47,8 +47,8 @@ in-order false true false = refl
 in-order false false values = refl
 
 -- it is allowed where it may be made
-pub outside-same : {declared : SignatureShape} (calls : List AnsweredCall) (b : FunctionBuilder) (answers : List Answer) → IsReady declared calls b answers
-    → (called : OutsideCall) → allows (ledger_of calls) (outside_request (ledger_of calls) called)
+pub outside-same : {naming : Naming} {declared : SignatureShape} (calls : List AnsweredCall) (b : FunctionBuilder) (answers : List Answer) → IsReady naming declared calls b answers
+    → (called : OutsideCall) → allows (ledger_of calls) (outside_request naming (ledger_of calls) called)
     ≡ can_call b answers called
 outside-same calls b answers ready (outside.Call function args) =
     let values = values-same calls b answers ready args.items in
@@ -62,17 +62,17 @@ outside-same calls b answers ready (outside.CallIndirect signature callee args) 
     rw (values, opens, tables) (in-order (has_entry b.func.now.tables (ASignatureRef signature)) (is_open b) (all_values b.func.now answers (callee ∷ args.items)))
 
 -- it asks for its shape
-pub outside-asked : RequestsAskForTheirShapes → {declared : SignatureShape} (calls : List AnsweredCall) (b : FunctionBuilder) (answers : List Answer) → IsReady declared calls b answers
+pub outside-asked : RequestsAskForTheirShapes → {naming : Naming} {declared : SignatureShape} (calls : List AnsweredCall) (b : FunctionBuilder) (answers : List Answer) → IsReady naming declared calls b answers
     → (called : OutsideCall) (values : List ℕ) → map (value_of b.func.now answers) (operands_of called) ≡ map Some values
-    → AsksForShape calls b.func.now (outside_request (ledger_of calls) called) (outside_shape called values) Invalid
-outside-asked shapes calls b answers ready (outside.Call function args) values found =
-    (shapes calls b.func.now b.ctx.now b.position ready.stands.ledger).call_function function (map name_of args.items) values
+    → AsksForShape calls b.func.now (outside_request naming (ledger_of calls) called) (outside_shape called values) Invalid
+outside-asked shapes {naming} calls b answers ready (outside.Call function args) values found =
+    (shapes calls b.func.now b.ctx.now b.position ready.stands.ledger).call_function function (map naming args.items) values
     (all-numbered calls b answers ready args.items values found)
-outside-asked shapes calls b answers ready (outside.CallIndirect signature callee args) [] found = let no_way : ⊥ = cc in absurd no_way
-outside-asked shapes calls b answers ready (outside.CallIndirect signature callee args) (address ∷ values) found =
+outside-asked shapes {naming} calls b answers ready (outside.CallIndirect signature callee args) [] found = let no_way : ⊥ = cc in absurd no_way
+outside-asked shapes {naming} calls b answers ready (outside.CallIndirect signature callee args) (address ∷ values) found =
     let here : value_of b.func.now answers callee ≡ Some address = cc in
     let rest : map (value_of b.func.now answers) args.items ≡ map Some values = cc in
-    (shapes calls b.func.now b.ctx.now b.position ready.stands.ledger).call_indirect signature (name_of callee) address (map name_of args.items) values
+    (shapes calls b.func.now b.ctx.now b.position ready.stands.ledger).call_indirect signature (naming callee) address (map naming args.items) values
     (value-found calls b answers ready callee address here) (all-numbered calls b answers ready args.items values rest)
 
 -- its shape has these values alone, goes nowhere, and names what it calls
@@ -116,7 +116,7 @@ outside-imported b answers called shape may found =
     (all-entries-exist b.func.now.tables (entries_of (outside_shape called [])) (and_parts _ (is_imported b.func.now called) may).1)
 
 -- what its shape names exists
-pub outside-exist : {declared : SignatureShape} (calls : List AnsweredCall) (b : FunctionBuilder) (answers : List Answer) → IsReady declared calls b answers
+pub outside-exist : {naming : Naming} {declared : SignatureShape} (calls : List AnsweredCall) (b : FunctionBuilder) (answers : List Answer) → IsReady naming declared calls b answers
     → (called : OutsideCall) (shape : InstructionData) → IsOutsideShape b.func.now answers called shape
     → (k : ℕ) → k < length (operands shape) → slice_index (operands shape) k < length b.func.now.values
 outside-exist calls b answers ready called shape found =
@@ -129,26 +129,26 @@ pub outside-full : (f : Body) (answers : List Answer) (called : OutsideCall) (sh
 outside-full f answers called shape found none =
     subst (HasNoRoom f) (ap (count_of_results f.tables) found.2 ∙ outside-count f.tables called found.0) none
 
-leaves-tables : (ledger : Ledger) (called : OutsideCall) → LeavesTables (outside_request ledger called)
-leaves-tables ledger (outside.Call function args) = tt
-leaves-tables ledger (outside.CallIndirect signature callee args) = tt
+leaves-tables : (naming : Naming) (ledger : Ledger) (called : OutsideCall) → LeavesTables (outside_request naming ledger called)
+leaves-tables naming ledger (outside.Call function args) = tt
+leaves-tables naming ledger (outside.CallIndirect signature callee args) = tt
 
-is-answered : (ledger : Ledger) (called : OutsideCall) (inst : ℕ) (results : List ℕ) → AnswerIs (answer.Inst inst) (answers_to ledger (outside_request ledger called)) (inst ∷ results)
-is-answered ledger (outside.Call function args) inst results = (_, _, refl, refl)
-is-answered ledger (outside.CallIndirect signature callee args) inst results = (_, _, refl, refl)
+is-answered : (naming : Naming) (ledger : Ledger) (called : OutsideCall) (inst : ℕ) (results : List ℕ) → AnswerIs (answer.Inst inst) (answers_to ledger (outside_request naming ledger called)) (inst ∷ results)
+is-answered naming ledger (outside.Call function args) inst results = (_, _, refl, refl)
+is-answered naming ledger (outside.CallIndirect signature callee args) inst results = (_, _, refl, refl)
 
 -- it was made
-pub outside-ready : RequestsAskForTheirShapes → {declared : SignatureShape} (calls : List AnsweredCall) (old new : FunctionBuilder) (answers : List Answer) (called : OutsideCall)
-    (shape : InstructionData) (inst : ℕ) → IsReady declared calls old answers → IsOutsideShape old.func.now answers called shape → Builds old new shape Invalid (Ok inst)
-    → IsReadyAfter declared calls (outside_request (ledger_of calls) called) new answers (answer.Inst inst)
-outside-ready shapes {declared} calls old new answers called shape inst ready found done = (
+pub outside-ready : RequestsAskForTheirShapes → {naming : Naming} {declared : SignatureShape} (calls : List AnsweredCall) (old new : FunctionBuilder) (answers : List Answer) (called : OutsideCall)
+    (shape : InstructionData) (inst : ℕ) → IsReady naming declared calls old answers → IsOutsideShape old.func.now answers called shape → Builds old new shape Invalid (Ok inst)
+    → IsReadyAfter naming declared calls (outside_request naming (ledger_of calls) called) new answers (answer.Inst inst)
+outside-ready shapes {naming} {declared} calls old new answers called shape inst ready found done = (
   numbers_of new inst,
-  ready-more calls call old new answers (answer.Inst inst) ready (leaves-tables (ledger_of calls) called) (done.grows.6, done.grows.8) stands
-      (is-answered (ledger_of calls) called inst (inst_at new.func.now inst).results),
+  ready-more calls call old new answers (answer.Inst inst) ready (leaves-tables naming (ledger_of calls) called) (done.grows.6, done.grows.8) stands
+      (is-answered naming (ledger_of calls) called inst (inst_at new.func.now inst).results),
 )
   where
     call : AnsweredCall
-    call = record { request = outside_request (ledger_of calls) called; numbers = numbers_of new inst }
+    call = record { request = outside_request naming (ledger_of calls) called; numbers = numbers_of new inst }
 
     stands : StandsFor declared (calls ++ call ∷ []) new
     stands =

@@ -20,6 +20,7 @@ use Rattle.clif_resolution.specs.declared.answers.Answer.{Answer}
 use Rattle.clif_replay.specs.Ready.{AnswerIs, IsReady, IsReadyAfter, KeepsTables, last_params, values_from}
 use Rattle.clif_replay.proofs.Lasting.{LeavesTables}
 use Rattle.clif_replay.proofs.ReadyLaws.{ready-more}
+use Rattle.clif_replay.specs.Requests.{Naming}
 
 -- the new parameter is the last one of its block
 one-more : (f : Body) (b : ℕ) (ty : «Type») → b < length f.blocks → (block_at (with_param f b ty) b).params ≡ (block_at f b).params ++ length f.values ∷ []
@@ -80,12 +81,12 @@ are-answers n [] count same = (refl, refl)
 are-answers n (ty ∷ types) count same = (ty ∷ types, refl, refl, same)
 
 -- one more call was answered, which appended parameters
-pub params-ready : {declared : SignatureShape} (calls : List AnsweredCall) (old new : FunctionBuilder) (answers : List Answer) (request : Request) (b : ℕ) (params : List AbiParam) (count : ℕ) (a : Answer)
-    → IsReady declared calls old answers → LeavesTables request → KeepsTables old new
+pub params-ready : {naming : Naming} {declared : SignatureShape} (calls : List AnsweredCall) (old new : FunctionBuilder) (answers : List Answer) (request : Request) (b : ℕ) (params : List AbiParam) (count : ℕ) (a : Answer)
+    → IsReady naming declared calls old answers → LeavesTables request → KeepsTables old new
     → b < length old.func.now.blocks → new.func.now ≡ with_params old.func.now b (types_of params)
     → StandsFor declared (calls ++ record { request = request; numbers = numbers_from (length old.func.now.values) (types_of params) } ∷ []) new
     → answers_to (ledger_of calls) request ≡ map AValue (types_of params) → count ≡ length params → a ≡ last_params (block_at new.func.now b).params count
-    → IsReadyAfter declared calls request new answers a
+    → IsReadyAfter naming declared calls request new answers a
 params-ready calls old new answers request b params count a ready leaves tables there function stands given many is =
     (numbers, ready-more calls (record { request = request; numbers = numbers }) old new answers a ready leaves tables stands answer)
   where

@@ -14,7 +14,7 @@ use Rattle.cranelift_frontend.specs.declared.builder.FunctionBuilder.{FunctionBu
 use Rattle.cranelift_frontend.specs.Ledger.{block_name, ledger_of}
 use Rattle.clif_calls.specs.declared.call.Name.{Name}
 use Rattle.clif_resolution.specs.declared.answers.Answer.{Answer}
-use Rattle.clif_replay.specs.Requests.{name_of}
+use Rattle.clif_replay.specs.Requests.{Naming}
 use Rattle.clif_replay.specs.Ready.{IsReady, can_insert}
 use Rattle.clif_resolution.specs.Answers.{block_of}
 use Rattle.clif_replay.proofs.ReadyLaws.{block-found, block-missing, read}
@@ -53,30 +53,30 @@ named-in ledger name (x ∷ names) (k ∷ numbers) same there =
     by here later false is there = later cc
 
 -- a name that leads to no block isn't in the layout
-inserted-missing : {declared : SignatureShape} (calls : List AnsweredCall) (b : FunctionBuilder) (answers : List Answer) → IsReady declared calls b answers
-    → (name : Name) → block_of answers name ≡ None → is_inserted (ledger_of calls) (name_of name) ≡ false
-inserted-missing calls b answers ready name missing =
-    false_from_ne_true (is_inserted (ledger_of calls) (name_of name)) (λ there.
-    let block = named-in (ledger_of calls) (name_of name) (ledger_of calls).layout b.func.now.layout ready.stands.ledger.layout there in
-    let state = (read calls b answers ready).state block.0 (name_of name) block.1 in
+inserted-missing : {naming : Naming} {declared : SignatureShape} (calls : List AnsweredCall) (b : FunctionBuilder) (answers : List Answer) → IsReady naming declared calls b answers
+    → (name : Name) → block_of answers name ≡ None → is_inserted (ledger_of calls) (naming name) ≡ false
+inserted-missing {naming} calls b answers ready name missing =
+    false_from_ne_true (is_inserted (ledger_of calls) (naming name)) (λ there.
+    let block = named-in (ledger_of calls) (naming name) (ledger_of calls).layout b.func.now.layout ready.stands.ledger.layout there in
+    let state = (read calls b answers ready).state block.0 (naming name) block.1 in
     false≢true (sym (block-missing calls b answers ready name missing) ∙ ap is_some state.found))
 
 -- one that leads to a block is where the block is
-inserted-found : {declared : SignatureShape} (calls : List AnsweredCall) (b : FunctionBuilder) (answers : List Answer) → IsReady declared calls b answers
-    → (name : Name) (block : ℕ) → block_of answers name ≡ Some block → is_inserted (ledger_of calls) (name_of name) ≡ stands_in block b.func.now.layout
-inserted-found calls b answers ready name block found =
+inserted-found : {naming : Naming} {declared : SignatureShape} (calls : List AnsweredCall) (b : FunctionBuilder) (answers : List Answer) → IsReady naming declared calls b answers
+    → (name : Name) (block : ℕ) → block_of answers name ≡ Some block → is_inserted (ledger_of calls) (naming name) ≡ stands_in block b.func.now.layout
+inserted-found {naming} calls b answers ready name block found =
     let r = read calls b answers ready in
-    r.inserted block (name_of name) (r.named (name_of name) block (block-found calls b answers ready name block found))
+    r.inserted block (naming name) (r.named (naming name) block (block-found calls b answers ready name block found))
 
 -- `insert_block_after`
-pub insert-none : {declared : SignatureShape} (calls : List AnsweredCall) (b : FunctionBuilder) (answers : List Answer) → IsReady declared calls b answers
-    → (name behind : Name) → block_of answers name ≡ None → allows (ledger_of calls) (InsertBlockAfter (name_of name) (name_of behind)) ≡ false
+pub insert-none : {naming : Naming} {declared : SignatureShape} (calls : List AnsweredCall) (b : FunctionBuilder) (answers : List Answer) → IsReady naming declared calls b answers
+    → (name behind : Name) → block_of answers name ≡ None → allows (ledger_of calls) (InsertBlockAfter (naming name) (naming behind)) ≡ false
 insert-none calls b answers ready name behind missing = let none = block-missing calls b answers ready name missing in rw none refl
 
-pub insert-nowhere : {declared : SignatureShape} (calls : List AnsweredCall) (b : FunctionBuilder) (answers : List Answer) → IsReady declared calls b answers
-    → (name behind : Name) → block_of answers behind ≡ None → allows (ledger_of calls) (InsertBlockAfter (name_of name) (name_of behind)) ≡ false
-insert-nowhere calls b answers ready name behind missing =
-    by (has_block (ledger_of calls) (name_of name)) (is_inserted (ledger_of calls) (name_of name)) (is_inserted (ledger_of calls) (name_of behind))
+pub insert-nowhere : {naming : Naming} {declared : SignatureShape} (calls : List AnsweredCall) (b : FunctionBuilder) (answers : List Answer) → IsReady naming declared calls b answers
+    → (name behind : Name) → block_of answers behind ≡ None → allows (ledger_of calls) (InsertBlockAfter (naming name) (naming behind)) ≡ false
+insert-nowhere {naming} calls b answers ready name behind missing =
+    by (has_block (ledger_of calls) (naming name)) (is_inserted (ledger_of calls) (naming name)) (is_inserted (ledger_of calls) (naming behind))
     (inserted-missing calls b answers ready behind missing)
   where
     by : (there inside after : Bool) → after ≡ false → (there && not inside && after) ≡ false
@@ -84,11 +84,11 @@ insert-nowhere calls b answers ready name behind missing =
     by true false after is = is
     by false inside after is = refl
 
-pub insert-some : {declared : SignatureShape} (calls : List AnsweredCall) (b : FunctionBuilder) (answers : List Answer) → IsReady declared calls b answers
+pub insert-some : {naming : Naming} {declared : SignatureShape} (calls : List AnsweredCall) (b : FunctionBuilder) (answers : List Answer) → IsReady naming declared calls b answers
     → (name behind : Name) (block after : ℕ) → block_of answers name ≡ Some block → block_of answers behind ≡ Some after
-    → allows (ledger_of calls) (InsertBlockAfter (name_of name) (name_of behind)) ≡ can_insert b block after
-insert-some calls b answers ready name behind block after found found_behind =
-    by (has_block (ledger_of calls) (name_of name)) (is_inserted (ledger_of calls) (name_of name)) (is_inserted (ledger_of calls) (name_of behind))
+    → allows (ledger_of calls) (InsertBlockAfter (naming name) (naming behind)) ≡ can_insert b block after
+insert-some {naming} calls b answers ready name behind block after found found_behind =
+    by (has_block (ledger_of calls) (naming name)) (is_inserted (ledger_of calls) (naming name)) (is_inserted (ledger_of calls) (naming behind))
     (stands_in block b.func.now.layout) (stands_in after b.func.now.layout) (block-found calls b answers ready name block found).is_block
     (inserted-found calls b answers ready name block found) (inserted-found calls b answers ready behind after found_behind)
   where
@@ -96,10 +96,10 @@ insert-some calls b answers ready name behind block after found found_behind =
     by there inside behind_there s t first second third = rw (first, second, third) refl
 
 -- `set_cold_block`
-pub cold-none : {declared : SignatureShape} (calls : List AnsweredCall) (b : FunctionBuilder) (answers : List Answer) → IsReady declared calls b answers
-    → (name : Name) → block_of answers name ≡ None → allows (ledger_of calls) (SetColdBlock (name_of name)) ≡ false
+pub cold-none : {naming : Naming} {declared : SignatureShape} (calls : List AnsweredCall) (b : FunctionBuilder) (answers : List Answer) → IsReady naming declared calls b answers
+    → (name : Name) → block_of answers name ≡ None → allows (ledger_of calls) (SetColdBlock (naming name)) ≡ false
 cold-none calls b answers ready name missing = block-missing calls b answers ready name missing
 
-pub cold-some : {declared : SignatureShape} (calls : List AnsweredCall) (b : FunctionBuilder) (answers : List Answer) → IsReady declared calls b answers
-    → (name : Name) (block : ℕ) → block_of answers name ≡ Some block → allows (ledger_of calls) (SetColdBlock (name_of name)) ≡ true
+pub cold-some : {naming : Naming} {declared : SignatureShape} (calls : List AnsweredCall) (b : FunctionBuilder) (answers : List Answer) → IsReady naming declared calls b answers
+    → (name : Name) (block : ℕ) → block_of answers name ≡ Some block → allows (ledger_of calls) (SetColdBlock (naming name)) ≡ true
 cold-some calls b answers ready name block found = (block-found calls b answers ready name block found).is_block

@@ -42,7 +42,7 @@ use Rattle.clif_resolution.specs.Plans.{AreFound, IsPlanned, can_make, has_entri
 use Rattle.clif_resolution.specs.Answers.{all_values, value_of}
 use Rattle.clif_replay.specs.Ready.{IsReady}
 use Rattle.clif_resolution.specs.Conditions.{is_open, may_lead}
-use Rattle.clif_replay.specs.Requests.{edge_of, name_of, request_in}
+use Rattle.clif_replay.specs.Requests.{Naming, edge_of, request_in}
 use Rattle.clif_replay.proofs.Conditions.{all-exist, all-numbered, found-exists, found-names, lead-same, open-same, value-type-same, values-same}
 use Rattle.clif_replay.proofs.Making.{full-either}
 use Rattle.clif_replay.proofs.ReadyLaws.{value-missing}
@@ -50,31 +50,31 @@ use Rattle.clif_resolution.proofs.Planning.{never-calls, entries-alike, all-entr
 
 -- THE CONDITION -----------------------------------------------------------------------------------------------------
 
-edges-same : {declared : SignatureShape} (calls : List AnsweredCall) (b : FunctionBuilder) (answers : List Answer) → IsReady declared calls b answers
-    → (edges : List Edge) → list_all (can_lead (ledger_of calls)) (map edge_of edges) ≡ list_all (may_lead b answers) edges
-edges-same calls b answers ready [] = refl
-edges-same calls b answers ready (edge ∷ edges) =
-    ap (λ (test : Bool). test && list_all (can_lead (ledger_of calls)) (map edge_of edges)) (lead-same calls b answers ready edge)
+edges-same : {naming : Naming} {declared : SignatureShape} (calls : List AnsweredCall) (b : FunctionBuilder) (answers : List Answer) → IsReady naming declared calls b answers
+    → (edges : List Edge) → list_all (can_lead (ledger_of calls)) (map (edge_of naming) edges) ≡ list_all (may_lead b answers) edges
+edges-same {naming} calls b answers ready [] = refl
+edges-same {naming} calls b answers ready (edge ∷ edges) =
+    ap (λ (test : Bool). test && list_all (can_lead (ledger_of calls)) (map (edge_of naming) edges)) (lead-same calls b answers ready edge)
     ∙ ap (λ (rest : Bool). may_lead b answers edge && rest) (edges-same calls b answers ready edges)
 
 -- the ledger's type of a name is that of its value
-type-same : {declared : SignatureShape} (calls : List AnsweredCall) (b : FunctionBuilder) (answers : List Answer) → IsReady declared calls b answers
-    → (name : Name) → or_invalid (type_of (ledger_of calls) (name_of name)) ≡ type_in b.func.now (value_of b.func.now answers name)
-type-same calls b answers ready name = by (value_of b.func.now answers name) refl
+type-same : {naming : Naming} {declared : SignatureShape} (calls : List AnsweredCall) (b : FunctionBuilder) (answers : List Answer) → IsReady naming declared calls b answers
+    → (name : Name) → or_invalid (type_of (ledger_of calls) (naming name)) ≡ type_in b.func.now (value_of b.func.now answers name)
+type-same {naming} calls b answers ready name = by (value_of b.func.now answers name) refl
   where
     no-type : (o : Option «Type») → is_some o ≡ false → or_invalid o ≡ Invalid
     no-type None is = refl
     no-type (Some ty) is = let no_way : ⊥ = cc in absurd no_way
 
-    by : (o : Option ℕ) → value_of b.func.now answers name ≡ o → or_invalid (type_of (ledger_of calls) (name_of name)) ≡ type_in b.func.now (value_of b.func.now answers name)
-    by None at = no-type (type_of (ledger_of calls) (name_of name)) (value-missing calls b answers ready name at) ∙ ap (type_in b.func.now) (sym at)
+    by : (o : Option ℕ) → value_of b.func.now answers name ≡ o → or_invalid (type_of (ledger_of calls) (naming name)) ≡ type_in b.func.now (value_of b.func.now answers name)
+    by None at = no-type (type_of (ledger_of calls) (naming name)) (value-missing calls b answers ready name at) ∙ ap (type_in b.func.now) (sym at)
     by (Some value) at = ap or_invalid (value-type-same calls b answers ready name value at) ∙ ap (type_in b.func.now) (sym at)
 
 first-same : (first second : Name → «Type») → ((name : Name) → first name ≡ second name) → (names : List Name) → first_type first names ≡ first_type second names
 first-same first second same [] = refl
 first-same first second same (name ∷ names) = same name
 
-controlling-same : (first second : Name → «Type») → ((name : Name) → first name ≡ second name) → (p : Plan) → controlling_in first p ≡ controlling_in second p
+pub controlling-same : (first second : Name → «Type») → ((name : Name) → first name ≡ second name) → (p : Plan) → controlling_in first p ≡ controlling_in second p
 controlling-same first second same (plan.Unary opcode arg) = same arg
 controlling-same first second same (plan.Binary opcode args) = first-same first second same args
 controlling-same first second same (plan.Concat args) = first-same first second same args
@@ -94,13 +94,13 @@ entries-kept tables (plan.Jump destination) = refl
 entries-kept tables _ = refl
 
 -- an instruction is allowed where it may be made
-pub plan-same : {declared : SignatureShape} (calls : List AnsweredCall) (b : FunctionBuilder) (answers : List Answer) → IsReady declared calls b answers
-    → (p : Plan) → allows (ledger_of calls) (request_in (ledger_of calls) p) ≡ can_make b answers p
-plan-same calls b answers ready p =
+pub plan-same : {naming : Naming} {declared : SignatureShape} (calls : List AnsweredCall) (b : FunctionBuilder) (answers : List Answer) → IsReady naming declared calls b answers
+    → (p : Plan) → allows (ledger_of calls) (request_in naming (ledger_of calls) p) ≡ can_make b answers p
+plan-same {naming} calls b answers ready p =
     let values = values-same calls b answers ready (operands_in p) in
     let edges = edges-same calls b answers ready (edges_in p) in
     let opens = open-same calls b answers ready in
-    let typed = controlling-same (λ name. or_invalid (type_of (ledger_of calls) (name_of name))) (λ name. type_in b.func.now (value_of b.func.now answers name)) (type-same calls b answers ready) p in
+    let typed = controlling-same (λ name. or_invalid (type_of (ledger_of calls) (naming name))) (λ name. type_in b.func.now (value_of b.func.now answers name)) (type-same calls b answers ready) p in
     let tables = ready.stands.ledger.tables in
     let named = entries-kept b.func.now.tables p in
     rw (values, edges, opens, typed, tables, named) (by (is_open b) (all_values b.func.now answers (operands_in p)) (list_all (may_lead b answers) (edges_in p)) _ _)
@@ -115,8 +115,8 @@ opens-planned b answers p may = (and_parts (is_open b) (has_names b answers p) (
 
 -- THE SHAPE -----------------------------------------------------------------------------------------------------------
 
-edges-named : {declared : SignatureShape} (calls : List AnsweredCall) (b : FunctionBuilder) (answers : List Answer) → IsReady declared calls b answers
-    → (edges : List Edge) (made : List BlockCall) → AreFound b answers edges made → NamesEdges calls (map edge_of edges) made
+edges-named : {naming : Naming} {declared : SignatureShape} (calls : List AnsweredCall) (b : FunctionBuilder) (answers : List Answer) → IsReady naming declared calls b answers
+    → (edges : List Edge) (made : List BlockCall) → AreFound b answers edges made → NamesEdges calls (map (edge_of naming) edges) made
 edges-named calls b answers ready [] [] found = tt
 edges-named calls b answers ready [] (m ∷ made) found = absurd found
 edges-named calls b answers ready (edge ∷ edges) [] found = absurd found
@@ -124,11 +124,11 @@ edges-named calls b answers ready (edge ∷ edges) (m ∷ made) found =
     (found-names calls b answers ready edge m found.0, edges-named calls b answers ready edges made found.1)
 
 -- what it names exists
-pub operands-exist : {declared : SignatureShape} (calls : List AnsweredCall) (b : FunctionBuilder) (answers : List Answer) → IsReady declared calls b answers
+pub operands-exist : {naming : Naming} {declared : SignatureShape} (calls : List AnsweredCall) (b : FunctionBuilder) (answers : List Answer) → IsReady naming declared calls b answers
     → (p : Plan) (s : InstructionData) (ty : «Type») → IsPlanned b answers p s ty → (k : ℕ) → k < length (operands s) → slice_index (operands s) k < length b.func.now.values
 operands-exist calls b answers ready p s ty planned = all-exist calls b answers ready (operands_in p) (operands s) planned.operands
 
-edges-lead : {declared : SignatureShape} (calls : List AnsweredCall) (b : FunctionBuilder) (answers : List Answer) → IsReady declared calls b answers
+edges-lead : {naming : Naming} {declared : SignatureShape} (calls : List AnsweredCall) (b : FunctionBuilder) (answers : List Answer) → IsReady naming declared calls b answers
     → (edges : List Edge) (made : List BlockCall) → AreFound b answers edges made → All (CanLead b) made
 edges-lead calls b answers ready [] [] found k d inside = absurd (omega (arith, inside))
 edges-lead calls b answers ready [] (m ∷ made) found k d inside = absurd found
@@ -136,7 +136,7 @@ edges-lead calls b answers ready (edge ∷ edges) [] found k d inside = absurd f
 edges-lead calls b answers ready (edge ∷ edges) (m ∷ made) found zero d inside = found-exists calls b answers ready edge m found.0
 edges-lead calls b answers ready (edge ∷ edges) (m ∷ made) found (suc k) d inside = edges-lead calls b answers ready edges made found.1 k d (omega (arith, inside))
 
-pub destinations-lead : {declared : SignatureShape} (calls : List AnsweredCall) (b : FunctionBuilder) (answers : List Answer) → IsReady declared calls b answers
+pub destinations-lead : {naming : Naming} {declared : SignatureShape} (calls : List AnsweredCall) (b : FunctionBuilder) (answers : List Answer) → IsReady naming declared calls b answers
     → (p : Plan) (s : InstructionData) (ty : «Type») → IsPlanned b answers p s ty → All (CanLead b) (destinations s)
 destinations-lead calls b answers ready p s ty planned = edges-lead calls b answers ready (edges_in p) (destinations s) planned.edges
 
@@ -148,12 +148,12 @@ planned-no-call tables p (shape.TryCallIndirect args table) same = absurd (never
 planned-no-call tables p _ same = refl
 
 -- the instruction that a plan asks for
-pub instruction-named : {declared : SignatureShape} (calls : List AnsweredCall) (b : FunctionBuilder) (answers : List Answer) → IsReady declared calls b answers
+pub instruction-named : {naming : Naming} {declared : SignatureShape} (calls : List AnsweredCall) (b : FunctionBuilder) (answers : List Answer) → IsReady naming declared calls b answers
     → (p : Plan) (s : InstructionData) (ty : «Type») → IsPlanned b answers p s ty
-    → HasShape calls b.func.now (record { operation = operation_in p; controlling = controlling_in (λ name. or_invalid (type_of (ledger_of calls) (name_of name))) p; operands = map name_of (operands_in p); contexts = []; edges = map edge_of (edges_in p) }) s ty
-instruction-named calls b answers ready p s ty planned = record {
+    → HasShape calls b.func.now (record { operation = operation_in p; controlling = controlling_in (λ name. or_invalid (type_of (ledger_of calls) (naming name))) p; operands = map naming (operands_in p); contexts = []; edges = map (edge_of naming) (edges_in p) }) s ty
+instruction-named {naming} calls b answers ready p s ty planned = record {
   operation = planned.operation;
-  controlling = controlling-same (λ name. or_invalid (type_of (ledger_of calls) (name_of name))) (λ name. type_in b.func.now (value_of b.func.now answers name)) (type-same calls b answers ready) p
+  controlling = controlling-same (λ name. or_invalid (type_of (ledger_of calls) (naming name))) (λ name. type_in b.func.now (value_of b.func.now answers name)) (type-same calls b answers ready) p
       ∙ planned.controlling;
   typed = planned.typed;
   operands_numbered = all-numbered calls b answers ready (operands_in p) (operands s) planned.operands;

@@ -15,71 +15,105 @@ use Rattle.clif_meaning.specs.Ledger.{Answered, ABlock, AVariable, AValue, AnIns
 use Rattle.clif_simulation.specs.Carries.{numbers_from}
 use Rattle.cranelift_frontend.specs.declared.builder.FunctionBuilder.{FunctionBuilder}
 use Rattle.cranelift_frontend.specs.StandsFor.{StandsFor}
-use Rattle.cranelift_frontend.specs.Ledger.{AnswersAgree, ResultsFollow, NamesBlock, NamesEdge, NamesEdges, NamesExceptions, NamesInstruction, NamesValue, block_name, value_type, ledger_of}
+use Rattle.cranelift_frontend.specs.Ledger.{AnswerAgrees, ResultsFollow, NamesBlock, NamesEdge, NamesEdges, NamesExceptions, NamesInstruction, NamesValue, block_name, value_type, ledger_of}
 use Rattle.cranelift_frontend.specs.LedgerLaws.{IsReadByNumber}
+use Rattle.cranelift_frontend.proofs.LedgerLists.{and-then-some, get-front}
 use Rattle.clif_calls.specs.declared.call.Name.{Name}
 use Rattle.clif_resolution.specs.declared.answers.Answer.{Answer}
 use Rattle.clif_resolution.specs.declared.answers.Answer.TheVariants as answer
 use Rattle.clif_instructions.specs.declared.block_call.BlockCall.{BlockCall}
 use Rattle.clif_meaning.specs.Instruction as meaning
 use Rattle.clif_meaning.specs.Name as named
-use Rattle.clif_replay.specs.Requests.{name_of}
-use Rattle.clif_replay.specs.Ready.{AnswerIs, IsReady, KeepsTables, TablesAgree}
+use Rattle.clif_replay.specs.Requests.{Naming}
+use Rattle.clif_replay.specs.Ready.{AnswerIs, AreResults, IsAnswered, IsReady, KeepsTables, TablesAgree}
 use Rattle.clif_resolution.specs.Answers.{AnswerExists, edge_at, edge_in, block_in, block_of, inst_in, inst_of, value_in, value_of}
 use Rattle.clif_replay.proofs.Lasting.{LeavesTables, answer-stays, edge-stays, exceptions-kept, exceptions-stay, ledger-more, no-edge, tables-kept, tables-stay}
-use Rattle.clif_replay.proofs.Options.{get-push, some-is, if-no, name-of-some}
+use Rattle.clif_replay.proofs.Options.{get-last, get-push, some-is, if-no, name-of-some}
 use Rattle.clif_resolution.proofs.Options.{get-below, map-some}
 
 -- what the ledger says of a name, the builder says of its number
-pub read : {declared : SignatureShape} (calls : List AnsweredCall) (b : FunctionBuilder) (answers : List Answer) → IsReady declared calls b answers → IsReadByNumber calls b.func.now b.ctx.now
+pub read : {naming : Naming} {declared : SignatureShape} (calls : List AnsweredCall) (b : FunctionBuilder) (answers : List Answer) → IsReady naming declared calls b answers → IsReadByNumber calls b.func.now b.ctx.now
 read calls b answers ready = ready.reads calls b.func.now b.ctx.now b.position ready.stands.ledger
 
 -- a number that isn't 0
 past : {X : Type 0} (k : ℕ) (x y : X) → (if suc k == 0 then x else y) ≡ y
 past k x y = if-no (suc k == 0) x y (ne_eqb (suc k) 0 (λ same. omega (arith, same)))
 
--- an answer of a call, with what the ledger and the builder say of it
-record Entry (calls : List AnsweredCall) (b : FunctionBuilder) (place : ℕ) (a : Answer) : Type 0 where
-  pub call : AnsweredCall
+-- an answer, with what the ledger and the builder's calls say of the names that lead to it
+record Entry (naming : Naming) (calls : List AnsweredCall) (place : ℕ) (a : Answer) : Type 0 where
   pub given : List Answered
-  pub at_call : slice_get calls place ≡ Some call
-  pub at_given : slice_get (ledger_of calls).answers place ≡ Some given
-  pub is : AnswerIs a given call.numbers
-  pub agree : AnswersAgree (ledger_of calls) b.func.now place given call.numbers
+  pub numbers : List ℕ
+  pub is : AnswerIs a given numbers
+  pub told : (name : Name) → name.place ≡ place → answer_at (ledger_of calls) (naming name) ≡ slice_get given name.answer
+  pub numbered : (name : Name) → name.place ≡ place → number_of calls (naming name) ≡ slice_get numbers name.answer
 
-entry : {declared : SignatureShape} (calls : List AnsweredCall) (b : FunctionBuilder) (answers : List Answer) → IsReady declared calls b answers
-    → (place : ℕ) (a : Answer) → slice_get answers place ≡ Some a → Entry calls b place a
-entry calls b answers ready place a at =
-    let inside : place < length answers = slice_get_within answers place a at in
-    let call = get-below calls place (omega (arith, inside, ready.count)) in
-    let given = get-below (ledger_of calls).answers place (omega (arith, inside, ready.count, ready.stands.ledger.places)) in
-    record {
-      call = call.0;
-      given = given.0;
-      at_call = call.1;
-      at_given = given.1;
-      is = ready.answered place a call.0 given.0 at call.1 given.1;
-      agree = ready.stands.ledger.answers place call.0 given.0 call.1 given.1;
+-- a name of the builder's calls, where their place is known
+answer-there : (calls : List AnsweredCall) (place index : ℕ) (given : List Answered) → slice_get (ledger_of calls).answers place ≡ Some given
+    → answer_at (ledger_of calls) (named.answer_of place index) ≡ slice_get given index
+answer-there calls place index given at = ap (option_and_then (λ (answers : List Answered). slice_get answers index)) at
+
+number-there : (calls : List AnsweredCall) (place index : ℕ) (call : AnsweredCall) → slice_get calls place ≡ Some call
+    → number_of calls (named.answer_of place index) ≡ slice_get call.numbers index
+number-there calls place index call at = ap (option_and_then (λ (one : AnsweredCall). slice_get one.numbers index)) at
+
+entry : {naming : Naming} {declared : SignatureShape} (calls : List AnsweredCall) (b : FunctionBuilder) (answers : List Answer) → IsReady naming declared calls b answers
+    → (place : ℕ) (a : Answer) → slice_get answers place ≡ Some a → Entry naming calls place a
+entry {naming} calls b answers ready place a at = by (ready.answered place a at)
+  where
+    results : (x : IsAnswered naming calls place a) → ((name : Name) → name.place ≡ place → naming name ≡ named.answer_of x.other (suc name.answer))
+        → (other : Answer) → AreResults other x.answered x.call.numbers → Entry naming calls place other
+    results x names (answer.Values first count) (types, inst, answered, numbers, many) = record {
+      given = map AValue types;
+      numbers = numbers_from first types;
+      is = (types, refl, refl, many);
+      told = λ name here.
+          ap (answer_at (ledger_of calls)) (names name here) ∙ answer-there calls x.other (suc name.answer) x.answered x.at_answered
+          ∙ ap (λ (xs : List Answered). slice_get xs (suc name.answer)) answered;
+      numbered = λ name here.
+          ap (number_of calls) (names name here) ∙ number-there calls x.other (suc name.answer) x.call x.at_call
+          ∙ ap (λ (xs : List ℕ). slice_get xs (suc name.answer)) numbers;
     }
+    results x names answer.Nothing are = absurd are
+    results x names (answer.Block block) are = absurd are
+    results x names (answer.Variable variable) are = absurd are
+    results x names (answer.Inst inst) are = absurd are
+    results x names (answer.Edge edge) are = absurd are
+    results x names answer.Table are = absurd are
+    results x names answer.Exceptions are = absurd are
+    results x names answer.Entry are = absurd are
 
--- a name's number and its answer are those of its call
-number-at : (calls : List AnsweredCall) (b : FunctionBuilder) (place index : ℕ) (a : Answer) (e : Entry calls b place a)
-    → number_of calls (record { place = place; index = index }) ≡ slice_get e.call.numbers index
-number-at calls b place index a e = ap (option_and_then (λ (call : AnsweredCall). slice_get call.numbers index)) e.at_call
+    by : IsAnswered naming calls place a → Entry naming calls place a
+    by x = elim x.leads [
+      | inl itself ↦
+          record {
+            given = x.answered;
+            numbers = x.call.numbers;
+            is = itself.1;
+            told = λ name here. ap (answer_at (ledger_of calls)) (itself.0 name here) ∙ answer-there calls x.other name.answer x.answered x.at_answered;
+            numbered = λ name here. ap (number_of calls) (itself.0 name here) ∙ number-there calls x.other name.answer x.call x.at_call;
+          }
+      | inr behind ↦ results x behind.0 a behind.1
+    ]
 
-answer-at : (calls : List AnsweredCall) (b : FunctionBuilder) (place index : ℕ) (a : Answer) (e : Entry calls b place a)
-    → answer_at (ledger_of calls) (record { place = place; index = index }) ≡ slice_get e.given index
-answer-at calls b place index a e = ap (option_and_then (λ (answers : List Answered). slice_get answers index)) e.at_given
+-- the builder agrees with an answer of its calls
+agrees : {naming : Naming} {declared : SignatureShape} (calls : List AnsweredCall) (b : FunctionBuilder) (answers : List Answer) → IsReady naming declared calls b answers
+    → (name : named.Name) (a : Answered) (number : ℕ) → answer_at (ledger_of calls) name ≡ Some a → number_of calls name ≡ Some number
+    → AnswerAgrees (ledger_of calls) b.func.now name a number
+agrees calls b answers ready name a number answered numbered =
+    let given = and-then-some (λ (xs : List Answered). slice_get xs name.index) (slice_get (ledger_of calls).answers name.place) a answered in
+    let call = and-then-some (λ (one : AnsweredCall). slice_get one.numbers name.index) (slice_get calls name.place) number numbered in
+    (ready.stands.ledger.answers name.place call.0 given.0 call.1 given.1).each name.index a number given.2 call.2
 
 -- there is no answer behind the last call
-answer-past : {declared : SignatureShape} (calls : List AnsweredCall) (b : FunctionBuilder) (answers : List Answer) → IsReady declared calls b answers
-    → (place index : ℕ) → slice_get answers place ≡ None → answer_at (ledger_of calls) (record { place = place; index = index }) ≡ None
-answer-past calls b answers ready place index none =
-    elim (cases_lt place (length answers)) [
-      | inl inside ↦ let there = get-below answers place inside in absurd (none-some there.0 (sym none ∙ there.1))
+answer-past : {naming : Naming} {declared : SignatureShape} (calls : List AnsweredCall) (b : FunctionBuilder) (answers : List Answer) → IsReady naming declared calls b answers
+    → (name : Name) → slice_get answers name.place ≡ None → answer_at (ledger_of calls) (naming name) ≡ None
+answer-past calls b answers ready name none =
+    elim (cases_lt name.place (length answers)) [
+      | inl inside ↦ let there = get-below answers name.place inside in absurd (none-some there.0 (sym none ∙ there.1))
       | inr past ↦
-          ap (option_and_then (λ (xs : List Answered). slice_get xs index))
-          (slice_get_past (ledger_of calls).answers place (omega (arith, past, ready.count, ready.stands.ledger.places)))
+          ap (answer_at (ledger_of calls)) (ready.later name (name.place - length answers) (omega (arith, past)))
+          ∙ ap (option_and_then (λ (xs : List Answered). slice_get xs name.answer))
+          (slice_get_past (ledger_of calls).answers (length calls + (name.place - length answers)) (omega (arith, ready.stands.ledger.places)))
     ]
 
 -- what a call with one answer answered
@@ -113,22 +147,20 @@ instruction-answer given types (suc k) x is at =
     inr (k, refl, value.0, value.2)
 
 -- a name that leads to a block names it
-pub block-found : {declared : SignatureShape} (calls : List AnsweredCall) (b : FunctionBuilder) (answers : List Answer) → IsReady declared calls b answers
-    → (name : Name) (block : ℕ) → block_of answers name ≡ Some block → NamesBlock calls (name_of name) block
-block-found calls b answers ready name block found = by (slice_get answers name.place) refl found
+pub block-found : {naming : Naming} {declared : SignatureShape} (calls : List AnsweredCall) (b : FunctionBuilder) (answers : List Answer) → IsReady naming declared calls b answers
+    → (name : Name) (block : ℕ) → block_of answers name ≡ Some block → NamesBlock calls (naming name) block
+block-found {naming} calls b answers ready name block found = by (slice_get answers name.place) refl found
   where
-    by_block : (x : ℕ) → slice_get answers name.place ≡ Some (answer.Block x) → (index : ℕ) → name.answer ≡ index → (if index == 0 then Some x else None) ≡ Some block → NamesBlock calls (name_of name) block
+    by_block : (x : ℕ) → slice_get answers name.place ≡ Some (answer.Block x) → (index : ℕ) → name.answer ≡ index → (if index == 0 then Some x else None) ≡ Some block → NamesBlock calls (naming name) block
     by_block x at zero is found =
         let e = entry calls b answers ready name.place (answer.Block x) at in
-        let number : number_of calls (name_of name) ≡ Some x =
-        number-at calls b name.place name.answer (answer.Block x) e ∙ ap (slice_get e.call.numbers) is ∙ ap (λ (xs : List ℕ). slice_get xs 0) e.is.1 in
-        let answered : slice_get e.given 0 ≡ Some ABlock = ap (λ (xs : List Answered). slice_get xs 0) e.is.0 in
-        let named : block_name (ledger_of calls) x ≡ Some (record { place = name.place; index = 0 }) = e.agree.each 0 ABlock x answered (ap (λ (xs : List ℕ). slice_get xs 0) e.is.1) in
-        let here : block_name (ledger_of calls) x ≡ Some (name_of name) = named ∙ ap (λ (n : ℕ). Some (name_of (record { place = name.place; answer = n }))) (sym is) in
-        record { number = number ∙ found; is_block = ap is_some ((read calls b answers ready).state x (name_of name) here).found }
+        let number : number_of calls (naming name) ≡ Some x = e.numbered name refl ∙ ap (slice_get e.numbers) is ∙ ap (λ (xs : List ℕ). slice_get xs 0) e.is.1 in
+        let answered : answer_at (ledger_of calls) (naming name) ≡ Some ABlock = e.told name refl ∙ ap (slice_get e.given) is ∙ ap (λ (xs : List Answered). slice_get xs 0) e.is.0 in
+        let here : block_name (ledger_of calls) x ≡ Some (naming name) = agrees calls b answers ready (naming name) ABlock x answered number in
+        record { number = number ∙ found; is_block = ap is_some ((read calls b answers ready).state x (naming name) here).found }
     by_block x at (suc k) is found = absurd (none-some block (sym (past k (Some x) None) ∙ found))
 
-    by : (o : Option Answer) → slice_get answers name.place ≡ o → block_in name.answer o ≡ Some block → NamesBlock calls (name_of name) block
+    by : (o : Option Answer) → slice_get answers name.place ≡ o → block_in name.answer o ≡ Some block → NamesBlock calls (naming name) block
     by None at found = absurd (none-some block found)
     by (Some answer.Nothing) at found = absurd (none-some block found)
     by (Some (answer.Variable v)) at found = absurd (none-some block found)
@@ -141,61 +173,61 @@ block-found calls b answers ready name block found = by (slice_get answers name.
     by (Some (answer.Block x)) at found = by_block x at name.answer refl found
 
 -- a name that leads to no block names none
-pub block-missing : {declared : SignatureShape} (calls : List AnsweredCall) (b : FunctionBuilder) (answers : List Answer) → IsReady declared calls b answers
-    → (name : Name) → block_of answers name ≡ None → has_block (ledger_of calls) (name_of name) ≡ false
-block-missing calls b answers ready name missing =
-    false_from_ne_true (has_block (ledger_of calls) (name_of name)) (λ there.
-    let found = (read calls b answers ready).numbered (name_of name) there in
-    by (slice_get answers name.place) refl missing (ready.stands.ledger.block_answers found.0 (name_of name) found.1))
+pub block-missing : {naming : Naming} {declared : SignatureShape} (calls : List AnsweredCall) (b : FunctionBuilder) (answers : List Answer) → IsReady naming declared calls b answers
+    → (name : Name) → block_of answers name ≡ None → has_block (ledger_of calls) (naming name) ≡ false
+block-missing {naming} calls b answers ready name missing =
+    false_from_ne_true (has_block (ledger_of calls) (naming name)) (λ there.
+    let found = (read calls b answers ready).numbered (naming name) there in
+    by (slice_get answers name.place) refl missing (ready.stands.ledger.block_answers found.0 (naming name) found.1))
   where
     by_block : (x : ℕ) (index : ℕ) → index ≡ 0 → (if index == 0 then Some x else None) ≡ None → ⊥
     by_block x zero is missing = none-some x (sym missing)
     by_block x (suc k) is missing = omega (arith, is)
 
-    by : (o : Option Answer) → slice_get answers name.place ≡ o → block_in name.answer o ≡ None → answer_at (ledger_of calls) (name_of name) ≡ Some ABlock → ⊥
-    by None at missing answered = none-some ABlock (sym (answer-past calls b answers ready name.place name.answer at) ∙ answered)
+    by : (o : Option Answer) → slice_get answers name.place ≡ o → block_in name.answer o ≡ None → answer_at (ledger_of calls) (naming name) ≡ Some ABlock → ⊥
+    by None at missing answered = none-some ABlock (sym (answer-past calls b answers ready name at) ∙ answered)
     by (Some answer.Nothing) at missing answered =
         let e = entry calls b answers ready name.place answer.Nothing at in
-        no-answer e.given name.answer ABlock e.is.0 (sym (answer-at calls b name.place name.answer answer.Nothing e) ∙ answered)
+        no-answer e.given name.answer ABlock e.is.0 (sym (e.told name refl) ∙ answered)
     by (Some (answer.Variable v)) at missing answered =
         let e = entry calls b answers ready name.place (answer.Variable v) at in
-        let one = one-answer e.given (AVariable v) name.answer ABlock e.is.0 (sym (answer-at calls b name.place name.answer (answer.Variable v) e) ∙ answered) in
+        let one = one-answer e.given (AVariable v) name.answer ABlock e.is.0 (sym (e.told name refl) ∙ answered) in
         let wrong : AVariable v ≡ ABlock = one.1 in
         cc
     by (Some answer.Entry) at missing answered =
         let e = entry calls b answers ready name.place answer.Entry at in
-        let one = one-answer e.given (AnEntry e.is.0 e.is.1) name.answer ABlock e.is.2 (sym (answer-at calls b name.place name.answer answer.Entry e) ∙ answered) in
+        let one = one-answer e.given (AnEntry e.is.0 e.is.1) name.answer ABlock e.is.2 (sym (e.told name refl) ∙ answered) in
         let wrong : AnEntry e.is.0 e.is.1 ≡ ABlock = one.1 in
         cc
     by (Some (answer.Edge edge)) at missing answered =
         let e = entry calls b answers ready name.place (answer.Edge edge) at in
-        let one = one-answer e.given (AnEdge e.is.0) name.answer ABlock e.is.1 (sym (answer-at calls b name.place name.answer (answer.Edge edge) e) ∙ answered) in
+        let one = one-answer e.given (AnEdge e.is.0) name.answer ABlock e.is.1 (sym (e.told name refl) ∙ answered) in
         let wrong : AnEdge e.is.0 ≡ ABlock = one.1 in
         cc
     by (Some answer.Table) at missing answered =
         let e = entry calls b answers ready name.place answer.Table at in
-        let one = one-answer e.given (AJumpTable e.is.0) name.answer ABlock e.is.1 (sym (answer-at calls b name.place name.answer answer.Table e) ∙ answered) in
+        let one = one-answer e.given (AJumpTable e.is.0) name.answer ABlock e.is.1 (sym (e.told name refl) ∙ answered) in
         let wrong : AJumpTable e.is.0 ≡ ABlock = one.1 in
         cc
     by (Some answer.Exceptions) at missing answered =
         let e = entry calls b answers ready name.place answer.Exceptions at in
-        let one = one-answer e.given (AnExceptionTable e.is.0) name.answer ABlock e.is.1 (sym (answer-at calls b name.place name.answer answer.Exceptions e) ∙ answered) in
+        let one = one-answer e.given (AnExceptionTable e.is.0) name.answer ABlock e.is.1 (sym (e.told name refl) ∙ answered) in
         let wrong : AnExceptionTable e.is.0 ≡ ABlock = one.1 in
         cc
     by (Some (answer.Values first count)) at missing answered =
         let e = entry calls b answers ready name.place (answer.Values first count) at in
-        let one = values-answer e.given e.is.0 name.answer ABlock e.is.1 (sym (answer-at calls b name.place name.answer (answer.Values first count) e) ∙ answered) in
+        let one = values-answer e.given e.is.0 name.answer ABlock e.is.1 (sym (e.told name refl) ∙ answered) in
         let wrong : AValue one.0 ≡ ABlock = one.1 in
         cc
     by (Some (answer.Inst i)) at missing answered =
         let e = entry calls b answers ready name.place (answer.Inst i) at in
-        elim (instruction-answer e.given e.is.0 name.answer ABlock e.is.2 (sym (answer-at calls b name.place name.answer (answer.Inst i) e) ∙ answered)) [
+        elim (instruction-answer e.given e.is.0 name.answer ABlock e.is.2 (sym (e.told name refl) ∙ answered)) [
           | inl first ↦ let wrong : AnInstruction ≡ ABlock = first.1 in cc
           | inr later ↦ let wrong : AValue later.2 ≡ ABlock = later.3 in cc
         ]
     by (Some (answer.Block x)) at missing answered =
         let e = entry calls b answers ready name.place (answer.Block x) at in
-        let one = one-answer e.given ABlock name.answer ABlock e.is.0 (sym (answer-at calls b name.place name.answer (answer.Block x) e) ∙ answered) in
+        let one = one-answer e.given ABlock name.answer ABlock e.is.0 (sym (e.told name refl) ∙ answered) in
         by_block x name.answer one.0 missing
 
 -- a name that leads to an instruction is its first answer
@@ -220,24 +252,24 @@ inst-at answers name inst found = by (slice_get answers name.place) refl found
     by (Some (answer.Inst i)) at found = by_inst i at name.answer refl found
 
 -- and names it
-pub inst-found : {declared : SignatureShape} (calls : List AnsweredCall) (b : FunctionBuilder) (answers : List Answer) → IsReady declared calls b answers
-    → (name : Name) (inst : ℕ) → inst_of answers name ≡ Some inst → NamesInstruction calls (name_of name) inst
-inst-found calls b answers ready name inst found =
+pub inst-found : {naming : Naming} {declared : SignatureShape} (calls : List AnsweredCall) (b : FunctionBuilder) (answers : List Answer) → IsReady naming declared calls b answers
+    → (name : Name) (inst : ℕ) → inst_of answers name ≡ Some inst → NamesInstruction calls (naming name) inst
+inst-found {naming} calls b answers ready name inst found =
     let at = inst-at answers name inst found in
     let e = entry calls b answers ready name.place (answer.Inst inst) at.0 in
-    let answered : answer_at (ledger_of calls) (name_of name) ≡ Some AnInstruction =
-    answer-at calls b name.place name.answer (answer.Inst inst) e ∙ ap (slice_get e.given) at.1 ∙ ap (λ (xs : List Answered). slice_get xs 0) e.is.2 in
+    let answered : answer_at (ledger_of calls) (naming name) ≡ Some AnInstruction =
+    e.told name refl ∙ ap (slice_get e.given) at.1 ∙ ap (λ (xs : List Answered). slice_get xs 0) e.is.2 in
     record {
-      number = number-at calls b name.place name.answer (answer.Inst inst) e ∙ ap (slice_get e.call.numbers) at.1 ∙ ap (λ (xs : List ℕ). slice_get xs 0) e.is.3;
+      number = e.numbered name refl ∙ ap (slice_get e.numbers) at.1 ∙ ap (λ (xs : List ℕ). slice_get xs 0) e.is.3;
       is_instruction = ap is_instruction_answer answered;
     }
 
 -- a name that leads to no instruction names none
-pub inst-missing : {declared : SignatureShape} (calls : List AnsweredCall) (b : FunctionBuilder) (answers : List Answer) → IsReady declared calls b answers
-    → (name : Name) → inst_of answers name ≡ None → has_instruction (ledger_of calls) (name_of name) ≡ false
-inst-missing calls b answers ready name missing =
-    false_from_ne_true (has_instruction (ledger_of calls) (name_of name)) (λ there.
-    by (slice_get answers name.place) refl missing (instruction-is (answer_at (ledger_of calls) (name_of name)) there))
+pub inst-missing : {naming : Naming} {declared : SignatureShape} (calls : List AnsweredCall) (b : FunctionBuilder) (answers : List Answer) → IsReady naming declared calls b answers
+    → (name : Name) → inst_of answers name ≡ None → has_instruction (ledger_of calls) (naming name) ≡ false
+inst-missing {naming} calls b answers ready name missing =
+    false_from_ne_true (has_instruction (ledger_of calls) (naming name)) (λ there.
+    by (slice_get answers name.place) refl missing (instruction-is (answer_at (ledger_of calls) (naming name)) there))
   where
     instruction-is : (o : Option Answered) → is_instruction_answer o ≡ true → o ≡ Some AnInstruction
     instruction-is None is = absurd (false≢true is)
@@ -254,14 +286,14 @@ inst-missing calls b answers ready name missing =
     by_inst i zero is missing = none-some i (sym missing)
     by_inst i (suc k) is missing = omega (arith, is)
 
-    one-wrong : (a : Answer) (x : Answered) (e : Entry calls b name.place a) → e.given ≡ x ∷ [] → answer_at (ledger_of calls) (name_of name) ≡ Some AnInstruction → x ≡ AnInstruction
-    one-wrong a x e is answered = (one-answer e.given x name.answer AnInstruction is (sym (answer-at calls b name.place name.answer a e) ∙ answered)).1
+    one-wrong : (a : Answer) (x : Answered) (e : Entry naming calls name.place a) → e.given ≡ x ∷ [] → answer_at (ledger_of calls) (naming name) ≡ Some AnInstruction → x ≡ AnInstruction
+    one-wrong a x e is answered = (one-answer e.given x name.answer AnInstruction is (sym (e.told name refl) ∙ answered)).1
 
-    by : (o : Option Answer) → slice_get answers name.place ≡ o → inst_in name.answer o ≡ None → answer_at (ledger_of calls) (name_of name) ≡ Some AnInstruction → ⊥
-    by None at missing answered = none-some AnInstruction (sym (answer-past calls b answers ready name.place name.answer at) ∙ answered)
+    by : (o : Option Answer) → slice_get answers name.place ≡ o → inst_in name.answer o ≡ None → answer_at (ledger_of calls) (naming name) ≡ Some AnInstruction → ⊥
+    by None at missing answered = none-some AnInstruction (sym (answer-past calls b answers ready name at) ∙ answered)
     by (Some answer.Nothing) at missing answered =
         let e = entry calls b answers ready name.place answer.Nothing at in
-        no-answer e.given name.answer AnInstruction e.is.0 (sym (answer-at calls b name.place name.answer answer.Nothing e) ∙ answered)
+        no-answer e.given name.answer AnInstruction e.is.0 (sym (e.told name refl) ∙ answered)
     by (Some (answer.Block x)) at missing answered =
         let e = entry calls b answers ready name.place (answer.Block x) at in
         let wrong : ABlock ≡ AnInstruction = one-wrong (answer.Block x) ABlock e e.is.0 answered in
@@ -288,74 +320,77 @@ inst-missing calls b answers ready name missing =
         cc
     by (Some (answer.Values first count)) at missing answered =
         let e = entry calls b answers ready name.place (answer.Values first count) at in
-        let value = values-answer e.given e.is.0 name.answer AnInstruction e.is.1 (sym (answer-at calls b name.place name.answer (answer.Values first count) e) ∙ answered) in
+        let value = values-answer e.given e.is.0 name.answer AnInstruction e.is.1 (sym (e.told name refl) ∙ answered) in
         let wrong : AValue value.0 ≡ AnInstruction = value.1 in
         cc
     by (Some (answer.Inst i)) at missing answered =
         let e = entry calls b answers ready name.place (answer.Inst i) at in
-        elim (instruction-answer e.given e.is.0 name.answer AnInstruction e.is.2 (sym (answer-at calls b name.place name.answer (answer.Inst i) e) ∙ answered)) [
+        elim (instruction-answer e.given e.is.0 name.answer AnInstruction e.is.2 (sym (e.told name refl) ∙ answered)) [
           | inl first ↦ by_inst i name.answer first.0 missing
           | inr later ↦ let wrong : AValue later.2 ≡ AnInstruction = later.3 in cc
         ]
 
 -- the results of an instruction that was answered
-record Results (calls : List AnsweredCall) (b : FunctionBuilder) (place i : ℕ) : Type 0 where
+record Results (naming : Naming) (calls : List AnsweredCall) (b : FunctionBuilder) (place i : ℕ) : Type 0 where
   pub types : List «Type»
-  pub call : AnsweredCall
-  pub given : List Answered
-  pub at_call : slice_get calls place ≡ Some call
-  pub at_given : slice_get (ledger_of calls).answers place ≡ Some given
-  pub answered : given ≡ AnInstruction ∷ map AValue types
   pub node : InstNode
   pub there : slice_get b.func.now.insts i ≡ Some node
-  pub numbers : call.numbers ≡ i ∷ node.results
   pub count : length node.results ≡ length types
+  pub told : (name : Name) → name.place ≡ place → answer_at (ledger_of calls) (naming name) ≡ slice_get (AnInstruction ∷ map AValue types) name.answer
+  pub numbered : (name : Name) → name.place ≡ place → number_of calls (naming name) ≡ slice_get (i ∷ node.results) name.answer
 
-results-of : {declared : SignatureShape} (calls : List AnsweredCall) (b : FunctionBuilder) (answers : List Answer) → IsReady declared calls b answers
-    → (place i : ℕ) → slice_get answers place ≡ Some (answer.Inst i) → Results calls b place i
-results-of calls b answers ready place i at =
-    let e = entry calls b answers ready place (answer.Inst i) at in
-    let follow = subst (λ (xs : List ℕ). ResultsFollow b.func.now (AnInstruction ∷ map AValue e.is.0) xs) e.is.3
-    (subst (λ (xs : List Answered). ResultsFollow b.func.now xs e.call.numbers) e.is.2 e.agree.results) in
-    let many : suc (length e.is.1) ≡ suc (length (map AValue e.is.0)) =
-    ap (λ (xs : List ℕ). length xs) (sym e.is.3) ∙ e.agree.count ∙ ap (λ (xs : List Answered). length xs) e.is.2 in
-    record {
-      types = e.is.0;
-      call = e.call;
-      given = e.given;
-      at_call = e.at_call;
-      at_given = e.at_given;
-      answered = e.is.2;
-      node = follow.0;
-      there = follow.1;
-      numbers = e.is.3 ∙ ap (λ (xs : List ℕ). i ∷ xs) follow.2;
-      count = ap (λ (xs : List ℕ). length xs) (sym follow.2) ∙ omega (arith, many, length-map e.is.0 AValue);
-    }
+results-of : {naming : Naming} {declared : SignatureShape} (calls : List AnsweredCall) (b : FunctionBuilder) (answers : List Answer) → IsReady naming declared calls b answers
+    → (place i : ℕ) → slice_get answers place ≡ Some (answer.Inst i) → Results naming calls b place i
+results-of {naming} calls b answers ready place i at = by (ready.answered place (answer.Inst i) at)
+  where
+    itself : (x : IsAnswered naming calls place (answer.Inst i)) → ((name : Name) → name.place ≡ place → naming name ≡ named.answer_of x.other name.answer)
+        → AnswerIs (answer.Inst i) x.answered x.call.numbers → Results naming calls b place i
+    itself x names (types, results, answered, numbers) =
+        let agree = ready.stands.ledger.answers x.other x.call x.answered x.at_call x.at_answered in
+        let follow = subst (λ (xs : List ℕ). ResultsFollow b.func.now (AnInstruction ∷ map AValue types) xs) numbers
+        (subst (λ (xs : List Answered). ResultsFollow b.func.now xs x.call.numbers) answered agree.results) in
+        let many : suc (length results) ≡ suc (length (map AValue types)) =
+        ap (λ (xs : List ℕ). length xs) (sym numbers) ∙ agree.count ∙ ap (λ (xs : List Answered). length xs) answered in
+        record {
+          types = types;
+          node = follow.0;
+          there = follow.1;
+          count = ap (λ (xs : List ℕ). length xs) (sym follow.2) ∙ omega (arith, many, length-map types AValue);
+          told = λ name here.
+              ap (answer_at (ledger_of calls)) (names name here) ∙ answer-there calls x.other name.answer x.answered x.at_answered
+              ∙ ap (λ (xs : List Answered). slice_get xs name.answer) answered;
+          numbered = λ name here.
+              ap (number_of calls) (names name here) ∙ number-there calls x.other name.answer x.call x.at_call
+              ∙ ap (λ (xs : List ℕ). slice_get xs name.answer) (numbers ∙ ap (λ (xs : List ℕ). i ∷ xs) follow.2);
+        }
+
+    by : IsAnswered naming calls place (answer.Inst i) → Results naming calls b place i
+    by x = elim x.leads [ inl names ↦ itself x names.0 names.1 | inr behind ↦ absurd behind.1 ]
 
 -- a name that leads to a value names it
-pub value-found : {declared : SignatureShape} (calls : List AnsweredCall) (b : FunctionBuilder) (answers : List Answer) → IsReady declared calls b answers
-    → (name : Name) (value : ℕ) → value_of b.func.now answers name ≡ Some value → NamesValue calls (name_of name) value
-value-found calls b answers ready name value found = by (slice_get answers name.place) refl found
+pub value-found : {naming : Naming} {declared : SignatureShape} (calls : List AnsweredCall) (b : FunctionBuilder) (answers : List Answer) → IsReady naming declared calls b answers
+    → (name : Name) (value : ℕ) → value_of b.func.now answers name ≡ Some value → NamesValue calls (naming name) value
+value-found {naming} calls b answers ready name value found = by (slice_get answers name.place) refl found
   where
     by_values : (first count : ℕ) → slice_get answers name.place ≡ Some (answer.Values first count) → (test : Bool) → nat_lt name.answer count ≡ test
-        → (if test then Some (first + name.answer) else None) ≡ Some value → NamesValue calls (name_of name) value
+        → (if test then Some (first + name.answer) else None) ≡ Some value → NamesValue calls (naming name) value
     by_values first count at true is found =
         let e = entry calls b answers ready name.place (answer.Values first count) at in
         let below : name.answer < count = ltb-true name.answer count is in
         let inside : name.answer < length e.is.0 = omega (arith, below, e.is.3) in
         let ty = get-below e.is.0 name.answer inside in
-        let answered : answer_at (ledger_of calls) (name_of name) ≡ Some (AValue ty.0) =
-        answer-at calls b name.place name.answer (answer.Values first count) e ∙ ap (λ (xs : List Answered). slice_get xs name.answer) e.is.1
+        let answered : answer_at (ledger_of calls) (naming name) ≡ Some (AValue ty.0) =
+        e.told name refl ∙ ap (λ (xs : List Answered). slice_get xs name.answer) e.is.1
         ∙ slice_get-map AValue e.is.0 name.answer ∙ ap (option_map AValue) ty.1 in
         record {
-          number = number-at calls b name.place name.answer (answer.Values first count) e ∙ ap (λ (xs : List ℕ). slice_get xs name.answer) e.is.2
+          number = e.numbered name refl ∙ ap (λ (xs : List ℕ). slice_get xs name.answer) e.is.2
               ∙ number-from first e.is.0 name.answer inside ∙ found;
           is_value = ap (λ (o : Option Answered). is_some (value_answer_type o)) answered;
         }
     by_values first count at false is found = absurd (none-some value found)
 
     by_inst : (i : ℕ) → slice_get answers name.place ≡ Some (answer.Inst i) → (index : ℕ) → name.answer ≡ index
-        → (if index == 0 then None else slice_get (inst_at b.func.now i).results (index - 1)) ≡ Some value → NamesValue calls (name_of name) value
+        → (if index == 0 then None else slice_get (inst_at b.func.now i).results (index - 1)) ≡ Some value → NamesValue calls (naming name) value
     by_inst i at zero is found = absurd (none-some value found)
     by_inst i at (suc k) is found =
         let r = results-of calls b answers ready name.place i at in
@@ -365,16 +400,14 @@ value-found calls b answers ready name value found = by (slice_get answers name.
         ∙ ap (slice_get (inst_at b.func.now i).results) (sym less) ∙ sym (past k None (slice_get (inst_at b.func.now i).results (suc k - 1))) ∙ found in
         let inside : k < length r.node.results = slice_get_within r.node.results k value result in
         let ty = get-below r.types k (omega (arith, inside, r.count)) in
-        let answered : answer_at (ledger_of calls) (name_of name) ≡ Some (AValue ty.0) =
-        ap (option_and_then (λ (xs : List Answered). slice_get xs name.answer)) r.at_given ∙ ap (slice_get r.given) is
-        ∙ ap (λ (xs : List Answered). slice_get xs (suc k)) r.answered ∙ slice_get-map AValue r.types k ∙ ap (option_map AValue) ty.1 in
+        let answered : answer_at (ledger_of calls) (naming name) ≡ Some (AValue ty.0) =
+        r.told name refl ∙ ap (slice_get (AnInstruction ∷ map AValue r.types)) is ∙ slice_get-map AValue r.types k ∙ ap (option_map AValue) ty.1 in
         record {
-          number = ap (option_and_then (λ (call : AnsweredCall). slice_get call.numbers name.answer)) r.at_call ∙ ap (slice_get r.call.numbers) is
-              ∙ ap (λ (xs : List ℕ). slice_get xs (suc k)) r.numbers ∙ result;
+          number = r.numbered name refl ∙ ap (slice_get (i ∷ r.node.results)) is ∙ result;
           is_value = ap (λ (o : Option Answered). is_some (value_answer_type o)) answered;
         }
 
-    by : (o : Option Answer) → slice_get answers name.place ≡ o → value_in b.func.now name.answer o ≡ Some value → NamesValue calls (name_of name) value
+    by : (o : Option Answer) → slice_get answers name.place ≡ o → value_in b.func.now name.answer o ≡ Some value → NamesValue calls (naming name) value
     by None at found = absurd (none-some value found)
     by (Some answer.Nothing) at found = absurd (none-some value found)
     by (Some (answer.Variable v)) at found = absurd (none-some value found)
@@ -387,12 +420,12 @@ value-found calls b answers ready name value found = by (slice_get answers name.
     by (Some (answer.Inst i)) at found = by_inst i at name.answer refl found
 
 -- a name that leads to no value names none
-pub value-missing : {declared : SignatureShape} (calls : List AnsweredCall) (b : FunctionBuilder) (answers : List Answer) → IsReady declared calls b answers
-    → (name : Name) → value_of b.func.now answers name ≡ None → has_value (ledger_of calls) (name_of name) ≡ false
-value-missing calls b answers ready name missing =
-    false_from_ne_true (has_value (ledger_of calls) (name_of name)) (λ there.
-    let typed = some-is (type_of (ledger_of calls) (name_of name)) there in
-    by typed.0 (slice_get answers name.place) refl missing (answer_is (answer_at (ledger_of calls) (name_of name)) typed.0 typed.1))
+pub value-missing : {naming : Naming} {declared : SignatureShape} (calls : List AnsweredCall) (b : FunctionBuilder) (answers : List Answer) → IsReady naming declared calls b answers
+    → (name : Name) → value_of b.func.now answers name ≡ None → has_value (ledger_of calls) (naming name) ≡ false
+value-missing {naming} calls b answers ready name missing =
+    false_from_ne_true (has_value (ledger_of calls) (naming name)) (λ there.
+    let typed = some-is (type_of (ledger_of calls) (naming name)) there in
+    by typed.0 (slice_get answers name.place) refl missing (answer_is (answer_at (ledger_of calls) (naming name)) typed.0 typed.1))
   where
     answer_is : (o : Option Answered) (ty : «Type») → value_answer_type o ≡ Some ty → o ≡ Some (AValue ty)
     answer_is None ty is = absurd (none-some ty is)
@@ -409,56 +442,57 @@ value-missing calls b answers ready name missing =
     by_values first count index inside true is missing = none-some (first + index) (sym missing)
     by_values first count index inside false is missing = false≢true (sym is ∙ lt-ltb index count inside)
 
-    by : (ty : «Type») (o : Option Answer) → slice_get answers name.place ≡ o → value_in b.func.now name.answer o ≡ None → answer_at (ledger_of calls) (name_of name) ≡ Some (AValue ty) → ⊥
-    by ty None at missing answered = none-some (AValue ty) (sym (answer-past calls b answers ready name.place name.answer at) ∙ answered)
+    by : (ty : «Type») (o : Option Answer) → slice_get answers name.place ≡ o → value_in b.func.now name.answer o ≡ None → answer_at (ledger_of calls) (naming name) ≡ Some (AValue ty) → ⊥
+    by ty None at missing answered = none-some (AValue ty) (sym (answer-past calls b answers ready name at) ∙ answered)
     by ty (Some answer.Nothing) at missing answered =
         let e = entry calls b answers ready name.place answer.Nothing at in
-        no-answer e.given name.answer (AValue ty) e.is.0 (sym (answer-at calls b name.place name.answer answer.Nothing e) ∙ answered)
+        no-answer e.given name.answer (AValue ty) e.is.0 (sym (e.told name refl) ∙ answered)
     by ty (Some (answer.Variable v)) at missing answered =
         let e = entry calls b answers ready name.place (answer.Variable v) at in
-        let one = one-answer e.given (AVariable v) name.answer (AValue ty) e.is.0 (sym (answer-at calls b name.place name.answer (answer.Variable v) e) ∙ answered) in
+        let one = one-answer e.given (AVariable v) name.answer (AValue ty) e.is.0 (sym (e.told name refl) ∙ answered) in
         let wrong : AVariable v ≡ AValue ty = one.1 in
         cc
     by ty (Some answer.Entry) at missing answered =
         let e = entry calls b answers ready name.place answer.Entry at in
-        let one = one-answer e.given (AnEntry e.is.0 e.is.1) name.answer (AValue ty) e.is.2 (sym (answer-at calls b name.place name.answer answer.Entry e) ∙ answered) in
+        let one = one-answer e.given (AnEntry e.is.0 e.is.1) name.answer (AValue ty) e.is.2 (sym (e.told name refl) ∙ answered) in
         let wrong : AnEntry e.is.0 e.is.1 ≡ AValue ty = one.1 in
         cc
     by ty (Some (answer.Edge edge)) at missing answered =
         let e = entry calls b answers ready name.place (answer.Edge edge) at in
-        let one = one-answer e.given (AnEdge e.is.0) name.answer (AValue ty) e.is.1 (sym (answer-at calls b name.place name.answer (answer.Edge edge) e) ∙ answered) in
+        let one = one-answer e.given (AnEdge e.is.0) name.answer (AValue ty) e.is.1 (sym (e.told name refl) ∙ answered) in
         let wrong : AnEdge e.is.0 ≡ AValue ty = one.1 in
         cc
     by ty (Some answer.Table) at missing answered =
         let e = entry calls b answers ready name.place answer.Table at in
-        let one = one-answer e.given (AJumpTable e.is.0) name.answer (AValue ty) e.is.1 (sym (answer-at calls b name.place name.answer answer.Table e) ∙ answered) in
+        let one = one-answer e.given (AJumpTable e.is.0) name.answer (AValue ty) e.is.1 (sym (e.told name refl) ∙ answered) in
         let wrong : AJumpTable e.is.0 ≡ AValue ty = one.1 in
         cc
     by ty (Some answer.Exceptions) at missing answered =
         let e = entry calls b answers ready name.place answer.Exceptions at in
-        let one = one-answer e.given (AnExceptionTable e.is.0) name.answer (AValue ty) e.is.1 (sym (answer-at calls b name.place name.answer answer.Exceptions e) ∙ answered) in
+        let one = one-answer e.given (AnExceptionTable e.is.0) name.answer (AValue ty) e.is.1 (sym (e.told name refl) ∙ answered) in
         let wrong : AnExceptionTable e.is.0 ≡ AValue ty = one.1 in
         cc
     by ty (Some (answer.Block x)) at missing answered =
         let e = entry calls b answers ready name.place (answer.Block x) at in
-        let one = one-answer e.given ABlock name.answer (AValue ty) e.is.0 (sym (answer-at calls b name.place name.answer (answer.Block x) e) ∙ answered) in
+        let one = one-answer e.given ABlock name.answer (AValue ty) e.is.0 (sym (e.told name refl) ∙ answered) in
         let wrong : ABlock ≡ AValue ty = one.1 in
         cc
     by ty (Some (answer.Values first count)) at missing answered =
         let e = entry calls b answers ready name.place (answer.Values first count) at in
-        let given_at : slice_get e.given name.answer ≡ Some (AValue ty) = sym (answer-at calls b name.place name.answer (answer.Values first count) e) ∙ answered in
+        let given_at : slice_get e.given name.answer ≡ Some (AValue ty) = sym (e.told name refl) ∙ answered in
         let inside : name.answer < length e.given = slice_get_within e.given name.answer (AValue ty) given_at in
         let many : length e.given ≡ length e.is.0 = ap (λ (xs : List Answered). length xs) e.is.1 ∙ length-map e.is.0 AValue in
         by_values first count name.answer (omega (arith, inside, many, e.is.3)) (nat_lt name.answer count) refl missing
     by ty (Some (answer.Inst i)) at missing answered =
         let r = results-of calls b answers ready name.place i at in
-        let given_at : slice_get r.given name.answer ≡ Some (AValue ty) = sym (ap (option_and_then (λ (xs : List Answered). slice_get xs name.answer)) r.at_given) ∙ answered in
-        elim (instruction-answer r.given r.types name.answer (AValue ty) r.answered given_at) [
+        let given : List Answered = AnInstruction ∷ map AValue r.types in
+        let given_at : slice_get given name.answer ≡ Some (AValue ty) = sym (r.told name refl) ∙ answered in
+        elim (instruction-answer given r.types name.answer (AValue ty) refl given_at) [
           | inl first ↦ let wrong : AnInstruction ≡ AValue ty = first.1 in cc
           | inr later ↦
               let k : ℕ = later.0 in
-              let inside : name.answer < length r.given = slice_get_within r.given name.answer (AValue ty) given_at in
-              let many : length r.given ≡ suc (length r.types) = ap (λ (xs : List Answered). length xs) r.answered ∙ ap suc (length-map r.types AValue) in
+              let inside : name.answer < length given = slice_get_within given name.answer (AValue ty) given_at in
+              let many : length given ≡ suc (length r.types) = ap suc (length-map r.types AValue) in
               let result = get-below r.node.results k (omega (arith, inside, later.1, many, r.count)) in
               let less : name.answer - 1 ≡ k = omega (arith, later.1) in
               let not_zero : (name.answer == 0) ≡ false = ne_eqb name.answer 0 (λ same. omega (arith, same, later.1)) in
@@ -468,9 +502,9 @@ value-missing calls b answers ready name missing =
         ]
 
 -- every answer exists
-pub answers-exist : {declared : SignatureShape} (calls : List AnsweredCall) (b : FunctionBuilder) (answers : List Answer) → IsReady declared calls b answers
+pub answers-exist : {naming : Naming} {declared : SignatureShape} (calls : List AnsweredCall) (b : FunctionBuilder) (answers : List Answer) → IsReady naming declared calls b answers
     → (k : ℕ) → k < length answers → AnswerExists b.func.now (slice_index_or answers k answer.Nothing)
-answers-exist calls b answers ready k inside =
+answers-exist {naming} calls b answers ready k inside =
     let there = get-below answers k inside in
     subst (AnswerExists b.func.now) (sym (get_or_from_slice_get answers k there.0 answer.Nothing there.1)) (by there.0 there.1)
   where
@@ -486,39 +520,41 @@ answers-exist calls b answers ready k inside =
         let e = entry calls b answers ready k (answer.Values first count) at in
         let there : j < length e.is.0 = omega (arith, below, e.is.3) in
         let ty = get-below e.is.0 j there in
-        let answered : slice_get e.given j ≡ Some (AValue ty.0) = ap (λ (xs : List Answered). slice_get xs j) e.is.1 ∙ slice_get-map AValue e.is.0 j ∙ ap (option_map AValue) ty.1 in
-        let numbered : slice_get e.call.numbers j ≡ Some (first + j) = ap (λ (xs : List ℕ). slice_get xs j) e.is.2 ∙ number-from first e.is.0 j there in
-        let typed : value_type b.func.now (first + j) ≡ Some ty.0 = e.agree.each j (AValue ty.0) (first + j) answered numbered in
+        let name : Name = record { place = k; answer = j } in
+        let answered : answer_at (ledger_of calls) (naming name) ≡ Some (AValue ty.0) =
+        e.told name refl ∙ ap (λ (xs : List Answered). slice_get xs j) e.is.1 ∙ slice_get-map AValue e.is.0 j ∙ ap (option_map AValue) ty.1 in
+        let numbered : number_of calls (naming name) ≡ Some (first + j) = e.numbered name refl ∙ ap (λ (xs : List ℕ). slice_get xs j) e.is.2 ∙ number-from first e.is.0 j there in
+        let typed : value_type b.func.now (first + j) ≡ Some ty.0 = agrees calls b answers ready (naming name) (AValue ty.0) (first + j) answered numbered in
         let node = map-some (λ (n : ValueNode). n.ty) (slice_get b.func.now.values (first + j)) ty.0 typed in
         slice_get_within b.func.now.values (first + j) node.0 node.1
     by (answer.Inst i) at = let r = results-of calls b answers ready k i at in slice_get_within b.func.now.insts i r.node r.there
 
 -- a value that is named exists
-pub value-exists : {declared : SignatureShape} (calls : List AnsweredCall) (b : FunctionBuilder) (answers : List Answer) → IsReady declared calls b answers
+pub value-exists : {naming : Naming} {declared : SignatureShape} (calls : List AnsweredCall) (b : FunctionBuilder) (answers : List Answer) → IsReady naming declared calls b answers
     → (name : Name) (value : ℕ) → value_of b.func.now answers name ≡ Some value → value < length b.func.now.values
-value-exists calls b answers ready name value found =
+value-exists {naming} calls b answers ready name value found =
     let names = value-found calls b answers ready name value found in
-    let typed = (read calls b answers ready).value (name_of name) value names in
+    let typed = (read calls b answers ready).value (naming name) value names in
     let node = map-some (λ (n : ValueNode). n.ty) (slice_get b.func.now.values value) typed.0 typed.2 in
     slice_get_within b.func.now.values value node.0 node.1
 
 -- a block that is named exists
-pub block-there : {declared : SignatureShape} (calls : List AnsweredCall) (b : FunctionBuilder) (answers : List Answer) → IsReady declared calls b answers
+pub block-there : {naming : Naming} {declared : SignatureShape} (calls : List AnsweredCall) (b : FunctionBuilder) (answers : List Answer) → IsReady naming declared calls b answers
     → (name : Name) (block : ℕ) → block_of answers name ≡ Some block → block < length b.func.now.blocks
-block-there calls b answers ready name block found =
+block-there {naming} calls b answers ready name block found =
     let names = block-found calls b answers ready name block found in
     let r = read calls b answers ready in
-    r.exists block (name_of name) (r.named (name_of name) block names)
+    r.exists block (naming name) (r.named (naming name) block names)
 
 -- an instruction that is named exists
-pub inst-there : {declared : SignatureShape} (calls : List AnsweredCall) (b : FunctionBuilder) (answers : List Answer) → IsReady declared calls b answers
+pub inst-there : {naming : Naming} {declared : SignatureShape} (calls : List AnsweredCall) (b : FunctionBuilder) (answers : List Answer) → IsReady naming declared calls b answers
     → (name : Name) (inst : ℕ) → inst_of answers name ≡ Some inst → inst < length b.func.now.insts
 inst-there calls b answers ready name inst found =
     let r = results-of calls b answers ready name.place inst (inst-at answers name inst found).0 in
     slice_get_within b.func.now.insts inst r.node r.there
 
 -- the current block exists
-pub current-exists : {declared : SignatureShape} (calls : List AnsweredCall) (b : FunctionBuilder) (answers : List Answer) → IsReady declared calls b answers → IfSome b.position (λ block. block < length b.func.now.blocks)
+pub current-exists : {naming : Naming} {declared : SignatureShape} (calls : List AnsweredCall) (b : FunctionBuilder) (answers : List Answer) → IsReady naming declared calls b answers → IfSome b.position (λ block. block < length b.func.now.blocks)
 current-exists calls b answers ready = by b.position refl
   where
     by : (o : Option ℕ) → b.position ≡ o → IfSome o (λ block. block < length b.func.now.blocks)
@@ -540,79 +576,88 @@ edge-is (Some (AJumpTable place)) edge is = absurd (none-some edge is)
 edge-is (Some (AnExceptionTable place)) edge is = absurd (none-some edge is)
 
 -- one more call was answered
-pub ready-answered : {declared : SignatureShape} (calls : List AnsweredCall) (call : AnsweredCall) (old new : FunctionBuilder) (answers : List Answer) (a : Answer)
-    → IsReady declared calls old answers → StandsFor declared (calls ++ call ∷ []) new → AnswerIs a (answers_to (ledger_of calls) call.request) call.numbers
+pub ready-answered : {naming : Naming} {declared : SignatureShape} (calls : List AnsweredCall) (call : AnsweredCall) (old new : FunctionBuilder) (answers : List Answer) (a : Answer)
+    → IsReady naming declared calls old answers → StandsFor declared (calls ++ call ∷ []) new → AnswerIs a (answers_to (ledger_of calls) call.request) call.numbers
     → ((made : BlockCall) → a ≡ answer.Edge made
-    → (edge : meaning.Edge named.Name named.Name) × (edge_named (ledger_of (calls ++ call ∷ [])) (named.answer_of (length answers) 0) ≡ Some edge) × NamesEdge (calls ++ call ∷ []) edge made)
+    → (edge : meaning.Edge named.Name named.Name) × (edge_named (ledger_of (calls ++ call ∷ [])) (named.answer_of (length calls) 0) ≡ Some edge) × NamesEdge (calls ++ call ∷ []) edge made)
     → TablesAgree (NamesEdges (calls ++ call ∷ [])) (ledger_of (calls ++ call ∷ [])).jump_tables new.func.now.tables.jump_tables
     → TablesAgree (NamesExceptions (calls ++ call ∷ [])) (ledger_of (calls ++ call ∷ [])).exception_tables new.func.now.tables.exception_tables
-    → IsReady declared (calls ++ call ∷ []) new (answers ++ a ∷ [])
-ready-answered calls call old new answers a ready stands is edge_there tables exceptions =
+    → IsReady naming declared (calls ++ call ∷ []) new (answers ++ a ∷ [])
+ready-answered {naming} calls call old new answers a ready stands is edge_there tables exceptions =
     record {
       reads = ready.reads;
       stands = stands;
-      count = length-append answers (a ∷ []) ∙ ap (λ (n : ℕ). n + 1) ready.count ∙ sym (length-append calls (call ∷ []));
-      answered = answered;
-      edges = λ place made at. elim (get-push answers a place (answer.Edge made) at) [
+      answered = λ place x at. elim (get-push answers a place x at) [
+        | inl earlier ↦ still place x (ready.answered place x earlier)
+        | inr last ↦ subst (IsAnswered naming more place) last.1 (newest place last.0)
+      ];
+      later = λ name k here.
+          let behind : length (answers ++ a ∷ []) ≡ length answers + 1 = length-append answers (a ∷ []) in
+          let made : length more ≡ length calls + 1 = length-append calls (call ∷ []) in
+          let same : length calls + suc k ≡ length more + k = omega (arith, made) in
+          ready.later name (suc k) (omega (arith, here, behind)) ∙ ap (λ (place : ℕ). named.answer_of place name.answer) same;
+      edges = λ name made at zero_th. elim (get-push answers a name.place (answer.Edge made) at) [
         | inl earlier ↦
-            let there = ready.edges place made earlier in
-            let still = answer-stays ready.reads calls call old new ready.stands stands (named.answer_of place 0) (AnEdge there.0) (edge-is _ there.0 there.1) in
-            (there.0, ap answered_edge still, edge-stays ready.reads calls call old new ready.stands stands there.0 made there.2)
+            let there = ready.edges name made earlier zero_th in
+            let kept = answer-stays ready.reads calls (call ∷ []) old new ready.stands stands (naming name) (AnEdge there.0) (edge-is _ there.0 there.1) in
+            (there.0, ap answered_edge kept, edge-stays ready.reads calls (call ∷ []) old new ready.stands stands there.0 made there.2)
         | inr last ↦
             let there = edge_there made last.1 in
-            (there.0, ap (λ (k : ℕ). edge_named (ledger_of (calls ++ call ∷ [])) (named.answer_of k 0)) last.0 ∙ there.1, there.2)
+            let first : naming name ≡ named.answer_of (length calls) 0 = at_last name last.0 ∙ ap (named.answer_of (length calls)) zero_th in
+            (there.0, ap (edge_named (ledger_of more)) first ∙ there.1, there.2)
       ];
       tables = tables;
       exceptions = exceptions;
     }
   where
-    more : (ledger_of (calls ++ call ∷ [])).answers ≡ (ledger_of calls).answers ++ answers_to (ledger_of calls) call.request ∷ []
-    more = ap (λ (l : Ledger). l.answers) (ledger-more calls call)
+    more : List AnsweredCall
+    more = calls ++ call ∷ []
 
-    answered : (place : ℕ) (x : Answer) (other : AnsweredCall) (given : List Answered) → slice_get (answers ++ a ∷ []) place ≡ Some x → slice_get (calls ++ call ∷ []) place ≡ Some other
-        → slice_get (ledger_of (calls ++ call ∷ [])).answers place ≡ Some given → AnswerIs x given other.numbers
-    answered place x other given at_answer at_call at_given =
-        let at_more : slice_get ((ledger_of calls).answers ++ answers_to (ledger_of calls) call.request ∷ []) place ≡ Some given = ap (λ (xs : List (List Answered)). slice_get xs place) (sym more) ∙ at_given in
-        elim (get-push answers a place x at_answer) [
-          | inl old_answer ↦
-              let inside : place < length answers = slice_get_within answers place x old_answer in
-              elim (get-push calls call place other at_call) [
-                | inl old_call ↦
-                    elim (get-push (ledger_of calls).answers (answers_to (ledger_of calls) call.request) place given at_more) [
-                      | inl old_given ↦ ready.answered place x other given old_answer old_call old_given
-                      | inr last ↦ absurd (omega (arith, inside, last.0, ready.count, ready.stands.ledger.places))
-                    ]
-                | inr last ↦ absurd (omega (arith, inside, last.0, ready.count))
-              ]
-          | inr last ↦
-              elim (get-push calls call place other at_call) [
-                | inl old_call ↦ let inside : place < length calls = slice_get_within calls place other old_call in absurd (omega (arith, inside, last.0, ready.count))
-                | inr last_call ↦
-                    elim (get-push (ledger_of calls).answers (answers_to (ledger_of calls) call.request) place given at_more) [
-                      | inl old_given ↦
-                          let inside : place < length (ledger_of calls).answers = slice_get_within (ledger_of calls).answers place given old_given in
-                          absurd (omega (arith, inside, last.0, ready.count, ready.stands.ledger.places))
-                      | inr last_given ↦
-                          subst (λ (y : Answer). AnswerIs y given other.numbers) last.1
-                          (subst (λ (g : List Answered). AnswerIs a g other.numbers) last_given.1
-                          (subst (λ (y : AnsweredCall). AnswerIs a (answers_to (ledger_of calls) call.request) y.numbers) last_call.1 is))
-                    ]
-              ]
-        ]
+    ledger_more : (ledger_of more).answers ≡ (ledger_of calls).answers ++ answers_to (ledger_of calls) call.request ∷ []
+    ledger_more = ap (λ (l : Ledger). l.answers) (ledger-more calls call)
+
+    -- the names of the new answer
+    at_last : (name : Name) → name.place ≡ length answers → naming name ≡ named.answer_of (length calls) name.answer
+    at_last name here =
+        let same : length calls + 0 ≡ length calls = omega arith in
+        ready.later name 0 (omega (arith, here)) ∙ ap (λ (place : ℕ). named.answer_of place name.answer) same
+
+    still : (place : ℕ) (x : Answer) → IsAnswered naming calls place x → IsAnswered naming more place x
+    still place x one = record {
+      other = one.other;
+      call = one.call;
+      answered = one.answered;
+      at_call = get-front calls (call ∷ []) one.other one.call one.at_call;
+      at_answered = ap (λ (xs : List (List Answered)). slice_get xs one.other) ledger_more
+          ∙ get-front (ledger_of calls).answers (answers_to (ledger_of calls) call.request ∷ []) one.other one.answered one.at_answered;
+      leads = one.leads;
+    }
+
+    newest : (place : ℕ) → place ≡ length answers → IsAnswered naming more place a
+    newest place here = record {
+      other = length calls;
+      call = call;
+      answered = answers_to (ledger_of calls) call.request;
+      at_call = get-last calls call;
+      at_answered = ap (λ (xs : List (List Answered)). slice_get xs (length calls)) ledger_more
+          ∙ ap (slice_get ((ledger_of calls).answers ++ answers_to (ledger_of calls) call.request ∷ [])) (sym ready.stands.ledger.places)
+          ∙ get-last (ledger_of calls).answers (answers_to (ledger_of calls) call.request);
+      leads = inl (λ name at. at_last name (at ∙ here), is);
+    }
 
 -- tables that a call leaves agree behind it
-pub tables-still : {declared : SignatureShape} (calls : List AnsweredCall) (call : AnsweredCall) (old new : FunctionBuilder) (answers : List Answer)
-    → IsReady declared calls old answers → StandsFor declared (calls ++ call ∷ []) new → (ledger_with (ledger_of calls) call.request).jump_tables ≡ (ledger_of calls).jump_tables
+pub tables-still : {naming : Naming} {declared : SignatureShape} (calls : List AnsweredCall) (call : AnsweredCall) (old new : FunctionBuilder) (answers : List Answer)
+    → IsReady naming declared calls old answers → StandsFor declared (calls ++ call ∷ []) new → (ledger_with (ledger_of calls) call.request).jump_tables ≡ (ledger_of calls).jump_tables
     → new.func.now.tables.jump_tables ≡ old.func.now.tables.jump_tables
     → TablesAgree (NamesEdges (calls ++ call ∷ [])) (ledger_of (calls ++ call ∷ [])).jump_tables new.func.now.tables.jump_tables
 tables-still calls call old new answers ready stands kept same =
     subst (TablesAgree (NamesEdges (calls ++ call ∷ [])) (ledger_of (calls ++ call ∷ [])).jump_tables) (sym same)
     (subst (λ (tables : List (Option (List (meaning.Edge named.Name named.Name)))). TablesAgree (NamesEdges (calls ++ call ∷ [])) tables old.func.now.tables.jump_tables)
     (sym (ap (λ (l : Ledger). l.jump_tables) (ledger-more calls call) ∙ kept))
-    (tables-stay ready.reads calls call old new ready.stands stands (ledger_of calls).jump_tables old.func.now.tables.jump_tables ready.tables))
+    (tables-stay ready.reads calls (call ∷ []) old new ready.stands stands (ledger_of calls).jump_tables old.func.now.tables.jump_tables ready.tables))
 
-pub exceptions-still : {declared : SignatureShape} (calls : List AnsweredCall) (call : AnsweredCall) (old new : FunctionBuilder) (answers : List Answer)
-    → IsReady declared calls old answers → StandsFor declared (calls ++ call ∷ []) new
+pub exceptions-still : {naming : Naming} {declared : SignatureShape} (calls : List AnsweredCall) (call : AnsweredCall) (old new : FunctionBuilder) (answers : List Answer)
+    → IsReady naming declared calls old answers → StandsFor declared (calls ++ call ∷ []) new
     → (ledger_with (ledger_of calls) call.request).exception_tables ≡ (ledger_of calls).exception_tables
     → new.func.now.tables.exception_tables ≡ old.func.now.tables.exception_tables
     → TablesAgree (NamesExceptions (calls ++ call ∷ [])) (ledger_of (calls ++ call ∷ [])).exception_tables new.func.now.tables.exception_tables
@@ -620,13 +665,13 @@ exceptions-still calls call old new answers ready stands kept same =
     subst (TablesAgree (NamesExceptions (calls ++ call ∷ [])) (ledger_of (calls ++ call ∷ [])).exception_tables) (sym same)
     (subst (λ (tables : List (Option ExceptionTable)). TablesAgree (NamesExceptions (calls ++ call ∷ [])) tables old.func.now.tables.exception_tables)
     (sym (ap (λ (l : Ledger). l.exception_tables) (ledger-more calls call) ∙ kept))
-    (exceptions-stay ready.reads calls call old new ready.stands stands (ledger_of calls).exception_tables old.func.now.tables.exception_tables ready.exceptions))
+    (exceptions-stay ready.reads calls (call ∷ []) old new ready.stands stands (ledger_of calls).exception_tables old.func.now.tables.exception_tables ready.exceptions))
 
 -- one that makes no edge, and makes no table of edges and lets none serve
-pub ready-more : {declared : SignatureShape} (calls : List AnsweredCall) (call : AnsweredCall) (old new : FunctionBuilder) (answers : List Answer) (a : Answer)
-    → IsReady declared calls old answers → LeavesTables call.request → KeepsTables old new
+pub ready-more : {naming : Naming} {declared : SignatureShape} (calls : List AnsweredCall) (call : AnsweredCall) (old new : FunctionBuilder) (answers : List Answer) (a : Answer)
+    → IsReady naming declared calls old answers → LeavesTables call.request → KeepsTables old new
     → StandsFor declared (calls ++ call ∷ []) new → AnswerIs a (answers_to (ledger_of calls) call.request) call.numbers
-    → IsReady declared (calls ++ call ∷ []) new (answers ++ a ∷ [])
+    → IsReady naming declared (calls ++ call ∷ []) new (answers ++ a ∷ [])
 ready-more calls call old new answers a ready leaves tables stands is =
     ready-answered calls call old new answers a ready stands is
     (λ made same.
@@ -638,24 +683,21 @@ ready-more calls call old new answers a ready leaves tables stands is =
 -- EDGES -----------------------------------------------------------------------------------------------------------------
 
 -- a name that leads to an edge names one
-pub edge-found : {declared : SignatureShape} (calls : List AnsweredCall) (b : FunctionBuilder) (answers : List Answer) → IsReady declared calls b answers
+pub edge-found : {naming : Naming} {declared : SignatureShape} (calls : List AnsweredCall) (b : FunctionBuilder) (answers : List Answer) → IsReady naming declared calls b answers
     → (name : Name) (made : BlockCall) → edge_at answers name ≡ Some made
-    → (edge : meaning.Edge named.Name named.Name) × (edge_named (ledger_of calls) (name_of name) ≡ Some edge) × NamesEdge calls edge made
-edge-found calls b answers ready name made found = by (slice_get answers name.place) refl found
+    → (edge : meaning.Edge named.Name named.Name) × (edge_named (ledger_of calls) (naming name) ≡ Some edge) × NamesEdge calls edge made
+edge-found {naming} calls b answers ready name made found = by (slice_get answers name.place) refl found
   where
     by_edge : (other : BlockCall) → slice_get answers name.place ≡ Some (answer.Edge other) → (index : ℕ) → name.answer ≡ index → (if index == 0 then Some other else None) ≡ Some made
-        → (edge : meaning.Edge named.Name named.Name) × (edge_named (ledger_of calls) (name_of name) ≡ Some edge) × NamesEdge calls edge made
+        → (edge : meaning.Edge named.Name named.Name) × (edge_named (ledger_of calls) (naming name) ≡ Some edge) × NamesEdge calls edge made
     by_edge other at zero is found =
-        let there = ready.edges name.place other at in
-        let same : other ≡ made = same_Some other made found in (
-          there.0,
-          ap (λ (k : ℕ). edge_named (ledger_of calls) (named.answer_of name.place k)) is ∙ there.1,
-          subst (NamesEdge calls there.0) same there.2,
-        )
+        let there = ready.edges name other at is in
+        let same : other ≡ made = same_Some other made found in
+        (there.0, there.1, subst (NamesEdge calls there.0) same there.2)
     by_edge other at (suc k) is found = absurd (none-some made (sym (past k (Some other) None) ∙ found))
 
     by : (o : Option Answer) → slice_get answers name.place ≡ o → edge_in name.answer o ≡ Some made
-        → (edge : meaning.Edge named.Name named.Name) × (edge_named (ledger_of calls) (name_of name) ≡ Some edge) × NamesEdge calls edge made
+        → (edge : meaning.Edge named.Name named.Name) × (edge_named (ledger_of calls) (naming name) ≡ Some edge) × NamesEdge calls edge made
     by None at found = absurd (none-some made found)
     by (Some answer.Nothing) at found = absurd (none-some made found)
     by (Some (answer.Variable v)) at found = absurd (none-some made found)
@@ -668,11 +710,11 @@ edge-found calls b answers ready name made found = by (slice_get answers name.pl
     by (Some (answer.Edge other)) at found = by_edge other at name.answer refl found
 
 -- a name that leads to no edge names none
-pub edge-missing : {declared : SignatureShape} (calls : List AnsweredCall) (b : FunctionBuilder) (answers : List Answer) → IsReady declared calls b answers
-    → (name : Name) → edge_at answers name ≡ None → is_some (edge_named (ledger_of calls) (name_of name)) ≡ false
-edge-missing calls b answers ready name missing =
-    false_from_ne_true (is_some (edge_named (ledger_of calls) (name_of name))) (λ there.
-    let edge = some-is (edge_named (ledger_of calls) (name_of name)) there in
+pub edge-missing : {naming : Naming} {declared : SignatureShape} (calls : List AnsweredCall) (b : FunctionBuilder) (answers : List Answer) → IsReady naming declared calls b answers
+    → (name : Name) → edge_at answers name ≡ None → is_some (edge_named (ledger_of calls) (naming name)) ≡ false
+edge-missing {naming} calls b answers ready name missing =
+    false_from_ne_true (is_some (edge_named (ledger_of calls) (naming name))) (λ there.
+    let edge = some-is (edge_named (ledger_of calls) (naming name)) there in
     by edge.0 (slice_get answers name.place) refl missing (edge-is _ edge.0 edge.1))
   where
     by_edge : (made : BlockCall) (index : ℕ) → index ≡ 0 → (if index == 0 then Some made else None) ≡ None → ⊥
@@ -680,42 +722,42 @@ edge-missing calls b answers ready name missing =
     by_edge made (suc k) is missing = omega (arith, is)
 
     by : (edge : meaning.Edge named.Name named.Name) (o : Option Answer) → slice_get answers name.place ≡ o → edge_in name.answer o ≡ None
-        → answer_at (ledger_of calls) (name_of name) ≡ Some (AnEdge edge) → ⊥
-    by edge None at missing answered = none-some (AnEdge edge) (sym (answer-past calls b answers ready name.place name.answer at) ∙ answered)
+        → answer_at (ledger_of calls) (naming name) ≡ Some (AnEdge edge) → ⊥
+    by edge None at missing answered = none-some (AnEdge edge) (sym (answer-past calls b answers ready name at) ∙ answered)
     by edge (Some answer.Nothing) at missing answered =
         let e = entry calls b answers ready name.place answer.Nothing at in
-        no-answer e.given name.answer (AnEdge edge) e.is.0 (sym (answer-at calls b name.place name.answer answer.Nothing e) ∙ answered)
+        no-answer e.given name.answer (AnEdge edge) e.is.0 (sym (e.told name refl) ∙ answered)
     by edge (Some (answer.Block x)) at missing answered =
         let e = entry calls b answers ready name.place (answer.Block x) at in
-        let wrong : ABlock ≡ AnEdge edge = (one-answer e.given ABlock name.answer (AnEdge edge) e.is.0 (sym (answer-at calls b name.place name.answer (answer.Block x) e) ∙ answered)).1 in
+        let wrong : ABlock ≡ AnEdge edge = (one-answer e.given ABlock name.answer (AnEdge edge) e.is.0 (sym (e.told name refl) ∙ answered)).1 in
         cc
     by edge (Some (answer.Variable v)) at missing answered =
         let e = entry calls b answers ready name.place (answer.Variable v) at in
-        let wrong : AVariable v ≡ AnEdge edge = (one-answer e.given (AVariable v) name.answer (AnEdge edge) e.is.0 (sym (answer-at calls b name.place name.answer (answer.Variable v) e) ∙ answered)).1 in
+        let wrong : AVariable v ≡ AnEdge edge = (one-answer e.given (AVariable v) name.answer (AnEdge edge) e.is.0 (sym (e.told name refl) ∙ answered)).1 in
         cc
     by edge (Some (answer.Values first count)) at missing answered =
         let e = entry calls b answers ready name.place (answer.Values first count) at in
-        let value = values-answer e.given e.is.0 name.answer (AnEdge edge) e.is.1 (sym (answer-at calls b name.place name.answer (answer.Values first count) e) ∙ answered) in
+        let value = values-answer e.given e.is.0 name.answer (AnEdge edge) e.is.1 (sym (e.told name refl) ∙ answered) in
         let wrong : AValue value.0 ≡ AnEdge edge = value.1 in
         cc
     by edge (Some (answer.Inst i)) at missing answered =
         let e = entry calls b answers ready name.place (answer.Inst i) at in
-        elim (instruction-answer e.given e.is.0 name.answer (AnEdge edge) e.is.2 (sym (answer-at calls b name.place name.answer (answer.Inst i) e) ∙ answered)) [
+        elim (instruction-answer e.given e.is.0 name.answer (AnEdge edge) e.is.2 (sym (e.told name refl) ∙ answered)) [
           | inl first ↦ let wrong : AnInstruction ≡ AnEdge edge = first.1 in cc
           | inr later ↦ let wrong : AValue later.2 ≡ AnEdge edge = later.3 in cc
         ]
     by edge (Some answer.Entry) at missing answered =
         let e = entry calls b answers ready name.place answer.Entry at in
-        let wrong : AnEntry e.is.0 e.is.1 ≡ AnEdge edge = (one-answer e.given (AnEntry e.is.0 e.is.1) name.answer (AnEdge edge) e.is.2 (sym (answer-at calls b name.place name.answer answer.Entry e) ∙ answered)).1 in
+        let wrong : AnEntry e.is.0 e.is.1 ≡ AnEdge edge = (one-answer e.given (AnEntry e.is.0 e.is.1) name.answer (AnEdge edge) e.is.2 (sym (e.told name refl) ∙ answered)).1 in
         cc
     by edge (Some answer.Table) at missing answered =
         let e = entry calls b answers ready name.place answer.Table at in
-        let wrong : AJumpTable e.is.0 ≡ AnEdge edge = (one-answer e.given (AJumpTable e.is.0) name.answer (AnEdge edge) e.is.1 (sym (answer-at calls b name.place name.answer answer.Table e) ∙ answered)).1 in
+        let wrong : AJumpTable e.is.0 ≡ AnEdge edge = (one-answer e.given (AJumpTable e.is.0) name.answer (AnEdge edge) e.is.1 (sym (e.told name refl) ∙ answered)).1 in
         cc
     by edge (Some answer.Exceptions) at missing answered =
         let e = entry calls b answers ready name.place answer.Exceptions at in
-        let wrong : AnExceptionTable e.is.0 ≡ AnEdge edge = (one-answer e.given (AnExceptionTable e.is.0) name.answer (AnEdge edge) e.is.1 (sym (answer-at calls b name.place name.answer answer.Exceptions e) ∙ answered)).1 in
+        let wrong : AnExceptionTable e.is.0 ≡ AnEdge edge = (one-answer e.given (AnExceptionTable e.is.0) name.answer (AnEdge edge) e.is.1 (sym (e.told name refl) ∙ answered)).1 in
         cc
     by edge (Some (answer.Edge made)) at missing answered =
         let e = entry calls b answers ready name.place (answer.Edge made) at in
-        by_edge made name.answer (one-answer e.given (AnEdge e.is.0) name.answer (AnEdge edge) e.is.1 (sym (answer-at calls b name.place name.answer (answer.Edge made) e) ∙ answered)).0 missing
+        by_edge made name.answer (one-answer e.given (AnEdge e.is.0) name.answer (AnEdge edge) e.is.1 (sym (e.told name refl) ∙ answered)).0 missing

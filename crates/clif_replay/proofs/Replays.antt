@@ -6,16 +6,17 @@ use Rattle.clif_types.specs.declared.extname.UserFuncName.{UserFuncName}
 use Rattle.clif_types.specs.declared.target.PointerWidth.{PointerWidth}
 use Rattle.clif_ir.specs.Body.{Body, empty_body}
 use Rattle.clif_meaning.specs.View.{view_of}
-use Rattle.clif_meaning.specs.Headline.{MeansTheSame}
+use Rattle.clif_meaning.specs.Headline.{MeansTheSame, pointer_bits}
 use Rattle.clif_meaning.specs.Premises.{CallersEdgesMatch, PlacementPremises}
 use Rattle.clif_meaning.specs.Typing.{EdgesMatch}
 use Rattle.clif_meaning.specs.WellPlaced.{WellPlaced}
-use Rattle.clif_meaning.specs.Request.{AnsweredCall, Finalize, Script, script_of}
-use Rattle.clif_meaning.specs.Acceptance.{Accepted, Misuse, Refused, refusal_of, verdict_on_attempts}
+use Rattle.clif_meaning.specs.Request.{AnsweredCall, Finalize, script_of}
+use Rattle.clif_meaning.specs.Acceptance.{Accepted, Misuse, Refused, refusal_of}
 use Rattle.cranelift_frontend.specs.declared.builder.FunctionBuilder.{FunctionBuilder}
 use Rattle.cranelift_frontend.specs.declared.error.FinalizeError.{FinalizeError}
 use Rattle.cranelift_frontend.specs.Builder.{SameLoans}
-use Rattle.cranelift_frontend.specs.Ledger.{RefusalAgrees, ledger_of}
+use Rattle.cranelift_frontend.specs.Ledger.{RefusalAgrees}
+use Rattle.cranelift_frontend.specs.Ledger.{ledger_of as plain_ledger_of}
 use Rattle.cranelift_frontend.specs.StandsFor.{LeavesNoParameter, StandsFor, StandsIn}
 use Rattle.clif_calls.specs.declared.call.Call.{Call}
 use Rattle.clif_resolution.specs.declared.answers.CallError.{CallError}
@@ -24,7 +25,9 @@ use Rattle.clif_replay.specs.Errors.{replay_error_at}
 use Rattle.clif_replay.specs.declared.script.ReplayError.{ReplayError}
 use Rattle.clif_replay.specs.declared.script.ReplayError.TheVariants as replay
 use Rattle.clif_replay.specs.Replay.{ReplayMakes, ReplayTells}
-use Rattle.clif_replay.specs.Requests.{IsReplayed, IsStoppedByTable, MayBeRefused, attempts_of, is_tried}
+use Rattle.clif_replay.specs.Requests.{IsReplayed, IsStoppedByTable, MayBeRefused, attempts_of, calls_of, is_tried}
+use Rattle.clif_expansion.specs.CallsVerdict.{verdict_on_call_attempts}
+use Rattle.clif_expansion.proofs.calls.Headline.{keep_premises}
 use Rattle.clif_replay.proofs.Verdicts.{all-replayed, means-replayed, verdict-accepted}
 
 -- all calls were made, and `finalize` succeeded: `f` is the function that it left
@@ -35,7 +38,7 @@ pub finished-replay : (calls : List Call) (declared : SignatureShape) (width : P
     → LeavesNoParameter made f b.ctx.now.ssa
     → (CallersEdgesMatch (script_of made) → EdgesMatch (view_of f))
     → (PlacementPremises (script_of made) declared → WellPlaced (view_of f))
-    → RefusalAgrees made (refusal_of (ledger_of made) Finalize) r → r ≡ Ok tt
+    → RefusalAgrees made (refusal_of (plain_ledger_of made) Finalize) r → r ≡ Ok tt
     → ReplayMakes calls named declared width f
 finished-replay calls declared width made b f r named name same stands replayed meaning parameters matches placed agrees is =
     let all = all-replayed declared calls made replayed in
@@ -43,14 +46,15 @@ finished-replay calls declared width made b f r named name same stands replayed 
       same_meaning = means-replayed declared calls made width f replayed meaning;
       built = record {
         made = made;
-        script = all;
+        plain = all;
         context = b.ctx.now;
         position = b.position;
         stands = subst (λ (g : Body). StandsIn declared made g b.ctx.now b.position) (sym same) stands;
         parameters = parameters;
       };
-      edges_match = λ typed. matches (subst (λ (script : Script). CallersEdgesMatch script) (sym all) typed);
-      well_placed = λ premises. placed (subst (λ (script : Script). PlacementPremises script declared) (sym all) premises);
+      edges_match = λ typed. matches (keep_premises.edges_match all.reading (script_of made) (calls_of declared calls) all.joined typed);
+      well_placed = λ premises.
+          placed (keep_premises.placement (pointer_bits width) all.reading (script_of made) (calls_of declared calls) all.joined (all.performed (pointer_bits width)) declared premises);
       named = ap (λ (g : Body). g.name) same ∙ name;
       accepted = verdict-accepted declared calls made r replayed agrees is;
     }
@@ -62,7 +66,7 @@ finished-as calls old width start f g begins ends done =
     (subst (λ (x : Body). ReplayMakes calls start.name start.signature width x) (sym ends) done)
 
 -- `finalize` refused
-pub told-refused : (calls : List Call) (start old : Body) (place : ℕ) → start ≡ old → place ≡ length calls → verdict_on_attempts (attempts_of start.signature calls) ≡ Refused (length calls)
+pub told-refused : (calls : List Call) (start old : Body) (place : ℕ) → start ≡ old → place ≡ length calls → verdict_on_call_attempts (attempts_of start.signature calls) ≡ Refused (length calls)
     → ReplayTells calls old.name old.signature (Err (replay.Refused place))
 told-refused calls start old place begins is refused =
     subst (λ (x : Body). ReplayTells calls x.name x.signature (Err (replay.Refused place))) begins (record {
@@ -100,7 +104,7 @@ told-memory calls old = record {
     no-full h = cc
 
 -- a function was made
-pub told-answer : (calls : List Call) (name : UserFuncName) (declared : SignatureShape) (f : Body) → verdict_on_attempts (attempts_of declared calls) ≡ Accepted → ReplayTells calls name declared (Ok f)
+pub told-answer : (calls : List Call) (name : UserFuncName) (declared : SignatureShape) (f : Body) → verdict_on_call_attempts (attempts_of declared calls) ≡ Accepted → ReplayTells calls name declared (Ok f)
 told-answer calls name declared f accepted = record {
   misuse = λ i told. absurd (no-error (replay.Misuse i) told);
   refused = λ i told. absurd (no-error (replay.Refused i) told);
@@ -129,9 +133,9 @@ pub record AreMade (calls : List Call) (old new : FunctionBuilder) (result : Res
   pub ready : OnOk result ((made : List AnsweredCall) × StandsFor old.func.now.signature made new × IsReplayed old.func.now.signature calls (length calls) made)
   pub sound : OnOk result (new.failed ≡ false)
   pub misuse : (i : ℕ) → result ≡ Err (replay.Misuse i) → i < length calls
-  pub judged : (i : ℕ) → result ≡ Err (replay.Misuse i) → verdict_on_attempts (attempts_of old.func.now.signature calls) ≡ Misuse i
+  pub judged : (i : ℕ) → result ≡ Err (replay.Misuse i) → verdict_on_call_attempts (attempts_of old.func.now.signature calls) ≡ Misuse i
   pub tried : (i : ℕ) → result ≡ Err (replay.Refused i) → MayBeRefused calls i
-  pub refused : (i : ℕ) → result ≡ Err (replay.Refused i) → verdict_on_attempts (attempts_of old.func.now.signature calls) ≡ Refused i
+  pub refused : (i : ℕ) → result ≡ Err (replay.Refused i) → verdict_on_call_attempts (attempts_of old.func.now.signature calls) ≡ Refused i
   pub table_full : result ≡ Err replay.Full → IsStoppedByTable calls old.func.now.name old.func.now.signature
 
 -- loans are kept over two steps

@@ -48,7 +48,7 @@ use Rattle.clif_resolution.specs.Callings.{can_try, has_callee, throwing_shape}
 use Rattle.clif_replay.specs.Ready.{AnswerIs, IsReady, IsReadyAfter, TableAgrees, TablesAgree}
 use Rattle.clif_resolution.specs.Answers.{all_items, all_values, edge_at, item_in, value_of}
 use Rattle.clif_resolution.specs.Conditions.{can_seal, is_open, tries, tries_at}
-use Rattle.clif_replay.specs.Requests.{item_of, name_of, throwing_request}
+use Rattle.clif_replay.specs.Requests.{Naming, item_of, throwing_request}
 use Rattle.clif_replay.proofs.Conditions.{all-exist, all-numbered, open-same, values-same}
 use Rattle.clif_replay.proofs.JumpTables.{arguments-exist, edges-lead, leads-same}
 use Rattle.clif_replay.proofs.Lasting.{as-many, exception-stays, exceptions-stay, held-missing, held-there, ledger-more, one-table-more, table-at, table-serves}
@@ -57,49 +57,49 @@ use Rattle.clif_replay.proofs.ReadyLaws.{edge-found, edge-missing, ready-answere
 
 -- THE TABLE -------------------------------------------------------------------------------------------------------------
 
-module _ {declared : SignatureShape} (calls : List AnsweredCall) (b : FunctionBuilder) (answers : List Answer) (ready : IsReady declared calls b answers) where
+module _ {naming : Naming} {declared : SignatureShape} (calls : List AnsweredCall) (b : FunctionBuilder) (answers : List Answer) (ready : IsReady naming declared calls b answers) where
   -- a name is that of an edge in the ledger where it leads to one here
-  edge-tested : {X : Type 0} (f : BlockCall → X) (name : Name) → is_some (edge_named (ledger_of calls) (name_of name)) ≡ is_some (option_map f (edge_at answers name))
+  edge-tested : {X : Type 0} (f : BlockCall → X) (name : Name) → is_some (edge_named (ledger_of calls) (naming name)) ≡ is_some (option_map f (edge_at answers name))
   edge-tested f name = by (edge_at answers name) refl
     where
-      by : (o : Option BlockCall) → edge_at answers name ≡ o → is_some (edge_named (ledger_of calls) (name_of name)) ≡ is_some (option_map f (edge_at answers name))
+      by : (o : Option BlockCall) → edge_at answers name ≡ o → is_some (edge_named (ledger_of calls) (naming name)) ≡ is_some (option_map f (edge_at answers name))
       by None at = edge-missing calls b answers ready name at ∙ ap (λ (x : Option BlockCall). is_some (option_map f x)) (sym at)
       by (Some made) at = ap is_some (edge-found calls b answers ready name made at).1 ∙ ap (λ (x : Option BlockCall). is_some (option_map f x)) (sym at)
 
-  item-same : (one : TableItem) → has_item (ledger_of calls) (item_of one) ≡ is_some (item_in b.func.now answers one)
+  item-same : (one : TableItem) → has_item (ledger_of calls) (item_of naming one) ≡ is_some (item_in b.func.now answers one)
   item-same (item.Tag tag edge) = edge-tested (kept.Tag tag) edge
   item-same (item.Default edge) = edge-tested kept.Default edge
   item-same (item.Context name) = by (value_of b.func.now answers name) refl
     where
-      by : (o : Option ℕ) → value_of b.func.now answers name ≡ o → has_value (ledger_of calls) (name_of name) ≡ is_some (option_map kept.Context (value_of b.func.now answers name))
+      by : (o : Option ℕ) → value_of b.func.now answers name ≡ o → has_value (ledger_of calls) (naming name) ≡ is_some (option_map kept.Context (value_of b.func.now answers name))
       by None at = value-missing calls b answers ready name at ∙ ap (λ (x : Option ℕ). is_some (option_map kept.Context x)) (sym at)
       by (Some value) at = (value-found calls b answers ready name value at).is_value ∙ ap (λ (x : Option ℕ). is_some (option_map kept.Context x)) (sym at)
 
-  items-same : (items : List TableItem) → list_all (has_item (ledger_of calls)) (map item_of items) ≡ all_items b.func.now answers items
+  items-same : (items : List TableItem) → list_all (has_item (ledger_of calls)) (map (item_of naming) items) ≡ all_items b.func.now answers items
   items-same [] = refl
   items-same (one ∷ items) =
-      ap (λ (test : Bool). test && list_all (has_item (ledger_of calls)) (map item_of items)) (item-same one)
+      ap (λ (test : Bool). test && list_all (has_item (ledger_of calls)) (map (item_of naming) items)) (item-same one)
       ∙ ap (λ (rest : Bool). is_some (item_in b.func.now answers one) && rest) (items-same items)
 
-  edge-one : (name : Name) → is_some (edge_named (ledger_of calls) (name_of name)) ≡ is_some (edge_at answers name)
+  edge-one : (name : Name) → is_some (edge_named (ledger_of calls) (naming name)) ≡ is_some (edge_at answers name)
   edge-one name = by (edge_at answers name) refl
     where
-      by : (o : Option BlockCall) → edge_at answers name ≡ o → is_some (edge_named (ledger_of calls) (name_of name)) ≡ is_some (edge_at answers name)
+      by : (o : Option BlockCall) → edge_at answers name ≡ o → is_some (edge_named (ledger_of calls) (naming name)) ≡ is_some (edge_at answers name)
       by None at = edge-missing calls b answers ready name at ∙ ap is_some (sym at)
       by (Some made) at = ap is_some (edge-found calls b answers ready name made at).1 ∙ ap is_some (sym at)
 
   -- a table may be made in the ledger where it may be made here
   pub exceptions-same : (signature : ℕ) (normal : Name) (items : List TableItem)
-      → allows (ledger_of calls) (MakeExceptionTable signature (name_of normal) (map item_of items)) ≡ (is_some (edge_at answers normal) && all_items b.func.now answers items)
+      → allows (ledger_of calls) (MakeExceptionTable signature (naming normal) (map (item_of naming) items)) ≡ (is_some (edge_at answers normal) && all_items b.func.now answers items)
   exceptions-same signature normal items =
-      ap (λ (test : Bool). test && list_all (has_item (ledger_of calls)) (map item_of items)) (edge-one normal)
+      ap (λ (test : Bool). test && list_all (has_item (ledger_of calls)) (map (item_of naming) items)) (edge-one normal)
       ∙ ap (λ (rest : Bool). is_some (edge_at answers normal) && rest) (items-same items)
 
   -- items name what was found
   record ItemsNamed (items : List TableItem) (made : List ExceptionTableItem) : Type 0 where
-    pub edges : NamesEdges calls (edges_named (ledger_of calls) (flat_map item_edge (map item_of items))) (flat_map item_edges made)
-    pub kinds : map item_kind (map item_of items) ≡ map call_item_of (map kept_item made)
-    pub contexts : NamesArguments calls (map Known (flat_map item_context (map item_of items))) (map arg.Value (flat_map shape.item_context (map kept_item made)))
+    pub edges : NamesEdges calls (edges_named (ledger_of calls) (flat_map item_edge (map (item_of naming) items))) (flat_map item_edges made)
+    pub kinds : map item_kind (map (item_of naming) items) ≡ map call_item_of (map kept_item made)
+    pub contexts : NamesArguments calls (map Known (flat_map item_context (map (item_of naming) items))) (map arg.Value (flat_map shape.item_context (map kept_item made)))
 
   items-named : (items : List TableItem) (made : List ExceptionTableItem) → map (item_in b.func.now answers) items ≡ map Some made → ItemsNamed items made
   items-named [] [] found = record { edges = tt; kinds = refl; contexts = tt }
@@ -111,11 +111,11 @@ module _ {declared : SignatureShape} (calls : List AnsweredCall) (b : FunctionBu
       by one here (items-named items made rest)
     where
       with_edge : (f : BlockCall → ExceptionTableItem) (g : named.Name → CallItem) (name : Name) (edge : BlockCall) → edge_at answers name ≡ Some edge
-          → NamesEdges calls (edges_named (ledger_of calls) (flat_map item_edge (map item_of items))) (flat_map item_edges made)
-          → NamesEdges calls (edges_named (ledger_of calls) (name_of name ∷ flat_map item_edge (map item_of items))) (edge ∷ flat_map item_edges made)
+          → NamesEdges calls (edges_named (ledger_of calls) (flat_map item_edge (map (item_of naming) items))) (flat_map item_edges made)
+          → NamesEdges calls (edges_named (ledger_of calls) (naming name ∷ flat_map item_edge (map (item_of naming) items))) (edge ∷ flat_map item_edges made)
       with_edge f g name edge at others =
           let there = edge-found calls b answers ready name edge at in
-          subst (λ (o : Option (meaning.Edge named.Name named.Name)). NamesEdges calls (cons_option o (edges_named (ledger_of calls) (flat_map item_edge (map item_of items)))) (edge ∷ flat_map item_edges made))
+          subst (λ (o : Option (meaning.Edge named.Name named.Name)). NamesEdges calls (cons_option o (edges_named (ledger_of calls) (flat_map item_edge (map (item_of naming) items)))) (edge ∷ flat_map item_edges made))
           (sym there.1) (there.2, others)
 
       by : (other : TableItem) → item_in b.func.now answers other ≡ Some m → ItemsNamed items made → ItemsNamed (other ∷ items) (m ∷ made)
@@ -144,7 +144,7 @@ module _ {declared : SignatureShape} (calls : List AnsweredCall) (b : FunctionBu
   -- a table names what was found
   table-names : (signature : ℕ) (normal : Name) (items : List TableItem) (given : ExceptionTableData) → given.sig ≡ signature → edge_at answers normal ≡ Some given.normal
       → map (item_in b.func.now answers) items ≡ map Some given.items.items
-      → NamesExceptions calls (exception_table (ledger_of calls) signature (name_of normal) (map item_of items)) (exception_shape given)
+      → NamesExceptions calls (exception_table (ledger_of calls) signature (naming normal) (map (item_of naming) items)) (exception_shape given)
   table-names signature normal items given same at found =
       let all = items-named items given.items.items found in
       let there = edge-found calls b answers ready normal given.normal at in
@@ -152,7 +152,7 @@ module _ {declared : SignatureShape} (calls : List AnsweredCall) (b : FunctionBu
         signature = sym same;
         items = all.kinds;
         edges = subst (λ (o : Option (meaning.Edge named.Name named.Name)).
-            NamesEdges calls (cons_option o (edges_named (ledger_of calls) (flat_map item_edge (map item_of items)))) (given.normal ∷ flat_map item_edges given.items.items))
+            NamesEdges calls (cons_option o (edges_named (ledger_of calls) (flat_map item_edge (map (item_of naming) items)))) (given.normal ∷ flat_map item_edges given.items.items))
             (sym there.1) (there.2, all.edges);
         contexts = all.contexts;
       }
@@ -186,11 +186,11 @@ exceptions-there f answers normal items edge made at found =
     and_from (is_some (edge_at answers normal)) (all_items f answers items) (ap is_some at) (items-there f answers items made found)
 
 -- a table was made
-pub exceptions-ready : TableCallsAddNothing → {declared : SignatureShape} (calls : List AnsweredCall) (old new : FunctionBuilder) (answers : List Answer) (signature : ℕ) (normal : Name)
-    (items : List TableItem) (given : ExceptionTableData) (number : ℕ) → IsReady declared calls old answers → given.sig ≡ signature → edge_at answers normal ≡ Some given.normal
+pub exceptions-ready : TableCallsAddNothing → {naming : Naming} {declared : SignatureShape} (calls : List AnsweredCall) (old new : FunctionBuilder) (answers : List Answer) (signature : ℕ) (normal : Name)
+    (items : List TableItem) (given : ExceptionTableData) (number : ℕ) → IsReady naming declared calls old answers → given.sig ≡ signature → edge_at answers normal ≡ Some given.normal
     → map (item_in old.func.now answers) items ≡ map Some given.items.items → CreatesExceptionTable given old new (Ok number)
-    → IsReadyAfter declared calls (MakeExceptionTable signature (name_of normal) (map item_of items)) new answers answer.Exceptions
-exceptions-ready law {declared} calls old new answers signature normal items given number ready same at found creates = (
+    → IsReadyAfter naming declared calls (MakeExceptionTable signature (naming normal) (map (item_of naming) items)) new answers answer.Exceptions
+exceptions-ready law {naming} {declared} calls old new answers signature normal items given number ready same at found creates = (
   number ∷ [],
   ready-answered calls call old new answers answer.Exceptions ready stands (number, ap (λ (n : ℕ). AnExceptionTable n ∷ []) (sym counts), refl)
       (λ made is. let no_way : ⊥ = cc in absurd no_way)
@@ -198,19 +198,19 @@ exceptions-ready law {declared} calls old new answers signature normal items giv
 )
   where
     request : Request
-    request = MakeExceptionTable signature (name_of normal) (map item_of items)
+    request = MakeExceptionTable signature (naming normal) (map (item_of naming) items)
 
     call : AnsweredCall
-    call = record { request = MakeExceptionTable signature (name_of normal) (map item_of items); numbers = number ∷ [] }
+    call = record { request = MakeExceptionTable signature (naming normal) (map (item_of naming) items); numbers = number ∷ [] }
 
     held : ExceptionTable
-    held = exception_table (ledger_of calls) signature (name_of normal) (map item_of items)
+    held = exception_table (ledger_of calls) signature (naming normal) (map (item_of naming) items)
 
     counts : number ≡ length (ledger_of calls).exception_tables
     counts = creates.number ∙ sym (as-many (NamesExceptions calls) (ledger_of calls).exception_tables old.func.now.tables.exception_tables ready.exceptions)
 
     stands : StandsFor declared (calls ++ call ∷ []) new
-    stands = law.exceptions declared calls new signature (name_of normal) (map item_of items) number counts (creates.sets.stands declared calls ready.stands)
+    stands = law.exceptions declared calls new signature (naming normal) (map (item_of naming) items) number counts (creates.sets.stands declared calls ready.stands)
 
     exceptions : TablesAgree (NamesExceptions (calls ++ call ∷ [])) (ledger_of (calls ++ call ∷ [])).exception_tables new.func.now.tables.exception_tables
     exceptions =
@@ -218,8 +218,8 @@ exceptions-ready law {declared} calls old new answers signature normal items giv
         (subst (λ (lists : List (Option ExceptionTable)). TablesAgree (NamesExceptions (calls ++ call ∷ [])) lists (with_exception_table old.func.now.tables (exception_shape given)).exception_tables)
         (sym (ap (λ (l : Ledger). l.exception_tables) (ledger-more calls call)))
         (one-table-more (NamesExceptions (calls ++ call ∷ [])) (ledger_of calls).exception_tables old.func.now.tables.exception_tables held (exception_shape given)
-        (exceptions-stay ready.reads calls call old new ready.stands stands (ledger_of calls).exception_tables old.func.now.tables.exception_tables ready.exceptions)
-        (exception-stays ready.reads calls call old new ready.stands stands held (exception_shape given)
+        (exceptions-stay ready.reads calls (call ∷ []) old new ready.stands stands (ledger_of calls).exception_tables old.func.now.tables.exception_tables ready.exceptions)
+        (exception-stays ready.reads calls (call ∷ []) old new ready.stands stands held (exception_shape given)
         (table-names calls old answers ready signature normal items given same at found))))
 
 -- THE CALL --------------------------------------------------------------------------------------------------------------
@@ -263,12 +263,12 @@ contexts-there calls (name ∷ names) (value ∷ values) names-them =
     and_from (has_value (ledger_of calls) name) (list_all (has_value (ledger_of calls)) names) names-them.0.is_value (contexts-there calls names values names-them.1)
 
 -- a call is allowed where it may be made
-pub throwing-same : {declared : SignatureShape} (calls : List AnsweredCall) (b : FunctionBuilder) (answers : List Answer) → IsReady declared calls b answers
-    → (called : ThrowingCall) → allows (ledger_of calls) (throwing_request (ledger_of calls) called) ≡ can_try b answers called
-throwing-same calls b answers ready (throwing.TryCall function args table) = by (table_held exception_tables b table) refl
+pub throwing-same : {naming : Naming} {declared : SignatureShape} (calls : List AnsweredCall) (b : FunctionBuilder) (answers : List Answer) → IsReady naming declared calls b answers
+    → (called : ThrowingCall) → allows (ledger_of calls) (throwing_request naming (ledger_of calls) called) ≡ can_try b answers called
+throwing-same {naming} calls b answers ready (throwing.TryCall function args table) = by (table_held exception_tables b table) refl
   where
     by : (o : Option ExceptionShape) → table_held exception_tables b table ≡ o
-        → allows (ledger_of calls) (throwing_request (ledger_of calls) (throwing.TryCall function args table)) ≡ can_try b answers (throwing.TryCall function args table)
+        → allows (ledger_of calls) (throwing_request naming (ledger_of calls) (throwing.TryCall function args table)) ≡ can_try b answers (throwing.TryCall function args table)
     by None found =
         let missing = exceptions-missing calls b answers ready table found in
         let right = none-tried (is_open b) (all_values b.func.now answers args.items) (nat_lt function (length b.func.now.tables.functions)) (tries b table) (ap (tries_at b) found) in
@@ -286,10 +286,10 @@ throwing-same calls b answers ready (throwing.TryCall function args table) = by 
         rw (there, named, opens, values, edges, signature, tables)
         (function-in-order (nat_lt function (length b.func.now.tables.functions)) (nat_lt made.sig (length b.func.now.tables.signatures)) (is_open b)
         (all_values b.func.now answers args.items) (list_all (λ edge. can_seal b edge.block) made.edges) ∙ sym right)
-throwing-same calls b answers ready (throwing.TryCallIndirect callee args table) = by (table_held exception_tables b table) refl
+throwing-same {naming} calls b answers ready (throwing.TryCallIndirect callee args table) = by (table_held exception_tables b table) refl
   where
     by : (o : Option ExceptionShape) → table_held exception_tables b table ≡ o
-        → allows (ledger_of calls) (throwing_request (ledger_of calls) (throwing.TryCallIndirect callee args table)) ≡ can_try b answers (throwing.TryCallIndirect callee args table)
+        → allows (ledger_of calls) (throwing_request naming (ledger_of calls) (throwing.TryCallIndirect callee args table)) ≡ can_try b answers (throwing.TryCallIndirect callee args table)
     by None found =
         let missing = exceptions-missing calls b answers ready table found in
         let right = none-tried (is_open b) (all_values b.func.now answers (callee ∷ args.items)) true (tries b table) (ap (tries_at b) found) in
@@ -323,7 +323,7 @@ values-exist f (value ∷ values) all zero d below = all 0 (arg.Value value) (om
 values-exist f (value ∷ values) all (suc k) d below = values-exist f values (λ j e under. all (suc j) e (omega (arith, under))) k d (omega (arith, below))
 
 -- its table may serve
-pub trying : {declared : SignatureShape} (calls : List AnsweredCall) (b : FunctionBuilder) (answers : List Answer) → IsReady declared calls b answers
+pub trying : {naming : Naming} {declared : SignatureShape} (calls : List AnsweredCall) (b : FunctionBuilder) (answers : List Answer) → IsReady naming declared calls b answers
     → (called : ThrowingCall) → can_try b answers called ≡ true → MayServeTry b (table_of called)
 trying calls b answers ready called may = by (table_held exception_tables b (table_of called)) refl
   where
@@ -373,7 +373,7 @@ throwing-entries old between answers (throwing.TryCall function args table) valu
 throwing-entries old between answers (throwing.TryCallIndirect callee args table) values held may takes signature =
     All-cons (EntryExists between.func.now.tables) (ASignatureRef held.sig) [] signature (All-nil (EntryExists between.func.now.tables))
 
-pub throwing-exist : {declared : SignatureShape} (calls : List AnsweredCall) (old between : FunctionBuilder) (answers : List Answer) → IsReady declared calls old answers
+pub throwing-exist : {naming : Naming} {declared : SignatureShape} (calls : List AnsweredCall) (old between : FunctionBuilder) (answers : List Answer) → IsReady naming declared calls old answers
     → (called : ThrowingCall) (values : List ℕ) (held : ExceptionShape) → map (value_of old.func.now answers) (tried_operands called) ≡ map Some values
     → length old.func.now.values ≤ length between.func.now.values
     → (k : ℕ) → k < length (operands (throwing_shape called values held)) → slice_index (operands (throwing_shape called values held)) k < length between.func.now.values
@@ -393,48 +393,48 @@ not-failed told old between sound still tells = (
 )
 
 -- it asks for its shape, in any builder that stands for the calls
-throwing-asked : RequestsAskForTheirShapes → {declared : SignatureShape} (calls : List AnsweredCall) (old between : FunctionBuilder) (answers : List Answer) → IsReady declared calls old answers
+throwing-asked : RequestsAskForTheirShapes → {naming : Naming} {declared : SignatureShape} (calls : List AnsweredCall) (old between : FunctionBuilder) (answers : List Answer) → IsReady naming declared calls old answers
     → StandsFor declared calls between → (called : ThrowingCall) (values : List ℕ) (made : ExceptionShape) → map (value_of old.func.now answers) (tried_operands called) ≡ map Some values
     → table_held exception_tables old (table_of called) ≡ Some made
-    → AsksForShape calls between.func.now (throwing_request (ledger_of calls) called) (throwing_shape called values made) Invalid
-throwing-asked shapes calls old between answers ready stands (throwing.TryCall function args table) values made found at =
+    → AsksForShape calls between.func.now (throwing_request naming (ledger_of calls) called) (throwing_shape called values made) Invalid
+throwing-asked shapes {naming} calls old between answers ready stands (throwing.TryCall function args table) values made found at =
     let held = exceptions-held calls old answers ready table made at in
-    (shapes calls between.func.now between.ctx.now between.position stands.ledger).try_call function table (map name_of args.items) values held.0 made
+    (shapes calls between.func.now between.ctx.now between.position stands.ledger).try_call function table (map naming args.items) values held.0 made
     (all-numbered calls old answers ready args.items values found) held.1 held.2
-throwing-asked shapes calls old between answers ready stands (throwing.TryCallIndirect callee args table) [] made found at = let no_way : ⊥ = cc in absurd no_way
-throwing-asked shapes calls old between answers ready stands (throwing.TryCallIndirect callee args table) (address ∷ values) made found at =
+throwing-asked shapes {naming} calls old between answers ready stands (throwing.TryCallIndirect callee args table) [] made found at = let no_way : ⊥ = cc in absurd no_way
+throwing-asked shapes {naming} calls old between answers ready stands (throwing.TryCallIndirect callee args table) (address ∷ values) made found at =
     let here : value_of old.func.now answers callee ≡ Some address = cc in
     let rest : map (value_of old.func.now answers) args.items ≡ map Some values = cc in
     let held = exceptions-held calls old answers ready table made at in
-    (shapes calls between.func.now between.ctx.now between.position stands.ledger).try_call_indirect table (name_of callee) address (map name_of args.items) values held.0 made
+    (shapes calls between.func.now between.ctx.now between.position stands.ledger).try_call_indirect table (naming callee) address (map naming args.items) values held.0 made
     (value-found calls old answers ready callee address here) (all-numbered calls old answers ready args.items values rest) held.1 held.2
 
-is-answered : (ledger : Ledger) (called : ThrowingCall) (inst : ℕ) (results : List ℕ) → AnswerIs (answer.Inst inst) (answers_to ledger (throwing_request ledger called)) (inst ∷ results)
-is-answered ledger (throwing.TryCall function args table) inst results = ([], results, refl, refl)
-is-answered ledger (throwing.TryCallIndirect callee args table) inst results = ([], results, refl, refl)
+is-answered : (naming : Naming) (ledger : Ledger) (called : ThrowingCall) (inst : ℕ) (results : List ℕ) → AnswerIs (answer.Inst inst) (answers_to ledger (throwing_request naming ledger called)) (inst ∷ results)
+is-answered naming ledger (throwing.TryCall function args table) inst results = ([], results, refl, refl)
+is-answered naming ledger (throwing.TryCallIndirect callee args table) inst results = ([], results, refl, refl)
 
-jumps-left : (ledger : Ledger) (called : ThrowingCall) → (ledger_with ledger (throwing_request ledger called)).jump_tables ≡ ledger.jump_tables
-jumps-left ledger (throwing.TryCall function args table) = refl
-jumps-left ledger (throwing.TryCallIndirect callee args table) = refl
+jumps-left : (naming : Naming) (ledger : Ledger) (called : ThrowingCall) → (ledger_with ledger (throwing_request naming ledger called)).jump_tables ≡ ledger.jump_tables
+jumps-left naming ledger (throwing.TryCall function args table) = refl
+jumps-left naming ledger (throwing.TryCallIndirect callee args table) = refl
 
-one-taken : (ledger : Ledger) (called : ThrowingCall) → (ledger_with ledger (throwing_request ledger called)).exception_tables ≡ slice_set ledger.exception_tables (table_of called) None
-one-taken ledger (throwing.TryCall function args table) = refl
-one-taken ledger (throwing.TryCallIndirect callee args table) = refl
+one-taken : (naming : Naming) (ledger : Ledger) (called : ThrowingCall) → (ledger_with ledger (throwing_request naming ledger called)).exception_tables ≡ slice_set ledger.exception_tables (table_of called) None
+one-taken naming ledger (throwing.TryCall function args table) = refl
+one-taken naming ledger (throwing.TryCallIndirect callee args table) = refl
 
 -- it was made
-pub throwing-ready : RequestsAskForTheirShapes → {declared : SignatureShape} (calls : List AnsweredCall) (old between new : FunctionBuilder) (answers : List Answer) (called : ThrowingCall)
-    (values : List ℕ) (made : ExceptionShape) (inst : ℕ) → IsReady declared calls old answers → map (value_of old.func.now answers) (tried_operands called) ≡ map Some values
+pub throwing-ready : RequestsAskForTheirShapes → {naming : Naming} {declared : SignatureShape} (calls : List AnsweredCall) (old between new : FunctionBuilder) (answers : List Answer) (called : ThrowingCall)
+    (values : List ℕ) (made : ExceptionShape) (inst : ℕ) → IsReady naming declared calls old answers → map (value_of old.func.now answers) (tried_operands called) ≡ map Some values
     → TakesExceptionTable old between (table_of called) (Ok made) → Builds between new (throwing_shape called values made) Invalid (Ok inst)
-    → IsReadyAfter declared calls (throwing_request (ledger_of calls) called) new answers (answer.Inst inst)
-throwing-ready shapes {declared} calls old between new answers called values made inst ready found takes builds = (
+    → IsReadyAfter naming declared calls (throwing_request naming (ledger_of calls) called) new answers (answer.Inst inst)
+throwing-ready shapes {naming} {declared} calls old between new answers called values made inst ready found takes builds = (
   numbers_of new inst,
-  ready-answered calls call old new answers (answer.Inst inst) ready stands (is-answered (ledger_of calls) called inst (inst_at new.func.now inst).results)
+  ready-answered calls call old new answers (answer.Inst inst) ready stands (is-answered naming (ledger_of calls) called inst (inst_at new.func.now inst).results)
       (λ edge same. let no_way : ⊥ = cc in absurd no_way)
-      (tables-still calls call old new answers ready stands (jumps-left (ledger_of calls) called) (builds.grows.6 ∙ ap (λ (f : Body). f.tables.jump_tables) takes.sets.function)) exceptions,
+      (tables-still calls call old new answers ready stands (jumps-left naming (ledger_of calls) called) (builds.grows.6 ∙ ap (λ (f : Body). f.tables.jump_tables) takes.sets.function)) exceptions,
 )
   where
     call : AnsweredCall
-    call = record { request = throwing_request (ledger_of calls) called; numbers = numbers_of new inst }
+    call = record { request = throwing_request naming (ledger_of calls) called; numbers = numbers_of new inst }
 
     taken : StandsFor declared calls between
     taken = takes.sets.stands declared calls ready.stands
@@ -450,6 +450,6 @@ throwing-ready shapes {declared} calls old between new answers called values mad
         subst (TablesAgree (NamesExceptions (calls ++ call ∷ [])) (ledger_of (calls ++ call ∷ [])).exception_tables)
         (sym (builds.grows.8 ∙ ap (λ (f : Body). f.tables.exception_tables) takes.sets.function))
         (subst (λ (lists : List (Option ExceptionTable)). TablesAgree (NamesExceptions (calls ++ call ∷ [])) lists (slice_set old.func.now.tables.exception_tables (table_of called) None))
-        (sym (ap (λ (l : Ledger). l.exception_tables) (ledger-more calls call) ∙ one-taken (ledger_of calls) called))
+        (sym (ap (λ (l : Ledger). l.exception_tables) (ledger-more calls call) ∙ one-taken naming (ledger_of calls) called))
         (table-serves (NamesExceptions (calls ++ call ∷ [])) (ledger_of calls).exception_tables old.func.now.tables.exception_tables (table_of called)
-        (exceptions-stay ready.reads calls call old new ready.stands stands (ledger_of calls).exception_tables old.func.now.tables.exception_tables ready.exceptions)))
+        (exceptions-stay ready.reads calls (call ∷ []) old new ready.stands stands (ledger_of calls).exception_tables old.func.now.tables.exception_tables ready.exceptions)))

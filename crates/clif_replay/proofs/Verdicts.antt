@@ -6,14 +6,15 @@ use Rattle.clif_types.specs.Signature.{SignatureShape}
 use Rattle.clif_types.specs.declared.target.PointerWidth.{PointerWidth}
 use Rattle.clif_ir.specs.Body.{Body}
 use Rattle.clif_meaning.specs.View.{view_of}
-use Rattle.clif_meaning.specs.Headline.{MeansTheSame}
-use Rattle.clif_meaning.specs.Request.{AnsweredCall, Attempt, Finalize, Request, Script, outright, script_of}
-use Rattle.clif_meaning.specs.Ledger.{Ledger, empty_ledger, ledger_after, ledger_with}
-use Rattle.clif_meaning.specs.Acceptance.{Accepted, Misuse, Refusal, Refused, allows, blames_variable, refusal_of, verdict_from, verdict_on_attempts}
+use Rattle.clif_meaning.specs.Headline.{MeansTheSame, pointer_bits}
+use Rattle.clif_meaning.specs.Request.{AnsweredCall, Finalize, script_of}
+use Rattle.clif_meaning.specs.Ledger.{Ledger, empty_ledger}
+use Rattle.clif_meaning.specs.Acceptance.{Accepted, Misuse, Refusal, Refused, refusal_of}
 use Rattle.clif_meaning.specs.Acceptance as refusal
 use Rattle.cranelift_frontend.specs.declared.error.FinalizeError.{FinalizeError}
 use Rattle.cranelift_frontend.specs.declared.error.FinalizeError.TheVariants as ending
-use Rattle.cranelift_frontend.specs.Ledger.{RefusalAgrees, ledger_of}
+use Rattle.cranelift_frontend.specs.Ledger.{RefusalAgrees}
+use Rattle.cranelift_frontend.specs.Ledger.{ledger_of as plain_ledger_of}
 use Rattle.clif_calls.specs.declared.call.Call.{Call}
 use Rattle.clif_calls.specs.declared.call.Call.TheVariants as call
 use Rattle.clif_calls.specs.declared.outside.OutsideCall.TheVariants as outside
@@ -24,69 +25,104 @@ use Rattle.clif_replay.specs.declared.script.ReplayError.{ReplayError}
 use Rattle.clif_replay.specs.declared.script.ReplayError.TheVariants as replay
 use Rattle.clif_replay.specs.Errors.{replay_error_at}
 use Rattle.clif_replay.specs.Ready.{IsJudged}
-use Rattle.clif_replay.specs.Requests.{IsReplayed, attempt_of, attempts_from, attempts_of, is_tried, request_of, requests_from, requests_of}
+use Rattle.clif_replay.specs.Requests.{ArePlainCalls, IsReplayed, attempt_of, attempts_from, attempts_of, call_of, calls_from, calls_of, is_tried}
 use Rattle.clif_replay.proofs.Options.{if-no}
-use Rattle.clif_replay.proofs.Lasting.{ledger-more}
+use Rattle.clif_expansion.specs.CallsHeadline.{CallsMeanTheSame}
+use Rattle.clif_expansion.specs.CallsVerdict.{CallAttempt, call_blames_variable, made, verdict_on_call_attempts, verdict_on_calls_from}
+use Rattle.clif_expansion.specs.ScriptCall.{Ask, ScriptCall, call_allowed, call_refusal, ledger_of, ledger_with_call}
+use Rattle.clif_expansion.proofs.JoinedCalls.{fold_on, joined_calls}
+use Rattle.clif_expansion.proofs.calls.Headline.{calls_mean}
+use Rattle.clif_expansion.proofs.calls.Verdicts.{verdicts_are_read}
 
 -- no call of a list is `finalize`
-no-refusal : (declared : SignatureShape) (ledger : Ledger) (c : Call) → refusal_of ledger (request_of declared ledger c) ≡ None
-no-refusal declared ledger call.CreateBlock = refl
-no-refusal declared ledger (call.Outside (outside.Call function args)) = refl
-no-refusal declared ledger (call.Outside (outside.CallIndirect signature callee args)) = refl
-no-refusal declared ledger (call.Throwing (throwing.TryCall function args table)) = refl
-no-refusal declared ledger (call.Throwing (throwing.TryCallIndirect callee args table)) = refl
-no-refusal declared ledger _ = refl
+never-refused : (declared : SignatureShape) (ledger : Ledger) (c : Call) → is_some (call_refusal ledger (call_of declared ledger c)) ≡ false
+never-refused declared ledger call.CreateBlock = refl
+never-refused declared ledger (call.Outside (outside.Call function args)) = refl
+never-refused declared ledger (call.Outside (outside.CallIndirect signature callee args)) = refl
+never-refused declared ledger (call.Throwing (throwing.TryCall function args table)) = refl
+never-refused declared ledger (call.Throwing (throwing.TryCallIndirect callee args table)) = refl
+never-refused declared ledger _ = refl
 
--- the requests of a list with one more call
-requests-push : (declared : SignatureShape) (ledger : Ledger) (calls : List Call) (c : Call)
-    → requests_from declared ledger (calls ++ c ∷ []) ≡ requests_from declared ledger calls ++ request_of declared (fold ledger_with ledger (requests_from declared ledger calls)) c ∷ []
-requests-push declared ledger [] c = refl
-requests-push declared ledger (x ∷ calls) c = ap (λ (script : List Request). request_of declared ledger x ∷ script) (requests-push declared (ledger_with ledger (request_of declared ledger x)) calls c)
+-- the script's calls of the first ones of a list, and their ledger
+abbrev pub calls_before : SignatureShape → List Call → ℕ → List ScriptCall
+calls_before declared calls place = calls_of declared (take place calls)
+
+abbrev pub ledger_before : SignatureShape → List Call → ℕ → Ledger
+ledger_before declared calls place = ledger_of (calls_before declared calls place)
+
+-- the script's call at a place
+abbrev pub call_at : SignatureShape → List Call → ℕ → Call → ScriptCall
+call_at declared calls place c = call_of declared (ledger_before declared calls place) c
+
+-- the verdict on a list is that on the calls from this place on
+abbrev pub HasRest : SignatureShape → List Call → ℕ → Type 0
+HasRest declared calls place =
+    verdict_on_call_attempts (attempts_of declared calls)
+    ≡ verdict_on_calls_from place (ledger_before declared calls place) (attempts_from declared (ledger_before declared calls place) (drop place calls) ++ made (Ask Finalize) ∷ [])
+
+-- the calls of a list with one more
+calls-push : (declared : SignatureShape) (ledger : Ledger) (calls : List Call) (c : Call)
+    → calls_from declared ledger (calls ++ c ∷ []) ≡ calls_from declared ledger calls ++ call_of declared (fold ledger_with_call ledger (calls_from declared ledger calls)) c ∷ []
+calls-push declared ledger [] c = refl
+calls-push declared ledger (x ∷ calls) c =
+    ap (λ (script : List ScriptCall). call_of declared ledger x ∷ script) (calls-push declared (ledger_with_call ledger (call_of declared ledger x)) calls c)
+
+pub calls-more : (declared : SignatureShape) (calls : List Call) (place : ℕ) (c : Call) → place < length calls → c ≡ get_or calls place c
+    → calls_before declared calls place ++ call_at declared calls place c ∷ [] ≡ calls_before declared calls (place + 1)
+calls-more declared calls place c inside is =
+    sym (calls-push declared empty_ledger (take place calls) c)
+    ∙ ap (λ (x : Call). calls_of declared (take place calls ++ x ∷ [])) is
+    ∙ ap (calls_of declared) (sym (take_more calls place c inside))
+
+ledger-on : (declared : SignatureShape) (calls : List Call) (place : ℕ) (c : Call) → place < length calls → c ≡ get_or calls place c
+    → ledger_with_call (ledger_before declared calls place) (call_at declared calls place c) ≡ ledger_before declared calls (place + 1)
+ledger-on declared calls place c inside is =
+    sym (fold_on ledger_with_call empty_ledger (calls_before declared calls place) (call_at declared calls place c ∷ []))
+    ∙ ap ledger_of (calls-more declared calls place c inside is)
+
+-- what is behind a call of the list
+abbrev behind : SignatureShape → List Call → ℕ → Ledger → List CallAttempt
+behind declared calls place ledger = attempts_from declared ledger (drop (place + 1) calls) ++ made (Ask Finalize) ∷ []
 
 -- the rest begins with this call
-rest-begins : (declared : SignatureShape) (calls : List Call) (place : ℕ) (c : Call) (made : List AnsweredCall) → place < length calls → c ≡ get_or calls place c → IsReplayed declared calls place made
-    → verdict_on_attempts (attempts_of declared calls) ≡ verdict_from place (ledger_of made) (attempt_of declared (ledger_of made) c ∷ (attempts_from declared (ledger_with (ledger_of made) (request_of declared (ledger_of made) c)) (drop (place + 1) calls) ++ outright Finalize ∷ []))
-rest-begins declared calls place c made inside is replayed =
-    replayed.rest
-    ∙ ap (λ (rest : List Call). verdict_from place (ledger_of made) (attempts_from declared (ledger_of made) rest ++ outright Finalize ∷ []))
+rest-begins : (declared : SignatureShape) (calls : List Call) (place : ℕ) (c : Call) → place < length calls → c ≡ get_or calls place c → HasRest declared calls place
+    → verdict_on_call_attempts (attempts_of declared calls)
+    ≡ verdict_on_calls_from place (ledger_before declared calls place)
+    (attempt_of declared (ledger_before declared calls place) c ∷ behind declared calls place (ledger_with_call (ledger_before declared calls place) (call_at declared calls place c)))
+rest-begins declared calls place c inside is rest =
+    let ledger = ledger_before declared calls place in
+    rest
+    ∙ ap (λ (list : List Call). verdict_on_calls_from place ledger (attempts_from declared ledger list ++ made (Ask Finalize) ∷ []))
     (drop_more calls place c inside ∙ ap (λ (x : Call). x ∷ drop (place + 1) calls) (sym is))
 
 -- one that is allowed leaves the verdict to the calls behind it
-pub replayed-more : (declared : SignatureShape) (calls : List Call) (place : ℕ) (c : Call) (made : List AnsweredCall) (numbers : List ℕ) → place < length calls → c ≡ get_or calls place c → IsReplayed declared calls place made
-    → allows (ledger_of made) (request_of declared (ledger_of made) c) ≡ true
-    → IsReplayed declared calls (place + 1) (made ++ record { request = request_of declared (ledger_of made) c; numbers = numbers } ∷ [])
-replayed-more declared calls place c made numbers inside is replayed allowed =
-    let request : Request = request_of declared (ledger_of made) c in
-    let call : AnsweredCall = record { request = request; numbers = numbers } in
-    let next : List Attempt = attempts_from declared (ledger_with (ledger_of made) request) (drop (place + 1) calls) ++ outright Finalize ∷ [] in
-    let refused : Bool = is_tried c && blames_variable (ledger_of made) request in
-    let first = rest-begins declared calls place c made inside is replayed in
-    let goes_on = if-no (not (allows (ledger_of made) request)) (if refused then Refused place else Misuse place) (if is_some (refusal_of (ledger_of made) request) then Refused place else verdict_from (suc place) (ledger_with (ledger_of made) request) next) (ap not allowed) in
-    let fine = if-no (is_some (refusal_of (ledger_of made) request)) (Refused place) (verdict_from (suc place) (ledger_with (ledger_of made) request) next) (ap is_some (no-refusal declared (ledger_of made) c)) in
+pub rest-more : (declared : SignatureShape) (calls : List Call) (place : ℕ) (c : Call) → place < length calls → c ≡ get_or calls place c → HasRest declared calls place
+    → call_allowed (ledger_before declared calls place) (call_at declared calls place c) ≡ true → HasRest declared calls (place + 1)
+rest-more declared calls place c inside is rest allowed =
+    let ledger = ledger_before declared calls place in
+    let this = call_at declared calls place c in
+    let next = behind declared calls place (ledger_with_call ledger this) in
+    let refused : Bool = is_tried c && call_blames_variable ledger this in
+    let goes_on = if-no (not (call_allowed ledger this)) (if refused then Refused place else Misuse place) (if is_some (call_refusal ledger this) then Refused place else verdict_on_calls_from (suc place) (ledger_with_call ledger this) next) (ap not allowed) in
+    let fine = if-no (is_some (call_refusal ledger this)) (Refused place) (verdict_on_calls_from (suc place) (ledger_with_call ledger this) next) (never-refused declared ledger c) in
     let one_on : suc place ≡ place + 1 = omega arith in
-    record {
-      script = map_push (λ (a : AnsweredCall). a.request) made call
-          ∙ ap (λ (script : List Request). script ++ request ∷ []) replayed.script
-          ∙ ap (λ (script : List Request). requests_of declared (take place calls) ++ request_of declared (ledger_after script) c ∷ []) replayed.script
-          ∙ sym (requests-push declared empty_ledger (take place calls) c)
-          ∙ ap (λ (x : Call). requests_of declared (take place calls ++ x ∷ [])) is
-          ∙ ap (requests_of declared) (sym (take_more calls place c inside));
-      rest = first ∙ goes_on ∙ fine
-          ∙ ap (λ (n : ℕ). verdict_from n (ledger_with (ledger_of made) request) next) one_on
-          ∙ ap (λ (l : Ledger). verdict_from (place + 1) l (attempts_from declared l (drop (place + 1) calls) ++ outright Finalize ∷ [])) (sym (ledger-more made call));
-    }
+    rest-begins declared calls place c inside is rest ∙ goes_on ∙ fine
+    ∙ ap (λ (n : ℕ). verdict_on_calls_from n (ledger_with_call ledger this) next) one_on
+    ∙ ap (λ (l : Ledger). verdict_on_calls_from (place + 1) l (behind declared calls place l)) (ledger-on declared calls place c inside is)
 
 -- one that isn't allowed decides: it is refused where its variable is to blame and it is only tried, and a misuse otherwise
-denied-here : (declared : SignatureShape) (calls : List Call) (place : ℕ) (c : Call) (made : List AnsweredCall) (refused : Bool) → place < length calls → c ≡ get_or calls place c → IsReplayed declared calls place made
-    → allows (ledger_of made) (request_of declared (ledger_of made) c) ≡ false → (is_tried c && blames_variable (ledger_of made) (request_of declared (ledger_of made) c)) ≡ refused
-    → verdict_on_attempts (attempts_of declared calls) ≡ (if refused then Refused place else Misuse place)
-denied-here declared calls place c made refused inside is replayed denied blames =
-    let request : Request = request_of declared (ledger_of made) c in
-    let next : List Attempt = attempts_from declared (ledger_with (ledger_of made) request) (drop (place + 1) calls) ++ outright Finalize ∷ [] in
-    rest-begins declared calls place c made inside is replayed
-    ∙ ap (λ (allowed : Bool). if not allowed then (if is_tried c && blames_variable (ledger_of made) request then Refused place else Misuse place)
-    else (if is_some (refusal_of (ledger_of made) request) then Refused place
-    else verdict_from (suc place) (ledger_with (ledger_of made) request) next)) denied
+denied-here : (declared : SignatureShape) (calls : List Call) (place : ℕ) (c : Call) (refused : Bool) → place < length calls → c ≡ get_or calls place c → HasRest declared calls place
+    → call_allowed (ledger_before declared calls place) (call_at declared calls place c) ≡ false
+    → (is_tried c && call_blames_variable (ledger_before declared calls place) (call_at declared calls place c)) ≡ refused
+    → verdict_on_call_attempts (attempts_of declared calls) ≡ (if refused then Refused place else Misuse place)
+denied-here declared calls place c refused inside is rest denied blames =
+    let ledger = ledger_before declared calls place in
+    let this = call_at declared calls place c in
+    let next = behind declared calls place (ledger_with_call ledger this) in
+    rest-begins declared calls place c inside is rest
+    ∙ ap (λ (allowed : Bool). if not allowed then (if is_tried c && call_blames_variable ledger this then Refused place else Misuse place)
+    else (if is_some (call_refusal ledger this) then Refused place
+    else verdict_on_calls_from (suc place) (ledger_with_call ledger this) next)) denied
     ∙ ap (λ (blamed : Bool). if blamed then Refused place else Misuse place) blames
 
 -- the error of a call tells where it was made: a misuse and a refusal are told as themselves
@@ -126,46 +162,57 @@ refusal-at error.Full place i told at refused = absurd (other i (sym at ∙ refu
     other : (k : ℕ) → replay.Full ≡ replay.Refused k → ⊥
     other k h = cc
 
+-- what a call's error tells of the verdict
+abbrev pub IsJudgedAt : SignatureShape → List Call → ℕ → Call → CallError → Type 0
+IsJudgedAt declared calls place c refusal =
+    IsJudged (call_allowed (ledger_before declared calls place) (call_at declared calls place c))
+    (is_tried c && call_blames_variable (ledger_before declared calls place) (call_at declared calls place c)) (Err refusal)
+
 -- the error of a call that isn't allowed, and of no other, tells a misuse at its place
-pub misuse-told : (declared : SignatureShape) (calls : List Call) (place i : ℕ) (c : Call) (made : List AnsweredCall) (refusal : CallError) (told : ReplayError) → place < length calls → c ≡ get_or calls place c → IsReplayed declared calls place made
-    → IsJudged (allows (ledger_of made) (request_of declared (ledger_of made) c)) (is_tried c && blames_variable (ledger_of made) (request_of declared (ledger_of made) c)) (Err refusal)
-    → told ≡ replay_error_at refusal place → told ≡ replay.Misuse i → verdict_on_attempts (attempts_of declared calls) ≡ Misuse i
-misuse-told declared calls place i c made refusal told inside is replayed judged at misuse =
+pub misuse-told : (declared : SignatureShape) (calls : List Call) (place i : ℕ) (c : Call) (refusal : CallError) (told : ReplayError) → place < length calls → c ≡ get_or calls place c → HasRest declared calls place
+    → IsJudgedAt declared calls place c refusal → told ≡ replay_error_at refusal place → told ≡ replay.Misuse i → verdict_on_call_attempts (attempts_of declared calls) ≡ Misuse i
+misuse-told declared calls place i c refusal told inside is rest judged at misuse =
     let place_is = misuse-at refusal place i told at misuse in
-    let denied = subst (λ (e : CallError). IsJudged (allows (ledger_of made) (request_of declared (ledger_of made) c)) (is_tried c && blames_variable (ledger_of made) (request_of declared (ledger_of made) c)) (Err e)) place_is.0 judged in
-    denied-here declared calls place c made false inside is replayed denied.0 denied.1 ∙ ap Misuse place_is.1
+    let denied = subst (λ (e : CallError). IsJudgedAt declared calls place c e) place_is.0 judged in
+    denied-here declared calls place c false inside is rest denied.0 denied.1 ∙ ap Misuse place_is.1
 
 -- and a refusal where its variable is to blame
-pub refusal-told : (declared : SignatureShape) (calls : List Call) (place i : ℕ) (c : Call) (made : List AnsweredCall) (refusal : CallError) (told : ReplayError) → place < length calls → c ≡ get_or calls place c → IsReplayed declared calls place made
-    → IsJudged (allows (ledger_of made) (request_of declared (ledger_of made) c)) (is_tried c && blames_variable (ledger_of made) (request_of declared (ledger_of made) c)) (Err refusal)
-    → told ≡ replay_error_at refusal place → told ≡ replay.Refused i → verdict_on_attempts (attempts_of declared calls) ≡ Refused i
-refusal-told declared calls place i c made refusal told inside is replayed judged at refused =
+pub refusal-told : (declared : SignatureShape) (calls : List Call) (place i : ℕ) (c : Call) (refusal : CallError) (told : ReplayError) → place < length calls → c ≡ get_or calls place c → HasRest declared calls place
+    → IsJudgedAt declared calls place c refusal → told ≡ replay_error_at refusal place → told ≡ replay.Refused i → verdict_on_call_attempts (attempts_of declared calls) ≡ Refused i
+refusal-told declared calls place i c refusal told inside is rest judged at refused =
     let place_is = refusal-at refusal place i told at refused in
-    let denied = subst (λ (e : CallError). IsJudged (allows (ledger_of made) (request_of declared (ledger_of made) c)) (is_tried c && blames_variable (ledger_of made) (request_of declared (ledger_of made) c)) (Err e)) place_is.0 judged in
-    denied-here declared calls place c made true inside is replayed denied.0 denied.1 ∙ ap Refused place_is.1
+    let denied = subst (λ (e : CallError). IsJudgedAt declared calls place c e) place_is.0 judged in
+    denied-here declared calls place c true inside is rest denied.0 denied.1 ∙ ap Refused place_is.1
 
--- all calls were made: their script is that of the list
-pub all-replayed : (declared : SignatureShape) (calls : List Call) (made : List AnsweredCall) → IsReplayed declared calls (length calls) made → script_of made ≡ requests_of declared calls
-all-replayed declared calls made replayed = replayed.script ∙ ap (requests_of declared) (take_all (length calls) calls (omega arith))
+-- all calls were made
+pub all-replayed : (declared : SignatureShape) (calls : List Call) (made : List AnsweredCall) → IsReplayed declared calls (length calls) made → ArePlainCalls (script_of made) (calls_of declared calls)
+all-replayed declared calls made replayed =
+    subst (λ (list : List Call). ArePlainCalls (script_of made) (calls_of declared list)) (take_all (length calls) calls (omega arith)) replayed.plain
 
--- and so is what it means
+-- and what they mean is what the plain calls mean
 pub means-replayed : (declared : SignatureShape) (calls : List Call) (made : List AnsweredCall) (width : PointerWidth) (f : Body) → IsReplayed declared calls (length calls) made
-    → MeansTheSame (script_of made) declared width (view_of f) → MeansTheSame (requests_of declared calls) declared width (view_of f)
-means-replayed declared calls made width f replayed =
-    subst (λ (script : Script). MeansTheSame script declared width (view_of f)) (all-replayed declared calls made replayed)
+    → MeansTheSame (script_of made) declared width (view_of f) → CallsMeanTheSame (calls_of declared calls) declared width (view_of f)
+means-replayed declared calls made width f replayed means =
+    subst (λ (list : List Call). CallsMeanTheSame (calls_of declared list) declared width (view_of f)) (take_all (length calls) calls (omega arith))
+    (calls_mean replayed.plain.reading (script_of made) (calls_before declared calls (length calls)) replayed.plain.joined declared width (view_of f) (replayed.plain.performed (pointer_bits width))
+    (verdicts_are_read.may_be_made empty_ledger (calls_before declared calls (length calls)) replayed.taken) means)
 
 -- behind the last call `finalize` decides
 verdict-end : (declared : SignatureShape) (calls : List Call) (made : List AnsweredCall) → IsReplayed declared calls (length calls) made
-    → verdict_on_attempts (attempts_of declared calls) ≡ (if is_some (refusal_of (ledger_of made) Finalize) then Refused (length calls) else Accepted)
-verdict-end declared calls made replayed =
+    → verdict_on_call_attempts (attempts_of declared calls) ≡ (if is_some (refusal_of (plain_ledger_of made) Finalize) then Refused (length calls) else Accepted)
+verdict-end declared calls answered replayed =
+    let ledger = ledger_before declared calls (length calls) in
     replayed.rest
-    ∙ ap (λ (rest : List Call). verdict_from (length calls) (ledger_of made) (attempts_from declared (ledger_of made) rest ++ outright Finalize ∷ [])) (drop_all (length calls) calls (omega arith))
+    ∙ ap (λ (rest : List Call). verdict_on_calls_from (length calls) ledger (attempts_from declared ledger rest ++ made (Ask Finalize) ∷ [])) (drop_all (length calls) calls (omega arith))
+    ∙ ap (λ (refused : Bool). if refused then Refused (length calls) else Accepted)
+    (verdicts_are_read.refused replayed.plain.reading (plain_ledger_of answered) ledger Finalize Finalize
+    (joined_calls replayed.plain.reading (script_of answered) (calls_before declared calls (length calls)) replayed.plain.joined) tt)
 
 -- `finalize` is refused where the script is
 pub verdict-refused : (declared : SignatureShape) (calls : List Call) (made : List AnsweredCall) (r : Result (Unit {0}) FinalizeError) (e : FinalizeError) → IsReplayed declared calls (length calls) made
-    → RefusalAgrees made (refusal_of (ledger_of made) Finalize) r → r ≡ Err e → verdict_on_attempts (attempts_of declared calls) ≡ Refused (length calls)
+    → RefusalAgrees made (refusal_of (plain_ledger_of made) Finalize) r → r ≡ Err e → verdict_on_call_attempts (attempts_of declared calls) ≡ Refused (length calls)
 verdict-refused declared calls made r e replayed agrees is =
-    verdict-end declared calls made replayed ∙ by (refusal_of (ledger_of made) Finalize) agrees
+    verdict-end declared calls made replayed ∙ by (refusal_of (plain_ledger_of made) Finalize) agrees
   where
     by : (o : Option Refusal) → RefusalAgrees made o r → (if is_some o then Refused (length calls) else Accepted) ≡ Refused (length calls)
     by None agrees = let no_way : ⊥ = cc in absurd no_way
@@ -173,9 +220,9 @@ verdict-refused declared calls made r e replayed agrees is =
 
 -- and it succeeds where the script is accepted
 pub verdict-accepted : (declared : SignatureShape) (calls : List Call) (made : List AnsweredCall) (r : Result (Unit {0}) FinalizeError) → IsReplayed declared calls (length calls) made
-    → RefusalAgrees made (refusal_of (ledger_of made) Finalize) r → r ≡ Ok tt → verdict_on_attempts (attempts_of declared calls) ≡ Accepted
+    → RefusalAgrees made (refusal_of (plain_ledger_of made) Finalize) r → r ≡ Ok tt → verdict_on_call_attempts (attempts_of declared calls) ≡ Accepted
 verdict-accepted declared calls made r replayed agrees is =
-    verdict-end declared calls made replayed ∙ by (refusal_of (ledger_of made) Finalize) agrees
+    verdict-end declared calls made replayed ∙ by (refusal_of (plain_ledger_of made) Finalize) agrees
   where
     by : (o : Option Refusal) → RefusalAgrees made o r → (if is_some o then Refused (length calls) else Accepted) ≡ Accepted
     by None agrees = refl
@@ -183,9 +230,9 @@ verdict-accepted declared calls made r replayed agrees is =
     by (Some (refusal.Unfilled name)) (block, number, found) = let no_way : ⊥ = cc in absurd no_way
 
 -- `finalize` answers no full table, where the builder didn't fail
-pub never-full : (made : List AnsweredCall) (r : Result (Unit {0}) FinalizeError) (e : FinalizeError) → RefusalAgrees made (refusal_of (ledger_of made) Finalize) r
+pub never-full : (made : List AnsweredCall) (r : Result (Unit {0}) FinalizeError) (e : FinalizeError) → RefusalAgrees made (refusal_of (plain_ledger_of made) Finalize) r
     → r ≡ Err e → e ≡ ending.Full → ⊥
-never-full made r e agrees is full = by (refusal_of (ledger_of made) Finalize) agrees
+never-full made r e agrees is full = by (refusal_of (plain_ledger_of made) Finalize) agrees
   where
     by : (o : Option Refusal) → RefusalAgrees made o r → ⊥
     by None ok = cc

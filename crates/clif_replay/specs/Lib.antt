@@ -1,7 +1,9 @@
 pub mod Entries
 pub mod Errors
 pub mod Limits
-pub mod Ready
 pub mod Requests
+pub mod Ready
 pub mod Makes
+pub mod Emits
 pub mod Replay
+pub mod Examples

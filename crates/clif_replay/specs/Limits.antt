@@ -1,5 +1,5 @@
 -- Where a call meets a full table. Source: own.
-use Rattle.std.specs.Prelude.{◌≡◌, ◌-◌, ◌^◌, ◌⊎◌, ℕ, List, false, length, slice_get, Some}
+use Rattle.std.specs.Prelude.{◌≡◌, ◌<◌, ◌+◌, ◌-◌, ◌^◌, ◌⊎◌, ℕ, List, false, length, slice_get, Some}
 use Rattle.clif_tables.specs.Callees.{function_at, signature_at}
 use Rattle.clif_tables.specs.Constants.{has_constant}
 use Rattle.clif_tables.specs.Entries.{count_for}
@@ -40,6 +40,11 @@ abbrev pub PlanMeetsFullTable : Plan → Body → Type 0
 PlanMeetsFullTable (plan.Split arg) f = HasNoRoom f 2
 PlanMeetsFullTable _ f = IsFull f
 
+-- The table of instructions or that of values is full behind so many instructions with one result each: behind none, one or two,
+-- as there are at most three.
+abbrev pub EmissionMeetsFullTable : Body → Type 0
+EmissionMeetsFullTable f = (made : ℕ) × (made < 3) × ((length f.insts + made ≡ 2 ^ 32 - 1) ⊎ (length f.values + made ≡ 2 ^ 32 - 1))
+
 -- The bytes are no constant so far, and the table of constants is full; or, with the constant there, the table of instructions or
 -- that of values is full.
 abbrev pub ConstantMeetsFullTable : List ℕ → Body → Type 0
@@ -52,7 +57,8 @@ returns_in tables (outside.Call function args) = (signature_at tables (function_
 returns_in tables (outside.CallIndirect signature callee args) = (signature_at tables signature).returns
 
 -- A call, made so far as it is made, meets a table that holds 2^32 - 1 entries: a call that lengthens a table finds it full,
--- an outside call doesn't find room for all that it gives, one that makes several parameters fills the table of values before it has made them all, and a use of a variable and a
+-- an outside call doesn't find room for all that it gives, one with a constant as an operand finds them full at one of its
+-- instructions, one that makes several parameters fills the table of values before it has made them all, and a use of a variable and a
 -- sealing construct until a table is full. No other call lengthens a table.
 abbrev pub MeetsFullTable : Call → Body → ContextState → Type 0
 MeetsFullTable call.CreateBlock f c = length f.blocks ≡ 2 ^ 32 - 1
@@ -66,6 +72,7 @@ MeetsFullTable (call.AppendBlockParamsForFunctionReturns block) f c = NoRoomFor 
 MeetsFullTable (call.Plain instruction) f c = PlanMeetsFullTable (plan_of instruction) f
 MeetsFullTable (call.Cursor instruction) f c = PlanMeetsFullTable (plan_of instruction) f
 MeetsFullTable (call.Outside called) f c = HasNoRoom f (length (returns_in f.tables called))
+MeetsFullTable (call.Immediate called) f c = EmissionMeetsFullTable f
 MeetsFullTable (call.F128const bytes) f c = ConstantMeetsFullTable bytes.items f
 MeetsFullTable (call.Vconst ty bytes) f c = ConstantMeetsFullTable bytes.items f
 MeetsFullTable (call.Jump destination) f c = IsFull f

@@ -21,17 +21,17 @@ use Rattle.clif_resolution.specs.declared.answers.CallError.TheVariants as error
 use Rattle.clif_replay.specs.Limits.{ConstantMeetsFullTable, MeetsFullTable, PlanMeetsFullTable}
 use Rattle.clif_replay.specs.Ready.{IsJudged, IsReady, IsReadyAfter, types_after}
 use Rattle.clif_resolution.specs.Answers.{value_of}
-use Rattle.clif_replay.specs.Requests.{is_tried, item_of, name_of, request_in, request_of}
+use Rattle.clif_replay.specs.Requests.{Naming, is_tried, item_of, request_in, request_under}
 
--- A call was made, which asked this, or wasn't. It is refused only if it is only tried. `Full` is told only where `Meets`
--- holds, and variables have these types afterwards.
-pub record Makes (asks : SignatureShape → Ledger → Request) (tried : Bool) (Meets : Type 0) (types : List «Type») (old new : FunctionBuilder) (answers : List Answer) (result : Result Answer CallError) : Type 0 where
+-- A call was made, which asked this under each naming, or wasn't. It is refused only if it is only tried. `Full` is told only
+-- where `Meets` holds, and variables have these types afterwards.
+pub record Makes (asks : Naming → SignatureShape → Ledger → Request) (tried : Bool) (Meets : Type 0) (types : List «Type») (old new : FunctionBuilder) (answers : List Answer) (result : Result Answer CallError) : Type 0 where
   pub loans : SameLoans old new
   pub name : OnOk result (new.func.now.name ≡ old.func.now.name)
-  pub ready : (declared : SignatureShape) (calls : List AnsweredCall) → IsReady declared calls old answers
-      → IfOk result (IsReadyAfter declared calls (asks declared (ledger_of calls)) new answers)
-  pub judged : (declared : SignatureShape) (calls : List AnsweredCall) → IsReady declared calls old answers
-      → IsJudged (allows (ledger_of calls) (asks declared (ledger_of calls))) (tried && blames_variable (ledger_of calls) (asks declared (ledger_of calls))) result
+  pub ready : (naming : Naming) (declared : SignatureShape) (calls : List AnsweredCall) → IsReady naming declared calls old answers
+      → IfOk result (IsReadyAfter naming declared calls (asks naming declared (ledger_of calls)) new answers)
+  pub judged : (naming : Naming) (declared : SignatureShape) (calls : List AnsweredCall) → IsReady naming declared calls old answers
+      → IsJudged (allows (ledger_of calls) (asks naming declared (ledger_of calls))) (tried && blames_variable (ledger_of calls) (asks naming declared (ledger_of calls))) result
   pub sound : OnOk result (new.failed ≡ false)
   pub refused : result ≡ Err error.Refused → tried ≡ true
   pub full : result ≡ Err error.Full → Meets
@@ -40,28 +40,28 @@ pub record Makes (asks : SignatureShape → Ledger → Request) (tried : Bool) (
 -- for this call
 abbrev pub MakesCall : Call → FunctionBuilder → FunctionBuilder → List Answer → Result Answer CallError → Type 0
 MakesCall call old new answers result =
-    Makes (λ declared ledger. request_of declared ledger call) (is_tried call) (MeetsFullTable call old.func.now old.ctx.now) (types_after call old.ctx.now.variables) old new answers result
+    Makes (λ naming declared ledger. request_under naming declared ledger call) (is_tried call) (MeetsFullTable call old.func.now old.ctx.now) (types_after call old.ctx.now.variables) old new answers result
 
 -- for an instruction of this plan
 abbrev pub MakesPlan : Plan → FunctionBuilder → FunctionBuilder → List Answer → Result Answer CallError → Type 0
 MakesPlan plan old new answers result =
-    Makes (λ declared ledger. request_in ledger plan) false (PlanMeetsFullTable plan old.func.now) old.ctx.now.variables old new answers result
+    Makes (λ naming declared ledger. request_in naming ledger plan) false (PlanMeetsFullTable plan old.func.now) old.ctx.now.variables old new answers result
 
 -- for an instruction of a pooled constant
 abbrev pub MakesConstant : PooledConstOpcode → «Type» → List ℕ → FunctionBuilder → FunctionBuilder → List Answer → Result Answer CallError → Type 0
 MakesConstant opcode ty bytes old new answers result =
-    Makes (λ declared ledger. pooled_const opcode ty bytes) false (ConstantMeetsFullTable bytes old.func.now) old.ctx.now.variables old new answers result
+    Makes (λ naming declared ledger. pooled_const opcode ty bytes) false (ConstantMeetsFullTable bytes old.func.now) old.ctx.now.variables old new answers result
 
 -- for an exception table of this signature, normal edge and items
 abbrev pub MakesExceptions : ℕ → Name → List TableItem → FunctionBuilder → FunctionBuilder → List Answer → Result Answer CallError → Type 0
 MakesExceptions signature normal items old new answers result =
-    Makes (λ declared ledger. MakeExceptionTable signature (name_of normal) (map item_of items)) false (length old.func.now.tables.exception_tables ≡ 2 ^ 32 - 1)
+    Makes (λ naming declared ledger. MakeExceptionTable signature (naming normal) (map (item_of naming) items)) false (length old.func.now.tables.exception_tables ≡ 2 ^ 32 - 1)
     old.ctx.now.variables old new answers result
 
 -- for a jump table of the edges with these names
 abbrev pub MakesTable : Name → List Name → FunctionBuilder → FunctionBuilder → List Answer → Result Answer CallError → Type 0
 MakesTable default entries old new answers result =
-    Makes (λ declared ledger. MakeJumpTable (name_of default) (map name_of entries)) false (length old.func.now.tables.jump_tables ≡ 2 ^ 32 - 1)
+    Makes (λ naming declared ledger. MakeJumpTable (naming default) (map naming entries)) false (length old.func.now.tables.jump_tables ≡ 2 ^ 32 - 1)
     old.ctx.now.variables old new answers result
 
 -- the value that a name leads to has one label more in the function

@@ -1,6 +1,6 @@
--- What holds between the calls of a script: the builder stands for the calls that were made, whose numbers are those
--- that were answered. Own.
-use Rattle.std.specs.Prelude.{◌≡◌, ℕ, ◌<◌, List, [], ◌∷◌, ◌++◌, length, map, slice_get, is_some, not, ◌&&◌, ◌+◌, ◌-◌, ◌==◌, Bool, true, false, Option, Some, None, if◌then◌else◌, Result, Ok, Err}
+-- What holds between the calls of a list: the builder stands for the calls that were made, and by a naming their answers are
+-- those of the list. Own.
+use Rattle.std.specs.Prelude.{◌≡◌, ℕ, suc, ◌<◌, ◌⊎◌, List, [], ◌∷◌, ◌++◌, length, map, slice_get, is_some, not, ◌&&◌, ◌+◌, ◌-◌, ◌==◌, Bool, true, false, Option, Some, None, if◌then◌else◌, Result, Ok, Err}
 use Rattle.clif_types.specs.declared.types.«Type».{«Type»}
 use Rattle.clif_ir.specs.Body.{value_at}
 use Rattle.clif_instructions.specs.Members.{stands_in}
@@ -11,7 +11,7 @@ use Rattle.clif_meaning.specs.SameType.{same_type}
 use Rattle.clif_meaning.specs.Request.{AnsweredCall, Request}
 use Rattle.clif_meaning.specs.Ledger.{Answered, ABlock, AVariable, AValue, AnInstruction, AnEntry, AnEdge, AJumpTable, AnExceptionTable, edge_named}
 use Rattle.clif_meaning.specs.Instruction as meaning
-use Rattle.clif_meaning.specs.Name as name
+use Rattle.clif_meaning.specs.Name as named
 use Rattle.clif_simulation.specs.Carries.{numbers_from}
 use Rattle.clif_ssa.specs.Ssa.{predecessors_of}
 use Rattle.cranelift_frontend.specs.declared.builder.FunctionBuilder.{FunctionBuilder}
@@ -25,6 +25,7 @@ use Rattle.clif_calls.specs.declared.call.Edge.{Edge}
 use Rattle.clif_calls.specs.declared.call.Name.{Name}
 use Rattle.clif_calls.specs.declared.call.Call.{Call}
 use Rattle.clif_calls.specs.declared.call.Call.TheVariants as call
+use Rattle.clif_replay.specs.Requests.{Naming}
 use Rattle.clif_resolution.specs.declared.answers.Answer.{Answer}
 use Rattle.clif_resolution.specs.declared.answers.Answer.TheVariants as answer
 use Rattle.clif_resolution.specs.declared.answers.CallError.{CallError}
@@ -40,7 +41,7 @@ AnswerIs (answer.Values first count) answered numbers =
     (types : List «Type») × (answered ≡ map AValue types) × (numbers ≡ numbers_from first types) × (count ≡ length types)
 AnswerIs (answer.Inst i) answered numbers =
     (types : List «Type») × (results : List ℕ) × (answered ≡ AnInstruction ∷ map AValue types) × (numbers ≡ i ∷ results)
-AnswerIs (answer.Edge made) answered numbers = (edge : meaning.Edge name.Name name.Name) × (answered ≡ AnEdge edge ∷ []) × (numbers ≡ 0 ∷ [])
+AnswerIs (answer.Edge made) answered numbers = (edge : meaning.Edge named.Name named.Name) × (answered ≡ AnEdge edge ∷ []) × (numbers ≡ 0 ∷ [])
 AnswerIs answer.Table answered numbers = (number : ℕ) × (answered ≡ AJumpTable number ∷ []) × (numbers ≡ number ∷ [])
 AnswerIs answer.Exceptions answered numbers = (number : ℕ) × (answered ≡ AnExceptionTable number ∷ []) × (numbers ≡ number ∷ [])
 AnswerIs answer.Entry answered numbers = (entry : TableEntry) × (number : ℕ) × (answered ≡ AnEntry entry number ∷ []) × (numbers ≡ number ∷ [])
@@ -57,18 +58,39 @@ TablesAgree {A} {B} Agree [] [] = Unit {0}
 TablesAgree {A} {B} Agree (table ∷ tables) (made ∷ others) = TableAgrees Agree table made × TablesAgree Agree tables others
 TablesAgree {A} {B} Agree _ _ = ⊥
 
--- the builder stands for these calls, on a function of this signature, and these are their answers; and it is known how a
--- ledger is read
-pub record IsReady (declared : SignatureShape) (calls : List AnsweredCall) (b : FunctionBuilder) (answers : List Answer) : Type 0 where
+-- the results of an instruction, behind its number
+abbrev pub AreResults : Answer → List Answered → List ℕ → Type 0
+AreResults (answer.Values first count) answered numbers =
+    (types : List «Type») × (inst : ℕ) × (answered ≡ AnInstruction ∷ map AValue types) × (numbers ≡ inst ∷ numbers_from first types) × (count ≡ length types)
+AreResults _ answered numbers = ⊥
+
+-- The answer at this place is that of the builder's call at the other one, name by name; or it is the results alone of an
+-- instruction that the builder's call made, the last one of several calls that were made for one of the list.
+abbrev pub LeadsTo : Naming → (place other : ℕ) → Answer → List Answered → List ℕ → Type 0
+LeadsTo naming place other answer answered numbers =
+    (((name : Name) → name.place ≡ place → naming name ≡ named.answer_of other name.answer) × AnswerIs answer answered numbers)
+    ⊎ (((name : Name) → name.place ≡ place → naming name ≡ named.answer_of other (suc name.answer)) × AreResults answer answered numbers)
+
+-- the builder's call to whose answers the names of this answer lead
+pub record IsAnswered (naming : Naming) (calls : List AnsweredCall) (place : ℕ) (answer : Answer) : Type 0 where
+  pub other : ℕ
+  pub call : AnsweredCall
+  pub answered : List Answered
+  pub at_call : slice_get calls other ≡ Some call
+  pub at_answered : slice_get (ledger_of calls).answers other ≡ Some answered
+  pub leads : LeadsTo naming place other answer answered call.numbers
+
+-- The builder stands for these calls, on a function of this signature, and by this naming these are answers of theirs; and it
+-- is known how a ledger is read.
+pub record IsReady (naming : Naming) (declared : SignatureShape) (calls : List AnsweredCall) (b : FunctionBuilder) (answers : List Answer) : Type 0 where
   pub reads : LedgerIsReadByNumber
   pub stands : StandsFor declared calls b
-  pub count : length answers ≡ length calls
-  pub answered : (place : ℕ) (answer : Answer) (call : AnsweredCall) (answered : List Answered)
-      → slice_get answers place ≡ Some answer → slice_get calls place ≡ Some call → slice_get (ledger_of calls).answers place ≡ Some answered
-      → AnswerIs answer answered call.numbers
+  pub answered : (place : ℕ) (answer : Answer) → slice_get answers place ≡ Some answer → IsAnswered naming calls place answer
+  -- a name that leads to no answer so far leads to none of the builder's calls so far, either
+  pub later : (name : Name) (k : ℕ) → name.place ≡ length answers + k → naming name ≡ named.answer_of (length calls + k) name.answer
   -- an edge that was answered is that of the ledger, and so is what jump tables and exception tables hold
-  pub edges : (place : ℕ) (made : BlockCall) → slice_get answers place ≡ Some (answer.Edge made)
-      → (edge : meaning.Edge name.Name name.Name) × (edge_named (ledger_of calls) (name.answer_of place 0) ≡ Some edge) × NamesEdge calls edge made
+  pub edges : (name : Name) (made : BlockCall) → slice_get answers name.place ≡ Some (answer.Edge made) → name.answer ≡ 0
+      → (edge : meaning.Edge named.Name named.Name) × (edge_named (ledger_of calls) (naming name) ≡ Some edge) × NamesEdge calls edge made
   pub tables : TablesAgree (NamesEdges calls) (ledger_of calls).jump_tables b.func.now.tables.jump_tables
   pub exceptions : TablesAgree (NamesExceptions calls) (ledger_of calls).exception_tables b.func.now.tables.exception_tables
 
@@ -79,15 +101,16 @@ KeepsTables old new =
 
 -- it stands for some calls, and hasn't failed
 pub record IsSound (b : FunctionBuilder) (answers : List Answer) : Type 0 where
+  pub naming : Naming
   pub declared : SignatureShape
   pub calls : List AnsweredCall
-  pub ready : IsReady declared calls b answers
+  pub ready : IsReady naming declared calls b answers
   pub sound : b.failed ≡ false
 
 -- it stands for one more call, which was this request and gave this answer
-abbrev pub IsReadyAfter : SignatureShape → List AnsweredCall → Request → FunctionBuilder → List Answer → Answer → Type 0
-IsReadyAfter declared calls request b answers answer =
-    (numbers : List ℕ) × IsReady declared (calls ++ record { request = request; numbers = numbers } ∷ []) b (answers ++ answer ∷ [])
+abbrev pub IsReadyAfter : Naming → SignatureShape → List AnsweredCall → Request → FunctionBuilder → List Answer → Answer → Type 0
+IsReadyAfter naming declared calls request b answers answer =
+    (numbers : List ℕ) × IsReady naming declared (calls ++ record { request = request; numbers = numbers } ∷ []) b (answers ++ answer ∷ [])
 
 -- A call succeeds only where it is allowed, and where it isn't, it is either refused or a misuse.
 abbrev pub IsJudged : Bool → Bool → Result Answer CallError → Type 0

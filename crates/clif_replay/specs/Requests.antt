@@ -3,11 +3,11 @@ use Rattle.std.specs.Prelude.{◌≡◌, ◌⊎◌, ℕ, List, [], ◌∷◌, �
 use Rattle.clif_ir.specs.Body.{Body}
 use Rattle.clif_tables.specs.Callees.{types_of}
 use Rattle.clif_meaning.specs.Name.{Name}
-use Rattle.clif_meaning.specs.Instruction.{Argument, CallPayload, CallResult, Brif, Edge, Jump, Known, Return, Trap}
-use Rattle.clif_meaning.specs.Request.{Request, CreateBlock, SwitchToBlock, SealBlock, SealAllBlocks, InsertBlockAfter, SetColdBlock, EnsureInsertedBlock, AppendBlockParams, AppendFunctionParams, DeclareVar, DefVar, UseVar, MakeEntry, MakeEdge, MakeExceptionTable, MakeJumpTable, Annotate, Build, ChangeJumpDestination, Finalize, Script, AnsweredCall, script_of, Attempt, outright}
+use Rattle.clif_meaning.specs.Instruction.{AddConstant, Argument, Arithmetic, CallPayload, CallResult, CompareConstant, Brif, Edge, Instruction, Jump, Known, Return, Trap}
+use Rattle.clif_meaning.specs.Request.{Request, CreateBlock, SwitchToBlock, SealBlock, SealAllBlocks, InsertBlockAfter, SetColdBlock, EnsureInsertedBlock, AppendBlockParams, AppendFunctionParams, DeclareVar, DefVar, UseVar, MakeEntry, MakeEdge, MakeExceptionTable, MakeJumpTable, Annotate, Build, ChangeJumpDestination, Finalize, Script, AnsweredCall, script_of}
 use Rattle.clif_meaning.specs.Request as asked
-use Rattle.clif_meaning.specs.Ledger.{Ledger, empty_ledger, ledger_after, ledger_with, or_invalid, type_of}
-use Rattle.clif_meaning.specs.Acceptance.{Verdict, Accepted, Misuse, Refused, pooled_const, jump, brif, br_table, call_function, call_indirect, try_call, try_call_indirect, return_, trap, allows, verdict_from, verdict_on_attempts}
+use Rattle.clif_meaning.specs.Ledger.{Ledger, empty_ledger, or_invalid, type_of}
+use Rattle.clif_meaning.specs.Acceptance.{Verdict, Accepted, Misuse, Refused, pooled_const, jump, brif, br_table, call_function, call_indirect, try_call, try_call_indirect, return_, trap}
 use Rattle.clif_opcodes.specs.declared.opcodes.PooledConstOpcode.TheVariants.{F128const, Vconst}
 use Rattle.clif_types.specs.declared.types.«Type».{«Type»}
 use Rattle.clif_types.specs.declared.types.«Type».TheVariants.{Invalid}
@@ -30,6 +30,15 @@ use Rattle.clif_calls.specs.declared.table.ThrowingCall.{ThrowingCall}
 use Rattle.clif_calls.specs.declared.table.ThrowingCall.TheVariants as throwing
 use Rattle.clif_calls.specs.Plan.{edges_in, operands_in, plan_of}
 use Rattle.clif_calls.specs.declared.plan.Plan.{Plan}
+use Rattle.clif_calls.specs.declared.immediate.ImmediateCall.{ImmediateCall}
+use Rattle.clif_calls.specs.declared.immediate.ImmediateCall.TheVariants as immediate
+use Rattle.clif_expansion.specs.CallsVerdict.{AreCallsTaken, CallAttempt, verdict_on_call_attempts, verdict_on_calls_from}
+use Rattle.clif_expansion.specs.CallsVerdict as verdict
+use Rattle.clif_expansion.specs.Constants.{computing}
+use Rattle.clif_expansion.specs.JoinedCalls.{AreJoinedCalls}
+use Rattle.clif_expansion.specs.PerformedCalls.{ArePerformed}
+use Rattle.clif_expansion.specs.Reading.{Reading}
+use Rattle.clif_expansion.specs.ScriptCall.{Ask, Emit, ScriptCall, call_allowed, ledger_of, ledger_with_call}
 use Rattle.clif_replay.specs.declared.script.ReplayError.{ReplayError}
 use Rattle.clif_replay.specs.declared.script.ReplayError.TheVariants as replay
 use Rattle.clif_replay.specs.Entries.{entry_in}
@@ -40,77 +49,87 @@ use Rattle.clif_resolution.specs.Plans.{operation_in, controlling_in}
 abbrev pub name_of : named.Name → Name
 name_of name = record { place = name.place; index = name.answer }
 
+-- Under which name the answer with a name in a list of calls is known to a builder, of which other calls may have been asked:
+-- by `name_of`, where it was asked these calls and no others.
+abbrev pub Naming : Type 0
+Naming = named.Name → Name
+
 -- an edge, and what it passes
-abbrev pub edge_of : script.Edge → Edge Name Name
-edge_of destination = record { target = name_of destination.block; arguments = map (λ name. Known (name_of name)) destination.args.items }
+abbrev pub edge_of : Naming → script.Edge → Edge Name Name
+edge_of naming destination = record { target = naming destination.block; arguments = map (λ name. Known (naming name)) destination.args.items }
 
 -- what an edge of a table passes
-abbrev pub passed_of : Passed → Argument Name
-passed_of (passed.Value name) = Known (name_of name)
-passed_of (passed.Returned place) = CallResult place
-passed_of (passed.Thrown place) = CallPayload place
+abbrev pub passed_of : Naming → Passed → Argument Name
+passed_of naming (passed.Value name) = Known (naming name)
+passed_of naming (passed.Returned place) = CallResult place
+passed_of naming (passed.Thrown place) = CallPayload place
 
-abbrev pub table_edge_of : TableEdge → Edge Name Name
-table_edge_of edge = record { target = name_of edge.block; arguments = map passed_of edge.args.items }
+abbrev pub table_edge_of : Naming → TableEdge → Edge Name Name
+table_edge_of naming edge = record { target = naming edge.block; arguments = map (passed_of naming) edge.args.items }
 
 -- an item of an exception table
-abbrev pub item_of : TableItem → asked.TableItem
-item_of (item.Tag tag edge) = asked.TagTo tag (name_of edge)
-item_of (item.Default edge) = asked.DefaultTo (name_of edge)
-item_of (item.Context value) = asked.InContext (name_of value)
+abbrev pub item_of : Naming → TableItem → asked.TableItem
+item_of naming (item.Tag tag edge) = asked.TagTo tag (naming edge)
+item_of naming (item.Default edge) = asked.DefaultTo (naming edge)
+item_of naming (item.Context value) = asked.InContext (naming value)
 
 -- the request of an instruction, which is made at types that the ledger tells
-abbrev pub request_in : Ledger → Plan → Request
-request_in ledger plan =
-    Build [] (record { operation = operation_in plan; controlling = controlling_in (λ name. or_invalid (type_of ledger (name_of name))) plan; operands = map name_of (operands_in plan); contexts = []; edges = map edge_of (edges_in plan) })
+abbrev pub request_in : Naming → Ledger → Plan → Request
+request_in naming ledger plan =
+    Build [] (record { operation = operation_in plan; controlling = controlling_in (λ name. or_invalid (type_of ledger (naming name))) plan; operands = map naming (operands_in plan); contexts = []; edges = map (edge_of naming) (edges_in plan) })
 
 -- the request of an outside call, of what the ledger's tables hold
-abbrev pub outside_request : Ledger → OutsideCall → Request
-outside_request ledger (outside.Call function args) = call_function ledger function (map name_of args.items)
-outside_request ledger (outside.CallIndirect signature callee args) = call_indirect ledger signature (name_of callee) (map name_of args.items)
+abbrev pub outside_request : Naming → Ledger → OutsideCall → Request
+outside_request naming ledger (outside.Call function args) = call_function ledger function (map naming args.items)
+outside_request naming ledger (outside.CallIndirect signature callee args) = call_indirect ledger signature (naming callee) (map naming args.items)
 
 -- the request of a call along the edges of an exception table, of what the ledger's tables hold
-abbrev pub throwing_request : Ledger → ThrowingCall → Request
-throwing_request ledger (throwing.TryCall function args table) = try_call ledger function (map name_of args.items) table
-throwing_request ledger (throwing.TryCallIndirect callee args table) = try_call_indirect ledger (name_of callee) (map name_of args.items) table
+abbrev pub throwing_request : Naming → Ledger → ThrowingCall → Request
+throwing_request naming ledger (throwing.TryCall function args table) = try_call ledger function (map naming args.items) table
+throwing_request naming ledger (throwing.TryCallIndirect callee args table) = try_call_indirect ledger (naming callee) (map naming args.items) table
 
--- the request of a call, on a function of this signature. `brif` is made at the type of its condition, which the ledger
--- tells.
+-- The request of a call, on a function of this signature, with its names so known. `brif` is made at the type of its condition,
+-- which the ledger tells. What is emitted asks nothing of the builder itself: `call_of` tells what it is.
+abbrev pub request_under : Naming → SignatureShape → Ledger → Call → Request
+request_under naming signature ledger call.CreateBlock = CreateBlock
+request_under naming signature ledger (call.SwitchToBlock block) = SwitchToBlock (naming block)
+request_under naming signature ledger (call.SealBlock block) = SealBlock (naming block)
+request_under naming signature ledger call.SealAllBlocks = SealAllBlocks
+request_under naming signature ledger (call.InsertBlockAfter block after) = InsertBlockAfter (naming block) (naming after)
+request_under naming signature ledger (call.SetColdBlock block) = SetColdBlock (naming block)
+request_under naming signature ledger call.EnsureInsertedBlock = EnsureInsertedBlock
+request_under naming signature ledger (call.AppendBlockParam block ty) = AppendBlockParams (naming block) (ty ∷ [])
+request_under naming signature ledger (call.AppendBlockParamsForFunctionParams block) = AppendFunctionParams (naming block) (types_of signature.params)
+request_under naming signature ledger (call.AppendBlockParamsForFunctionReturns block) = AppendBlockParams (naming block) (types_of signature.returns)
+request_under naming signature ledger (call.Entry entry) = MakeEntry (entry_in entry)
+request_under naming signature ledger (call.BlockCall edge) = MakeEdge (table_edge_of naming edge)
+request_under naming signature ledger (call.CreateJumpTable default entries) = MakeJumpTable (naming default) (map naming entries.items)
+request_under naming signature ledger (call.CreateExceptionTable callee normal items) = MakeExceptionTable callee (naming normal) (map (item_of naming) items.items)
+request_under naming signature ledger (call.DeclareVar ty) = DeclareVar ty
+request_under naming signature ledger (call.DefVar variable value) = DefVar variable (naming value)
+request_under naming signature ledger (call.UseVar variable) = UseVar variable
+request_under naming signature ledger (call.TryDefVar variable value) = DefVar variable (naming value)
+request_under naming signature ledger (call.TryUseVar variable) = UseVar variable
+request_under naming signature ledger (call.Plain instruction) = request_in naming ledger (plan_of instruction)
+request_under naming signature ledger (call.Cursor instruction) = request_in naming ledger (plan_of instruction)
+request_under naming signature ledger (call.Outside called) = outside_request naming ledger called
+request_under naming signature ledger (call.SetSrcloc srcloc) = Annotate []
+request_under naming signature ledger call.CollectDebugInfo = Annotate []
+request_under naming signature ledger (call.SetValLabel value label) = Annotate (naming value ∷ [])
+request_under naming signature ledger (call.ChangeJumpDestination branch from to) = ChangeJumpDestination (naming branch) (naming from) (naming to)
+request_under naming signature ledger (call.F128const bytes) = pooled_const F128const Invalid bytes.items
+request_under naming signature ledger (call.Vconst ty bytes) = pooled_const Vconst ty bytes.items
+request_under naming signature ledger (call.Jump destination) = jump (edge_of naming destination)
+request_under naming signature ledger (call.Brif condition block_then block_else) = brif ledger (naming condition) (edge_of naming block_then) (edge_of naming block_else)
+request_under naming signature ledger (call.BrTable index table) = br_table ledger (naming index) table
+request_under naming signature ledger (call.Throwing called) = throwing_request naming ledger called
+request_under naming signature ledger (call.Return values) = return_ (map naming values.items)
+request_under naming signature ledger (call.Trap code) = trap code
+request_under naming signature ledger (call.Immediate called) = Annotate []
+
+-- the request of a call with its own names
 abbrev pub request_of : SignatureShape → Ledger → Call → Request
-request_of signature ledger call.CreateBlock = CreateBlock
-request_of signature ledger (call.SwitchToBlock block) = SwitchToBlock (name_of block)
-request_of signature ledger (call.SealBlock block) = SealBlock (name_of block)
-request_of signature ledger call.SealAllBlocks = SealAllBlocks
-request_of signature ledger (call.InsertBlockAfter block after) = InsertBlockAfter (name_of block) (name_of after)
-request_of signature ledger (call.SetColdBlock block) = SetColdBlock (name_of block)
-request_of signature ledger call.EnsureInsertedBlock = EnsureInsertedBlock
-request_of signature ledger (call.AppendBlockParam block ty) = AppendBlockParams (name_of block) (ty ∷ [])
-request_of signature ledger (call.AppendBlockParamsForFunctionParams block) = AppendFunctionParams (name_of block) (types_of signature.params)
-request_of signature ledger (call.AppendBlockParamsForFunctionReturns block) = AppendBlockParams (name_of block) (types_of signature.returns)
-request_of signature ledger (call.Entry entry) = MakeEntry (entry_in entry)
-request_of signature ledger (call.BlockCall edge) = MakeEdge (table_edge_of edge)
-request_of signature ledger (call.CreateJumpTable default entries) = MakeJumpTable (name_of default) (map name_of entries.items)
-request_of signature ledger (call.CreateExceptionTable callee normal items) = MakeExceptionTable callee (name_of normal) (map item_of items.items)
-request_of signature ledger (call.DeclareVar ty) = DeclareVar ty
-request_of signature ledger (call.DefVar variable value) = DefVar variable (name_of value)
-request_of signature ledger (call.UseVar variable) = UseVar variable
-request_of signature ledger (call.TryDefVar variable value) = DefVar variable (name_of value)
-request_of signature ledger (call.TryUseVar variable) = UseVar variable
-request_of signature ledger (call.Plain instruction) = request_in ledger (plan_of instruction)
-request_of signature ledger (call.Cursor instruction) = request_in ledger (plan_of instruction)
-request_of signature ledger (call.Outside called) = outside_request ledger called
-request_of signature ledger (call.SetSrcloc srcloc) = Annotate []
-request_of signature ledger call.CollectDebugInfo = Annotate []
-request_of signature ledger (call.SetValLabel value label) = Annotate (name_of value ∷ [])
-request_of signature ledger (call.ChangeJumpDestination branch from to) = ChangeJumpDestination (name_of branch) (name_of from) (name_of to)
-request_of signature ledger (call.F128const bytes) = pooled_const F128const Invalid bytes.items
-request_of signature ledger (call.Vconst ty bytes) = pooled_const Vconst ty bytes.items
-request_of signature ledger (call.Jump destination) = jump (edge_of destination)
-request_of signature ledger (call.Brif condition block_then block_else) = brif ledger (name_of condition) (edge_of block_then) (edge_of block_else)
-request_of signature ledger (call.BrTable index table) = br_table ledger (name_of index) table
-request_of signature ledger (call.Throwing called) = throwing_request ledger called
-request_of signature ledger (call.Return values) = return_ (map name_of values.items)
-request_of signature ledger (call.Trap code) = trap code
+request_of signature ledger call = request_under name_of signature ledger call
 
 -- a call that is only tried
 abbrev pub is_tried : Call → Bool
@@ -118,32 +137,64 @@ is_tried (call.TryDefVar variable value) = true
 is_tried (call.TryUseVar variable) = true
 is_tried _ = false
 
-abbrev pub attempt_of : SignatureShape → Ledger → Call → Attempt
-attempt_of signature ledger call = record { request = request_of signature ledger call; is_tried = is_tried call }
+-- the operand that is named
+abbrev pub operand_in : ImmediateCall → named.Name
+operand_in (immediate.IaddImmS x imm) = x
+operand_in (immediate.IcmpImmS cond x imm) = x
+
+-- the arithmetic that the script emits: beside a constant
+abbrev pub emitted_in : ImmediateCall → Arithmetic
+emitted_in (immediate.IaddImmS x imm) = AddConstant imm
+emitted_in (immediate.IcmpImmS cond x imm) = CompareConstant cond imm
+
+-- the type of the operand, as the ledger tells it
+abbrev pub operand_type : Naming → Ledger → ImmediateCall → «Type»
+operand_type naming ledger called = or_invalid (type_of ledger (naming (operand_in called)))
+
+-- the instruction that is emitted, with its operand so known
+abbrev pub emission_under : Naming → Ledger → ImmediateCall → Instruction Name Name
+emission_under naming ledger called = computing (emitted_in called) (operand_type naming ledger called) (naming (operand_in called) ∷ [])
+
+-- a call of a list as a call of the script, with its own names: it emits, or asks the builder
+abbrev pub call_of : SignatureShape → Ledger → Call → ScriptCall
+call_of signature ledger (call.Immediate called) = Emit (emission_under name_of ledger called)
+call_of signature ledger call = Ask (request_of signature ledger call)
+
+abbrev pub attempt_of : SignatureShape → Ledger → Call → CallAttempt
+attempt_of signature ledger call = record { call = call_of signature ledger call; is_tried = is_tried call }
 
 -- the calls as they are made, each at the ledger of the ones before it
-abbrev pub attempts_from : SignatureShape → Ledger → List Call → List Attempt
+abbrev pub attempts_from : SignatureShape → Ledger → List Call → List CallAttempt
 attempts_from signature ledger [] = []
 attempts_from signature ledger (call ∷ calls) =
-    attempt_of signature ledger call ∷ attempts_from signature (ledger_with ledger (request_of signature ledger call)) calls
+    attempt_of signature ledger call ∷ attempts_from signature (ledger_with_call ledger (call_of signature ledger call)) calls
 
-abbrev pub attempts_of : SignatureShape → List Call → List Attempt
+abbrev pub attempts_of : SignatureShape → List Call → List CallAttempt
 attempts_of signature calls = attempts_from signature empty_ledger calls
 
--- the requests of calls, each at the ledger of the ones before it
-abbrev pub requests_from : SignatureShape → Ledger → List Call → Script
-requests_from signature ledger [] = []
-requests_from signature ledger (call ∷ calls) =
-    request_of signature ledger call ∷ requests_from signature (ledger_with ledger (request_of signature ledger call)) calls
+-- the script's calls, each at the ledger of the ones before it
+abbrev pub calls_from : SignatureShape → Ledger → List Call → List ScriptCall
+calls_from signature ledger [] = []
+calls_from signature ledger (call ∷ calls) =
+    call_of signature ledger call ∷ calls_from signature (ledger_with_call ledger (call_of signature ledger call)) calls
 
-abbrev pub requests_of : SignatureShape → List Call → Script
-requests_of signature calls = requests_from signature empty_ledger calls
+abbrev pub calls_of : SignatureShape → List Call → List ScriptCall
+calls_of signature calls = calls_from signature empty_ledger calls
+
+-- These are plain calls of a script's calls: their names are read as the script's, and the code of each emission does what the
+-- instruction does that is emitted, whatever the width of pointers.
+pub record ArePlainCalls (plain : Script) (calls : List ScriptCall) : Type 0 where
+  pub reading : Reading
+  pub joined : AreJoinedCalls reading plain calls
+  pub performed : (pointer_width : ℕ) → ArePerformed pointer_width reading plain calls joined
 
 -- the first calls of a list were made, as many as `place` says, and the verdict on the list is that on the rest
 pub record IsReplayed (signature : SignatureShape) (calls : List Call) (place : ℕ) (made : List AnsweredCall) : Type 0 where
-  pub script : script_of made ≡ requests_of signature (take place calls)
-  pub rest : verdict_on_attempts (attempts_of signature calls)
-      ≡ verdict_from place (ledger_after (script_of made)) (attempts_from signature (ledger_after (script_of made)) (drop place calls) ++ outright Finalize ∷ [])
+  pub plain : ArePlainCalls (script_of made) (calls_of signature (take place calls))
+  pub taken : AreCallsTaken empty_ledger (calls_of signature (take place calls))
+  pub rest : verdict_on_call_attempts (attempts_of signature calls)
+      ≡ verdict_on_calls_from place (ledger_of (calls_of signature (take place calls)))
+      (attempts_from signature (ledger_of (calls_of signature (take place calls))) (drop place calls) ++ verdict.made (Ask Finalize) ∷ [])
 
 -- the calls that may be refused: `finalize`, behind the last one, and those that are only tried
 abbrev pub MayBeRefused : List Call → ℕ → Type 0
@@ -157,12 +208,12 @@ verdict_of (Err (replay.Refused place)) = Some (Refused place)
 verdict_of (Err replay.Memory) = None
 verdict_of (Err replay.Full) = None
 
--- The function was built by these calls, and by no others: a builder of it, with this context and current block, stands
--- for them, on a function of the caller's signature; and no variable's parameter is left in a block to which at most one
+-- The function was built by plain calls of these calls, and by no others: a builder of it, with this context and current block,
+-- stands for them, on a function of the caller's signature; and no variable's parameter is left in a block to which at most one
 -- branch leads.
 pub record IsBuiltBy (calls : List Call) (declared : SignatureShape) (f : Body) : Type 0 where
   pub made : List AnsweredCall
-  pub script : script_of made ≡ requests_of declared calls
+  pub plain : ArePlainCalls (script_of made) (calls_of declared calls)
   pub context : ContextState
   pub position : Option ℕ
   pub stands : StandsIn declared made f context position
@@ -182,5 +233,7 @@ pub record IsStoppedByTable (calls : List Call) (name : UserFuncName) (declared 
   pub position : Option ℕ
   pub stands : StandsIn declared made function context position
   pub named : function.name ≡ name
-  pub allowed : allows (ledger_after (script_of made)) (request_of declared (ledger_after (script_of made)) call) ≡ true
+  pub allowed :
+      let ledger = ledger_of (calls_of declared (take place calls)) in
+      call_allowed ledger (call_of declared ledger call) ≡ true
   pub meets : MeetsFullTable call function context

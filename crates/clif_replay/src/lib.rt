@@ -1,12 +1,14 @@
 //! Scripts, lists of builder calls, are replayed: each call is made on a builder, in order.
 #![tactic(auto)]
 
+pub mod examples;
 mod make;
 mod make_blocks;
 mod make_branches;
 mod make_constants;
 mod make_entities;
 mod make_exceptions;
+mod make_immediate;
 mod make_instructions;
 mod make_notes;
 mod make_outside;

@@ -1,5 +1,6 @@
 //! The calls of a script, each made on a builder if its condition holds.
 ghost use Rattle.std.specs.Prelude.{◌≡◌, ◌<◌, length, slice_get, IsTrue, ◌↔◌};
+ghost use Rattle.clif_replay.specs.Emits.{MakesScriptCall};
 ghost use Rattle.clif_replay.specs.Makes.{MakesCall};
 ghost use Rattle.clif_replay.specs.Ready.{IsSound, can_define, can_use};
 
@@ -11,6 +12,7 @@ use crate::make_branches::change_jump_destination;
 use crate::make_constants::make_constant;
 use crate::make_entities::make_entry;
 use crate::make_exceptions::{create_exception_table, make_throwing_call};
+use crate::make_immediate::make_immediate;
 use crate::make_instructions::{Lender, make_instruction};
 use crate::make_notes::{collect_debug_info, set_srcloc, set_val_label};
 use crate::make_outside::make_outside_call;
@@ -35,7 +37,7 @@ pub(crate) fn make_call(
 ) -> Result<Answer, CallError>
     requires sound { IsSound builder.old answers.now }
     requires types { types.now ≡ builder.old.ctx.now.variables }
-    ensures { MakesCall call.now builder.old builder.new answers.now result }
+    ensures { MakesScriptCall call.now builder.old builder.new answers.now result }
 {
     match call {
         Call::CreateBlock => create_block(builder, answers),
@@ -76,6 +78,7 @@ pub(crate) fn make_call(
             make_instruction(builder, answers, Lender::Cursor, &instruction.plan())
         }
         Call::Outside(called) => make_outside_call(builder, answers, called),
+        Call::Immediate(called) => make_immediate(builder, answers, *called),
         Call::SetSrcloc { srcloc } => set_srcloc(builder, answers, *srcloc),
         Call::CollectDebugInfo => collect_debug_info(builder, answers),
         Call::SetValLabel { value, label } => set_val_label(builder, answers, *value, *label),

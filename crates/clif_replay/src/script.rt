@@ -4,12 +4,12 @@ ghost use Rattle.clif_meaning.specs.Request.{AnsweredCall};
 ghost use Rattle.clif_meaning.specs.Acceptance as acceptance;
 ghost use Rattle.cranelift_frontend.specs.StandsFor.{StandsFor};
 ghost use Rattle.clif_meaning.specs.View.{view_of};
-ghost use Rattle.clif_meaning.specs.Headline.{MeansTheSame};
-ghost use Rattle.clif_meaning.specs.Premises.{CallersEdgesMatch, PlacementPremises};
+ghost use Rattle.clif_expansion.specs.CallsHeadline.{CallersEdgesMatchInCalls, CallsMeanTheSame, CallsPlacementPremises};
+ghost use Rattle.clif_expansion.specs.CallsVerdict.{verdict_on_call_attempts};
 ghost use Rattle.clif_meaning.specs.Typing.{EdgesMatch};
 ghost use Rattle.clif_meaning.specs.WellPlaced.{WellPlaced};
 ghost use Rattle.clif_replay.specs.Replay.{ReplayMakes, ReplayTells};
-ghost use Rattle.clif_replay.specs.Requests.{IsBuiltBy, IsReplayed, IsStoppedByTable, MayBeRefused, attempts_of, requests_of, verdict_of};
+ghost use Rattle.clif_replay.specs.Requests.{IsBuiltBy, IsReplayed, IsStoppedByTable, MayBeRefused, attempts_of, calls_of, verdict_of};
 ghost use Rattle.clif_ir.specs.Body.{empty_body};
 ghost use Rattle.cranelift_frontend.specs.Builder.{SameLoans};
 ghost use Rattle.cranelift_frontend.specs.Context.{empty_context};
@@ -97,16 +97,16 @@ pub fn replay(
     config: TargetFrontendConfig,
 ) -> Result<Function, ReplayError>
     requires { ctx.old ≡ empty_context }
-    ensures same_meaning { IfOk result (λ function. MeansTheSame (requests_of signature calls.now) signature config.pointer_width (view_of function)) }
+    ensures same_meaning { IfOk result (λ function. CallsMeanTheSame (calls_of signature calls.now) signature config.pointer_width (view_of function)) }
     ensures built { IfOk result (λ function. IsBuiltBy calls.now signature function) }
-    ensures edges_match { IfOk result (λ function. CallersEdgesMatch (requests_of signature calls.now) → EdgesMatch (view_of function)) }
-    ensures well_placed { IfOk result (λ function. PlacementPremises (requests_of signature calls.now) signature → WellPlaced (view_of function)) }
+    ensures edges_match { IfOk result (λ function. CallersEdgesMatchInCalls (calls_of signature calls.now) → EdgesMatch (view_of function)) }
+    ensures well_placed { IfOk result (λ function. CallsPlacementPremises (calls_of signature calls.now) signature → WellPlaced (view_of function)) }
     ensures name { IfOk result (λ function. function.name ≡ name) }
     ensures context { ctx.new ≡ empty_context }
     ensures misuse { (i : ℕ) → result ≡ Err (ReplayError.Misuse i) → i < length calls.now }
     ensures refused { (i : ℕ) → result ≡ Err (ReplayError.Refused i) → MayBeRefused calls.now i }
     ensures table_full { result ≡ Err ReplayError.Full → IsStoppedByTable calls.now name signature }
-    ensures verdict { result ≢ Err ReplayError.Memory → result ≢ Err ReplayError.Full → verdict_of result ≡ Some (acceptance.verdict_on_attempts (attempts_of signature calls.now)) }
+    ensures verdict { result ≢ Err ReplayError.Memory → result ≢ Err ReplayError.Full → verdict_of result ≡ Some (verdict_on_call_attempts (attempts_of signature calls.now)) }
 {
     let mut func = Function::with_name_signature(alloc, name, signature);
     build(alloc, calls, &mut func, ctx, config)?;
@@ -155,9 +155,9 @@ fn make_calls(
     ensures ready { OnOk result ((made : List AnsweredCall) × StandsFor builder.old.func.now.signature made builder.new × IsReplayed builder.old.func.now.signature calls.now (length calls.now) made) }
     ensures sound { OnOk result (builder.new.failed ≡ false) }
     ensures misuse { (i : ℕ) → result ≡ Err (ReplayError.Misuse i) → i < length calls.now }
-    ensures judged { (i : ℕ) → result ≡ Err (ReplayError.Misuse i) → acceptance.verdict_on_attempts (attempts_of builder.old.func.now.signature calls.now) ≡ acceptance.Misuse i }
+    ensures judged { (i : ℕ) → result ≡ Err (ReplayError.Misuse i) → verdict_on_call_attempts (attempts_of builder.old.func.now.signature calls.now) ≡ acceptance.Misuse i }
     ensures tried { (i : ℕ) → result ≡ Err (ReplayError.Refused i) → MayBeRefused calls.now i }
-    ensures refused { (i : ℕ) → result ≡ Err (ReplayError.Refused i) → acceptance.verdict_on_attempts (attempts_of builder.old.func.now.signature calls.now) ≡ acceptance.Refused i }
+    ensures refused { (i : ℕ) → result ≡ Err (ReplayError.Refused i) → verdict_on_call_attempts (attempts_of builder.old.func.now.signature calls.now) ≡ acceptance.Refused i }
     ensures table_full { result ≡ Err ReplayError.Full → IsStoppedByTable calls.now builder.old.func.now.name builder.old.func.now.signature }
 {
     ledger_is_read_by_number();

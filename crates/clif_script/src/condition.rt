@@ -11,6 +11,8 @@ pub enum Condition {
     NoBlock(Name),
     /// The name leads to no value.
     NoValue(Name),
+    /// The value isn't an integer.
+    NoInteger(Name),
     /// The name leads to no edge.
     NoEdge(Name),
     /// The name leads to no instruction.
@@ -66,6 +68,7 @@ impl fmt::Display for Condition {
         match self {
             Condition::NoBlock(name) => write_name(f, *name, "block"),
             Condition::NoValue(name) => write_name(f, *name, "value"),
+            Condition::NoInteger(name) => write_name(f, *name, "integer"),
             Condition::NoEdge(name) => write_name(f, *name, "block call"),
             Condition::NoInst(name) => write_name(f, *name, "instruction"),
             Condition::LeadsElsewhere(Name { place, answer }, number) => {

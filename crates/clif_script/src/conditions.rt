@@ -2,11 +2,14 @@
 use crate::condition::Condition;
 use crate::ledger::Ledger;
 use clif_calls::{
-    Call, Edge, EntryCall, Name, OutsideCall, Passed, TableEdge, TableItem, ThrowingCall,
+    Call, Edge, EntryCall, ImmediateCall, Name, OutsideCall, Passed, TableEdge, TableItem,
+    ThrowingCall,
 };
 use clif_opcodes::{Demand, Opcode, PooledConstOpcode};
 use clif_operations::Operation;
-use clif_script_program::instruction::{edge_count, edge_of, instruction_of, plan_of};
+use clif_script_program::instruction::{
+    edge_count, edge_of, instruction_of, plan_of, with_constant_of,
+};
 use clif_types::{EntityRef, FuncRef, JumpTable, SigRef, Signature, StackSlot, Type};
 use std::alloc::{AllocError, Global};
 
@@ -203,6 +206,17 @@ impl Ledger<'_> {
         Ok(())
     }
 
+    // An instruction with a constant as an operand may be made: the other operand is an integer.
+    fn can_take_constant(&self, called: ImmediateCall) -> Result<(), Condition> {
+        self.is_open()?;
+        let (_, x) = with_constant_of(called);
+        if self.value(x)?.is_int() {
+            Ok(())
+        } else {
+            Err(Condition::NoInteger(x))
+        }
+    }
+
     // An entry of a table may be made.
     fn can_add(&self, entry: &EntryCall) -> Result<(), Condition> {
         match entry {
@@ -287,6 +301,7 @@ impl Ledger<'_> {
                 self.have_items(*normal, items.as_slice())
             }
             Call::Outside(called) => self.can_call(called),
+            Call::Immediate(called) => self.can_take_constant(*called),
             Call::Throwing(called) => self.can_try(called),
             Call::DeclareVar { ty } => can_declare(*ty),
             Call::DefVar { variable, value } => self.can_define(variable.index(), *value),

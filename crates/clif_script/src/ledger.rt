@@ -1,13 +1,13 @@
 //! What the calls so far tell, as the conditions on calls ask it.
 use crate::condition::Condition;
-use clif_calls::{Call, EntryCall, Name, OutsideCall, TableEdge, TableItem};
+use clif_calls::{Call, EntryCall, ImmediateCall, Name, OutsideCall, TableEdge, TableItem};
 use clif_opcodes::Control;
 use clif_operations::Operation;
 use clif_script_program::branches::Branches;
 use clif_script_program::exceptions::Exceptions;
 use clif_script_program::imports::Imports;
 use clif_script_program::instruction::{instruction_of, plan_of, targets_of};
-use clif_types::types::F128;
+use clif_types::types::{F128, I8};
 use clif_types::{AbiParam, EntityRef, ExceptionTable, JumpTable, SigRef, Signature, Type};
 use std::alloc::{AllocError, Global};
 
@@ -322,6 +322,16 @@ impl<'a> Ledger<'a> {
         Ok(())
     }
 
+    // An instruction with a constant as an operand is made, which answers a value.
+    fn take_constant(&mut self, called: ImmediateCall) -> Result<(), AllocError> {
+        self.begin();
+        let ty = match called {
+            ImmediateCall::IaddImmS { x, .. } => self.value(x).unwrap_or(Type::Invalid),
+            ImmediateCall::IcmpImmS { .. } => I8,
+        };
+        self.push(Answer::Value(ty))
+    }
+
     // An entry of a table is made.
     fn add(&mut self, entry: &EntryCall) -> Result<(), AllocError> {
         match entry {
@@ -406,6 +416,7 @@ impl<'a> Ledger<'a> {
             Call::BrTable { table, .. } => self.branch(*table),
             Call::Throwing(called) => self.serve_exceptions(called.table()),
             Call::Outside(called) => self.call_outside(called),
+            Call::Immediate(called) => self.take_constant(*called),
             Call::UseVar { variable } | Call::TryUseVar { variable } => {
                 self.begin();
                 let ty = self.variable(variable.index()).unwrap_or(Type::Invalid);

@@ -1,8 +1,8 @@
 //! The instructions of scripts, by their parts.
-use clif_calls::{Call, Edge, Name, Plan, TableEdge};
+use clif_calls::{Call, Edge, ImmediateCall, Name, Plan, TableEdge};
 use clif_opcodes::PooledConstOpcode;
-use clif_operations::Operation;
 use clif_operations::arithmetic::bits_of_bytes;
+use clif_operations::{Operation, WithConstant};
 use clif_types::{JumpTable, Type};
 use std::alloc::{AllocError, Global};
 use std::slice;
@@ -161,6 +161,14 @@ pub fn constant_of<'c>(call: &'c Call) -> Option<Instruction<'c>> {
         given,
         operands,
     })
+}
+
+/// What an instruction with a constant does, and its operand beside that: a row for each.
+pub fn with_constant_of(call: ImmediateCall) -> (WithConstant, Name) {
+    match call {
+        ImmediateCall::IaddImmS { x, imm } => (WithConstant::Iadd(imm), x),
+        ImmediateCall::IcmpImmS { cond, x, imm } => (WithConstant::Icmp(cond, imm), x),
+    }
 }
 
 /// How many results the instruction of a call has, if it makes one.

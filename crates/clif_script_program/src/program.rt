@@ -206,6 +206,7 @@ impl Program {
             | Call::Plain(_)
             | Call::Cursor(_)
             | Call::Outside(_)
+            | Call::Immediate(_)
             | Call::F128const { .. }
             | Call::Vconst { .. } => {
                 self.put_into_layout();
@@ -328,7 +329,10 @@ impl Program {
                 None => 1,
             },
             Call::F128const { .. } | Call::Vconst { .. } => 2,
-            Call::AppendBlockParam { .. } | Call::UseVar { .. } | Call::TryUseVar { .. } => 1,
+            Call::AppendBlockParam { .. }
+            | Call::UseVar { .. }
+            | Call::TryUseVar { .. }
+            | Call::Immediate(_) => 1,
             _ => 0,
         }
     }

@@ -5,6 +5,8 @@
 #[cfg(test)]
 mod changes;
 #[cfg(test)]
+mod constants;
+#[cfg(test)]
 mod data;
 #[cfg(test)]
 mod entries;

@@ -6,7 +6,7 @@ use Rattle.clif_types.specs.Signature.{SignatureShape}
 use Rattle.clif_types.specs.Target.{pointer_type_of}
 use Rattle.clif_types.specs.declared.target.PointerWidth.TheVariants.{U64}
 use Rattle.clif_types.specs.declared.trapcode.TrapCode.TheVariants.{IntegerOverflow}
-use Rattle.clif_meaning.specs.Acceptance.{Accepted, verdict_on_attempts}
+use Rattle.clif_meaning.specs.Acceptance.{Accepted}
 use Rattle.clif_meaning.specs.Examples.{i32}
 use Rattle.clif_meaning.specs.Headline.{script_run}
 use Rattle.clif_meaning.specs.Premises.{Premises}
@@ -16,7 +16,9 @@ use Rattle.clif_calls.specs.declared.call.Call.{Call}
 use Rattle.clif_calls.specs.declared.call.Call.TheVariants as call
 use Rattle.clif_calls.specs.declared.call.Name.{Name}
 use Rattle.clif_renaming.specs.Sealing.{DifferInSealing}
-use Rattle.clif_replay.specs.Requests.{attempts_of, requests_of}
+use Rattle.clif_expansion.specs.CallsVerdict.{verdict_on_call_attempts}
+use Rattle.clif_replay.specs.Requests.{attempts_of}
+use Rattle.clif_sealing_laws.specs.Laws.{EmitsNothing, requests_of}
 
 -- the first answer of the call at this place
 abbrev pub answer_to : ℕ → Name
@@ -35,9 +37,11 @@ sealed_last variable =
     ∷ call.UseVar variable ∷ call.DefVar 1 (answer_to 4) ∷ call.Trap IntegerOverflow ∷ call.SealAllBlocks ∷ []
 
 pub record SealingLawExamples (signature : SignatureShape) : Type 0 where
+  pub first_emits_nothing : EmitsNothing signature sealed_first
+  pub last_emits_nothing : EmitsNothing signature (sealed_last 0)
   pub differ : DifferInSealing (requests_of signature sealed_first) (requests_of signature (sealed_last 0))
-  pub accepted : verdict_on_attempts (attempts_of signature sealed_first) ≡ Accepted
-  pub last_accepted : verdict_on_attempts (attempts_of signature (sealed_last 0)) ≡ Accepted
+  pub accepted : verdict_on_call_attempts (attempts_of signature sealed_first) ≡ Accepted
+  pub last_accepted : verdict_on_call_attempts (attempts_of signature (sealed_last 0)) ≡ Accepted
   -- wrong: another variable is used
   pub other_variable : DifferInSealing (requests_of signature sealed_first) (requests_of signature (sealed_last 1)) → ⊥
   -- the row `sample` seals its blocks as soon as may be, and meets the premises in every world; so does `sample_late`, which seals

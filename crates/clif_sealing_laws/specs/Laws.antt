@@ -1,20 +1,22 @@
 -- Laws on two finished functions whose scripts differ only in when blocks are sealed: they have the same meaning, which is
 -- that they make the same outside calls and end alike. Neither law asks anything of the functions' slots, and only one of
 -- the scripts has to meet the premises. Source: own.
-use Rattle.std.specs.Prelude.{ℕ, List, Option}
+use Rattle.std.specs.Prelude.{◌≡◌, ℕ, List, [], ◌∷◌, Option, map}
 use Rattle.clif_types.specs.Signature.{SignatureShape}
 use Rattle.clif_types.specs.declared.target.PointerWidth.{PointerWidth}
 use Rattle.clif_types.specs.Target.{pointer_type_of}
 use Rattle.clif_ir.specs.Body.{Body}
 use Rattle.clif_meaning.specs.Headline.{IsWorldOf, MeansTheSame, function_behaviour, script_run}
 use Rattle.clif_meaning.specs.Premises.{Premises}
-use Rattle.clif_meaning.specs.Request.{AnsweredCall, script_of}
+use Rattle.clif_meaning.specs.Request.{AnsweredCall, Script, script_of}
 use Rattle.clif_meaning.specs.SameMeaning.{SameMeaning}
 use Rattle.clif_meaning.specs.View.{view_of}
 use Rattle.clif_meaning.specs.World.{World}
 use Rattle.clif_calls.specs.declared.call.Call.{Call}
 use Rattle.clif_renaming.specs.Sealing.{DifferInSealing}
-use Rattle.clif_replay.specs.Requests.{IsBuiltBy, requests_of}
+use Rattle.clif_expansion.specs.CallsHeadline.{CallsMeanTheSame}
+use Rattle.clif_expansion.specs.ScriptCall.{Ask, Emit, ScriptCall}
+use Rattle.clif_replay.specs.Requests.{IsBuiltBy, calls_of}
 use Rattle.cranelift_frontend.specs.Context.{ContextState}
 use Rattle.cranelift_frontend.specs.StandsFor.{StandsIn}
 
@@ -37,16 +39,29 @@ BuiltFunctionsAgree =
     → Premises (script_of calls) declared (pointer_type_of width) (script_run (script_of calls) (view_of f) world)
     → SameMeaning (function_behaviour (script_of calls) (view_of f) world) (function_behaviour (script_of others) (view_of g) world)
 
+-- what the calls of a list ask of the builder, and that they do nothing else: none of them emits
+abbrev pub requests_in : List ScriptCall → Script
+requests_in [] = []
+requests_in (Ask request ∷ calls) = request ∷ requests_in calls
+requests_in (Emit instruction ∷ calls) = requests_in calls
+
+abbrev pub requests_of : SignatureShape → List Call → Script
+requests_of declared calls = requests_in (calls_of declared calls)
+
+abbrev pub EmitsNothing : SignatureShape → List Call → Type 0
+EmitsNothing declared calls = calls_of declared calls ≡ map Ask (requests_of declared calls)
+
 -- What `replay` says of the function that it returns, in its clauses of these names.
 pub record IsReplayOf (calls : List Call) (declared : SignatureShape) (width : PointerWidth) (f : Body) : Type 0 where
-  pub same_meaning : MeansTheSame (requests_of declared calls) declared width (view_of f)
+  pub same_meaning : CallsMeanTheSame (calls_of declared calls) declared width (view_of f)
   pub built : IsBuiltBy calls declared f
 
--- Two lists of calls that `replay` accepts, and that differ only in when blocks are sealed: the functions that it returns have
--- the same meaning, in each world in which the first list meets the premises. Source: own.
+-- Two lists of calls that `replay` accepts, that emit nothing and differ only in when blocks are sealed: the functions that it
+-- returns have the same meaning, in each world in which the first list meets the premises. Source: own.
 abbrev pub ReplayedFunctionsAgree : Type 0
 ReplayedFunctionsAgree =
     (calls others : List Call) (declared : SignatureShape) (width : PointerWidth) (f g : Body) (world : World)
+    → EmitsNothing declared calls → EmitsNothing declared others
     → DifferInSealing (requests_of declared calls) (requests_of declared others)
     → IsReplayOf calls declared width f → IsReplayOf others declared width g
     → IsWorldOf declared (view_of f) width world

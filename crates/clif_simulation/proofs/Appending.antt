@@ -32,7 +32,7 @@ use Rattle.clif_meaning.specs.Program.{answers_from}
 use Rattle.clif_simulation.specs.Tables.{code}
 use Rattle.clif_simulation.specs.Carries.{with_params}
 use Rattle.clif_simulation.proofs.Codes
-use Rattle.clif_simulation.proofs.Giving.{In}
+use Rattle.clif_simulation.proofs.Finished.Giving.{In}
 use Rattle.clif_simulation.proofs.Growing.{GoesOn, entries_same}
 
 -- what the caller made then

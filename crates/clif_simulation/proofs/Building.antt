@@ -1,6 +1,6 @@
 -- An instruction that succeeds leaves a function that carries it.
 use Rattle.std.proofs.Common.{◌≡◌, ◌≢◌, ℕ, zero, suc, ◌+◌, ◌<◌, List, [], ◌∷◌, ◌++◌, length, map, get_or, refl, sym, ◌∙◌, ap, ap₂, subst, arith, Some, None, ◌⊎◌, inl, inr, true, false}
-use Rattle.std.specs.Prelude.{slice_get, slice_index, slice_index_or, Contains, IsTrue, Option}
+use Rattle.std.specs.Prelude.{slice_get, slice_index, slice_index_or, Contains, IsTrue}
 use Rattle.std.proofs.lemmas.Option.{slice_get_within}
 use Rattle.std.specs.List.{AllByRecursion}
 use Rattle.std.proofs.Math.Decide.{ℕ_discrete}

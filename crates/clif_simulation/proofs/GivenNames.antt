@@ -8,7 +8,7 @@ use Rattle.clif_meaning.specs.Name.{Name}
 use Rattle.clif_meaning.specs.Request.{AnsweredCall}
 use Rattle.clif_simulation.specs.Tables.{code, answered, program_so_far, block_name, IsGiven, IsParameter, IsProgramOf}
 use Rattle.clif_simulation.proofs.Codes
-use Rattle.clif_simulation.proofs.Straight.{same_block, same_step}
+use Rattle.clif_simulation.proofs.Finished.Straight.{same_block, same_step}
 
 no_place : (b k : ℕ) → inside b k ≢ start
 no_place b k same = cc

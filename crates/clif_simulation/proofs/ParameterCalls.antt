@@ -32,10 +32,10 @@ use Rattle.clif_simulation.proofs.Carrying.{all_append, all_mapped, declared_kep
 use Rattle.clif_simulation.proofs.FreeEntry.{free_before}
 use Rattle.clif_simulation.proofs.Numbering.{values_alone}
 use Rattle.clif_simulation.proofs.Codes
-use Rattle.clif_simulation.proofs.Giving.{In, contained_in, in_contained}
+use Rattle.clif_simulation.proofs.Finished.Giving.{In, contained_in, in_contained}
 use Rattle.clif_simulation.proofs.GivenNames.{named_earlier}
 use Rattle.clif_simulation.proofs.Growing.{KeepsInsts, insts_kept}
-use Rattle.clif_simulation.proofs.InLists.{in_either}
+use Rattle.clif_simulation.proofs.Finished.InLists.{in_either}
 use Rattle.clif_simulation.proofs.ItemCalls.{same_or_other}
 use Rattle.clif_simulation.proofs.LedgerValues.{type_new, type_stays, typed_on, value_earlier, value_stays, value_type}
 use Rattle.clif_simulation.proofs.Ledgers.{types_before}

@@ -18,7 +18,7 @@ use Rattle.clif_meaning.proofs.StraightLine.{none_of}
 use Rattle.clif_simulation.specs.Tables.{program_so_far, block_name}
 use Rattle.clif_simulation.specs.Carries.{NothingLeads, IsEarlier, NamesEarlier, carried, answered_edge, as_passed, own_placed}
 use Rattle.clif_simulation.proofs.Whole.{Whole}
-use Rattle.clif_simulation.proofs.Giving.{In, in_contained}
+use Rattle.clif_simulation.proofs.Finished.Giving.{In, in_contained}
 use Rattle.clif_simulation.proofs.Listed.{none_mapped}
 
 pub none_leads : (s : SsaState) → NothingLeads s → (b i : ℕ) → Contains (predecessors_of s b) i → ⊥

@@ -1,6 +1,6 @@
 -- A worked example of a function that carries a list with an outside call: a block that calls a function by its name; where the
 -- call's result has another type, the function doesn't carry the list. Own.
-use Rattle.std.specs.Prelude.{false, List, [], ◌∷◌, None}
+use Rattle.std.specs.Prelude.{false, List, [], ◌∷◌}
 use Rattle.clif_types.specs.Signature.{SignatureShape}
 use Rattle.clif_types.specs.declared.call_conv.CallConv.TheVariants.{SystemV}
 use Rattle.clif_types.specs.declared.extname.ExternalName.{ExternalName}
@@ -46,8 +46,12 @@ call_calls =
     record { request = CreateBlock; numbers = 0 ∷ [] } ∷ record { request = SwitchToBlock (block 0); numbers = [] }
     ∷ record { request = Build [] call_instruction; numbers = 0 ∷ 0 ∷ [] } ∷ []
 
+-- a function of this signature that knows the callee
+abbrev pub empty_calling : SignatureShape → Body
+empty_calling signature = record (empty_body (Testcase (99 ∷ [])) signature) { tables = with_callee }
+
 abbrev pub empty_with_callee : Body
-empty_with_callee = record (empty_body (Testcase (99 ∷ [])) first_signature) { tables = with_callee }
+empty_with_callee = empty_calling first_signature
 
 abbrev pub block_with_callee : Body
 block_with_callee = with_block empty_with_callee

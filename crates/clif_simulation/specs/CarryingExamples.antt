@@ -1,5 +1,5 @@
 -- A worked example of a function that carries calls: the row `both_arms`, whose loop has both arms of one branch. Own.
-use Rattle.std.specs.Prelude.{◌≡◌, ℕ, ◌<◌, length, false, List, [], ◌∷◌, None, Some, ℤ, pos, negsuc}
+use Rattle.std.specs.Prelude.{◌≡◌, ℕ, ◌<◌, length, false, List, [], ◌∷◌, Some, ℤ, pos, negsuc}
 use Rattle.clif_types.specs.declared.target.PointerWidth.TheVariants.{U64}
 use Rattle.clif_types.specs.Target.{pointer_type_of}
 use Rattle.clif_types.specs.declared.extname.UserFuncName.TheVariants.{Testcase}

@@ -2,7 +2,7 @@
 -- names so far are given before their places whichever of these edges come. Along such an edge memory and events become any
 -- ones, alike on both sides, and so do the bits of the target's parameters of the caller's. So a block that only a coming branch
 -- will reach is read, too; and where nothing is tracked a coming edge may be that of an outside call. Own.
-use Rattle.std.specs.Prelude.{◌≡◌, ℕ, false, true, Bool, List, [], ◌∷◌, map, Contains, Option, Some, None, IsTrue, if◌then◌else◌}
+use Rattle.std.specs.Prelude.{◌≡◌, ℕ, false, Bool, List, [], map, Contains, Option, Some, None, if◌then◌else◌}
 use Rattle.std.specs.List.{list_any}
 use Rattle.clif_types.specs.Signature.{SignatureShape}
 use Rattle.clif_types.specs.declared.target.PointerWidth.{PointerWidth}
@@ -15,20 +15,19 @@ use Rattle.clif_meaning.specs.Memory.{Memory}
 use Rattle.clif_meaning.specs.Name.{Name, same_name}
 use Rattle.clif_meaning.specs.Request.{AnsweredCall, script_of}
 use Rattle.clif_meaning.specs.Ledger.{ledger_after}
-use Rattle.clif_meaning.specs.Program.{Item, Program}
+use Rattle.clif_meaning.specs.Program.{Item}
 use Rattle.clif_meaning.specs.Event.{Event}
 use Rattle.clif_meaning.specs.World.{World}
 use Rattle.clif_meaning.specs.Store.{assigned}
-use Rattle.clif_meaning.specs.Machine.{Machine, Control, At, HasReturned, HasTrapped, IsStuck, Observation, state_after}
+use Rattle.clif_meaning.specs.Machine.{Machine, Control, At, Observation, state_after}
 use Rattle.clif_meaning.specs.ScriptMachine.{ScriptRun, ScriptState, script_machine}
 use Rattle.clif_meaning.specs.FunctionMachine.{Collector, FunctionRun, FunctionState, function_machine, same_value}
 use Rattle.clif_meaning.specs.View.{view_of}
-use Rattle.clif_meaning.specs.Path.{Place}
 use Rattle.clif_meaning.specs.WellPlaced.{Code, IsWellPlaced, item_at, item_targets, program_code}
 use Rattle.clif_meaning.specs.Headline.{IsWorldOf}
 use Rattle.clif_simulation.specs.Tables.{answered, block_name, program_so_far}
 use Rattle.clif_simulation.specs.Reading.{with_ends, MovesAlike, WellTypedSoFar, script_run_so_far, function_run_so_far}
-use Rattle.clif_simulation.specs.Interrupted.{Unknowns, ScriptStanding, script_edge, script_goes, script_enters, FunctionStanding, function_edge, function_goes, function_enters, HasBesideIn, AreOpen}
+use Rattle.clif_simulation.specs.Interrupted.{Unknowns, ScriptStanding, script_edge, script_goes, script_enters, FunctionStanding, function_edge, function_goes, function_enters, HasBesideIn}
 
 -- the blocks that edges may still come to from a block, by its name
 abbrev pub Coming : Type 0

@@ -1,13 +1,13 @@
 -- A worked example of the reading along edges that may still come: a block that only such an edge will reach. Beside runs along it
 -- the block reads right; with another constant there it doesn't, though no other run comes there. Own.
-use Rattle.std.specs.Prelude.{◌≡◌, ℕ, pos, if◌then◌else◌, List, [], ◌∷◌, Some, None, false}
+use Rattle.std.specs.Prelude.{◌≡◌, ℕ, pos, if◌then◌else◌, List, [], ◌∷◌, Some, false}
 use Rattle.clif_types.specs.declared.extname.UserFuncName.TheVariants.{Testcase}
 use Rattle.clif_instructions.specs.declared.insert_at.InsertAt.TheVariants.{Back}
 use Rattle.clif_instructions.specs.declared.instructions.InstructionData.TheVariants.{UnaryImm}
 use Rattle.clif_ir.specs.Body.{Body, empty_body}
 use Rattle.clif_ir.specs.Changes.{inserted_in, with_block, with_inst}
 use Rattle.clif_ssa.specs.Ssa.{no_state}
-use Rattle.clif_meaning.specs.Name.{Name, same_name}
+use Rattle.clif_meaning.specs.Name.{same_name}
 use Rattle.clif_meaning.specs.Request.{CreateBlock, SwitchToBlock, EnsureInsertedBlock, AnsweredCall}
 use Rattle.clif_meaning.specs.Acceptance.{iconst}
 use Rattle.clif_meaning.specs.Examples.{i32, first_signature}

@@ -4,6 +4,7 @@ pub mod Reading
 pub mod Interrupted
 pub mod Coming
 pub mod ReadingExamples
+pub mod TrackedExamples
 pub mod Laws
 pub mod CarryingExamples
 pub mod InterruptedExamples

@@ -13,7 +13,7 @@ use Rattle.clif_records.specs.Tables.{is_yes, pending_of}
 use Rattle.clif_meaning.specs.Name.{Name}
 use Rattle.clif_meaning.specs.Request.{AnsweredCall, script_of}
 use Rattle.clif_meaning.specs.Ledger.{Ledger, ledger_after, is_pristine, is_sealed, is_terminator, or_invalid, type_of}
-use Rattle.clif_meaning.specs.Instruction.{Edge}
+use Rattle.clif_meaning.specs.Instruction.{Edge, Instruction}
 use Rattle.clif_meaning.specs.Event.{CallShape, payload_types}
 use Rattle.clif_tables.specs.Callees.{types_of}
 use Rattle.clif_meaning.specs.Typing.{call_shape, EdgeMatches}
@@ -25,7 +25,7 @@ use Rattle.clif_meaning.specs.FunctionMachine.{Collector, ByMaps, OverSet, Funct
 use Rattle.clif_meaning.specs.View.{view_of, block_of}
 use Rattle.clif_meaning.specs.Path.{Place, IsReachable}
 use Rattle.clif_meaning.specs.WellPlaced.{Code, IsGivenBefore, IsWellPlaced, program_code}
-use Rattle.clif_meaning.specs.Premises.{EachItem, EntryTakes, IsItemWellTyped, parameter_types}
+use Rattle.clif_meaning.specs.Premises.{EachItem, EntryTakes, IsItemWellTyped, KeepsTrackedApart, parameter_types}
 use Rattle.clif_meaning.specs.Headline.{script_run, function_run, IsWorldOf}
 use Rattle.clif_simulation.specs.Tables.{answered, block_name, program_so_far}
 use Rattle.clif_simulation.specs.Carries.{CallsNothing, carried}
@@ -86,10 +86,46 @@ pub record MovesNothing (tracked : Name → Bool) (collector : Collector) : Type
   pub untracked : (x : Name) → tracked x ≡ false
   pub leaves : LeavesValues collector
 
+-- the name is a result of an instruction
+pub record IsResult (program : Program) (name : Name) : Type 0 where
+  pub block : Name
+  pub place : ℕ
+  pub instruction : Instruction Name Name
+  pub results : List Name
+  pub stands : Contains (program.items block) (Instruct place instruction results)
+  pub among : Contains results name
+
+-- it is a parameter of the caller's of this block
+abbrev pub IsParameterOf : Program → Name → Name → Type 0
+IsParameterOf program block name = Contains (program.parameters block) name
+
+-- An instruction gives the name, or a block's entry. What a use answers is no such name: it is a copy of what a variable holds.
+abbrev pub IsGivenFresh : Program → Name → Type 0
+IsGivenFresh program name = IsResult program name ⊎ ((block : Name) × IsParameterOf program block name)
+
+-- the value answers a tracked name that an instruction gives, or a block's entry
+pub record AnswersTracked (calls : List AnsweredCall) (tracked : Name → Bool) (value : ℕ) : Type 0 where
+  pub name : Name
+  pub is_tracked : IsTrue (tracked name)
+  pub is_given : IsGivenFresh (program_so_far calls) name
+  pub answers : answered calls name ≡ value
+
+-- a collector over these values exactly
+abbrev pub IsOver : (ℕ → Type 0) → Collector → Type 0
+IsOver P ByMaps = ⊥
+IsOver P (OverSet members) = (value : ℕ) → (IsTrue (members value) → P value) × (P value → IsTrue (members value))
+
+-- The tracked names are moved, and the values that answered them: no tracked name is assigned to a variable or answered by a
+-- use, since no call marks a variable so far, and so no copy of a tracked name's bits has to move.
+pub record MovesTracked (calls : List AnsweredCall) (tracked : Name → Bool) (collector : Collector) : Type 0 where
+  pub apart : EachItem (KeepsTrackedApart (ledger_after (script_of calls)) tracked) (program_so_far calls)
+  pub over : IsOver (AnswersTracked calls tracked) collector
+
 -- Both runs move the same things at outside calls: the calls make none, whatever names are tracked and whatever the collector is;
--- or nothing moves, since no call declares or marks anything as tracked so far.
+-- or nothing moves; or tracked names move, which are apart from variables, and exactly the values that answered them.
 abbrev pub MovesAlike : List AnsweredCall → (Name → Bool) → Collector → Type 0
-MovesAlike calls tracked collector = EachItem CallsNothing (program_so_far calls) ⊎ MovesNothing tracked collector
+MovesAlike calls tracked collector =
+    EachItem CallsNothing (program_so_far calls) ⊎ (MovesNothing tracked collector ⊎ MovesTracked calls tracked collector)
 
 -- what a run of the calls so far goes by, where these names are tracked
 abbrev pub script_run_so_far : List AnsweredCall → Body → World → (Name → Bool) → ScriptRun

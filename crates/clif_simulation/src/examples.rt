@@ -6,6 +6,7 @@ ghost use Rattle.clif_simulation.specs.ComingExamples.{ComingExamples};
 ghost use Rattle.clif_simulation.specs.InterruptedExamples.{InterruptedExamples};
 ghost use Rattle.clif_simulation.specs.ParameterCarryingExamples.{ParameterCarryingExamples};
 ghost use Rattle.clif_simulation.specs.ReadingExamples.{ReadingExamples};
+ghost use Rattle.clif_simulation.specs.TrackedExamples.{TrackedExamples};
 
 /// The row `first`, half built, reads right on bits from every start; with another constant, another record, or a parameter that doesn't
 /// wait, it doesn't.
@@ -23,6 +24,13 @@ pub fn interrupted_reads_right()
 /// A block that only an edge that may still come reaches is read along that edge; with another constant there it doesn't read right.
 pub fn coming_reads_right()
     ensures { ComingExamples }
+{}
+
+/// A block with a tracked parameter that is used behind an outside call meets the premises, is carried and reads right, and the
+/// parameter and its value move; a collector that forgets the value, or that is over others too, doesn't move alike, and no collector
+/// does where what a use answers is tracked, or where a tracked name is assigned to a variable.
+pub fn tracked_names_move()
+    ensures { TrackedExamples }
 {}
 
 /// The row `both_arms`, a loop with both arms of one branch, is consistent, carried and finished; with another argument

@@ -1,3 +1,4 @@
 mod Reading
 mod Giving
 mod Counting
+mod Numbers

@@ -10,6 +10,8 @@ use Rattle.clif_calls.specs.declared.call.Call.{Call}
 use Rattle.clif_calls.specs.declared.call.Call.TheVariants as call
 use Rattle.clif_calls.specs.declared.entry.EntryCall.{EntryCall}
 use Rattle.clif_calls.specs.declared.entry.EntryCall.TheVariants as entry
+use Rattle.clif_calls.specs.declared.immediate.ImmediateCall.{ImmediateCall}
+use Rattle.clif_calls.specs.declared.immediate.ImmediateCall.TheVariants as immediate
 use Rattle.clif_calls.specs.declared.outside.OutsideCall.{OutsideCall}
 use Rattle.clif_calls.specs.declared.outside.OutsideCall.TheVariants as outside
 use Rattle.clif_calls.specs.declared.table.ThrowingCall.{ThrowingCall}
@@ -73,6 +75,12 @@ IsOutside names words (outside.CallIndirect signature callee args) =
     (s p : List ℕ) × (v : List (List ℕ)) × (words ≡ codes "call_indirect" ∷ s ∷ p ∷ v)
     × IsSignatureName names s signature × IsAnswer names p callee × AreLast names v args.items
 
+-- The words stand for an instruction with a constant as an operand: its name, its condition if it has one, a value and a number.
+abbrev pub IsImmediate : Names → List (List ℕ) → ImmediateCall → Type 0
+IsImmediate names words (immediate.IaddImmS x imm) = (a n : List ℕ) × (words ≡ codes "iadd_imm_s" ∷ a ∷ n ∷ []) × IsAnswer names a x × IsNumber n imm
+IsImmediate names words (immediate.IcmpImmS cond x imm) =
+    (a n : List ℕ) × (words ≡ codes "icmp_imm_s" ∷ int_cc_text cond ∷ a ∷ n ∷ []) × IsAnswer names a x × IsNumber n imm
+
 -- The words stand for a call along the edges of an exception table: its name, what it calls, what is passed, and the table.
 abbrev pub IsThrowing : Names → List (List ℕ) → ThrowingCall → Type 0
 IsThrowing names words (throwing.TryCall function args table) =
@@ -109,6 +117,7 @@ IsCall names words (call.TryUseVar variable) = (a : List ℕ) × (words ≡ code
 IsCall names words (call.Plain instruction) = IsPlain names words (plan_of instruction)
 IsCall names words (call.Cursor instruction) = (i : List (List ℕ)) × (words ≡ codes "cursor" ∷ i) × IsPlain names i (plan_of instruction)
 IsCall names words (call.Outside called) = IsOutside names words called
+IsCall names words (call.Immediate called) = IsImmediate names words called
 IsCall names words (call.SetSrcloc srcloc) = (n : List ℕ) × (words ≡ codes "set_srcloc" ∷ n ∷ []) × IsMagnitude n srcloc
 IsCall names words call.CollectDebugInfo = words ≡ codes "collect_debug_info" ∷ []
 IsCall names words (call.SetValLabel value label) = (a n : List ℕ) × (words ≡ codes "set_val_label" ∷ a ∷ n ∷ []) × IsAnswer names a value × IsMagnitude n label

@@ -18,6 +18,8 @@ use Rattle.clif_calls.specs.declared.call.Call.{Call}
 use Rattle.clif_calls.specs.declared.call.Call.TheVariants as call
 use Rattle.clif_calls.specs.declared.entry.EntryCall.{EntryCall}
 use Rattle.clif_calls.specs.declared.entry.EntryCall.TheVariants as entry
+use Rattle.clif_calls.specs.declared.immediate.ImmediateCall.{ImmediateCall}
+use Rattle.clif_calls.specs.declared.immediate.ImmediateCall.TheVariants as immediate
 use Rattle.clif_calls.specs.declared.outside.OutsideCall.{OutsideCall}
 use Rattle.clif_calls.specs.declared.outside.OutsideCall.TheVariants as outside
 use Rattle.clif_calls.specs.declared.table.Passed.{Passed}
@@ -135,6 +137,12 @@ outside_text (outside.Call function args) = codes "call fn" ++ (decimal function
 outside_text (outside.CallIndirect signature callee args) =
     codes "call_indirect sig" ++ (decimal signature ++ (codes " " ++ (answer_text callee ++ arguments_text args.items)))
 
+-- an instruction with a constant as an operand
+abbrev pub immediate_text : ImmediateCall → List ℕ
+immediate_text (immediate.IaddImmS x imm) = codes "iadd_imm_s " ++ (answer_text x ++ (codes " " ++ signed_decimal imm))
+immediate_text (immediate.IcmpImmS cond x imm) =
+    codes "icmp_imm_s " ++ (int_cc_text cond ++ (codes " " ++ (answer_text x ++ (codes " " ++ signed_decimal imm))))
+
 -- a call along the edges of an exception table
 abbrev pub throwing_text : ThrowingCall → List ℕ
 throwing_text (throwing.TryCall function args table) = codes "try_call fn" ++ (decimal function ++ (arguments_text args.items ++ (codes " extable" ++ decimal table)))
@@ -165,6 +173,7 @@ call_text (call.TryUseVar variable) = codes "try_use_var " ++ variable_text vari
 call_text (call.Plain instruction) = plan_text (plan_of instruction)
 call_text (call.Cursor instruction) = codes "cursor " ++ plan_text (plan_of instruction)
 call_text (call.Outside called) = outside_text called
+call_text (call.Immediate called) = immediate_text called
 call_text (call.SetSrcloc srcloc) = codes "set_srcloc " ++ decimal srcloc
 call_text call.CollectDebugInfo = codes "collect_debug_info"
 call_text (call.SetValLabel value label) = codes "set_val_label " ++ (answer_text value ++ (codes " " ++ decimal label))

@@ -7,6 +7,7 @@ ghost use Rattle.clif_text.specs.Reading.{ReadsCall};
 ghost use Rattle.clif_arguments.specs.Scope.{names_of};
 
 use crate::entries::read_entry_call;
+use crate::immediate::read_immediate_call;
 use crate::instructions::{
     binary_named, cond_trap_named, convert_named, float_const_named, read_binary_call,
     read_cond_trap_call, read_convert_call, read_f128const_call, read_float_const_call,
@@ -26,7 +27,7 @@ use clif_words::types::type_named;
 use std::alloc::Global;
 
 // The calls of the format that aren't understood so far, without the type that may follow their name.
-const NOT_SUPPORTED: [&str; 12] = [
+const NOT_SUPPORTED: [&str; 10] = [
     "declare_var_needs_stack_map",
     "declare_value_needs_stack_map",
     "switch",
@@ -37,8 +38,6 @@ const NOT_SUPPORTED: [&str; 12] = [
     "emit_small_memory_copy",
     "emit_small_memset",
     "emit_small_memory_compare",
-    "iadd_imm_s",
-    "icmp_imm_s",
 ];
 
 // The call of this name, with what follows it; not all of that may be taken.
@@ -96,6 +95,7 @@ fn read_call<'a>(
             code: args.trap_code()?,
         }),
         "call" | "call_indirect" => read_outside_call(alloc, head, args),
+        "iadd_imm_s" | "icmp_imm_s" => read_immediate_call(head, args),
         "create_exception_table" | "try_call" | "try_call_indirect" => {
             read_throwing_call(alloc, head, args)
         }
@@ -350,7 +350,8 @@ pub(crate) fn answers_of(call: &Call) -> Answers
         | Call::CreateExceptionTable { .. }
         | Call::DeclareVar { .. }
         | Call::UseVar { .. }
-        | Call::TryUseVar { .. } => (false, 1),
+        | Call::TryUseVar { .. }
+        | Call::Immediate(_) => (false, 1),
         Call::AppendBlockParamsForFunctionParams { .. }
         | Call::AppendBlockParamsForFunctionReturns { .. } => (false, usize::MAX),
         Call::SwitchToBlock { .. }

@@ -3,6 +3,7 @@
 
 mod calls;
 mod entries;
+mod immediate;
 mod instructions;
 mod outside;
 mod reader;

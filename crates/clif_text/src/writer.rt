@@ -1,10 +1,11 @@
 //! Scripts as text, written.
 ghost use Rattle.std.specs.Prelude.{◌≡◌, ◌++◌, Some, IfOk, string_bytes};
-ghost use Rattle.clif_text.specs.Texts.{answer_text, answers_text, argument_text, passed_text, edge_text, entry_text, global_text, imported_name_text, imported_text, item_text, items_text, offset_text, outside_text, arguments_text, plan_text, table_edge_text, throwing_text, call_text, calls_text, header_text};
+ghost use Rattle.clif_text.specs.Texts.{answer_text, answers_text, argument_text, passed_text, edge_text, entry_text, global_text, immediate_text, imported_name_text, imported_text, item_text, items_text, offset_text, outside_text, arguments_text, plan_text, table_edge_text, throwing_text, call_text, calls_text, header_text};
 ghost use Rattle.clif_text.specs.Operands.{operands_text};
 
 use clif_calls::{
-    Call, Edge, EntryCall, Name, OutsideCall, Passed, Plan, TableEdge, TableItem, ThrowingCall,
+    Call, Edge, EntryCall, ImmediateCall, Name, OutsideCall, Passed, Plan, TableEdge, TableItem,
+    ThrowingCall,
 };
 use clif_records::Variable;
 use clif_types::{
@@ -334,6 +335,24 @@ impl fmt::Display for OutsideText<'_> {
     }
 }
 
+// An instruction with a constant as an operand.
+#[derive(Clone, Copy)]
+struct ImmediateText(ImmediateCall);
+
+impl fmt::Display for ImmediateText {
+    ghost output = { λ text. Some (immediate_text text.0) };
+
+    fn fmt<W: fmt::Write>(&self, f: &mut fmt::Formatter<W>) -> fmt::Result {
+        match self.0 {
+            ImmediateCall::IaddImmS { x, imm } => write!(f, "iadd_imm_s {} {imm}", AnswerText(x)),
+            ImmediateCall::IcmpImmS { cond, x, imm } => {
+                let x = AnswerText(x);
+                write!(f, "icmp_imm_s {cond} {x} {imm}")
+            }
+        }
+    }
+}
+
 // A call along the edges of an exception table.
 #[derive(Clone, Copy)]
 struct ThrowingText<'a>(&'a ThrowingCall);
@@ -364,7 +383,8 @@ impl fmt::Display for ThrowingText<'_> {
     }
 }
 
-// What is written behind the name of a call, or, of an instruction, an entry or an outside call, with its name.
+// What is written behind the name of a call, or, of an instruction, an entry, an outside call or an instruction with a constant,
+// with its name.
 #[derive(Clone, Copy)]
 enum Operands<'a> {
     None,
@@ -383,6 +403,7 @@ enum Operands<'a> {
     Exceptions(SigRef, Name, &'a [TableItem]),
     Branch(Name, JumpTable),
     Outside(&'a OutsideCall),
+    Immediate(ImmediateCall),
     Throwing(&'a ThrowingCall),
     Number(u32),
     Label(Name, u32),
@@ -418,6 +439,7 @@ impl fmt::Display for Operands<'_> {
             }
             Operands::Branch(index, table) => write!(f, " {} {table}", AnswerText(*index)),
             Operands::Outside(called) => write!(f, "{}", OutsideText(called)),
+            Operands::Immediate(called) => write!(f, "{}", ImmediateText(*called)),
             Operands::Throwing(called) => write!(f, "{}", ThrowingText(called)),
             Operands::Number(number) => write!(f, " {number}"),
             Operands::Label(x, label) => write!(f, " {} {label}", AnswerText(*x)),
@@ -478,6 +500,7 @@ fn parts(call: &Call) -> (&'static str, Operands<'_>)
         Call::Plain(instruction) => ("", Operands::Instruction(instruction.plan())),
         Call::Cursor(instruction) => ("cursor ", Operands::Instruction(instruction.plan())),
         Call::Outside(called) => ("", Operands::Outside(called)),
+        Call::Immediate(called) => ("", Operands::Immediate(*called)),
         Call::SetSrcloc { srcloc } => ("set_srcloc", Operands::Number(srcloc.bits())),
         Call::CollectDebugInfo => ("collect_debug_info", Operands::None),
         Call::SetValLabel { value, label } => (

@@ -25,12 +25,12 @@ use Rattle.clif_simulation.specs.Tables.{program_so_far}
 use Rattle.clif_simulation.proofs.Carrying.{all_append, all_mapped}
 use Rattle.clif_simulation.proofs.LedgerValues.{type_new, type_stays, typed_earlier, value_stays}
 use Rattle.clif_simulation.proofs.Ledgers.{types_before}
-use Rattle.clif_simulation.proofs.EachRedirected.{all_redirected}
+use Rattle.clif_simulation.proofs.Redirections.EachRedirected.{all_redirected}
 use Rattle.clif_simulation.proofs.Numbers.{ledger_longer, place_so_far, program_longer}
 use Rattle.clif_simulation.proofs.Values.{false_is}
 use Rattle.clif_simulation.proofs.Whole.{are_declared, declared_types}
 use Rattle.clif_value_laws.specs.Functions.{AcceptedScriptsNameValues, NamesValues}
-use Rattle.clif_value_laws.specs.ValuesFit.{EntryHas, IsItemTyped, IsScriptTyped}
+use Rattle.clif_typed_runs.specs.ValuesFit.{EntryHas, IsItemTyped, IsScriptTyped}
 
 -- CALLS THAT ARE ALLOWED --------------------------------------------------------------------------------------------------
 

@@ -23,17 +23,17 @@ use Rattle.clif_meaning.specs.View.{items_of, placed_of, view_of}
 use Rattle.clif_simulation.specs.Carries.{Carries, Holds, IsValue, ValuesTyped, carried, own_placed}
 use Rattle.clif_simulation.specs.Structure.{NoneWaits}
 use Rattle.clif_simulation.specs.Tables.{answered, block_name, callers_parameters, program_so_far}
-use Rattle.clif_simulation.proofs.CallersAlone
-use Rattle.clif_simulation.proofs.CarriedStructure.{matching_edges}
+use Rattle.clif_simulation.proofs.Shape.CallersAlone
+use Rattle.clif_simulation.proofs.Shape.CarriedStructure.{matching_edges}
 use Rattle.clif_simulation.proofs.Carrying.{all_append, all_mapped}
 use Rattle.clif_simulation.proofs.LedgerValues.{value_type}
 use Rattle.clif_simulation.proofs.Whole.{are_declared, declared_types}
 use Rattle.clif_value_laws.specs.Functions.{CarriedFunctionsFit, OperandsAreValues, run_of}
-use Rattle.clif_value_laws.specs.ValuesFit.{EntryHas}
+use Rattle.clif_typed_runs.specs.ValuesFit.{EntryHas}
 use Rattle.clif_value_laws.proofs.AcceptedScripts.{AreTyped, HasGiven, calls_given, ledger_of, name_type}
-use Rattle.clif_value_laws.proofs.FunctionSteps.{GivesFitting, WorksFitting, working_runs_fit}
-use Rattle.clif_value_laws.proofs.Holding.{operands_fit}
-use Rattle.clif_value_laws.proofs.Outcomes.{GivesValues, outcome_values}
+use Rattle.clif_typed_runs.proofs.FunctionSteps.{GivesFitting, WorksFitting, working_runs_fit}
+use Rattle.clif_typed_runs.proofs.Holding.{operands_fit}
+use Rattle.clif_typed_runs.proofs.Outcomes.{GivesValues, outcome_values}
 use Rattle.clif_value_laws.proofs.ZeroValues.{zeros_fit}
 
 -- NAMES AND VALUES --------------------------------------------------------------------------------------------------------

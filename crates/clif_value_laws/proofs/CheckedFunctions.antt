@@ -10,8 +10,8 @@ use Rattle.clif_check.proofs.Law.{agrees}
 use Rattle.clif_meaning.specs.View.{items_of, placed_of, view_of}
 use Rattle.clif_simulation.proofs.Carrying.{all_first}
 use Rattle.clif_value_laws.specs.Functions.{CheckedFunctionsFit, HasResults, IsChecked, run_of}
-use Rattle.clif_value_laws.specs.ValuesFit.{IsPlacedTyped}
-use Rattle.clif_value_laws.proofs.FunctionSteps.{runs_fit}
+use Rattle.clif_typed_runs.specs.ValuesFit.{IsPlacedTyped}
+use Rattle.clif_typed_runs.proofs.FunctionSteps.{runs_fit}
 
 all_second : (P : ℕ → Type 0) (xs ys : List ℕ) → AllByRecursion P (xs ++ ys) → AllByRecursion P ys
 all_second P [] ys all = all

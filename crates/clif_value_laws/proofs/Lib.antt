@@ -1,7 +1,3 @@
-pub mod Outcomes
-pub mod Holding
-pub mod ScriptSteps
-pub mod FunctionSteps
 pub mod SumRow
 pub mod AcceptedScripts
 pub mod CheckedFunctions

@@ -3,7 +3,7 @@ use Rattle.std.proofs.Common.{ℕ, zero, suc, refl, arith, []}
 use Rattle.std.specs.List.{AllByRecursion}
 use Rattle.clif_meaning.specs.Examples.{i8}
 use Rattle.clif_meaning.specs.World.{World}
-use Rattle.clif_value_laws.specs.ValuesFit.{IsFunctionTyped, IsPlacedTyped}
+use Rattle.clif_typed_runs.specs.ValuesFit.{IsFunctionTyped, IsPlacedTyped}
 use Rattle.clif_value_laws.specs.FittingExamples.{bytes, sum_function}
 
 each_typed : (block : ℕ) → AllByRecursion (IsPlacedTyped (sum_function (λ v. i8))) ((sum_function (λ v. i8)).blocks block).items

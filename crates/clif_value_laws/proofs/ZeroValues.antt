@@ -30,9 +30,9 @@ use Rattle.clif_meaning.specs.View.{constant_at, controlling_of, operation_of, p
 use Rattle.clif_meaning.specs.World.{World}
 use Rattle.clif_meaning.proofs.SampleWorld.{pow_pos}
 use Rattle.clif_simulation.proofs.Carrying.{all_append}
-use Rattle.clif_value_laws.specs.ValuesFit.{HoldValues}
-use Rattle.clif_value_laws.proofs.FunctionSteps.{GivesFitting}
-use Rattle.clif_value_laws.proofs.Outcomes.{GivesValues}
+use Rattle.clif_typed_runs.specs.ValuesFit.{HoldValues}
+use Rattle.clif_typed_runs.proofs.FunctionSteps.{GivesFitting}
+use Rattle.clif_typed_runs.proofs.Outcomes.{GivesValues}
 
 -- what an instruction of this shape, with these results, gives fits, wherever all values fit
 abbrev ShapeFits : Body → InstructionData → List ℕ → Type 0

@@ -16,7 +16,7 @@ use Rattle.clif_meaning.specs.Machine.{HasReturned, IsStuck, state_after}
 use Rattle.clif_meaning.specs.ScriptMachine.{ScriptRun, ScriptState, script_machine}
 use Rattle.clif_meaning.specs.Program.{empty_program}
 use Rattle.clif_meaning.specs.World.{World}
-use Rattle.clif_value_laws.specs.ValuesFit.{FunctionFits, IsFunctionTyped, ScriptFits}
+use Rattle.clif_typed_runs.specs.ValuesFit.{FunctionFits, IsFunctionTyped, ScriptFits}
 
 -- block0(v0: i8, v1: i8): v2 = iadd v0, v1; return v2
 abbrev pub sum_blocks : ℕ → BlockView

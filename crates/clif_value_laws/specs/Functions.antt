@@ -22,7 +22,7 @@ use Rattle.clif_ssa.specs.Ssa.{SsaState}
 use Rattle.clif_simulation.specs.Carries.{Carries, IsValue}
 use Rattle.clif_simulation.specs.Structure.{NoneWaits}
 use Rattle.clif_simulation.specs.Tables.{program_so_far}
-use Rattle.clif_value_laws.specs.ValuesFit.{AliasesTyped, EntryHas, FunctionFits}
+use Rattle.clif_typed_runs.specs.ValuesFit.{AliasesTyped, EntryHas, FunctionFits}
 
 -- an instruction's results have the types that the typing table gives at the type that it is made at
 abbrev pub HasResults : Body → ℕ → Type 0

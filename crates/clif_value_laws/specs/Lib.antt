@@ -1,4 +1,3 @@
-pub mod ValuesFit
 pub mod Laws
 pub mod Functions
 pub mod FittingExamples

@@ -20,7 +20,7 @@ use Rattle.clif_simulation.proofs.Further.{carries_tables}
 use Rattle.clif_simulation.proofs.Growing.{entries_kept}
 use Rattle.clif_ir.proofs.KeepsTables.{entry_stays}
 use Rattle.clif_ir.specs.Consistent.{IsConsistent}
-use Rattle.clif_simulation.proofs.Predecessors.{leads_on}
+use Rattle.clif_simulation.proofs.Redirections.Predecessors.{leads_on}
 use Rattle.cranelift_frontend.specs.declared.builder.FunctionBuilder.{FunctionBuilder}
 use Rattle.cranelift_frontend.specs.declared.context.BlockStatus.TheVariants.{Filled}
 use Rattle.cranelift_frontend.specs.Builder.{HasCurrent, SameLoans}

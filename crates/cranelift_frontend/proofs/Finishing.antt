@@ -25,10 +25,10 @@ use Rattle.clif_simulation.specs.Laws.{IsFinished}
 use Rattle.clif_simulation.specs.Structure.{AreRecords, LeavesNoParameter, NoneWaits}
 use Rattle.clif_simulation.proofs.Values.{false_is}
 use Rattle.clif_simulation.proofs.Whole.{freed, whole}
-use Rattle.clif_simulation.proofs.CarriedStructure.{no_parameters}
-use Rattle.clif_simulation.proofs.Defined.{well_placed}
-use Rattle.clif_simulation.proofs.RecordsDefined.{records_well_placed}
-use Rattle.clif_simulation.proofs.Assembly.{means}
+use Rattle.clif_simulation.proofs.Shape.CarriedStructure.{no_parameters}
+use Rattle.clif_simulation.proofs.Shape.Defined.{well_placed}
+use Rattle.clif_simulation.proofs.Shape.RecordsDefined.{records_well_placed}
+use Rattle.clif_simulation.proofs.Finished.Assembly.{means}
 use Rattle.cranelift_frontend.specs.declared.error.FinalizeError.{FinalizeError}
 use Rattle.cranelift_frontend.specs.declared.error.FinalizeError.TheVariants.{Unsealed, Unfilled, Failed}
 use Rattle.cranelift_frontend.specs.declared.context.BlockStatus.{BlockStatus}

@@ -14,7 +14,7 @@ use Rattle.clif_ssa.specs.LookUp.{branch_block}
 use Rattle.clif_ssa.specs.Ssa.{NamesExist, SsaState}
 use Rattle.clif_ssa.proofs.StructuredLaws.{blocks_structured}
 use Rattle.clif_simulation.proofs.Further.{carries_after, first_stays, out_before}
-use Rattle.clif_simulation.proofs.Predecessors.{leads_on}
+use Rattle.clif_simulation.proofs.Redirections.Predecessors.{leads_on}
 use Rattle.cranelift_frontend.specs.Context.{ContextState}
 use Rattle.cranelift_frontend.specs.Ledger.{LedgerAgrees, NamesBlock, block_name, ledger_of}
 use Rattle.cranelift_frontend.specs.StandsFor.{StandsIn}

@@ -22,7 +22,7 @@ use Rattle.clif_ssa.proofs.Completing.{inserted_same}
 use Rattle.clif_ssa.proofs.StructuredLaws.{blocks_structured, inserted_structured}
 use Rattle.clif_simulation.specs.Carries.{Carries}
 use Rattle.clif_simulation.proofs.Further.{carries_cold, carries_ensured, cold_insts, cold_params}
-use Rattle.clif_simulation.proofs.Predecessors.{leads_on}
+use Rattle.clif_simulation.proofs.Redirections.Predecessors.{leads_on}
 use Rattle.cranelift_frontend.specs.declared.context.BlockStatus.TheVariants.{Empty}
 use Rattle.cranelift_frontend.specs.Context.{ContextState, begun, status_of, SetsStatus}
 use Rattle.cranelift_frontend.specs.Ledger.{AreTypesOf, BlockAgrees, IsEnded, LedgerAgrees, NamesBlock, block_name, ledger_of}

@@ -35,8 +35,8 @@ use Rattle.clif_simulation.specs.Carries.{IsInstruction}
 use Rattle.clif_simulation.specs.Tables.{answered, number_or_none}
 use Rattle.clif_simulation.specs.Tables as simulation
 use Rattle.clif_simulation.proofs.Calls.{structured_so_far}
-use Rattle.clif_simulation.proofs.Predecessors.{leads_on}
-use Rattle.clif_simulation.proofs.Redirecting.{MayRedirect, carries_redirected}
+use Rattle.clif_simulation.proofs.Redirections.Predecessors.{leads_on}
+use Rattle.clif_simulation.proofs.Redirections.Redirecting.{MayRedirect, carries_redirected}
 use Rattle.cranelift_frontend.specs.declared.context.BlockStatus.{BlockStatus}
 use Rattle.cranelift_frontend.specs.declared.context.BlockStatus.TheVariants.{Filled}
 use Rattle.cranelift_frontend.specs.Builder.{is_empty_status, is_filled_status}

@@ -15,7 +15,7 @@ use Rattle.clif_meaning.proofs.CallLists as earlier
 use Rattle.clif_records.specs.Tables.{is_yes}
 use Rattle.clif_ssa.specs.Ssa.{predecessors_of, sealed_of}
 use Rattle.clif_simulation.proofs.Further.{carries_sealed_all}
-use Rattle.clif_simulation.proofs.Predecessors.{leads_on}
+use Rattle.clif_simulation.proofs.Redirections.Predecessors.{leads_on}
 use Rattle.cranelift_frontend.specs.Context.{Begins, ContextState, SameStatus}
 use Rattle.cranelift_frontend.specs.Builder.{is_empty_status, is_filled_status}
 use Rattle.cranelift_frontend.specs.Construction.{IsSealingAll}

@@ -23,10 +23,10 @@ use Rattle.clif_simulation.specs.Structure.{HasCallersAlone}
 use Rattle.clif_simulation.proofs.Listed.{MakesNoParameter}
 use Rattle.clif_simulation.proofs.NameLists.{MakesNoBlock}
 use Rattle.clif_simulation.proofs.Whole.{are_declared, declared_types}
-use Rattle.clif_simulation.proofs.CarriedStructure.{matching_edges}
+use Rattle.clif_simulation.proofs.Shape.CarriedStructure.{matching_edges}
 use Rattle.clif_simulation.proofs.Beginning.{carries_nothing, one_current}
 use Rattle.clif_simulation.proofs.Calls.{carries_created, carries_switched, carries_declared, carries_sealed, carries_assigned, carries_used, structured_so_far}
-use Rattle.clif_simulation.proofs.Predecessors.{leads_on}
+use Rattle.clif_simulation.proofs.Redirections.Predecessors.{leads_on}
 use Rattle.cranelift_frontend.specs.declared.context.BlockStatus.{BlockStatus}
 use Rattle.cranelift_frontend.specs.declared.context.BlockStatus.TheVariants.{Empty, Partial, Filled}
 use Rattle.cranelift_frontend.specs.Context.{ContextState, SameStatus, empty_context, status_of, begun, Begins}

@@ -29,7 +29,7 @@ use Rattle.clif_simulation.proofs.NameLists.{MakesNoBlock}
 use Rattle.clif_ssa.proofs.Completing.{inserted_same}
 use Rattle.clif_ssa.proofs.Constructed.{inserted_constructs}
 use Rattle.clif_ssa.proofs.Instructions.{inst_params}
-use Rattle.clif_simulation.proofs.Predecessors.{RedirectsBuilt, leads_on}
+use Rattle.clif_simulation.proofs.Redirections.Predecessors.{RedirectsBuilt, leads_on}
 use Rattle.cranelift_frontend.specs.declared.context.BlockStatus.{BlockStatus}
 use Rattle.cranelift_frontend.specs.declared.context.BlockStatus.TheVariants.{Empty, Filled}
 use Rattle.cranelift_frontend.specs.Context.{ContextState, status_of, begun, SetsStatus}

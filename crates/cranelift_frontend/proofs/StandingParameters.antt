@@ -24,7 +24,7 @@ use Rattle.clif_simulation.specs.Carries.{numbers_from, with_params}
 use Rattle.clif_simulation.specs.Structure.{HasCallersAlone}
 use Rattle.clif_simulation.proofs.Appending.{same_layout}
 use Rattle.clif_simulation.proofs.ParameterCalls.{Makes, alone_still, carries_params}
-use Rattle.clif_simulation.proofs.Predecessors.{RedirectsBuilt, leads_on}
+use Rattle.clif_simulation.proofs.Redirections.Predecessors.{RedirectsBuilt, leads_on}
 use Rattle.cranelift_frontend.specs.declared.context.BlockStatus.TheVariants.{Empty}
 use Rattle.cranelift_frontend.specs.Context.{ContextState, status_of}
 use Rattle.cranelift_frontend.specs.Ledger.{LedgerAgrees, NamesBlock, ledger_of}

@@ -13,7 +13,7 @@ use Rattle.clif_simulation.proofs.Numbering.{MakesNoInstruction}
 use Rattle.clif_simulation.proofs.Further.{carries_still}
 use Rattle.clif_simulation.proofs.NameLists.{MakesNoBlock}
 use Rattle.clif_simulation.proofs.Listed.{MakesNoParameter}
-use Rattle.clif_simulation.proofs.Predecessors.{RedirectsBuilt, leads_on}
+use Rattle.clif_simulation.proofs.Redirections.Predecessors.{RedirectsBuilt, leads_on}
 use Rattle.cranelift_frontend.specs.Calls.{answered}
 use Rattle.cranelift_frontend.specs.Context.{ContextState}
 use Rattle.cranelift_frontend.specs.Ledger.{LedgerAgrees, ledger_of}

@@ -7,9 +7,9 @@ use Rattle.clif_types.specs.declared.call_conv.CallConv.TheVariants.{SystemV}
 use Rattle.clif_types.specs.declared.extfunc.AbiParam.{AbiParam}
 use Rattle.clif_types.specs.declared.target.PointerWidth.TheVariants.{U64}
 use Rattle.clif_ir.specs.Body.{Body}
-use Rattle.clif_meaning.specs.Headline.{MeansTheSame}
 use Rattle.clif_meaning.specs.View.{view_of}
-use Rattle.clif_replay.specs.Requests.{requests_of}
+use Rattle.clif_expansion.specs.CallsHeadline.{CallsMeanTheSame}
+use Rattle.clif_replay.specs.Requests.{calls_of}
 use Rattle.toy_compiler.specs.declared.program.CompiledFunction.{CompiledFunction}
 
 -- an integer of 64 bits, as is every value of the language
@@ -24,4 +24,4 @@ toy_signature parameters = record { params = replicate parameters toy_value; ret
 abbrev pub MeansItsCalls : CompiledFunction → Body → Type 0
 MeansItsCalls compiled function =
     let signature = toy_signature compiled.parameters in
-    MeansTheSame (requests_of signature compiled.calls.items) signature U64 (view_of function)
+    CallsMeanTheSame (calls_of signature compiled.calls.items) signature U64 (view_of function)

@@ -77,8 +77,8 @@ impl<'t, 'a> Compiler<'t, 'a> {
         };
         self.parser.take();
         let y = self.chain(depth, Level::Sum)?;
-        let x = self.plain(PlainInstruction::Icmp { cond, x, y })?;
-        self.plain(PlainInstruction::Uextend { ty: I64, x })
+        let x = self.plain(PlainInstruction::Icmp { cond, x, y });
+        Ok(self.plain(PlainInstruction::Uextend { ty: I64, x }))
     }
 
     // Operands of one level with its operators between them.
@@ -91,7 +91,7 @@ impl<'t, 'a> Compiler<'t, 'a> {
             };
             self.parser.take();
             let other = self.operand(depth, level)?;
-            value = self.plain(instruction(found, value, other))?;
+            value = self.plain(instruction(found, value, other));
         }
         Ok(value)
     }
@@ -110,7 +110,7 @@ impl<'t, 'a> Compiler<'t, 'a> {
             return self.primary(depth);
         }
         let x = self.primary(depth)?;
-        self.plain(PlainInstruction::Ineg { x })
+        Ok(self.plain(PlainInstruction::Ineg { x }))
     }
 
     #[cycle(expression)]
@@ -139,7 +139,7 @@ impl<'t, 'a> Compiler<'t, 'a> {
             return Err(self.parser.fault(Fault::Number));
         };
         self.parser.take();
-        self.plain(PlainInstruction::Iconst { ty: I64, imm })
+        Ok(self.plain(PlainInstruction::Iconst { ty: I64, imm }))
     }
 
     // The value of a variable, or of a call, whose name is the next word.
@@ -149,7 +149,7 @@ impl<'t, 'a> Compiler<'t, 'a> {
         let name = self.parser.take();
         if !self.parser.skips("(") {
             return match self.find(name) {
-                Some(variable) => self.use_variable(variable),
+                Some(variable) => Ok(self.use_variable(variable)),
                 None => Err(ToyError::at(place, Fault::Undeclared(name))),
             };
         }

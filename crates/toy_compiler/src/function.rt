@@ -31,6 +31,9 @@ pub(crate) struct Compiler<'t, 'a> {
     imported: Vec<&'a str>,
     /// Whether there is a current block that has no terminator yet, so that what comes next can be reached.
     pub(crate) is_open: bool,
+    /// Whether memory was refused to a call of the list, so that the calls aren't those of the function. It is asked once,
+    /// at the function's end: no call of the list has to be followed by a test.
+    pub(crate) is_out_of_memory: bool,
 }
 
 impl<'t, 'a> Compiler<'t, 'a> {
@@ -49,50 +52,51 @@ impl<'t, 'a> Compiler<'t, 'a> {
             variables: 0,
             imported: Vec::new(alloc),
             is_open: false,
+            is_out_of_memory: false,
         }
     }
 
     // Makes a call; the name is that of its first answer.
-    fn call(&mut self, call: Call) -> Result<Name, ToyError<'a>> {
+    fn call(&mut self, call: Call) -> Name {
         let place = self.calls.len();
-        self.calls.push(call)?;
-        Ok(Name { place, answer: 0 })
+        if self.calls.push(call).is_err() {
+            self.is_out_of_memory = true;
+        }
+        Name { place, answer: 0 }
     }
 
     /// Makes an instruction; the name is that of its result.
-    pub(crate) fn plain(&mut self, instruction: PlainInstruction) -> Result<Name, ToyError<'a>> {
-        let place = self.call(Call::Plain(instruction))?.place;
-        Ok(Name { place, answer: 1 })
+    pub(crate) fn plain(&mut self, instruction: PlainInstruction) -> Name {
+        let place = self.call(Call::Plain(instruction)).place;
+        Name { place, answer: 1 }
     }
 
-    pub(crate) fn create_block(&mut self) -> Result<Name, ToyError<'a>> {
+    pub(crate) fn create_block(&mut self) -> Name {
         self.call(Call::CreateBlock)
     }
 
-    pub(crate) fn seal(&mut self, block: Name) -> Result<(), ToyError<'a>> {
-        self.call(Call::SealBlock { block })?;
-        Ok(())
+    pub(crate) fn seal(&mut self, block: Name) {
+        self.call(Call::SealBlock { block });
     }
 
     /// Goes on in this block, to which more branches may come.
-    pub(crate) fn switch_to(&mut self, block: Name) -> Result<(), ToyError<'a>> {
-        self.call(Call::SwitchToBlock { block })?;
+    pub(crate) fn switch_to(&mut self, block: Name) {
+        self.call(Call::SwitchToBlock { block });
         self.is_open = true;
-        Ok(())
     }
 
     /// Goes on in this block, to which all branches were made.
-    pub(crate) fn enter(&mut self, block: Name) -> Result<(), ToyError<'a>> {
-        self.seal(block)?;
-        self.switch_to(block)
+    pub(crate) fn enter(&mut self, block: Name) {
+        self.seal(block);
+        self.switch_to(block);
     }
 
     /// Adds the function's parameters to its entry block, and a variable for each.
     pub(crate) fn enter_function(&mut self, parameters: &[&'a str]) -> Result<(), ToyError<'a>> {
-        let entry = self.create_block()?;
+        let entry = self.create_block();
         let call = Call::AppendBlockParamsForFunctionParams { block: entry };
-        let place = self.call(call)?.place;
-        self.enter(entry)?;
+        let place = self.call(call).place;
+        self.enter(entry);
         for (answer, name) in parameters.iter().enumerate() {
             self.declare(*name, Name { place, answer })?;
         }
@@ -105,39 +109,33 @@ impl<'t, 'a> Compiler<'t, 'a> {
     }
 
     /// Ends the block with a jump to another one, if it has no end yet; answers whether it had none.
-    pub(crate) fn jump(&mut self, block: Name) -> Result<bool, ToyError<'a>> {
+    pub(crate) fn jump(&mut self, block: Name) -> bool {
         if !self.is_open {
-            return Ok(false);
+            return false;
         }
         let destination = self.edge_to(block);
-        self.call(Call::Jump { destination })?;
+        self.call(Call::Jump { destination });
         self.is_open = false;
-        Ok(true)
+        true
     }
 
     /// Ends the block: where the condition isn't 0, the first block comes next, and else the second.
-    pub(crate) fn branch(
-        &mut self,
-        condition: Name,
-        arm: Name,
-        other: Name,
-    ) -> Result<(), ToyError<'a>> {
+    pub(crate) fn branch(&mut self, condition: Name, arm: Name, other: Name) {
         let block_then = self.edge_to(arm);
         let block_else = self.edge_to(other);
         self.call(Call::Brif {
             condition,
             block_then,
             block_else,
-        })?;
+        });
         self.is_open = false;
-        Ok(())
     }
 
     /// Ends the block with a return.
     pub(crate) fn return_value(&mut self, value: Name) -> Result<(), ToyError<'a>> {
         let mut values = Vec::new(self.alloc);
         values.push(value)?;
-        self.call(Call::Return { values })?;
+        self.call(Call::Return { values });
         self.is_open = false;
         Ok(())
     }
@@ -149,20 +147,20 @@ impl<'t, 'a> Compiler<'t, 'a> {
         }
         let variable = Variable::new(self.variables);
         self.variables += 1;
-        self.call(Call::DeclareVar { ty: I64 })?;
+        self.call(Call::DeclareVar { ty: I64 });
         if self.locals.push(Local { name, variable }).is_err() {
             return Err(ToyError::Memory);
         }
-        self.assign(variable, value)
-    }
-
-    pub(crate) fn assign(&mut self, variable: Variable, value: Name) -> Result<(), ToyError<'a>> {
-        self.call(Call::DefVar { variable, value })?;
+        self.assign(variable, value);
         Ok(())
     }
 
+    pub(crate) fn assign(&mut self, variable: Variable, value: Name) {
+        self.call(Call::DefVar { variable, value });
+    }
+
     /// The value that a variable has here.
-    pub(crate) fn use_variable(&mut self, variable: Variable) -> Result<Name, ToyError<'a>> {
+    pub(crate) fn use_variable(&mut self, variable: Variable) -> Name {
         self.call(Call::UseVar { variable })
     }
 
@@ -193,9 +191,8 @@ impl<'t, 'a> Compiler<'t, 'a> {
             self.import(name, args.len(), SigRef::new(number))?;
         }
         let function = FuncRef::new(number);
-        let place = self
-            .call(Call::Outside(OutsideCall::Call { function, args }))?
-            .place;
+        let call = Call::Outside(OutsideCall::Call { function, args });
+        let place = self.call(call).place;
         Ok(Name { place, answer: 1 })
     }
 
@@ -207,7 +204,7 @@ impl<'t, 'a> Compiler<'t, 'a> {
         signature: SigRef,
     ) -> Result<(), ToyError<'a>> {
         let shape = signature_of(self.alloc, parameters)?;
-        self.call(Call::Entry(EntryCall::ImportSignature(shape)))?;
+        self.call(Call::Entry(EntryCall::ImportSignature(shape)));
         let mut text = String::new(self.alloc);
         text.push_str(name)?;
         let function = ExtFuncData {
@@ -216,7 +213,7 @@ impl<'t, 'a> Compiler<'t, 'a> {
             colocated: false,
             patchable: false,
         };
-        self.call(Call::Entry(EntryCall::ImportFunction(function)))?;
+        self.call(Call::Entry(EntryCall::ImportFunction(function)));
         self.imported.push(name)?;
         Ok(())
     }

@@ -88,6 +88,9 @@ fn take_function<'t, 'a>(
     if compiler.is_open {
         return Err(compiler.parser.fault(Fault::MissingReturn));
     }
+    if compiler.is_out_of_memory {
+        return Err(ToyError::Memory);
+    }
     *parser = compiler.parser;
     Ok(CompiledFunction {
         name: header.name,

@@ -59,47 +59,49 @@ impl<'t, 'a> Compiler<'t, 'a> {
         if declares {
             return self.declare(name, value);
         }
-        match self.find(name) {
-            Some(variable) => self.assign(variable, value),
-            None => Err(ToyError::at(place, Fault::Undeclared(name))),
-        }
+        let Some(variable) = self.find(name) else {
+            return Err(ToyError::at(place, Fault::Undeclared(name)));
+        };
+        self.assign(variable, value);
+        Ok(())
     }
 
     // A loop. Its header is sealed once the jump back to it is made.
     #[cycle(statement)]
     fn while_statement(&mut self, depth: u32) -> Result<(), ToyError<'a>> {
-        let header = self.create_block()?;
-        let body = self.create_block()?;
-        let exit = self.create_block()?;
-        self.jump(header)?;
-        self.switch_to(header)?;
+        let header = self.create_block();
+        let body = self.create_block();
+        let exit = self.create_block();
+        self.jump(header);
+        self.switch_to(header);
         let condition = self.expression(depth)?;
-        self.branch(condition, body, exit)?;
-        self.enter(body)?;
+        self.branch(condition, body, exit);
+        self.enter(body);
         self.block(depth)?;
-        self.jump(header)?;
-        self.seal(header)?;
-        self.enter(exit)
+        self.jump(header);
+        self.seal(header);
+        self.enter(exit);
+        Ok(())
     }
 
     // Two arms, which meet again unless both return.
     #[cycle(statement)]
     fn if_statement(&mut self, depth: u32) -> Result<(), ToyError<'a>> {
         let condition = self.expression(depth)?;
-        let arm = self.create_block()?;
-        let other = self.create_block()?;
-        let after = self.create_block()?;
-        self.branch(condition, arm, other)?;
-        self.enter(arm)?;
+        let arm = self.create_block();
+        let other = self.create_block();
+        let after = self.create_block();
+        self.branch(condition, arm, other);
+        self.enter(arm);
         self.block(depth)?;
-        let arm_ends = self.jump(after)?;
-        self.enter(other)?;
+        let arm_ends = self.jump(after);
+        self.enter(other);
         if self.parser.skips("else") {
             self.else_arm(depth)?;
         }
-        let other_ends = self.jump(after)?;
+        let other_ends = self.jump(after);
         if arm_ends || other_ends {
-            self.enter(after)?;
+            self.enter(after);
         }
         Ok(())
     }

@@ -11,7 +11,7 @@ const PROGRAM: &str =
     "answer half 5;\nanswer whole -3;\nfn half(n) { return n / 2; }\nfn whole(n) { return half(n) + half(n - 1); }\nfn turns() { while 1 { } return 0; }\n";
 
 /// What a run gives: its status, and what it prints to standard output and to standard error.
-type Given = (u8, &'static str, &'static str);
+pub(crate) type Given = (u8, &'static str, &'static str);
 
 // The words of a text, with one blank between two of them; none of an empty text.
 fn words_of(alloc: Global, text: &str) -> Result<Vec<String>, Fail> {
@@ -25,8 +25,8 @@ fn words_of(alloc: Global, text: &str) -> Result<Vec<String>, Fail> {
     Ok(words)
 }
 
-// A run of a function of the program gives this.
-fn gives(
+/// A run of a function of the program gives this.
+pub(crate) fn gives(
     rt: &impl Abort,
     alloc: Global,
     program: &[u8],
@@ -38,7 +38,7 @@ fn gives(
     let run = Run {
         function,
         arguments: words.as_slice(),
-        steps: 20,
+        steps: 100_000,
     };
     let mut out = Vec::new(alloc);
     let mut err = Vec::new(alloc);
@@ -83,8 +83,8 @@ const RUNS: [(&str, &str, Given); 6] = [
         "",
         (
             5,
-            "script: hasn't ended after 20 steps\nfunction: hasn't ended after 20 steps\n",
-            "stopped after 20 steps: --steps N allows more\n",
+            "script: hasn't ended after 100000 steps\nfunction: hasn't ended after 100000 steps\n",
+            "stopped after 100000 steps: --steps N allows more\n",
         ),
     ),
 ];

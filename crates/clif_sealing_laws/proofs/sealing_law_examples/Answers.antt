@@ -7,6 +7,8 @@ use Rattle.clif_sealing_laws.proofs.sealing_law_examples.Goals as goal
 
 pub returns : goal.returns
 returns c = λ signature. record {
+  first_emits_nothing = refl;
+  last_emits_nothing = refl;
   differ = refl;
   accepted = refl;
   last_accepted = refl;

@@ -1,6 +1,6 @@
 use Rattle.clif_meaning.specs.Headline.{script_run}
 use Rattle.clif_value_laws.proofs.AcceptedScripts
-use Rattle.clif_value_laws.proofs.ScriptSteps
+use Rattle.clif_typed_runs.proofs.ScriptSteps
 use Rattle.clif_value_laws.proofs.accepted_scripts_fit.Goals as goal
 
 pub returns : goal.returns

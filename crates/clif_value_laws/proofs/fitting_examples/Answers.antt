@@ -4,8 +4,8 @@ use Rattle.clif_meaning.specs.Name.{answer_of}
 use Rattle.clif_meaning.proofs.FirstPremises
 use Rattle.clif_value_laws.specs.FittingExamples.{bytes, row_run}
 use Rattle.clif_value_laws.proofs.AcceptedScripts
-use Rattle.clif_value_laws.proofs.FunctionSteps
-use Rattle.clif_value_laws.proofs.ScriptSteps
+use Rattle.clif_typed_runs.proofs.FunctionSteps
+use Rattle.clif_typed_runs.proofs.ScriptSteps
 use Rattle.clif_value_laws.proofs.SumRow
 use Rattle.clif_value_laws.proofs.fitting_examples.Goals as goal
 

@@ -1,10 +1,10 @@
 //! The steps of a block that don't end it.
 use super::{Generator, VARIABLES};
 use crate::worlds::START;
-use clif_calls::{Call, Name, OutsideCall, PlainInstruction};
+use clif_calls::{Call, ImmediateCall, Name, OutsideCall, PlainInstruction};
 use clif_records::Variable;
 use clif_types::types::I64;
-use clif_types::{EntityRef, FuncRef, MemFlagsData, SigRef};
+use clif_types::{EntityRef, FuncRef, IntCC, MemFlagsData, SigRef};
 use rand::RngExt;
 use rand::seq::IndexedRandom;
 use std::alloc::AllocError;
@@ -15,6 +15,8 @@ enum Step {
     Constant,
     Add,
     Subtract,
+    AddConstant,
+    CompareConstant,
     UseVar,
     DefVar,
     Call,
@@ -23,16 +25,31 @@ enum Step {
     Store,
 }
 
-const STEPS: [Step; 9] = [
+const STEPS: [Step; 11] = [
     Step::Constant,
     Step::Add,
     Step::Subtract,
+    Step::AddConstant,
+    Step::CompareConstant,
     Step::UseVar,
     Step::DefVar,
     Step::Call,
     Step::CallIndirect,
     Step::Load,
     Step::Store,
+];
+
+const CONDITIONS: [IntCC; 10] = [
+    IntCC::Equal,
+    IntCC::NotEqual,
+    IntCC::SignedLessThan,
+    IntCC::SignedGreaterThanOrEqual,
+    IntCC::SignedGreaterThan,
+    IntCC::SignedLessThanOrEqual,
+    IntCC::UnsignedLessThan,
+    IntCC::UnsignedGreaterThanOrEqual,
+    IntCC::UnsignedGreaterThan,
+    IntCC::UnsignedLessThanOrEqual,
 ];
 
 impl Generator {
@@ -57,6 +74,8 @@ impl Generator {
                 let value = self.instruction(PlainInstruction::Isub { x, y })?;
                 self.give(value)
             }
+            Step::AddConstant => self.add_constant(),
+            Step::CompareConstant => self.compare_constant(),
             Step::UseVar => {
                 let variable = self.variable();
                 let value = self.call(Call::UseVar { variable })?;
@@ -87,6 +106,29 @@ impl Generator {
             Step::Load => self.load(),
             Step::Store => self.store(),
         }
+    }
+
+    // A sum with a constant.
+    fn add_constant(&mut self) -> Result<(), AllocError> {
+        let x = self.value();
+        let imm = self.random.random_range(-100i64..100);
+        let call = ImmediateCall::IaddImmS { x, imm };
+        let value = self.call(Call::Immediate(call))?;
+        self.give(value)
+    }
+
+    // A comparison with a constant, made as wide as the other values.
+    fn compare_constant(&mut self) -> Result<(), AllocError> {
+        let Some(cond) = CONDITIONS.as_slice().choose(&mut self.random) else {
+            return Ok(());
+        };
+        let cond = *cond;
+        let x = self.value();
+        let imm = self.random.random_range(-100i64..100);
+        let call = ImmediateCall::IcmpImmS { cond, x, imm };
+        let holds = self.call(Call::Immediate(call))?;
+        let value = self.instruction(PlainInstruction::Uextend { ty: I64, x: holds })?;
+        self.give(value)
     }
 
     // A value that later steps of the block may name.

@@ -6,7 +6,6 @@ use Rattle.cranelift_frontend.specs.Attempts.{RefusesAssignment}
 use Rattle.cranelift_frontend.specs.Calls.{IsTold, answered}
 use Rattle.cranelift_frontend.specs.Ledger.{NamesValue}
 use Rattle.clif_resolution.specs.declared.answers.Answer.TheVariants as answer
-use Rattle.clif_replay.specs.Requests.{name_of}
 use Rattle.clif_resolution.specs.Answers.{AnswerExists, value_of}
 use Rattle.clif_replay.proofs.Making.{answered-sound, made-answer, made-denied, made-refusal}
 use Rattle.clif_replay.proofs.ReadyLaws.{answers-exist, ready-more, value-exists, value-found}
@@ -19,12 +18,12 @@ value_named-requires c = λ i inside.
 
 pub returns-in_default : goal.returns-in_default
 returns-in_default c =
-    made-denied c.args.builder.now c.args.answers.now (λ declared calls ready. Conditions.try-define-none calls c.args.builder.now c.args.answers.now ready c.args.variable c.args.name
+    made-denied c.args.builder.now c.args.answers.now (λ naming declared calls ready. Conditions.try-define-none calls c.args.builder.now c.args.answers.now ready c.args.variable c.args.name
     (ap (λ (f : Body). value_of f c.args.answers.now c.args.name) (sym c.func.ensures) ∙ sym c.value_named.ensures ∙ c.in_default.is))
 
 pub returns-then-not-has_current : goal.returns-then-not-has_current
 returns-then-not-has_current c =
-    made-denied c.args.builder.now c.args.answers.now (λ declared calls ready. Conditions.try-define-closed calls c.args.builder.now c.args.answers.now ready c.args.variable c.args.name (sym c.has_current.ensures ∙ c.if-not-has_current.true))
+    made-denied c.args.builder.now c.args.answers.now (λ naming declared calls ready. Conditions.try-define-closed calls c.args.builder.now c.args.answers.now ready c.args.variable c.args.name (sym c.has_current.ensures ∙ c.if-not-has_current.true))
 
 pub try_def_var-requires-clause-current : goal.try_def_var-requires-clause-current
 try_def_var-requires-clause-current c = Conditions.has-current c.requires.calls c.args.builder.now c.args.answers.now c.requires.ready (sym c.has_current.ensures ∙ c.if-not-has_current.false)
@@ -41,11 +40,11 @@ returns-in-Ok c =
     let here = sym c.has_current.ensures ∙ c.if-not-has_current.false in
     let found = ap (λ (f : Body). value_of f c.args.answers.now c.args.name) (sym c.func.ensures) ∙ sym c.value_named.ensures ∙ c.in-Some.is in
     let typed = subst (λ told. OnOk told (slice_get c.args.builder.now.ctx.now.variables c.args.variable ≡ Some (value_at c.args.builder.now.func.now value).ty)) c.in-Ok.is done.same_type in
-    let told = subst (λ told. IsTold c.args.builder.now c.try_def_var.new.self told (λ calls. NamesValue calls (name_of c.args.name) value) (λ _. answered (DefVar c.args.variable (name_of c.args.name)) [])) c.in-Ok.is (done.told (name_of c.args.name)) in
     made-answer c.args.builder.now c.try_def_var.new.self c.args.answers.now answer.Nothing c.try_def_var.ensures.call.loans done.grows.3
     (answered-sound _ c.try_def_var.result _ c.try_def_var.ensures.call.fails c.in_ok-try_def_var.was) c.try_def_var.ensures.variables
-    (λ declared calls ready. Conditions.define-typed calls c.args.builder.now c.args.answers.now ready c.args.variable c.args.name value here found typed)
-    (λ declared calls ready. (
+    (λ naming declared calls ready. Conditions.define-typed calls c.args.builder.now c.args.answers.now ready c.args.variable c.args.name value here found typed)
+    (λ naming declared calls ready.
+    let told = subst (λ told. IsTold c.args.builder.now c.try_def_var.new.self told (λ calls. NamesValue calls (naming c.args.name) value) (λ _. answered (DefVar c.args.variable (naming c.args.name)) [])) c.in-Ok.is (done.told (naming c.args.name)) in (
       [],
       ready-more calls _ c.args.builder.now c.try_def_var.new.self _ answer.Nothing ready tt (done.grows.6, done.grows.8)
           (told.stands declared calls ready.stands (value-found calls c.args.builder.now c.args.answers.now ready c.args.name value found)) (refl, refl),
@@ -59,4 +58,4 @@ returns-in-Err c =
     let found = ap (λ (f : Body). value_of f c.args.answers.now c.args.name) (sym c.func.ensures) ∙ sym c.value_named.ensures ∙ c.in-Some.is in
     let refused = subst (λ told. IfErr told (RefusesAssignment c.args.builder.now c.try_def_var.new.self c.args.variable value)) c.in-Err.is done.refused in
     made-refusal c.args.builder.now c.try_def_var.new.self c.args.answers.now c.try_def_var.ensures.call.loans
-    (λ declared calls ready. Conditions.try-define-mistyped calls c.args.builder.now c.args.answers.now ready c.args.variable c.args.name value here found refused.0.mistyped)
+    (λ naming declared calls ready. Conditions.try-define-mistyped calls c.args.builder.now c.args.answers.now ready c.args.variable c.args.name value here found refused.0.mistyped)

@@ -10,12 +10,12 @@ returns-in_err-block c =
     let done = c.create_block.ensures in
     let p = err_from_is_err_and c.from_residual.result c.from_residual.ensures.1 in
     made-refused c.args.builder.now c.create_block.new.self c.args.answers.now c.create_block.result c.in_err-block.field-0.0 p.0 c.from_residual.result c.in_err-block.was p.1 p.2 done.call.loans c.requires.sound done.call.failed
-    (λ declared calls ready. refl) done.full
+    (λ naming declared calls ready. refl) done.full
 
 pub returns : goal.returns
 returns c =
     let done = c.in_ok-block.ensures in
     made-answer c.args.builder.now c.create_block.new.self c.args.answers.now (answer.Block c.in_ok-block.block) c.create_block.ensures.call.loans done.grows.3
     (answered-sound _ c.create_block.result _ c.create_block.ensures.call.fails c.in_ok-block.was) c.create_block.ensures.variables
-    (λ declared calls ready. refl)
-    (λ declared calls ready. (c.in_ok-block.block ∷ [], ready-more calls _ c.args.builder.now c.create_block.new.self _ (answer.Block c.in_ok-block.block) ready tt (done.grows.6, done.grows.8) (done.told.stands declared calls ready.stands tt) (refl, refl)))
+    (λ naming declared calls ready. refl)
+    (λ naming declared calls ready. (c.in_ok-block.block ∷ [], ready-more calls _ c.args.builder.now c.create_block.new.self _ (answer.Block c.in_ok-block.block) ready tt (done.grows.6, done.grows.8) (done.told.stands declared calls ready.stands tt) (refl, refl)))

@@ -6,16 +6,15 @@ use Rattle.std.specs.Prelude.{not}
 use Rattle.std.proofs.lemmas.Bool.{and_parts, not-true, false≢true}
 use Rattle.clif_instructions.specs.Members.{stands_in}
 use Rattle.cranelift_frontend.specs.Context.{ContextState}
-use Rattle.clif_replay.specs.Requests.{name_of}
 use Rattle.clif_replay.proofs.ReadyLaws.{ready-more, block-found, block-there}
 use Rattle.clif_replay.proofs.Placements.{insert-none, insert-nowhere, insert-some, Stands-from_test, test-from_Stands}
 use Rattle.clif_replay.proofs.make_blocks.insert_block_after.Goals as goal
 
 pub returns-in_default : goal.returns-in_default
-returns-in_default c = made-misuse c.args.builder.now c.args.answers.now (λ declared calls ready. insert-none calls c.args.builder.now c.args.answers.now ready c.args.name c.args.behind (sym c.block_named.ensures ∙ c.in_default.is))
+returns-in_default c = made-misuse c.args.builder.now c.args.answers.now (λ naming declared calls ready. insert-none calls c.args.builder.now c.args.answers.now ready c.args.name c.args.behind (sym c.block_named.ensures ∙ c.in_default.is))
 
 pub returns-in_default-block_named : goal.returns-in_default-block_named
-returns-in_default-block_named c = made-misuse c.args.builder.now c.args.answers.now (λ declared calls ready. insert-nowhere calls c.args.builder.now c.args.answers.now ready c.args.name c.args.behind (sym c.block_named-2.ensures ∙ c.in_default-block_named.is))
+returns-in_default-block_named c = made-misuse c.args.builder.now c.args.answers.now (λ naming declared calls ready. insert-nowhere calls c.args.builder.now c.args.answers.now ready c.args.name c.args.behind (sym c.block_named-2.ensures ∙ c.in_default-block_named.is))
 
 pub may_insert-requires-clause-block : goal.may_insert-requires-clause-block
 may_insert-requires-clause-block c = block-there c.requires.calls c.args.builder.now c.args.answers.now c.requires.ready c.args.name c.in-Some.block (sym c.block_named.ensures ∙ c.in-Some.is)
@@ -24,7 +23,7 @@ pub may_insert-requires-clause-after : goal.may_insert-requires-clause-after
 may_insert-requires-clause-after c = block-there c.requires.calls c.args.builder.now c.args.answers.now c.requires.ready c.args.behind c.in-Some-block_named.after (sym c.block_named-2.ensures ∙ c.in-Some-block_named.is)
 
 pub returns-then-not-may_insert : goal.returns-then-not-may_insert
-returns-then-not-may_insert c = made-misuse c.args.builder.now c.args.answers.now (λ declared calls ready. insert-some calls c.args.builder.now c.args.answers.now ready c.args.name c.args.behind c.in-Some.block c.in-Some-block_named.after (sym c.block_named.ensures ∙ c.in-Some.is) (sym c.block_named-2.ensures ∙ c.in-Some-block_named.is) ∙ sym c.may_insert.ensures ∙ c.if-not-may_insert.true)
+returns-then-not-may_insert c = made-misuse c.args.builder.now c.args.answers.now (λ naming declared calls ready. insert-some calls c.args.builder.now c.args.answers.now ready c.args.name c.args.behind c.in-Some.block c.in-Some-block_named.after (sym c.block_named.ensures ∙ c.in-Some.is) (sym c.block_named-2.ensures ∙ c.in-Some-block_named.is) ∙ sym c.may_insert.ensures ∙ c.if-not-may_insert.true)
 
 pub insert_block_after-requires-clause-exists : goal.insert_block_after-requires-clause-exists
 insert_block_after-requires-clause-exists c = block-there c.requires.calls c.args.builder.now c.args.answers.now c.requires.ready c.args.name c.in-Some.block (sym c.block_named.ensures ∙ c.in-Some.is)
@@ -46,12 +45,12 @@ returns-in_err-insert_block_after c =
     let done = c.insert_block_after.ensures in
     let p = err_from_is_err_and c.from_residual.result c.from_residual.ensures.1 in
     made-refused c.args.builder.now c.insert_block_after.new.self c.args.answers.now c.insert_block_after.result c.in_err-insert_block_after.field-0.0 p.0 c.from_residual.result c.in_err-insert_block_after.was p.1 p.2 done.call.loans c.requires.sound done.call.failed
-    (λ declared calls ready. insert-some calls c.args.builder.now c.args.answers.now ready c.args.name c.args.behind c.in-Some.block c.in-Some-block_named.after (sym c.block_named.ensures ∙ c.in-Some.is) (sym c.block_named-2.ensures ∙ c.in-Some-block_named.is) ∙ sym c.may_insert.ensures ∙ c.if-not-may_insert.false) done.never_full
+    (λ naming declared calls ready. insert-some calls c.args.builder.now c.args.answers.now ready c.args.name c.args.behind c.in-Some.block c.in-Some-block_named.after (sym c.block_named.ensures ∙ c.in-Some.is) (sym c.block_named-2.ensures ∙ c.in-Some-block_named.is) ∙ sym c.may_insert.ensures ∙ c.if-not-may_insert.false) done.never_full
 
 pub returns : goal.returns
 returns c =
     let done = c.in_ok-insert_block_after.ensures in
     made-answer c.args.builder.now c.insert_block_after.new.self c.args.answers.now answer.Nothing c.insert_block_after.ensures.call.loans done.grows.3
     (answered-sound _ c.insert_block_after.result _ c.insert_block_after.ensures.call.fails c.in_ok-insert_block_after.was) (ap (λ (x : ContextState). x.variables) c.insert_block_after.ensures.context)
-    (λ declared calls ready. insert-some calls c.args.builder.now c.args.answers.now ready c.args.name c.args.behind c.in-Some.block c.in-Some-block_named.after (sym c.block_named.ensures ∙ c.in-Some.is) (sym c.block_named-2.ensures ∙ c.in-Some-block_named.is) ∙ sym c.may_insert.ensures ∙ c.if-not-may_insert.false)
-    (λ declared calls ready. ([], ready-more calls _ c.args.builder.now c.insert_block_after.new.self _ answer.Nothing ready tt (done.grows.6, done.grows.8) ((done.told (name_of c.args.name) (name_of c.args.behind)).stands declared calls ready.stands (block-found calls c.args.builder.now c.args.answers.now ready c.args.name c.in-Some.block (sym c.block_named.ensures ∙ c.in-Some.is), block-found calls c.args.builder.now c.args.answers.now ready c.args.behind c.in-Some-block_named.after (sym c.block_named-2.ensures ∙ c.in-Some-block_named.is))) (refl, refl)))
+    (λ naming declared calls ready. insert-some calls c.args.builder.now c.args.answers.now ready c.args.name c.args.behind c.in-Some.block c.in-Some-block_named.after (sym c.block_named.ensures ∙ c.in-Some.is) (sym c.block_named-2.ensures ∙ c.in-Some-block_named.is) ∙ sym c.may_insert.ensures ∙ c.if-not-may_insert.false)
+    (λ naming declared calls ready. ([], ready-more calls _ c.args.builder.now c.insert_block_after.new.self _ answer.Nothing ready tt (done.grows.6, done.grows.8) ((done.told (naming c.args.name) (naming c.args.behind)).stands declared calls ready.stands (block-found calls c.args.builder.now c.args.answers.now ready c.args.name c.in-Some.block (sym c.block_named.ensures ∙ c.in-Some.is), block-found calls c.args.builder.now c.args.answers.now ready c.args.behind c.in-Some-block_named.after (sym c.block_named-2.ensures ∙ c.in-Some-block_named.is))) (refl, refl)))

@@ -5,16 +5,15 @@ use Rattle.clif_replay.proofs.Making.{answered-sound, made-answer, made-misuse, 
 use Rattle.std.proofs.lemmas.Bool.{not-true}
 use Rattle.clif_records.specs.Tables.{is_yes}
 use Rattle.clif_ssa.specs.Ssa.{sealed_of}
-use Rattle.clif_replay.specs.Requests.{name_of}
 use Rattle.clif_replay.proofs.ReadyLaws.{ready-more, block-found, block-there}
 use Rattle.clif_replay.proofs.Conditions
 use Rattle.clif_replay.proofs.make_blocks.seal_block.Goals as goal
 
 pub returns-in_default : goal.returns-in_default
-returns-in_default c = made-misuse c.args.builder.now c.args.answers.now (λ declared calls ready. Conditions.seal-none calls c.args.builder.now c.args.answers.now ready c.args.name (sym c.block_named.ensures ∙ c.in_default.is))
+returns-in_default c = made-misuse c.args.builder.now c.args.answers.now (λ naming declared calls ready. Conditions.seal-none calls c.args.builder.now c.args.answers.now ready c.args.name (sym c.block_named.ensures ∙ c.in_default.is))
 
 pub returns-then-not-may_seal : goal.returns-then-not-may_seal
-returns-then-not-may_seal c = made-misuse c.args.builder.now c.args.answers.now (λ declared calls ready. Conditions.seal-some calls c.args.builder.now c.args.answers.now ready c.args.name c.in-Some.block (sym c.block_named.ensures ∙ c.in-Some.is) ∙ sym c.may_seal.ensures ∙ c.if-not-may_seal.true)
+returns-then-not-may_seal c = made-misuse c.args.builder.now c.args.answers.now (λ naming declared calls ready. Conditions.seal-some calls c.args.builder.now c.args.answers.now ready c.args.name c.in-Some.block (sym c.block_named.ensures ∙ c.in-Some.is) ∙ sym c.may_seal.ensures ∙ c.if-not-may_seal.true)
 
 pub seal_block-requires-clause-exists : goal.seal_block-requires-clause-exists
 seal_block-requires-clause-exists c = block-there c.requires.calls c.args.builder.now c.args.answers.now c.requires.ready c.args.name c.in-Some.block (sym c.block_named.ensures ∙ c.in-Some.is)
@@ -27,7 +26,7 @@ returns-in_err-seal_block c =
     let done = c.seal_block.ensures in
     let p = err_from_is_err_and c.from_residual.result c.from_residual.ensures.1 in
     made-refused c.args.builder.now c.seal_block.new.self c.args.answers.now c.seal_block.result c.in_err-seal_block.field-0.0 p.0 c.from_residual.result c.in_err-seal_block.was p.1 p.2 done.call.loans c.requires.sound done.call.failed
-    (λ declared calls ready. Conditions.seal-some calls c.args.builder.now c.args.answers.now ready c.args.name c.in-Some.block (sym c.block_named.ensures ∙ c.in-Some.is) ∙ sym c.may_seal.ensures ∙ c.if-not-may_seal.false) (λ full. (
+    (λ naming declared calls ready. Conditions.seal-some calls c.args.builder.now c.args.answers.now ready c.args.name c.in-Some.block (sym c.block_named.ensures ∙ c.in-Some.is) ∙ sym c.may_seal.ensures ∙ c.if-not-may_seal.false) (λ full. (
       c.seal_block.new.self.func.now,
       done.constructs,
       one-block c.args.builder.now.func.now c.seal_block.new.self.func.now c.args.builder.now.ctx.now.ssa c.in-Some.block (block-there c.requires.calls c.args.builder.now c.args.answers.now c.requires.ready c.args.name c.in-Some.block (sym c.block_named.ensures ∙ c.in-Some.is)) (done.full full),
@@ -38,5 +37,5 @@ returns c =
     let done = c.in_ok-seal_block.ensures in
     made-answer c.args.builder.now c.seal_block.new.self c.args.answers.now answer.Nothing c.seal_block.ensures.call.loans done.grows.3
     (answered-sound _ c.seal_block.result _ c.seal_block.ensures.call.fails c.in_ok-seal_block.was) c.seal_block.ensures.variables
-    (λ declared calls ready. Conditions.seal-some calls c.args.builder.now c.args.answers.now ready c.args.name c.in-Some.block (sym c.block_named.ensures ∙ c.in-Some.is) ∙ sym c.may_seal.ensures ∙ c.if-not-may_seal.false)
-    (λ declared calls ready. ([], ready-more calls _ c.args.builder.now c.seal_block.new.self _ answer.Nothing ready tt (done.grows.6, done.grows.8) ((done.told (name_of c.args.name)).stands declared calls ready.stands (block-found calls c.args.builder.now c.args.answers.now ready c.args.name c.in-Some.block (sym c.block_named.ensures ∙ c.in-Some.is))) (refl, refl)))
+    (λ naming declared calls ready. Conditions.seal-some calls c.args.builder.now c.args.answers.now ready c.args.name c.in-Some.block (sym c.block_named.ensures ∙ c.in-Some.is) ∙ sym c.may_seal.ensures ∙ c.if-not-may_seal.false)
+    (λ naming declared calls ready. ([], ready-more calls _ c.args.builder.now c.seal_block.new.self _ answer.Nothing ready tt (done.grows.6, done.grows.8) ((done.told (naming c.args.name)).stands declared calls ready.stands (block-found calls c.args.builder.now c.args.answers.now ready c.args.name c.in-Some.block (sym c.block_named.ensures ∙ c.in-Some.is))) (refl, refl)))

@@ -1,7 +1,6 @@
 use Rattle.std.proofs.Common.{[], sym, ◌∙◌, refl}
 use Rattle.std.proofs.lemmas.Result.{err_from_is_err_and}
 use Rattle.clif_resolution.specs.declared.answers.Answer.TheVariants as answer
-use Rattle.clif_replay.specs.Requests.{name_of}
 use Rattle.clif_replay.proofs.Changes.{change-no_branch, change-no_source, change-no_target, change-some, may-change}
 use Rattle.clif_replay.proofs.Making.{answered-sound, made-answer, made-misuse, made-refused}
 use Rattle.clif_replay.proofs.ReadyLaws.{block-found, block-there, inst-found, inst-there, ready-more}
@@ -9,22 +8,22 @@ use Rattle.clif_replay.proofs.make_branches.change_jump_destination.Goals as goa
 
 pub returns-in_default : goal.returns-in_default
 returns-in_default c =
-    made-misuse c.args.builder.now c.args.answers.now (λ declared calls ready.
+    made-misuse c.args.builder.now c.args.answers.now (λ naming declared calls ready.
     change-no_branch calls c.args.builder.now c.args.answers.now ready c.args.branch c.args.from c.args.to (sym c.inst_named.ensures ∙ c.in_default.is))
 
 pub returns-in_default-block_named : goal.returns-in_default-block_named
 returns-in_default-block_named c =
-    made-misuse c.args.builder.now c.args.answers.now (λ declared calls ready.
+    made-misuse c.args.builder.now c.args.answers.now (λ naming declared calls ready.
     change-no_source calls c.args.builder.now c.args.answers.now ready c.args.branch c.args.from c.args.to (sym c.block_named.ensures ∙ c.in_default-block_named.is))
 
 pub returns-in_default-block_named-2 : goal.returns-in_default-block_named-2
 returns-in_default-block_named-2 c =
-    made-misuse c.args.builder.now c.args.answers.now (λ declared calls ready.
+    made-misuse c.args.builder.now c.args.answers.now (λ naming declared calls ready.
     change-no_target calls c.args.builder.now c.args.answers.now ready c.args.branch c.args.from c.args.to (sym c.block_named-2.ensures ∙ c.in_default-block_named-2.is))
 
 pub returns-then-not-may_change : goal.returns-then-not-may_change
 returns-then-not-may_change c =
-    made-misuse c.args.builder.now c.args.answers.now (λ declared calls ready.
+    made-misuse c.args.builder.now c.args.answers.now (λ naming declared calls ready.
     change-some c.leads_are_read_by_number.ensures calls c.args.builder.now c.args.answers.now ready c.args.branch c.args.from c.args.to c.in-Some.inst
     c.in-Some-block_named.source c.in-Some-block_named-2.target (sym c.inst_named.ensures ∙ c.in-Some.is) (sym c.block_named.ensures ∙ c.in-Some-block_named.is)
     (sym c.block_named-2.ensures ∙ c.in-Some-block_named-2.is) ∙ sym c.may_change.ensures ∙ c.if-not-may_change.true)
@@ -56,7 +55,7 @@ returns-in_err-change_jump_destination c =
     let p = err_from_is_err_and c.from_residual.result c.from_residual.ensures.1 in
     made-refused c.args.builder.now c.change_jump_destination.new.self c.args.answers.now c.change_jump_destination.result c.in_err-change_jump_destination.field-0.0 p.0
     c.from_residual.result c.in_err-change_jump_destination.was p.1 p.2 done.call.loans c.requires.sound done.call.failed
-    (λ declared calls ready.
+    (λ naming declared calls ready.
     change-some c.leads_are_read_by_number.ensures calls c.args.builder.now c.args.answers.now ready c.args.branch c.args.from c.args.to c.in-Some.inst
     c.in-Some-block_named.source c.in-Some-block_named-2.target (sym c.inst_named.ensures ∙ c.in-Some.is) (sym c.block_named.ensures ∙ c.in-Some-block_named.is)
     (sym c.block_named-2.ensures ∙ c.in-Some-block_named-2.is) ∙ sym c.may_change.ensures ∙ c.if-not-may_change.false)
@@ -69,14 +68,14 @@ returns c =
     let done = c.in_ok-change_jump_destination.ensures in
     made-answer old new c.args.answers.now answer.Nothing c.change_jump_destination.ensures.call.loans done.grows.3
     (answered-sound _ c.change_jump_destination.result _ c.change_jump_destination.ensures.call.fails c.in_ok-change_jump_destination.was) done.redirects.variables
-    (λ declared calls ready.
+    (λ naming declared calls ready.
     change-some c.leads_are_read_by_number.ensures calls old c.args.answers.now ready c.args.branch c.args.from c.args.to c.in-Some.inst
     c.in-Some-block_named.source c.in-Some-block_named-2.target (sym c.inst_named.ensures ∙ c.in-Some.is) (sym c.block_named.ensures ∙ c.in-Some-block_named.is)
     (sym c.block_named-2.ensures ∙ c.in-Some-block_named-2.is) ∙ sym c.may_change.ensures ∙ c.if-not-may_change.false)
-    (λ declared calls ready. (
+    (λ naming declared calls ready. (
       [],
       ready-more calls _ old new c.args.answers.now answer.Nothing ready tt (done.grows.6, done.grows.8)
-          (done.stands declared calls (name_of c.args.branch) (name_of c.args.from) (name_of c.args.to) ready.stands
+          (done.stands declared calls (naming c.args.branch) (naming c.args.from) (naming c.args.to) ready.stands
           (inst-found calls old c.args.answers.now ready c.args.branch c.in-Some.inst (sym c.inst_named.ensures ∙ c.in-Some.is))
           (block-found calls old c.args.answers.now ready c.args.from c.in-Some-block_named.source (sym c.block_named.ensures ∙ c.in-Some-block_named.is))
           (block-found calls old c.args.answers.now ready c.args.to c.in-Some-block_named-2.target (sym c.block_named-2.ensures ∙ c.in-Some-block_named-2.is)))

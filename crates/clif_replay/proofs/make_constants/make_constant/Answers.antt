@@ -17,7 +17,7 @@ pool-requires c =
 
 pub returns-then-not-has_current : goal.returns-then-not-has_current
 returns-then-not-has_current c =
-    made-misuse c.args.builder.now c.args.answers.now (λ declared calls ready. pooled-same calls c.args.builder.now c.args.answers.now ready c.args.opcode c.args.ty c.args.bytes.now
+    made-misuse c.args.builder.now c.args.answers.now (λ naming declared calls ready. pooled-same calls c.args.builder.now c.args.answers.now ready c.args.opcode c.args.ty c.args.bytes.now
     ∙ ap (λ (opens : Bool). opens && has_bytes c.args.opcode c.args.ty c.args.bytes.now) (sym c.has_current.ensures ∙ c.if-not-has_current.true))
 
 pub returns-in_err-constant : goal.returns-in_err-constant
@@ -38,7 +38,7 @@ returns-in_err-inst c =
     let p = err_from_is_err_and c.from_residual-in_err-inst.result c.from_residual-in_err-inst.ensures.1 in
     let opens = pooled-open c.args.builder.now between pooled.sets.call.position pooled.sets.context (sym c.has_current.ensures ∙ c.if-not-has_current.false) in
     made-between c.args.builder.now between c.append.new.builder c.args.answers.now c.from_residual-in_err-inst.result pooled.sets.call.loans pooled.sets.grows.3
-    (λ declared calls ready. pooled-ready calls c.args.builder.now between c.args.answers.now (pooled.sets.stands declared calls ready.stands) (pooled.grows.6, pooled.grows.8) ready)
+    (λ naming declared calls ready. pooled-ready calls c.args.builder.now between c.args.answers.now (pooled.sets.stands declared calls ready.stands) (pooled.grows.6, pooled.grows.8) ready)
     (λ full. inr (subst IsFull pooled.sets.function full))
     (made-refused between c.append.new.builder c.args.answers.now c.append.result c.in_err-inst.field-0.0 p.0 c.from_residual-in_err-inst.result c.in_err-inst.was p.1 p.2
     done.loans (answered-sound _ c.pool.result _ c.pool.ensures.sets.call.fails c.in_ok-constant.was) done.failed
@@ -53,11 +53,11 @@ returns c =
     let new = c.append.new.builder in
     let opens = pooled-open c.args.builder.now between pooled.sets.call.position pooled.sets.context (sym c.has_current.ensures ∙ c.if-not-has_current.false) in
     made-between c.args.builder.now between new c.args.answers.now _ pooled.sets.call.loans pooled.sets.grows.3
-    (λ declared calls ready. pooled-ready calls c.args.builder.now between c.args.answers.now (pooled.sets.stands declared calls ready.stands) (pooled.grows.6, pooled.grows.8) ready)
+    (λ naming declared calls ready. pooled-ready calls c.args.builder.now between c.args.answers.now (pooled.sets.stands declared calls ready.stands) (pooled.grows.6, pooled.grows.8) ready)
     (λ full. inr (subst IsFull pooled.sets.function full))
     (made-answer between new c.args.answers.now (answer.Inst c.in_ok-inst.inst) c.append.ensures.loans done.grows.3
     (answered-sound _ c.append.result _ c.append.ensures.fails c.in_ok-inst.was) (c.append.ensures.variables ∙ ap (λ (x : ContextState). x.variables) pooled.sets.context)
     (constant-allowed between c.args.answers.now c.args.opcode c.args.ty c.args.bytes.now opens (sym c.has_bytes.ensures ∙ c.if-not-has_bytes.false))
-    (λ declared calls ready.
+    (λ naming declared calls ready.
     let shape = constant-shape calls between.func.now c.args.opcode c.args.ty c.args.bytes.now c.in_ok-constant.constant c.requires.typed pooled.found in
     (_, ready-more calls _ between new _ (answer.Inst c.in_ok-inst.inst) ready tt (done.grows.6, done.grows.8) (done.stands declared calls [] _ ready.stands shape) (_, _, refl, refl))))

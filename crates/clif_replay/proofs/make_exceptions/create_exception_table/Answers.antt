@@ -17,7 +17,7 @@ returns-in_err-normal c =
     let p = err_from_is_err_and c.from_residual.result c.from_residual.ensures.1 in
     let b = c.args.builder.now in
     made-misused b c.args.answers.now c.edge_copied.result c.from_residual.result c.in_err-normal.field-0.0 c.in_err-normal.was (p.1 ∙ ap Err p.2) c.edge_copied.ensures
-    (λ none declared calls ready.
+    (λ none naming declared calls ready.
     exceptions-same calls b c.args.answers.now ready c.args.signature c.args.normal c.args.items.now
     ∙ ap (λ (test : Bool). test && all_items b.func.now c.args.answers.now c.args.items.now) none)
 
@@ -32,7 +32,7 @@ returns-in_err-items c =
     let b = c.args.builder.now in
     let done = c.items_found.ensures in
     made-missed b c.args.answers.now c.items_found.result c.from_residual-in_err-items.result c.in_err-items.field-0.0 c.in_err-items.was (p.1 ∙ ap Err p.2)
-    (λ misuse declared calls ready.
+    (λ misuse naming declared calls ready.
     exceptions-same calls b c.args.answers.now ready c.args.signature c.args.normal c.args.items.now
     ∙ and_right (is_some (edge_at c.args.answers.now c.args.normal)) _
     (ap (λ (f : Body). all_items f c.args.answers.now c.args.items.now) (sym c.func-2.ensures) ∙ done.misuse misuse))
@@ -47,7 +47,7 @@ returns-in_err-create_exception_table c =
     let p = err_from_is_err_and c.from_residual-in_err-create_exception_table.result c.from_residual-in_err-create_exception_table.ensures.1 in
     made-refused b c.create_exception_table.new.self answers c.create_exception_table.result c.in_err-create_exception_table.field-0.0 p.0 c.from_residual-in_err-create_exception_table.result
     c.in_err-create_exception_table.was p.1 p.2 done.sets.call.loans c.requires.sound done.sets.call.failed
-    (λ declared calls ready.
+    (λ naming declared calls ready.
     exceptions-same calls b answers ready c.args.signature c.args.normal c.args.items.now
     ∙ exceptions-there b.func.now answers c.args.normal c.args.items.now c.in_ok-normal.normal c.in_ok-items.items.items c.in_ok-normal.ensures.found found)
     (λ full. (done.full.0 full).1)
@@ -64,9 +64,9 @@ returns c =
     made-answer b new answers answer.Exceptions done.sets.call.loans creates.sets.grows.3
     (answered-sound _ c.create_exception_table.result _ done.sets.call.fails c.in_ok-create_exception_table.was)
     (ap (λ (x : ContextState). x.variables) done.sets.context)
-    (λ declared calls ready.
+    (λ naming declared calls ready.
     exceptions-same calls b answers ready c.args.signature c.args.normal c.args.items.now
     ∙ exceptions-there b.func.now answers c.args.normal c.args.items.now c.in_ok-normal.normal c.in_ok-items.items.items c.in_ok-normal.ensures.found found)
-    (λ declared calls ready.
+    (λ naming declared calls ready.
     exceptions-ready c.table_calls_add_nothing.ensures calls b new answers c.args.signature c.args.normal c.args.items.now given c.in_ok-create_exception_table.field-0 ready refl
     c.in_ok-normal.ensures.found found creates)

@@ -26,7 +26,7 @@ pub returns-in_err-args : goal.returns-in_err-args
 returns-in_err-args c =
     let p = err_from_is_err_and c.from_residual.result c.from_residual.ensures.1 in
     made-misused c.args.builder.now c.args.answers.now c.operands_found.result c.from_residual.result c.in_err-args.field-0.0 c.in_err-args.was (p.1 ∙ ap Err p.2) c.operands_found.ensures
-    (λ none declared calls ready. throwing-same calls c.args.builder.now c.args.answers.now ready c.args.called.now ∙ none)
+    (λ none naming declared calls ready. throwing-same calls c.args.builder.now c.args.answers.now ready c.args.called.now ∙ none)
 
 pub take-requires-clause-current : goal.take-requires-clause-current
 take-requires-clause-current c =
@@ -43,7 +43,7 @@ returns-in_err-held c =
     let p = err_from_is_err_and c.from_residual-in_err-held.result c.from_residual-in_err-held.ensures.1 in
     made-refused c.args.builder.now c.take.new.builder c.args.answers.now c.take.result c.in_err-held.field-0.0 p.0 c.from_residual-in_err-held.result c.in_err-held.was p.1 p.2
     done.sets.call.loans c.requires.sound done.sets.call.failed
-    (λ declared calls ready. throwing-same calls c.args.builder.now c.args.answers.now ready c.args.called.now ∙ c.in_ok-args.ensures.may)
+    (λ naming declared calls ready. throwing-same calls c.args.builder.now c.args.answers.now ready c.args.called.now ∙ c.in_ok-args.ensures.may)
     (λ full. absurd (never-full c.take.result done full))
 
 pub append-requires-clause-current : goal.append-requires-clause-current
@@ -91,7 +91,7 @@ returns-in_err-inst c =
     made-refused b c.append.new.builder c.args.answers.now c.append.result c.in_err-inst.field-0.0 p.0 c.from_residual-in_err-inst.result c.in_err-inst.was p.1 p.2
     (record { func = done.loans.func ∙ takes.sets.call.loans.func; ctx = done.loans.ctx ∙ takes.sets.call.loans.ctx }) c.requires.sound
     (not-failed c.append.result b.failed between.failed c.requires.sound takes.sets.call.fails done.failed)
-    (λ declared calls ready. throwing-same calls b c.args.answers.now ready c.args.called.now ∙ c.in_ok-args.ensures.may)
+    (λ naming declared calls ready. throwing-same calls b c.args.answers.now ready c.args.called.now ∙ c.in_ok-args.ensures.may)
     (λ full. subst IsFull takes.sets.function (full-either between.func.now (done.full_table count full)))
 
 pub returns : goal.returns
@@ -106,6 +106,6 @@ returns c =
     made-answer b new answers (answer.Inst inst)
     (record { func = builds.loans.func ∙ takes.sets.call.loans.func; ctx = builds.loans.ctx ∙ takes.sets.call.loans.ctx }) (builds.grows.3 ∙ takes.sets.grows.3)
     (answered-sound _ c.append.result _ c.append.ensures.fails c.in_ok-inst.was) (builds.variables ∙ ap (λ (x : ContextState). x.variables) takes.sets.context)
-    (λ declared calls ready. throwing-same calls b answers ready c.args.called.now ∙ c.in_ok-args.ensures.may)
-    (λ declared calls ready.
+    (λ naming declared calls ready. throwing-same calls b answers ready c.args.called.now ∙ c.in_ok-args.ensures.may)
+    (λ naming declared calls ready.
     throwing-ready c.requests_ask_for_their_shapes.ensures calls b between new answers c.args.called.now c.in_ok-args.args c.in_ok-held.held inst ready c.in_ok-args.ensures.found takes builds)

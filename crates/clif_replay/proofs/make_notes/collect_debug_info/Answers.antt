@@ -11,5 +11,5 @@ returns-clause-made c =
     let new = c.collect_debug_info.new.self in
     let done = c.collect_debug_info.ensures in
     made-answer old new c.args.answers.now answer.Nothing done.loans done.grows.3 (done.failed ∙ c.requires.sound)
-    (ap (λ (x : ContextState). x.variables) done.context) (λ declared calls ready. refl)
-    (λ declared calls ready. note-ready c.notes_add_nothing.ensures calls old new c.args.answers.now _ ready (done.stands declared calls ready.stands) (done.grows.6, done.grows.8))
+    (ap (λ (x : ContextState). x.variables) done.context) (λ naming declared calls ready. refl)
+    (λ naming declared calls ready. note-ready c.notes_add_nothing.ensures calls old new c.args.answers.now _ ready (done.stands declared calls ready.stands) (done.grows.6, done.grows.8))

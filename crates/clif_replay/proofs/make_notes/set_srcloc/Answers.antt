@@ -13,6 +13,6 @@ returns-clause-made c =
     made-answer old new c.args.answers.now answer.Nothing
     (record { func = ap (λ (b : FunctionBuilder). b.func.ghost_name) done.builder; ctx = ap (λ (b : FunctionBuilder). b.ctx.ghost_name) done.builder })
     (ap (λ (b : FunctionBuilder). b.func.now.name) done.builder) (ap (λ (b : FunctionBuilder). b.failed) done.builder ∙ c.requires.sound)
-    (ap (λ (b : FunctionBuilder). b.ctx.now.variables) done.builder) (λ declared calls ready. refl)
-    (λ declared calls ready. note-ready c.notes_add_nothing.ensures calls old new c.args.answers.now _ ready (done.stands declared calls ready.stands)
+    (ap (λ (b : FunctionBuilder). b.ctx.now.variables) done.builder) (λ naming declared calls ready. refl)
+    (λ naming declared calls ready. note-ready c.notes_add_nothing.ensures calls old new c.args.answers.now _ ready (done.stands declared calls ready.stands)
     (ap (λ (b : FunctionBuilder). b.func.now.tables.jump_tables) done.builder, ap (λ (b : FunctionBuilder). b.func.now.tables.exception_tables) done.builder))

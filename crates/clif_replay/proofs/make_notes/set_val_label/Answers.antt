@@ -16,7 +16,7 @@ value_named-requires c = λ i inside.
 
 pub returns-in_default-clause-made : goal.returns-in_default-clause-made
 returns-in_default-clause-made c =
-    made-misuse c.args.builder.now c.args.answers.now (λ declared calls ready. note-none calls c.args.builder.now c.args.answers.now ready c.args.name
+    made-misuse c.args.builder.now c.args.answers.now (λ naming declared calls ready. note-none calls c.args.builder.now c.args.answers.now ready c.args.name
     (ap (λ (f : Body). value_of f c.args.answers.now c.args.name) (sym c.func.ensures) ∙ sym c.value_named.ensures ∙ c.in_default.is))
 
 pub set_val_label-requires : goal.set_val_label-requires
@@ -32,7 +32,7 @@ returns-in_err-set_val_label-clause-made c =
     let p = err_from_is_err_and c.from_residual.result c.from_residual.ensures.1 in
     made-refused old c.set_val_label.new.self c.args.answers.now c.set_val_label.result c.in_err-set_val_label.field-0.0 p.0 c.from_residual.result c.in_err-set_val_label.was p.1 p.2
     done.sets.call.loans c.requires.sound done.sets.call.failed
-    (λ declared calls ready. note-some calls old c.args.answers.now ready c.args.name c.in-Some.value
+    (λ naming declared calls ready. note-some calls old c.args.answers.now ready c.args.name c.in-Some.value
     (ap (λ (f : Body). value_of f c.args.answers.now c.args.name) (sym c.func.ensures) ∙ sym c.value_named.ensures ∙ c.in-Some.is))
     done.never_full
 
@@ -44,9 +44,9 @@ returns-clause-made c =
     made-answer old new c.args.answers.now answer.Nothing c.set_val_label.ensures.sets.call.loans done.grows.3
     (answered-sound _ c.set_val_label.result _ c.set_val_label.ensures.sets.call.fails c.in_ok-set_val_label.was)
     (ap (λ (x : ContextState). x.variables) c.set_val_label.ensures.sets.context)
-    (λ declared calls ready. note-some calls old c.args.answers.now ready c.args.name c.in-Some.value
+    (λ naming declared calls ready. note-some calls old c.args.answers.now ready c.args.name c.in-Some.value
     (ap (λ (f : Body). value_of f c.args.answers.now c.args.name) (sym c.func.ensures) ∙ sym c.value_named.ensures ∙ c.in-Some.is))
-    (λ declared calls ready. note-ready c.notes_add_nothing.ensures calls old new c.args.answers.now _ ready (done.sets.stands declared calls ready.stands) (done.grows.6, done.grows.8))
+    (λ naming declared calls ready. note-ready c.notes_add_nothing.ensures calls old new c.args.answers.now _ ready (done.sets.stands declared calls ready.stands) (done.grows.6, done.grows.8))
 
 pub returns-clause-labels : goal.returns-clause-labels
 returns-clause-labels c = (

@@ -20,7 +20,7 @@ pub returns-in_err-shape : goal.returns-in_err-shape
 returns-in_err-shape c =
     let p = err_from_is_err_and c.from_residual.result c.from_residual.ensures.1 in
     made-misused c.args.builder.now c.args.answers.now c.outside_call_found.result c.from_residual.result c.in_err-shape.field-0.0 c.in_err-shape.was (p.1 ∙ ap Err p.2) c.outside_call_found.ensures
-    (λ none declared calls ready. outside-same calls c.args.builder.now c.args.answers.now ready c.args.called.now ∙ none)
+    (λ none naming declared calls ready. outside-same calls c.args.builder.now c.args.answers.now ready c.args.called.now ∙ none)
 
 pub append-requires-clause-current : goal.append-requires-clause-current
 append-requires-clause-current c =
@@ -48,7 +48,7 @@ returns-in_err-inst c =
     let done = c.append.ensures in
     let p = err_from_is_err_and c.from_residual-in_err-inst.result c.from_residual-in_err-inst.ensures.1 in
     made-refused c.args.builder.now c.append.new.builder c.args.answers.now c.append.result c.in_err-inst.field-0.0 p.0 c.from_residual-in_err-inst.result c.in_err-inst.was p.1 p.2 done.loans c.requires.sound done.failed
-    (λ declared calls ready. outside-same calls c.args.builder.now c.args.answers.now ready c.args.called.now ∙ c.in_ok-shape.ensures.may)
+    (λ naming declared calls ready. outside-same calls c.args.builder.now c.args.answers.now ready c.args.called.now ∙ c.in_ok-shape.ensures.may)
     (λ full. outside-full c.args.builder.now.func.now c.args.answers.now c.args.called.now _ c.in_ok-shape.ensures.found (done.full full))
 
 pub returns : goal.returns
@@ -57,6 +57,6 @@ returns c =
     let new = c.append.new.builder in
     made-answer c.args.builder.now new c.args.answers.now (answer.Inst c.in_ok-inst.inst) c.append.ensures.loans done.grows.3
     (answered-sound _ c.append.result _ c.append.ensures.fails c.in_ok-inst.was) c.append.ensures.variables
-    (λ declared calls ready. outside-same calls c.args.builder.now c.args.answers.now ready c.args.called.now ∙ c.in_ok-shape.ensures.may)
-    (λ declared calls ready.
+    (λ naming declared calls ready. outside-same calls c.args.builder.now c.args.answers.now ready c.args.called.now ∙ c.in_ok-shape.ensures.may)
+    (λ naming declared calls ready.
     outside-ready c.requests_ask_for_their_shapes.ensures calls c.args.builder.now new c.args.answers.now c.args.called.now _ c.in_ok-inst.inst ready c.in_ok-shape.ensures.found done)

@@ -6,16 +6,15 @@ use Rattle.cranelift_frontend.specs.Context.{ContextState, status_of}
 use Rattle.clif_meaning.specs.Request.{AppendBlockParams}
 use Rattle.clif_resolution.specs.declared.answers.Answer.{Answer}
 use Rattle.clif_replay.specs.Ready.{IsReadyAfter}
-use Rattle.clif_replay.specs.Requests.{name_of}
 use Rattle.clif_replay.proofs.ReadyLaws.{ready-more, block-found, block-there}
 use Rattle.clif_replay.proofs.Conditions
 use Rattle.clif_replay.proofs.make_parameters.append_block_param.Goals as goal
 
 pub returns-in_default : goal.returns-in_default
-returns-in_default c = made-misuse c.args.builder.now c.args.answers.now (λ declared calls ready. Conditions.append-none calls c.args.builder.now c.args.answers.now ready c.args.name (c.args.ty ∷ []) (sym c.block_named.ensures ∙ c.in_default.is))
+returns-in_default c = made-misuse c.args.builder.now c.args.answers.now (λ naming declared calls ready. Conditions.append-none calls c.args.builder.now c.args.answers.now ready c.args.name (c.args.ty ∷ []) (sym c.block_named.ensures ∙ c.in_default.is))
 
 pub returns-then-not-may_append : goal.returns-then-not-may_append
-returns-then-not-may_append c = made-misuse c.args.builder.now c.args.answers.now (λ declared calls ready. Conditions.append-some calls c.args.builder.now c.args.answers.now ready c.args.name c.in-Some.block (c.args.ty ∷ []) (sym c.block_named.ensures ∙ c.in-Some.is) ∙ sym c.may_append.ensures ∙ c.if-not-may_append.true)
+returns-then-not-may_append c = made-misuse c.args.builder.now c.args.answers.now (λ naming declared calls ready. Conditions.append-some calls c.args.builder.now c.args.answers.now ready c.args.name c.in-Some.block (c.args.ty ∷ []) (sym c.block_named.ensures ∙ c.in-Some.is) ∙ sym c.may_append.ensures ∙ c.if-not-may_append.true)
 
 pub append_block_param-requires-clause-exists : goal.append_block_param-requires-clause-exists
 append_block_param-requires-clause-exists c = block-there c.requires.calls c.args.builder.now c.args.answers.now c.requires.ready c.args.name c.in-Some.block (sym c.block_named.ensures ∙ c.in-Some.is)
@@ -28,16 +27,16 @@ returns-in_err-value c =
     let done = c.append_block_param.ensures in
     let p = err_from_is_err_and c.from_residual.result c.from_residual.ensures.1 in
     made-refused c.args.builder.now c.append_block_param.new.self c.args.answers.now c.append_block_param.result c.in_err-value.field-0.0 p.0 c.from_residual.result c.in_err-value.was p.1 p.2 done.call.loans c.requires.sound done.call.failed
-    (λ declared calls ready. Conditions.append-some calls c.args.builder.now c.args.answers.now ready c.args.name c.in-Some.block (c.args.ty ∷ []) (sym c.block_named.ensures ∙ c.in-Some.is) ∙ sym c.may_append.ensures ∙ c.if-not-may_append.false) done.full
+    (λ naming declared calls ready. Conditions.append-some calls c.args.builder.now c.args.answers.now ready c.args.name c.in-Some.block (c.args.ty ∷ []) (sym c.block_named.ensures ∙ c.in-Some.is) ∙ sym c.may_append.ensures ∙ c.if-not-may_append.false) done.full
 
 pub returns : goal.returns
 returns c =
     let done = c.in_ok-value.ensures in
     made-answer c.args.builder.now c.append_block_param.new.self c.args.answers.now c.one_value.result c.append_block_param.ensures.call.loans done.grows.3
     (answered-sound _ c.append_block_param.result _ c.append_block_param.ensures.call.fails c.in_ok-value.was) (ap (λ (x : ContextState). x.variables) c.append_block_param.ensures.context)
-    (λ declared calls ready. Conditions.append-some calls c.args.builder.now c.args.answers.now ready c.args.name c.in-Some.block (c.args.ty ∷ []) (sym c.block_named.ensures ∙ c.in-Some.is) ∙ sym c.may_append.ensures ∙ c.if-not-may_append.false)
-    (λ declared calls ready.
+    (λ naming declared calls ready. Conditions.append-some calls c.args.builder.now c.args.answers.now ready c.args.name c.in-Some.block (c.args.ty ∷ []) (sym c.block_named.ensures ∙ c.in-Some.is) ∙ sym c.may_append.ensures ∙ c.if-not-may_append.false)
+    (λ naming declared calls ready.
     let names = block-found calls c.args.builder.now c.args.answers.now ready c.args.name c.in-Some.block (sym c.block_named.ensures ∙ c.in-Some.is) in
     let value = c.in_ok-value.value in
-    subst (λ (a : Answer). IsReadyAfter declared calls (AppendBlockParams (name_of c.args.name) (c.args.ty ∷ [])) c.append_block_param.new.self c.args.answers.now a) (sym c.one_value.ensures)
-    (value ∷ [], ready-more calls _ c.args.builder.now c.append_block_param.new.self _ (answer.Values value 1) ready tt (done.grows.6, done.grows.8) ((done.told (name_of c.args.name)).stands declared calls ready.stands names) (c.args.ty ∷ [], refl, refl, refl)))
+    subst (λ (a : Answer). IsReadyAfter naming declared calls (AppendBlockParams (naming c.args.name) (c.args.ty ∷ [])) c.append_block_param.new.self c.args.answers.now a) (sym c.one_value.ensures)
+    (value ∷ [], ready-more calls _ c.args.builder.now c.append_block_param.new.self _ (answer.Values value 1) ready tt (done.grows.6, done.grows.8) ((done.told (naming c.args.name)).stands declared calls ready.stands names) (c.args.ty ∷ [], refl, refl, refl)))

@@ -18,7 +18,7 @@ pub returns-in_err-found : goal.returns-in_err-found
 returns-in_err-found c =
     let p = err_from_is_err_and c.from_residual.result c.from_residual.ensures.1 in
     made-misused c.args.builder.now c.args.answers.now c.edge_found.result c.from_residual.result c.in_err-found.field-0.0 c.in_err-found.was (p.1 ∙ ap Err p.2) c.edge_found.ensures
-    (λ none declared calls ready. edge-same calls c.args.builder.now c.args.answers.now ready c.args.edge.now ∙ none)
+    (λ none naming declared calls ready. edge-same calls c.args.builder.now c.args.answers.now ready c.args.edge.now ∙ none)
 
 pub returns : goal.returns
 returns c =
@@ -29,5 +29,5 @@ returns c =
     let makes = subst (λ (args : List BlockArg). MakesEdge found.block args old new (Ok c.in_ok-made.made)) c.as_slice.ensures c.in_ok-made.ensures in
     made-answer old new c.args.answers.now (answer.Edge c.in_ok-made.made) done.sets.call.loans makes.grows.3
     (answered-sound _ c.block_call.result _ done.sets.call.fails c.in_ok-made.was) (ap (λ (x : ContextState). x.variables) done.sets.context)
-    (λ declared calls ready. edge-same calls old c.args.answers.now ready c.args.edge.now ∙ edge-there old c.args.answers.now c.args.edge.now found c.in_ok-found.ensures.found)
-    (λ declared calls ready. edge-ready c.table_calls_add_nothing.ensures calls old new c.args.answers.now c.args.edge.now found c.in_ok-made.made ready c.in_ok-found.ensures.found makes.edge makes)
+    (λ naming declared calls ready. edge-same calls old c.args.answers.now ready c.args.edge.now ∙ edge-there old c.args.answers.now c.args.edge.now found c.in_ok-found.ensures.found)
+    (λ naming declared calls ready. edge-ready c.table_calls_add_nothing.ensures calls old new c.args.answers.now c.args.edge.now found c.in_ok-made.made ready c.in_ok-found.ensures.found makes.edge makes)

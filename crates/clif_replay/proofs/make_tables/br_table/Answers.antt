@@ -15,7 +15,7 @@ use Rattle.clif_replay.proofs.make_tables.br_table.Goals as goal
 
 pub returns-then-not-has_current : goal.returns-then-not-has_current
 returns-then-not-has_current c =
-    made-misuse c.args.builder.now c.args.answers.now (λ declared calls ready.
+    made-misuse c.args.builder.now c.args.answers.now (λ naming declared calls ready.
     branch-same calls c.args.builder.now c.args.answers.now ready c.args.index c.args.table
     ∙ branch-closed c.args.builder.now _ c.args.table (sym c.has_current.ensures ∙ c.if-not-has_current.true))
 
@@ -27,12 +27,12 @@ value_named-requires c = λ i inside.
 pub returns-in_default : goal.returns-in_default
 returns-in_default c =
     let none = ap (λ (f : Body). value_of f c.args.answers.now c.args.index) (sym c.func.ensures) ∙ sym c.value_named.ensures ∙ c.in_default.is in
-    made-misuse c.args.builder.now c.args.answers.now (λ declared calls ready.
+    made-misuse c.args.builder.now c.args.answers.now (λ naming declared calls ready.
     branch-same calls c.args.builder.now c.args.answers.now ready c.args.index c.args.table ∙ branch-missing c.args.builder.now _ c.args.table none)
 
 pub returns-then-not-may_serve : goal.returns-then-not-may_serve
 returns-then-not-may_serve c =
-    made-misuse c.args.builder.now c.args.answers.now (λ declared calls ready.
+    made-misuse c.args.builder.now c.args.answers.now (λ naming declared calls ready.
     branch-same calls c.args.builder.now c.args.answers.now ready c.args.index c.args.table
     ∙ and_right _ (serves c.args.builder.now c.args.table) (sym c.may_serve.ensures ∙ c.if-not-may_serve.true))
 
@@ -58,7 +58,7 @@ returns-in_err-inst c =
     let done = branched b c.branch-builder.new.builder c.in-Some.value c.args.table c.branch-builder.result c.requires.sound c.branch-builder.ensures in
     made-refused b c.branch-builder.new.builder answers c.branch-builder.result c.in_err-inst.field-0.0 p.0 c.from_residual.result c.in_err-inst.was p.1 p.2
     done.loans c.requires.sound done.failed
-    (λ declared calls ready.
+    (λ naming declared calls ready.
     branch-same calls b answers ready c.args.index c.args.table
     ∙ and_from _ (serves b c.args.table)
     (and_from (is_open b) (is_some (value_of b.func.now answers c.args.index)) (sym c.has_current.ensures ∙ c.if-not-has_current.false) (ap is_some found))
@@ -76,10 +76,10 @@ returns c =
     let fails = (branched b new c.in-Some.value c.args.table c.branch-builder.result c.requires.sound c.branch-builder.ensures).builds.fails in
     made-answer b new answers (answer.Inst c.in_ok-inst.inst) done.loans (done.builds.grows.3 ∙ done.takes.sets.grows.3)
     (answered-sound _ c.branch-builder.result _ fails c.in_ok-inst.was) (done.builds.variables ∙ ap (λ (x : ContextState). x.variables) done.takes.sets.context)
-    (λ declared calls ready.
+    (λ naming declared calls ready.
     branch-same calls b answers ready c.args.index c.args.table
     ∙ and_from _ (serves b c.args.table)
     (and_from (is_open b) (is_some (value_of b.func.now answers c.args.index)) (sym c.has_current.ensures ∙ c.if-not-has_current.false) (ap is_some found))
     (sym c.may_serve.ensures ∙ c.if-not-may_serve.false))
-    (λ declared calls ready.
+    (λ naming declared calls ready.
     branch-ready c.requests_ask_for_their_shapes.ensures calls b new answers c.args.index c.in-Some.value c.args.table c.in_ok-inst.inst ready found done)

@@ -18,7 +18,7 @@ returns-in_err-default c =
     let p = err_from_is_err_and c.from_residual.result c.from_residual.ensures.1 in
     let b = c.args.builder.now in
     made-misused b c.args.answers.now c.edge_copied.result c.from_residual.result c.in_err-default.field-0.0 c.in_err-default.was (p.1 ∙ ap Err p.2) c.edge_copied.ensures
-    (λ none declared calls ready.
+    (λ none naming declared calls ready.
     edges-same calls b c.args.answers.now ready (c.args.default ∷ c.args.entries.now)
     ∙ ap (λ (test : Bool). test && list_all (λ name. is_some (edge_at c.args.answers.now name)) c.args.entries.now) none)
 
@@ -28,7 +28,7 @@ returns-in_err-entries c =
     let b = c.args.builder.now in
     let done = c.edges_copied.ensures in
     made-missed b c.args.answers.now c.edges_copied.result c.from_residual-in_err-entries.result c.in_err-entries.field-0.0 c.in_err-entries.was (p.1 ∙ ap Err p.2)
-    (λ misuse declared calls ready.
+    (λ misuse naming declared calls ready.
     edges-same calls b c.args.answers.now ready (c.args.default ∷ c.args.entries.now)
     ∙ and_right (is_some (edge_at c.args.answers.now c.args.default)) _ (done.misuse misuse))
     done.never_refused done.never_full
@@ -46,7 +46,7 @@ returns-in_err-create_jump_table c =
     let p = err_from_is_err_and c.from_residual-in_err-create_jump_table.result c.from_residual-in_err-create_jump_table.ensures.1 in
     made-refused b c.create_jump_table.new.self answers c.create_jump_table.result c.in_err-create_jump_table.field-0.0 p.0 c.from_residual-in_err-create_jump_table.result
     c.in_err-create_jump_table.was p.1 p.2 done.sets.call.loans c.requires.sound done.sets.call.failed
-    (λ declared calls ready. edges-same calls b answers ready names ∙ all-there answers names edges found) (λ full. (done.full.0 full).1)
+    (λ naming declared calls ready. edges-same calls b answers ready names ∙ all-there answers names edges found) (λ full. (done.full.0 full).1)
 
 pub returns : goal.returns
 returns c =
@@ -62,5 +62,5 @@ returns c =
     let creates = subst (λ (table : List BlockCall). CreatesJumpTable table b new (Ok c.in_ok-create_jump_table.field-0)) c.in_ok-table.ensures.ok c.in_ok-create_jump_table.ensures in
     made-answer b new answers answer.Table done.sets.call.loans creates.sets.grows.3 (answered-sound _ c.create_jump_table.result _ done.sets.call.fails c.in_ok-create_jump_table.was)
     (ap (λ (x : ContextState). x.variables) done.sets.context)
-    (λ declared calls ready. edges-same calls b answers ready names ∙ all-there answers names edges found)
-    (λ declared calls ready. table-ready c.table_calls_add_nothing.ensures calls b new answers c.args.default c.args.entries.now edges c.in_ok-create_jump_table.field-0 ready found creates)
+    (λ naming declared calls ready. edges-same calls b answers ready names ∙ all-there answers names edges found)
+    (λ naming declared calls ready. table-ready c.table_calls_add_nothing.ensures calls b new answers c.args.default c.args.entries.now edges c.in_ok-create_jump_table.field-0 ready found creates)

@@ -1,48 +1,126 @@
-use Rattle.std.proofs.Common.{◌≡◌, ◌<◌, List, [], ◌∷◌, ◌++◌, rules, arith, ap, sym, ◌∙◌, subst}
+use Rattle.std.proofs.Common.{◌≡◌, ◌<◌, List, [], ◌∷◌, ◌++◌, rules, arith, ap, refl, sym, ◌∙◌, subst}
 use Rattle.std.proofs.lemmas.Grind.{common_steps}
 use Rattle.clif_meaning.specs.Request.{AnsweredCall}
-use Rattle.cranelift_frontend.specs.Ledger.{ledger_of}
+use Rattle.clif_calls.specs.declared.call.Call.{Call}
+use Rattle.clif_expansion.specs.ScriptCall.{ScriptCall}
+use Rattle.cranelift_frontend.specs.declared.builder.FunctionBuilder.{FunctionBuilder}
+use Rattle.clif_types.specs.Signature.{SignatureShape}
 use Rattle.clif_resolution.specs.declared.answers.Answer.{Answer}
-use Rattle.clif_replay.specs.Ready.{IsJudged, IsReady}
-use Rattle.clif_replay.specs.Requests.{IsReplayed, request_of}
-use Rattle.std.specs.Prelude.{ℕ, Bool, true, length, Err, Result, Some}
+use Rattle.clif_replay.specs.Ready.{IsJudged, TablesAgree}
+use Rattle.clif_replay.specs.Requests.{IsReplayed, calls_of, name_of}
+use Rattle.std.specs.Prelude.{ℕ, Bool, true, length, Err, Ok, Result, Some, slice_get, take}
 use Rattle.clif_resolution.specs.declared.answers.CallError.{CallError}
 use Rattle.clif_resolution.specs.declared.answers.CallError.TheVariants as error
 use Rattle.clif_replay.specs.declared.script.ReplayError.{ReplayError}
 use Rattle.clif_replay.specs.declared.script.ReplayError.TheVariants.{Full, Misuse, Refused}
-use Rattle.std.proofs.lemmas.Option.{slice_get-get_or}
+use Rattle.std.proofs.lemmas.Option.{slice_get-get_or, slice_get_within}
+use Rattle.clif_meaning.specs.Name.{answer_of}
+use Rattle.cranelift_frontend.specs.Ledger.{NamesEdges, NamesExceptions}
+use Rattle.cranelift_frontend.specs.LedgerLaws.{LedgerIsReadByNumber}
+use Rattle.cranelift_frontend.specs.StandsFor.{StandsFor}
+use Rattle.clif_expansion.specs.JoinedCalls.{Starting}
+use Rattle.clif_expansion.specs.Reading.{NotMade}
 use Rattle.clif_replay.proofs.Replays.{last-place, loans-then, made-all, made-memory, misuse-place, refused-there}
 use Rattle.std.proofs.lemmas.Result.{err_from_is_err_and}
-use Rattle.clif_replay.proofs.Verdicts.{full-told, misuse-told, refusal-at, refusal-told, replayed-more}
+use Rattle.clif_replay.proofs.Stepping.{IsInStep, step}
+use Rattle.clif_replay.proofs.Verdicts.{HasRest, calls-more, calls_before, full-told, misuse-told, refusal-at, refusal-told, rest-more}
 use Rattle.clif_replay.proofs.script.make_calls.Goals as goal
+
+-- the first calls were made where the builder is in step
+replayed-at : (declared : SignatureShape) (calls : List Call) (place : ℕ) (b : FunctionBuilder) (answers : List Answer) (s : IsInStep declared (calls_before declared calls place) b answers)
+    → HasRest declared calls place → IsReplayed declared calls place s.made
+replayed-at declared calls place b answers s rest = record { plain = s.known.calls; taken = s.taken; rest = rest }
+
+-- the same step, of these calls and answers
+advance : (declared : SignatureShape) (script next : List ScriptCall) (b : FunctionBuilder) (answers more : List Answer) → script ≡ next → answers ≡ more
+    → IsInStep declared script b answers → IsInStep declared next b more
+advance declared script next b answers more calls given s =
+    subst (λ (xs : List Answer). IsInStep declared next b xs) given (subst (λ (list : List ScriptCall). IsInStep declared list b answers) calls s)
+
+-- before the first call
+no-some : (xs : List Answer) (k : ℕ) (a : Answer) → xs ≡ [] → slice_get xs k ≡ Some a → ⊥
+no-some xs k a same is =
+    let below = slice_get_within xs k a is in
+    let none : length xs ≡ 0 = ap length same in
+    omega (arith, below, none)
+
+starts : (declared : SignatureShape) (b : FunctionBuilder) → LedgerIsReadByNumber → StandsFor declared [] b
+    → b.func.now.tables.jump_tables ≡ [] → b.func.now.tables.exception_tables ≡ [] → IsInStep declared [] b []
+starts declared b reads stands tables exceptions = record {
+  naming = name_of;
+  made = [];
+  ready = record {
+    reads = reads;
+    stands = stands;
+    answered = λ place answer is. absurd (no-some [] place answer refl is);
+    later = λ name k is. ap (λ (n : ℕ). answer_of n name.answer) is;
+    edges = λ name made is first. absurd (no-some [] name.place _ refl is);
+    tables = subst (TablesAgree (NamesEdges []) []) (sym tables) tt;
+    exceptions = subst (TablesAgree (NamesExceptions []) []) (sym exceptions) tt;
+  };
+  known = record {
+    calls = record { reading = λ x. NotMade; joined = Starting; performed = λ pointer_width. tt };
+    reads = λ name below.
+        let under : name.place < 0 = below in
+        absurd (omega (arith, under));
+  };
+  taken = tt;
+  counts = refl;
+}
+
+take-none : (calls : List Call) → take 0 calls ≡ []
+take-none [] = refl
+take-none (call ∷ calls) = refl
+
+rest-start : (declared : SignatureShape) (calls : List Call) → HasRest declared calls 0
+rest-start declared [] = refl
+rest-start declared (call ∷ calls) = refl
+
+pub loop-place-init : goal.loop-place-init
+loop-place-init c =
+    let declared = c.args.builder.now.func.now.signature in
+    let calls = c.args.calls.now in
+    let start = starts declared c.args.builder.now c.ledger_is_read_by_number.ensures c.requires.ready c.requires.tables c.requires.exceptions in
+    record {
+      in_step = advance declared _ _ c.args.builder.now _ _ (sym (ap (calls_of declared) (take-none calls))) (sym c.new-answers.ensures.items) start;
+      rest = rest-start declared calls;
+      types = c.new-types.ensures.items ∙ sym c.requires.types;
+      loans = record { func = refl; ctx = refl };
+      sound = c.requires.sound;
+      name = refl;
+    }
 
 pub loop-place-preserved : goal.loop-place-preserved
 loop-place-preserved c =
-    let made = c.loop-place.invariant.made.0 in
+    let declared = c.args.builder.now.func.now.signature in
+    let calls = c.args.calls.now in
+    let place = c.loop-place.place in
     let call = c.index-calls-place.result in
-    let ready = subst (λ (xs : List Answer). IsReady c.args.builder.now.func.now.signature made c.loop-place.builder xs) (sym c.as_slice.ensures.value) c.loop-place.invariant.made.1 in
-    let after = c.in-Ok.ensures.ready c.args.builder.now.func.now.signature made ready in
-    let more : AnsweredCall = record { request = request_of c.args.builder.now.func.now.signature (ledger_of made) call; numbers = after.0 } in
+    let new = c.make_call.new.builder in
+    let made = step call c.loop-place.builder new _ (Ok c.in-Ok.answer) c.in-Ok.ensures in
+    let before = subst (λ (xs : List Answer). IsInStep declared (calls_before declared calls place) c.loop-place.builder xs) (sym c.as_slice.ensures.value) c.loop-place.invariant.in_step in
+    let after = made.goes_on declared (calls_before declared calls place) before in
     let answers = ap (λ (xs : List Answer). xs ++ c.in-Ok.answer ∷ []) c.as_slice.ensures.value ∙ sym c.in_ok-push-in-Ok.ensures.items in
+    let variables = made.variables in
     record {
-      made = (
-        made ++ more ∷ [],
-        subst (λ (xs : List Answer). IsReady c.args.builder.now.func.now.signature (made ++ more ∷ []) c.make_call.new.builder xs) answers after.1,
-        replayed-more c.args.builder.now.func.now.signature c.args.calls.now c.loop-place.place call made after.0 c.loop-place-test.true c.index-calls-place.is c.loop-place.invariant.made.2 (c.in-Ok.ensures.judged c.args.builder.now.func.now.signature made ready),
-      );
-      types = first_of (search rules, grind (arith, common_steps));
-      loans = loans-then c.args.builder.now c.loop-place.builder c.make_call.new.builder c.loop-place.invariant.loans c.in-Ok.ensures.loans;
-      sound = c.in-Ok.ensures.sound;
-      name = c.in-Ok.ensures.name ∙ c.loop-place.invariant.name;
+      in_step = advance declared _ _ new _ _ (calls-more declared calls place call c.loop-place-test.true c.index-calls-place.is) answers after;
+      rest = rest-more declared calls place call c.loop-place-test.true c.index-calls-place.is c.loop-place.invariant.rest (made.judged declared (calls_before declared calls place) before);
+      types = first_of (search rules, grind (arith, common_steps, variables));
+      loans = loans-then c.args.builder.now c.loop-place.builder new c.loop-place.invariant.loans made.loans;
+      sound = made.sound;
+      name = made.name ∙ c.loop-place.invariant.name;
     }
 
 pub returns-in-Err-clause-judged : goal.returns-in-Err-clause-judged
 returns-in-Err-clause-judged c = λ i told.
-    let made = c.loop-place.invariant.made.0 in
     let declared = c.args.builder.now.func.now.signature in
-    let ready = subst (λ (xs : List Answer). IsReady declared made c.loop-place.builder xs) (sym c.as_slice.ensures.value) c.loop-place.invariant.made.1 in
-    misuse-told declared c.args.calls.now c.loop-place.place i c.index-calls-place.result made c.in-Err.error c.told_at.result c.loop-place-test.true c.index-calls-place.is c.loop-place.invariant.made.2
-    (c.in-Err.ensures.judged declared made ready) c.told_at.ensures (same c.told_at.result i told)
+    let calls = c.args.calls.now in
+    let place = c.loop-place.place in
+    let call = c.index-calls-place.result in
+    let made = step call c.loop-place.builder c.make_call.new.builder _ (Err c.in-Err.error) c.in-Err.ensures in
+    let before = subst (λ (xs : List Answer). IsInStep declared (calls_before declared calls place) c.loop-place.builder xs) (sym c.as_slice.ensures.value) c.loop-place.invariant.in_step in
+    misuse-told declared calls place i call c.in-Err.error c.told_at.result c.loop-place-test.true c.index-calls-place.is c.loop-place.invariant.rest
+    (made.judged declared (calls_before declared calls place) before) c.told_at.ensures (same c.told_at.result i told)
   where
     same : (e : ReplayError) (k : ℕ) → ◌≡◌ {A = Result (Unit {0}) ReplayError} (Err e) (Err (Misuse k)) → e ≡ Misuse k
     same e k h = cc
@@ -60,50 +138,60 @@ allowed-full e is allowed refused judged = subst (λ (told : CallError). IsJudge
 pub returns-in-Err-clause-table_full : goal.returns-in-Err-clause-table_full
 returns-in-Err-clause-table_full c = λ told.
     let invariant = c.loop-place.invariant in
+    let declared = c.args.builder.now.func.now.signature in
+    let calls = c.args.calls.now in
+    let place = c.loop-place.place in
     let builder = c.loop-place.builder in
     let call = c.index-calls-place.result in
-    let is_full = full-told c.in-Err.error c.loop-place.place c.told_at.result c.told_at.ensures (same-full c.told_at.result told) in
-    let ready = subst (λ (xs : List Answer). IsReady c.args.builder.now.func.now.signature invariant.made.0 builder xs) (sym c.as_slice.ensures.value) invariant.made.1 in
-    let judged = c.in-Err.ensures.judged c.args.builder.now.func.now.signature invariant.made.0 ready in
+    let is_full = full-told c.in-Err.error place c.told_at.result c.told_at.ensures (same-full c.told_at.result told) in
+    let made = step call builder c.make_call.new.builder _ (Err c.in-Err.error) c.in-Err.ensures in
+    let before = subst (λ (xs : List Answer). IsInStep declared (calls_before declared calls place) builder xs) (sym c.as_slice.ensures.value) invariant.in_step in
+    let judged = made.judged declared (calls_before declared calls place) before in
     record {
-      place = c.loop-place.place;
+      place = place;
       call = call;
-      here = slice_get-get_or c.args.calls.now c.loop-place.place call c.loop-place-test.true ∙ ap Some (sym c.index-calls-place.is);
-      made = invariant.made.0;
-      replayed = invariant.made.2;
+      here = slice_get-get_or calls place call c.loop-place-test.true ∙ ap Some (sym c.index-calls-place.is);
+      made = invariant.in_step.made;
+      replayed = replayed-at declared calls place builder _ invariant.in_step invariant.rest;
       function = builder.func.now;
       context = builder.ctx.now;
       position = builder.position;
-      stands = invariant.made.1.stands;
+      stands = invariant.in_step.ready.stands;
       named = invariant.name;
       allowed = allowed-full c.in-Err.error is_full _ _ judged;
-      meets = c.in-Err.ensures.full (ap Err is_full);
+      meets = made.full (ap Err is_full);
     }
 
 pub returns-in_err-push-in-Ok : goal.returns-in_err-push-in-Ok
 returns-in_err-push-in-Ok c =
     let p = err_from_is_err_and c.from_residual.result c.from_residual.ensures.1 in
+    let step_made = step c.index-calls-place.result c.loop-place.builder c.make_call.new.builder _ (Ok c.in-Ok.answer) c.in-Ok.ensures in
     let made = made-memory c.args.calls.now c.args.builder.now c.make_call.new.builder c.from_residual.result (p.1 ∙ ap Err p.2)
-    (loans-then c.args.builder.now c.loop-place.builder c.make_call.new.builder c.loop-place.invariant.loans c.in-Ok.ensures.loans) in
+    (loans-then c.args.builder.now c.loop-place.builder c.make_call.new.builder c.loop-place.invariant.loans step_made.loans) in
     record { loans = made.loans; name = made.name; ready = made.ready; sound = made.sound; misuse = made.misuse; judged = made.judged; tried = made.tried; refused = made.refused; table_full = made.table_full }
 
 pub returns-in_err-push : goal.returns-in_err-push
 returns-in_err-push c =
     let p = err_from_is_err_and c.from_residual-in_err-push.result c.from_residual-in_err-push.ensures.1 in
+    let step_made = step c.index-calls-place.result c.loop-place.builder c.make_call.new.builder _ (Ok c.in-Ok.answer) c.in-Ok.ensures in
     let made = made-memory c.args.calls.now c.args.builder.now c.make_call.new.builder c.from_residual-in_err-push.result (p.1 ∙ ap Err p.2)
-    (loans-then c.args.builder.now c.loop-place.builder c.make_call.new.builder c.loop-place.invariant.loans c.in-Ok.ensures.loans) in
+    (loans-then c.args.builder.now c.loop-place.builder c.make_call.new.builder c.loop-place.invariant.loans step_made.loans) in
     record { loans = made.loans; name = made.name; ready = made.ready; sound = made.sound; misuse = made.misuse; judged = made.judged; tried = made.tried; refused = made.refused; table_full = made.table_full }
 
 pub returns : goal.returns
 returns c =
     let invariant = c.loop-place.invariant in
+    let declared = c.args.builder.now.func.now.signature in
     let ended = last-place c.loop-place.place (length c.args.calls.now) c.loop-place.auto.place-end c.loop-place-test.false in
-    let replayed = subst (λ (place : ℕ). IsReplayed c.args.builder.now.func.now.signature c.args.calls.now place invariant.made.0) ended invariant.made.2 in
-    let made = made-all c.args.calls.now c.args.builder.now c.loop-place.builder invariant.made.0 invariant.loans invariant.name invariant.made.1.stands replayed invariant.sound in
+    let here = replayed-at declared c.args.calls.now c.loop-place.place c.loop-place.builder _ invariant.in_step invariant.rest in
+    let replayed = subst (λ (place : ℕ). IsReplayed declared c.args.calls.now place invariant.in_step.made) ended here in
+    let made = made-all c.args.calls.now c.args.builder.now c.loop-place.builder invariant.in_step.made invariant.loans invariant.name invariant.in_step.ready.stands replayed invariant.sound in
     record { loans = made.loans; name = made.name; ready = made.ready; sound = made.sound; misuse = made.misuse; judged = made.judged; tried = made.tried; refused = made.refused; table_full = made.table_full }
 
 pub returns-in-Err-clause-loans : goal.returns-in-Err-clause-loans
-returns-in-Err-clause-loans c = loans-then c.args.builder.now c.loop-place.builder c.make_call.new.builder c.loop-place.invariant.loans c.in-Err.ensures.loans
+returns-in-Err-clause-loans c =
+    let made = step c.index-calls-place.result c.loop-place.builder c.make_call.new.builder _ (Err c.in-Err.error) c.in-Err.ensures in
+    loans-then c.args.builder.now c.loop-place.builder c.make_call.new.builder c.loop-place.invariant.loans made.loans
 
 pub returns-in-Err-clause-name : goal.returns-in-Err-clause-name
 returns-in-Err-clause-name c = tt
@@ -120,14 +208,18 @@ returns-in-Err-clause-misuse c = λ i told. subst (λ (k : ℕ). k < length c.ar
 pub returns-in-Err-clause-tried : goal.returns-in-Err-clause-tried
 returns-in-Err-clause-tried c = λ i told.
     let call = c.index-calls-place.result in
+    let made = step call c.loop-place.builder c.make_call.new.builder _ (Err c.in-Err.error) c.in-Err.ensures in
     let refusal = refusal-at c.in-Err.error c.loop-place.place i c.told_at.result c.told_at.ensures (same-refusal c.told_at.result i told) in
     refused-there c.args.calls.now c.loop-place.place i call (slice_get-get_or c.args.calls.now c.loop-place.place call c.loop-place-test.true ∙ ap Some (sym c.index-calls-place.is))
-    (c.in-Err.ensures.refused (ap Err refusal.0)) refusal.1
+    (made.refused (ap Err refusal.0)) refusal.1
 
 pub returns-in-Err-clause-refused : goal.returns-in-Err-clause-refused
 returns-in-Err-clause-refused c = λ i told.
-    let made = c.loop-place.invariant.made.0 in
     let declared = c.args.builder.now.func.now.signature in
-    let ready = subst (λ (xs : List Answer). IsReady declared made c.loop-place.builder xs) (sym c.as_slice.ensures.value) c.loop-place.invariant.made.1 in
-    refusal-told declared c.args.calls.now c.loop-place.place i c.index-calls-place.result made c.in-Err.error c.told_at.result c.loop-place-test.true c.index-calls-place.is c.loop-place.invariant.made.2
-    (c.in-Err.ensures.judged declared made ready) c.told_at.ensures (same-refusal c.told_at.result i told)
+    let calls = c.args.calls.now in
+    let place = c.loop-place.place in
+    let call = c.index-calls-place.result in
+    let made = step call c.loop-place.builder c.make_call.new.builder _ (Err c.in-Err.error) c.in-Err.ensures in
+    let before = subst (λ (xs : List Answer). IsInStep declared (calls_before declared calls place) c.loop-place.builder xs) (sym c.as_slice.ensures.value) c.loop-place.invariant.in_step in
+    refusal-told declared calls place i call c.in-Err.error c.told_at.result c.loop-place-test.true c.index-calls-place.is c.loop-place.invariant.rest
+    (made.judged declared (calls_before declared calls place) before) c.told_at.ensures (same-refusal c.told_at.result i told)

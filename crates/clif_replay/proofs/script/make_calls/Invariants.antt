@@ -1,14 +1,14 @@
-use Rattle.std.proofs.Common.{◌≡◌, List}
+use Rattle.std.proofs.Common.{◌≡◌}
 use Rattle.std.specs.Prelude.{false}
-use Rattle.clif_meaning.specs.Request.{AnsweredCall}
 use Rattle.cranelift_frontend.specs.Builder.{SameLoans}
-use Rattle.clif_replay.specs.Ready.{IsReady}
-use Rattle.clif_replay.specs.Requests.{IsReplayed}
+use Rattle.clif_replay.proofs.Stepping.{IsInStep}
+use Rattle.clif_replay.proofs.Verdicts.{HasRest, calls_before}
 use Rattle.clif_replay.proofs.script.make_calls.Given as goal
 
 abbrev pub invariant-loop-place : goal.invariant-loop-place
 invariant-loop-place l = record {
-  made : (made : List AnsweredCall) × IsReady l.initial.builder.func.now.signature made l.builder l.answers.items × IsReplayed l.initial.builder.func.now.signature l.calls l.place made;
+  in_step : IsInStep l.initial.builder.func.now.signature (calls_before l.initial.builder.func.now.signature l.calls l.place) l.builder l.answers.items;
+  rest : HasRest l.initial.builder.func.now.signature l.calls l.place;
   types : l.types.items ≡ l.builder.ctx.now.variables;
   loans : SameLoans l.initial.builder l.builder;
   sound : l.builder.failed ≡ false;

@@ -1,4 +1,4 @@
-use Rattle.clif_simulation.proofs.CallRow
+use Rattle.clif_simulation.proofs.Rows.CallRow
 use Rattle.clif_simulation.proofs.examples.call_is_carried.Goals as goal
 
 pub returns : goal.returns

@@ -1,4 +1,4 @@
-use Rattle.clif_simulation.proofs.SecondRow
+use Rattle.clif_simulation.proofs.Rows.SecondRow
 use Rattle.clif_simulation.proofs.examples.coming_reads_right.Goals as goal
 
 pub returns : goal.returns

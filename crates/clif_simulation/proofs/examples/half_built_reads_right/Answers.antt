@@ -1,4 +1,4 @@
-use Rattle.clif_simulation.proofs.HalfRow
+use Rattle.clif_simulation.proofs.Rows.HalfRow
 use Rattle.clif_simulation.proofs.examples.half_built_reads_right.Goals as goal
 
 pub returns : goal.returns

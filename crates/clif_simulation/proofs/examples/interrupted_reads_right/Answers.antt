@@ -1,11 +1,11 @@
-use Rattle.clif_simulation.proofs.EarlyJump
-use Rattle.clif_simulation.proofs.HalfRowAlong
-use Rattle.clif_simulation.proofs.LoopAlong
-use Rattle.clif_simulation.proofs.LoopConsistent
-use Rattle.clif_simulation.proofs.LoopPassing
-use Rattle.clif_simulation.proofs.LoopRow
-use Rattle.clif_simulation.proofs.LoopWaiting
-use Rattle.clif_simulation.proofs.OpenReading
+use Rattle.clif_simulation.proofs.Rows.EarlyJump
+use Rattle.clif_simulation.proofs.Rows.HalfRowAlong
+use Rattle.clif_simulation.proofs.Loops.LoopAlong
+use Rattle.clif_simulation.proofs.Loops.LoopConsistent
+use Rattle.clif_simulation.proofs.Loops.LoopPassing
+use Rattle.clif_simulation.proofs.Loops.LoopRow
+use Rattle.clif_simulation.proofs.Loops.LoopWaiting
+use Rattle.clif_simulation.proofs.Unfinished.OpenReading
 use Rattle.clif_meaning.specs.BranchExamples.{both_arms_signature}
 use Rattle.clif_simulation.specs.Reading.{may_grow}
 use Rattle.clif_simulation.specs.CarryingExamples.{loop_calls, loop_body, loop_state}

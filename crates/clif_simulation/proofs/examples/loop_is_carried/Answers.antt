@@ -1,8 +1,8 @@
 use Rattle.std.proofs.Common.{refl}
-use Rattle.clif_simulation.proofs.LoopArgument
-use Rattle.clif_simulation.proofs.LoopConsistent
-use Rattle.clif_simulation.proofs.LoopRow
-use Rattle.clif_simulation.proofs.LoopWrong
+use Rattle.clif_simulation.proofs.Loops.LoopArgument
+use Rattle.clif_simulation.proofs.Loops.LoopConsistent
+use Rattle.clif_simulation.proofs.Loops.LoopRow
+use Rattle.clif_simulation.proofs.Loops.LoopWrong
 use Rattle.clif_simulation.proofs.examples.loop_is_carried.Goals as goal
 
 pub returns : goal.returns

@@ -1,4 +1,4 @@
-use Rattle.clif_simulation.proofs.LoopPremises
+use Rattle.clif_simulation.proofs.Loops.LoopPremises
 use Rattle.clif_simulation.proofs.examples.loop_meets_premises.Goals as goal
 
 pub returns : goal.returns

@@ -1,4 +1,4 @@
-use Rattle.clif_simulation.proofs.ParameterRow
+use Rattle.clif_simulation.proofs.Rows.ParameterRow
 use Rattle.clif_simulation.proofs.examples.parameter_is_carried.Goals as goal
 
 pub returns : goal.returns

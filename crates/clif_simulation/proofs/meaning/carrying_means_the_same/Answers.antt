@@ -1,4 +1,4 @@
-use Rattle.clif_simulation.proofs.Assembly
+use Rattle.clif_simulation.proofs.Finished.Assembly
 use Rattle.clif_simulation.proofs.meaning.carrying_means_the_same.Goals as goal
 
 pub returns : goal.returns

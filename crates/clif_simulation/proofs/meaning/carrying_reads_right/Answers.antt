@@ -1,4 +1,4 @@
-use Rattle.clif_simulation.proofs.OpenReading
+use Rattle.clif_simulation.proofs.Unfinished.OpenReading
 use Rattle.clif_simulation.proofs.meaning.carrying_reads_right.Goals as goal
 
 pub returns : goal.returns

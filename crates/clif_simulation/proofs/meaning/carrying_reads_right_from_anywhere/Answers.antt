@@ -1,4 +1,4 @@
-use Rattle.clif_simulation.proofs.RightReading
+use Rattle.clif_simulation.proofs.Unfinished.RightReading
 use Rattle.clif_simulation.proofs.Unfilled.{plainly}
 use Rattle.clif_simulation.proofs.meaning.carrying_reads_right_from_anywhere.Goals as goal
 

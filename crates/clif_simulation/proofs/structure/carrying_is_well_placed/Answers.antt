@@ -1,4 +1,4 @@
-use Rattle.clif_simulation.proofs.Defined.{well_placed}
+use Rattle.clif_simulation.proofs.Shape.Defined.{well_placed}
 use Rattle.clif_simulation.proofs.Whole.{whole}
 use Rattle.clif_simulation.proofs.structure.carrying_is_well_placed.Goals as goal
 

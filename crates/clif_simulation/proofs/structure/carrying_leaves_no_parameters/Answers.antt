@@ -1,4 +1,4 @@
-use Rattle.clif_simulation.proofs.CarriedStructure.{no_parameters}
+use Rattle.clif_simulation.proofs.Shape.CarriedStructure.{no_parameters}
 use Rattle.clif_simulation.proofs.structure.carrying_leaves_no_parameters.Goals as goal
 
 pub returns : goal.returns

@@ -1,4 +1,4 @@
-use Rattle.clif_simulation.proofs.CallersAlone.{leaves_few}
+use Rattle.clif_simulation.proofs.Shape.CallersAlone.{leaves_few}
 use Rattle.clif_simulation.proofs.structure.construction_leaves_few_parameters.Goals as goal
 
 pub returns : goal.returns

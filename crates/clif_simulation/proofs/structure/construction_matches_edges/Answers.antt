@@ -1,4 +1,4 @@
-use Rattle.clif_simulation.proofs.EdgesMatching.{edges_match}
+use Rattle.clif_simulation.proofs.Shape.EdgesMatching.{edges_match}
 use Rattle.clif_simulation.proofs.structure.construction_matches_edges.Goals as goal
 
 pub returns : goal.returns

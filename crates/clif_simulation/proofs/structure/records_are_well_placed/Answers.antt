@@ -1,4 +1,4 @@
-use Rattle.clif_simulation.proofs.RecordsDefined.{records_well_placed}
+use Rattle.clif_simulation.proofs.Shape.RecordsDefined.{records_well_placed}
 use Rattle.clif_simulation.proofs.Whole.{whole}
 use Rattle.clif_simulation.proofs.structure.records_are_well_placed.Goals as goal
 

@@ -1,5 +1,5 @@
 use Rattle.clif_simulation.specs.Reading.{may_grow}
-use Rattle.clif_simulation.proofs.OpenReading
+use Rattle.clif_simulation.proofs.Unfinished.OpenReading
 use Rattle.cranelift_frontend.proofs.StandingOpen.{are_open}
 use Rattle.cranelift_frontend.proofs.laws.standing_reads_right.Goals as goal
 

@@ -1,5 +1,5 @@
 use Rattle.clif_simulation.proofs.Unfilled.{plainly}
-use Rattle.clif_simulation.proofs.RightReading
+use Rattle.clif_simulation.proofs.Unfinished.RightReading
 use Rattle.cranelift_frontend.proofs.laws.standing_reads_right_from_anywhere.Goals as goal
 
 pub returns : goal.returns

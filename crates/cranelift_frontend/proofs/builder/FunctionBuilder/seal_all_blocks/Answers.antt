@@ -8,7 +8,7 @@ use Rattle.cranelift_frontend.proofs.Growing.{sealed_current, sealed_grows}
 use Rattle.cranelift_frontend.proofs.Framed.{sealed-filled, sealed-types}
 use Rattle.cranelift_frontend.proofs.Named.{kept_by, opened}
 use Rattle.cranelift_frontend.proofs.Ordered.{order-sealed-all}
-use Rattle.clif_simulation.proofs.CarriedStructure.{sealed_parameters}
+use Rattle.clif_simulation.proofs.Shape.CarriedStructure.{sealed_parameters}
 use Rattle.clif_ssa.proofs.Constructing.{constructs_none}
 use Rattle.clif_ssa.proofs.SealPools.{first_pools}
 use Rattle.cranelift_frontend.proofs.builder.FunctionBuilder.seal_all_blocks.Goals as goal

@@ -9,7 +9,7 @@ use Rattle.cranelift_frontend.proofs.Growing.{sealed_current, sealed_grows}
 use Rattle.cranelift_frontend.proofs.Framed.{sealed-filled, sealed-others, sealed-types}
 use Rattle.cranelift_frontend.proofs.Named.{kept_by, opened}
 use Rattle.cranelift_frontend.proofs.Ordered.{order-sealed-one}
-use Rattle.clif_simulation.proofs.CarriedStructure.{sealed_parameters}
+use Rattle.clif_simulation.proofs.Shape.CarriedStructure.{sealed_parameters}
 use Rattle.clif_ssa.proofs.Constructing.{constructs_none}
 use Rattle.clif_ssa.proofs.Pooling.{pool_none}
 use Rattle.cranelift_frontend.proofs.builder.FunctionBuilder.seal_block.Goals as goal

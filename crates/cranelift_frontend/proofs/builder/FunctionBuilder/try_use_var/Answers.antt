@@ -3,7 +3,7 @@ use Rattle.std.specs.Prelude.{Option, None, Some, is_some, slice_get, true}
 use Rattle.std.proofs.lemmas.Option.{slice_get_within}
 use Rattle.std.proofs.lemmas.Result.{err_from_is_err_and}
 use Rattle.clif_types.specs.declared.types.«Type».{«Type»}
-use Rattle.clif_simulation.proofs.CarriedStructure.{sealed_parameters}
+use Rattle.clif_simulation.proofs.Shape.CarriedStructure.{sealed_parameters}
 use Rattle.cranelift_frontend.proofs.Calls.{error_as, failed_as}
 use Rattle.cranelift_frontend.proofs.builder.FunctionBuilder.try_use_var.Goals as goal
 

@@ -14,7 +14,7 @@ use Rattle.cranelift_frontend.proofs.Named.{kept_by, kept_typed, opened}
 use Rattle.cranelift_frontend.proofs.Ordered.{order-used}
 use Rattle.std.specs.Prelude.{IfSome, OnOk, Option}
 use Rattle.cranelift_frontend.specs.Context.{SetsStatus, begun, status_of}
-use Rattle.clif_simulation.proofs.CarriedStructure.{sealed_parameters}
+use Rattle.clif_simulation.proofs.Shape.CarriedStructure.{sealed_parameters}
 use Rattle.cranelift_frontend.proofs.builder.FunctionBuilder.use_var.Goals as goal
 
 pub returns-clause-told : goal.returns-clause-told

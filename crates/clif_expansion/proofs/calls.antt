@@ -1,0 +1,9 @@
+-- The theorem on calls of a script: how it follows from the one on their plain calls.
+pub mod Blocks
+pub mod Premises
+pub mod Types
+pub mod Given
+pub mod Headline
+pub mod Verdicts
+pub mod Alone
+pub mod HeadlineExamples

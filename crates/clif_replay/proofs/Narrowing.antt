@@ -1,0 +1,180 @@
+-- A call that may be made names what was made: so it is read as it is under any reading that agrees on names that were made.
+use Rattle.std.proofs.Common.{◌≡◌, ◌<◌, ℕ, List, [], ◌∷◌, length, refl, ap, sym, ◌∙◌}
+use Rattle.std.specs.Prelude.{◌&&◌, ◌||◌, Bool, true, false, Option, Some, None, find, if◌then◌else◌, is_some, not, slice_get}
+use Rattle.std.specs.List.{AllZip, list_all, list_any}
+use Rattle.std.proofs.lemmas.Bool.{and_parts, false≢true}
+use Rattle.std.proofs.lemmas.Option.{slice_get_within}
+use Rattle.clif_types.specs.declared.types.«Type».{«Type»}
+use Rattle.clif_meaning.specs.Acceptance.{allows, can_assign, can_lead, can_operate, has_argument, has_entry, has_item, is_open, may_give_all}
+use Rattle.clif_meaning.specs.Instruction.{Argument, Known, CallResult, CallPayload, Edge, Instruction, operation_entries}
+use Rattle.clif_meaning.specs.Ledger.{Answered, BlockState, Ledger, answer_at, answered_edge, block_state, edge_named, has_block, has_instruction, has_value, is_inserted, is_instruction_answer, is_sealed, leads_to, state_has, type_of, value_answer_type, variable_type}
+use Rattle.clif_meaning.specs.Name.{Name, same_name}
+use Rattle.clif_meaning.specs.Request.{Request, CreateBlock, SwitchToBlock, SealBlock, SealAllBlocks, InsertBlockAfter, SetColdBlock, EnsureInsertedBlock, AppendBlockParams, AppendFunctionParams, DeclareVar, DefVar, UseVar, MakeEntry, MakeEdge, MakeExceptionTable, MakeJumpTable, Annotate, Build, ChangeJumpDestination, Finalize, TableItem, TagTo, DefaultTo, InContext}
+use Rattle.clif_expansion.specs.Joining.{IsJoined, IsReadRequest, IsReadState, IsReadTableItem}
+use Rattle.clif_expansion.specs.Reading.{IsReadArgument, IsReadAs, IsReadEdge, IsReadInstruction, Reading}
+use Rattle.clif_expansion.proofs.Names.{names_equal}
+use Rattle.cranelift_frontend.proofs.LedgerLists.{and-then-some}
+
+-- an answer is there where a test finds it
+some-of : (f : Option Answered → Bool) → f None ≡ false → (o : Option Answered) → f o ≡ true → (a : Answered) × (o ≡ Some a)
+some-of f none None is = absurd (false≢true (sym none ∙ is))
+some-of f none (Some a) is = (a, refl)
+
+has-state : (test : BlockState → Bool) (o : Option BlockState) → state_has test o ≡ true → is_some o ≡ true
+has-state test None is = absurd (false≢true is)
+has-state test (Some state) is = refl
+
+assigned-some : (first second : Option «Type») → can_assign first second ≡ true → is_some second ≡ true
+assigned-some None None is = absurd (false≢true is)
+assigned-some None (Some other) is = absurd (false≢true is)
+assigned-some (Some ty) None is = absurd (false≢true is)
+assigned-some (Some ty) (Some other) is = refl
+
+module _ (reading : Reading) where
+  -- a block that is found is read
+  found-read : (states' states : List BlockState) (x : Name) → AllZip (IsReadState reading) states' states
+      → is_some (find (λ (state : BlockState). same_name state.block x) states') ≡ true → (name : Name) × IsReadAs reading x name
+  found-read [] states x are found = absurd (false≢true found)
+  found-read (state' ∷ states') [] x are found = absurd are
+  found-read (state' ∷ states') (state ∷ states) x are found = by (same_name state'.block x) refl found (found-read states' states x are.1)
+    where
+      by : (here : Bool) → same_name state'.block x ≡ here → is_some (if here then Some state' else find (λ (s : BlockState). same_name s.block x) states') ≡ true
+          → (is_some (find (λ (s : BlockState). same_name s.block x) states') ≡ true → (name : Name) × IsReadAs reading x name) → (name : Name) × IsReadAs reading x name
+      by true is found later = (state.block, ap reading (sym (names_equal state'.block x is)) ∙ are.0.block)
+      by false is found later = later found
+
+  -- so is one of the layout
+  inserted-read : (xs names : List Name) (x : Name) → AllZip (IsReadAs reading) xs names → list_any (same_name x) xs ≡ true → (name : Name) × IsReadAs reading x name
+  inserted-read [] names x are found = absurd (false≢true found)
+  inserted-read (y ∷ xs) [] x are found = absurd are
+  inserted-read (y ∷ xs) (name ∷ names) x are found = by (same_name x y) refl found (inserted-read xs names x are.1)
+    where
+      by : (here : Bool) → same_name x y ≡ here → (here || list_any (same_name x) xs) ≡ true → (list_any (same_name x) xs ≡ true → (other : Name) × IsReadAs reading x other)
+          → (other : Name) × IsReadAs reading x other
+      by true is found later = (name, ap reading (names_equal x y is) ∙ are.0)
+      by false is found later = later found
+
+module _ (whole reading : Reading) (plain ledger : Ledger) (joined : IsJoined reading plain ledger)
+    (narrow : (x name : Name) → IsReadAs whole x name → x.place < length plain.answers → IsReadAs reading x name) where
+  answered : (f : Option Answered → Bool) → f None ≡ false → (x : Name) → f (answer_at plain x) ≡ true → x.place < length plain.answers
+  answered f none x is =
+      let there = some-of f none (answer_at plain x) is in
+      let given = and-then-some (λ (xs : List Answered). slice_get xs x.index) (slice_get plain.answers x.place) there.0 there.1 in
+      slice_get_within plain.answers x.place given.0 given.1
+
+  pub value : (x name : Name) → IsReadAs whole x name → has_value plain x ≡ true → IsReadAs reading x name
+  value x name is may = narrow x name is (answered (λ o. is_some (value_answer_type o)) refl x may)
+
+  edge_name : (x name : Name) → IsReadAs whole x name → is_some (edge_named plain x) ≡ true → IsReadAs reading x name
+  edge_name x name is may = narrow x name is (answered (λ o. is_some (answered_edge o)) refl x may)
+
+  block : (x name : Name) → IsReadAs whole x name → has_block plain x ≡ true → IsReadAs reading x name
+  block x name is may =
+      let found = found-read reading plain.blocks ledger.blocks x joined.ledgers.states.blocks may in
+      narrow x name is (joined.made x found.0 found.1).0
+
+  state : (test : BlockState → Bool) (x name : Name) → IsReadAs whole x name → state_has test (block_state plain x) ≡ true → IsReadAs reading x name
+  state test x name is may = block x name is (has-state test (block_state plain x) may)
+
+  placed : (x name : Name) → IsReadAs whole x name → is_inserted plain x ≡ true → IsReadAs reading x name
+  placed x name is may =
+      let found = inserted-read reading plain.layout ledger.layout x joined.ledgers.states.layout may in
+      narrow x name is (joined.made x found.0 found.1).0
+
+  -- lists
+  each : {X Y : Type 0} (R S : X → Y → Type 0) (f : X → Bool) → ((x : X) (y : Y) → R x y → f x ≡ true → S x y) → (xs : List X) (ys : List Y) → AllZip R xs ys
+      → list_all f xs ≡ true → AllZip S xs ys
+  each R S f one [] [] are may = tt
+  each R S f one [] (y ∷ ys) are may = absurd are
+  each R S f one (x ∷ xs) [] are may = absurd are
+  each R S f one (x ∷ xs) (y ∷ ys) are may =
+      let both = and_parts (f x) (list_all f xs) may in
+      (one x y are.0 both.0, each R S f one xs ys are.1 both.1)
+
+  values : (xs names : List Name) → AllZip (IsReadAs whole) xs names → list_all (has_value plain) xs ≡ true → AllZip (IsReadAs reading) xs names
+  values = each (IsReadAs whole) (IsReadAs reading) (has_value plain) value
+
+  edge_names : (xs names : List Name) → AllZip (IsReadAs whole) xs names → list_all (λ name. is_some (edge_named plain name)) xs ≡ true → AllZip (IsReadAs reading) xs names
+  edge_names = each (IsReadAs whole) (IsReadAs reading) (λ name. is_some (edge_named plain name)) edge_name
+
+  argument : (argument' argument : Argument Name) → IsReadArgument whole argument' argument → has_argument plain argument' ≡ true → IsReadArgument reading argument' argument
+  argument (Known x) (Known name) is may = value x name is may
+  argument (CallResult k) (CallResult index) is may = is
+  argument (CallPayload k) (CallPayload index) is may = is
+  argument _ _ is may = absurd is
+
+  edge : (before after : Edge Name Name) → IsReadEdge whole before after → has_block plain before.target ≡ true → list_all (has_argument plain) before.arguments ≡ true → IsReadEdge reading before after
+  edge before after is target arguments = record {
+    target = block before.target after.target is.target target;
+    arguments = each (IsReadArgument whole) (IsReadArgument reading) (has_argument plain) argument before.arguments after.arguments is.arguments arguments;
+  }
+
+  lead : (edge' edge : Edge Name Name) → IsReadEdge whole edge' edge → can_lead plain edge' ≡ true → IsReadEdge reading edge' edge
+  lead edge' after is may =
+      let parts = and_parts (has_block plain edge'.target && not (is_sealed plain edge'.target)) (list_all (has_argument plain) edge'.arguments) may in
+      edge edge' after is (and_parts (has_block plain edge'.target) (not (is_sealed plain edge'.target)) parts.0).0 parts.1
+
+  item : (item' item : TableItem) → IsReadTableItem whole item' item → has_item plain item' ≡ true → IsReadTableItem reading item' item
+  item (TagTo tag' x) (TagTo tag name) is may = (is.0, edge_name x name is.1 may)
+  item (DefaultTo x) (DefaultTo name) is may = edge_name x name is may
+  item (InContext x) (InContext name) is may = value x name is may
+  item _ _ is may = absurd is
+
+  instruction : (before after : Instruction Name Name) → IsReadInstruction whole before after
+      → list_all (has_value plain) before.contexts ≡ true → list_all (has_value plain) before.operands ≡ true → list_all (can_lead plain) before.edges ≡ true
+      → IsReadInstruction reading before after
+  instruction before after is contexts operands edges = record {
+    operation = is.operation;
+    controlling = is.controlling;
+    operands = values before.operands after.operands is.operands operands;
+    contexts = values before.contexts after.contexts is.contexts contexts;
+    edges = each (IsReadEdge whole) (IsReadEdge reading) (can_lead plain) lead before.edges after.edges is.edges edges;
+  }
+
+  -- the parts of an instruction's condition that names are in
+  built-parts : (contexts given opens operands edges fits entries : Bool) → ((((((contexts && given) && opens) && operands) && edges) && fits) && entries) ≡ true
+      → (contexts ≡ true) × (operands ≡ true) × (edges ≡ true)
+  built-parts true true true true true true true is = (refl, refl, refl)
+  built-parts _ _ _ _ _ _ _ is = absurd (false≢true is)
+
+  pub narrowed : (asked request : Request) → IsReadRequest whole asked request → allows plain asked ≡ true → IsReadRequest reading asked request
+  narrowed CreateBlock CreateBlock is may = tt
+  narrowed (SwitchToBlock x) (SwitchToBlock name) is may = block x name is (and_parts (has_block plain x) _ (and_parts _ _ may).0).0
+  narrowed (SealBlock x) (SealBlock name) is may = block x name is (and_parts (has_block plain x) _ may).0
+  narrowed SealAllBlocks SealAllBlocks is may = tt
+  narrowed (InsertBlockAfter x behind) (InsertBlockAfter name after) is may =
+      let parts = and_parts _ (is_inserted plain behind) may in
+      (block x name is.0 (and_parts (has_block plain x) _ parts.0).0, placed behind after is.1 parts.1)
+  narrowed (SetColdBlock x) (SetColdBlock name) is may = block x name is may
+  narrowed EnsureInsertedBlock EnsureInsertedBlock is may = tt
+  narrowed (AppendBlockParams x types') (AppendBlockParams name types) is may = (state (λ state. state.is_pristine) x name is.0 may, is.1)
+  narrowed (AppendFunctionParams x types') (AppendFunctionParams name types) is may = (state (λ state. state.is_pristine) x name is.0 (and_parts _ _ may).0, is.1)
+  narrowed (DeclareVar ty') (DeclareVar ty) is may = is
+  narrowed (DefVar number x) (DefVar variable name) is may =
+      (is.0, value x name is.1 (assigned-some (variable_type plain number) (type_of plain x) (and_parts _ _ may).1))
+  narrowed (UseVar number) (UseVar variable) is may = is
+  narrowed (MakeEntry entry') (MakeEntry entry) is may = is
+  narrowed (MakeEdge edge') (MakeEdge after) is may =
+      let parts = and_parts (has_block plain edge'.target) (list_all (has_argument plain) edge'.arguments) may in
+      edge edge' after is parts.0 parts.1
+  narrowed (MakeJumpTable first names) (MakeJumpTable default entries) is may =
+      let parts = and_parts (is_some (edge_named plain first)) (list_all (λ name. is_some (edge_named plain name)) names) may in
+      (edge_name first default is.0 parts.0, edge_names names entries is.1 parts.1)
+  narrowed (MakeExceptionTable number first listed) (MakeExceptionTable signature normal items) is may =
+      let parts = and_parts (is_some (edge_named plain first)) (list_all (has_item plain) listed) may in
+      (is.0, edge_name first normal is.1 parts.0, each (IsReadTableItem whole) (IsReadTableItem reading) (has_item plain) item listed items is.2 parts.1)
+  narrowed (Annotate names) (Annotate others) is may = values names others is may
+  narrowed (Build entries' instruction') (Build entries after) is may =
+      let parts = built-parts (list_all (has_value plain) instruction'.contexts) (may_give_all plain entries') (is_open plain plain.current) (list_all (has_value plain) instruction'.operands)
+      (list_all (can_lead plain) instruction'.edges) (can_operate instruction'.operation instruction'.controlling) (list_all (has_entry plain.tables) (operation_entries instruction'.operation)) may in
+      (is.0, instruction instruction' after is.1 parts.0 parts.1 parts.2)
+  narrowed (ChangeJumpDestination jump at there) (ChangeJumpDestination branch from to) is may =
+      let last = and_parts (has_instruction plain jump && leads_to plain jump at && not (is_sealed plain at) && has_block plain there) (not (is_sealed plain there)) may in
+      let fourth = and_parts (has_instruction plain jump && leads_to plain jump at && not (is_sealed plain at)) (has_block plain there) last.0 in
+      let first = and_parts (has_instruction plain jump) (leads_to plain jump at) (and_parts (has_instruction plain jump && leads_to plain jump at) (not (is_sealed plain at)) fourth.0).0 in (
+        narrow jump branch is.0 (answered is_instruction_answer refl jump first.0),
+        state (λ state. list_any (same_name jump) state.predecessors) at from is.1 first.1,
+        block there to is.2 fourth.1,
+      )
+  narrowed Finalize Finalize is may = tt
+  narrowed _ _ is may = absurd is

@@ -1,0 +1,234 @@
+-- Each call of a list asks the builder for what the list's own request asks, with its names read, where each name is read as its own.
+use Rattle.std.proofs.Common.{◌≡◌, ℕ, zero, suc, ◌<◌, ◌+◌, ◌-◌, List, [], ◌∷◌, ◌++◌, length, refl, ap, arith, sym, ◌∙◌, subst, ◌⊎◌, inl, inr}
+use Rattle.std.specs.Prelude.{map, find, slice_get, option_and_then, unwrap_or, is_some, not, ◌&&◌, ◌||◌, Bool, true, false, Option, Some, None, if◌then◌else◌}
+use Rattle.std.specs.List.{AllZip, list_all, list_any}
+use Rattle.std.proofs.lemmas.Bool.{and_parts, cases_lt, false≢true}
+use Rattle.std.proofs.lemmas.Option.{slice_get_past, slice_get_within, none-some}
+use Rattle.clif_types.specs.declared.types.«Type».{«Type»}
+use Rattle.clif_types.specs.Signature.{SignatureShape}
+use Rattle.clif_tables.specs.Lists.{TableLists}
+use Rattle.clif_meaning.specs.Acceptance.{allows, can_assign, can_lead, exceptions_at, has_argument, has_item, no_exceptions}
+use Rattle.clif_instructions.specs.Instruction.{AFunctionRef, ASignatureRef}
+use Rattle.clif_tables.specs.Callees.{function_at, signature_at}
+use Rattle.clif_meaning.specs.Request.{Imported, TriedBy}
+use Rattle.clif_meaning.specs.Event.{CallItem}
+use Rattle.clif_meaning.specs.Instruction as meaning
+use Rattle.clif_meaning.specs.Instruction.{Argument, BrTable, CallIndirect, TryCall, TryCallIndirect, Known, CallResult, CallPayload, Edge}
+use Rattle.clif_meaning.specs.Ledger.{ABlock, AVariable, AValue, AnInstruction, AnEntry, AnEdge, AJumpTable, AnExceptionTable, Answered, BlockState, ExceptionTable, Ledger, answer_at, answered_edge, block_state, edge_named, has_block, has_value, is_inserted, is_instruction_answer, or_invalid, state_has, type_of, unserved_edges, unserved_exceptions, value_answer_type, has_instruction, leads_to, variable_type}
+use Rattle.clif_meaning.specs.Name as named
+use Rattle.clif_meaning.specs.Name.{same_name}
+use Rattle.clif_calls.specs.declared.call.Call.{Call}
+use Rattle.clif_calls.specs.declared.call.Call.TheVariants as call
+use Rattle.clif_calls.specs.declared.call.Edge as script
+use Rattle.clif_calls.specs.declared.call.Name.{Name}
+use Rattle.clif_calls.specs.declared.outside.OutsideCall.TheVariants as outside
+use Rattle.clif_calls.specs.declared.plan.Plan.{Plan}
+use Rattle.clif_calls.specs.declared.table.Passed.{Passed}
+use Rattle.clif_calls.specs.declared.table.Passed.TheVariants as passed
+use Rattle.clif_calls.specs.declared.table.TableItem.{TableItem}
+use Rattle.clif_calls.specs.declared.table.TableItem.TheVariants as item
+use Rattle.clif_calls.specs.declared.table.ThrowingCall.TheVariants as throwing
+use Rattle.clif_calls.specs.Plan.{edges_in, operands_in, plan_of}
+use Rattle.clif_expansion.specs.Joining.{AreJoinedLedgers, IsReadAnswer, IsReadException, IsReadExceptionTable, IsReadRequest, IsReadState, IsReadTable, IsReadTableItem}
+use Rattle.clif_expansion.specs.Reading.{IsReadArgument, IsReadAs, IsReadEdge, IsReadInstruction, Reading}
+use Rattle.clif_replay.specs.Requests.{Naming, edge_of, item_of, name_of, passed_of, request_in, request_of, request_under, table_edge_of}
+use Rattle.clif_replay.proofs.Planning.{controlling-same}
+use Rattle.clif_replay.proofs.Options.{some-is}
+use Rattle.cranelift_frontend.proofs.LedgerLists.{and-then-some}
+
+-- what is read as an answer has its type
+type-read : (reading : Reading) (a b : Option Answered) → IsReadAnswer reading a b → value_answer_type a ≡ value_answer_type b
+type-read reading None None is = refl
+type-read reading (Some ABlock) (Some ABlock) is = refl
+type-read reading (Some (AVariable v)) (Some (AVariable w)) is = refl
+type-read reading (Some (AValue t)) (Some (AValue u)) is = ap (λ (ty : «Type»). Some ty) is
+type-read reading (Some AnInstruction) (Some AnInstruction) is = refl
+type-read reading (Some (AnEntry e m)) (Some (AnEntry d n)) is = refl
+type-read reading (Some (AnEdge e)) (Some (AnEdge d)) is = refl
+type-read reading (Some (AJumpTable m)) (Some (AJumpTable n)) is = refl
+type-read reading (Some (AnExceptionTable m)) (Some (AnExceptionTable n)) is = refl
+type-read reading _ _ is = absurd is
+
+-- the edges of a table are read
+table-read : (reading : Reading) (tables' tables : List (Option (List (Edge named.Name named.Name)))) (k : ℕ) → AllZip (IsReadTable reading) tables' tables
+    → AllZip (IsReadEdge reading) (unwrap_or (option_and_then (λ edges. edges) (slice_get tables' k)) []) (unwrap_or (option_and_then (λ edges. edges) (slice_get tables k)) [])
+table-read reading [] [] k are = tt
+table-read reading [] (table ∷ tables) k are = absurd are
+table-read reading (table' ∷ tables') [] k are = absurd are
+table-read reading (None ∷ tables') (None ∷ tables) zero are = tt
+table-read reading (Some edges' ∷ tables') (Some edges ∷ tables) zero are = are.0
+table-read reading (None ∷ tables') (Some edges ∷ tables) zero are = absurd are.0
+table-read reading (Some edges' ∷ tables') (None ∷ tables) zero are = absurd are.0
+table-read reading (table' ∷ tables') (table ∷ tables) (suc k) are = table-read reading tables' tables k are.1
+
+-- so is what an exception table holds
+exception-read : (reading : Reading) (tables' tables : List (Option ExceptionTable)) (k : ℕ) → AllZip (IsReadException reading) tables' tables
+    → IsReadExceptionTable reading (unwrap_or (option_and_then (λ held. held) (slice_get tables' k)) no_exceptions) (unwrap_or (option_and_then (λ held. held) (slice_get tables k)) no_exceptions)
+exception-read reading [] [] k are = record { signature = refl; edges = tt; items = refl; contexts = tt }
+exception-read reading [] (table ∷ tables) k are = absurd are
+exception-read reading (table' ∷ tables') [] k are = absurd are
+exception-read reading (None ∷ tables') (None ∷ tables) zero are = record { signature = refl; edges = tt; items = refl; contexts = tt }
+exception-read reading (Some held' ∷ tables') (Some held ∷ tables) zero are = are.0
+exception-read reading (None ∷ tables') (Some held ∷ tables) zero are = absurd are.0
+exception-read reading (Some held' ∷ tables') (None ∷ tables) zero are = absurd are.0
+exception-read reading (table' ∷ tables') (table ∷ tables) (suc k) are = exception-read reading tables' tables k are.1
+
+as-long : {X Y : Type 0} (R : X → Y → Type 0) (xs : List X) (ys : List Y) → AllZip R xs ys → length xs ≡ length ys
+as-long R [] [] are = refl
+as-long R [] (y ∷ ys) are = absurd are
+as-long R (x ∷ xs) [] are = absurd are
+as-long R (x ∷ xs) (y ∷ ys) are = ap suc (as-long R xs ys are.1)
+
+module _ (reading : Reading) (naming : Naming) (plain ledger : Ledger) (joined : AreJoinedLedgers reading plain ledger)
+    (reads : (name : Name) → IsReadAs reading (naming name) (name_of name)) where
+  -- a name has the same type
+  pub type-same : (name : Name) → or_invalid (type_of plain (naming name)) ≡ or_invalid (type_of ledger (name_of name))
+  type-same name = ap or_invalid (type-read reading (answer_at plain (naming name)) (answer_at ledger (name_of name)) (joined.answers (naming name) (name_of name) (reads name)))
+
+  -- lists of names
+  names-read : (names : List Name) → AllZip (IsReadAs reading) (map naming names) (map name_of names)
+  names-read [] = tt
+  names-read (name ∷ names) = (reads name, names-read names)
+
+  known-read : (names : List Name) → AllZip (IsReadArgument reading) (map (λ name. Known (naming name)) names) (map (λ name. Known (name_of name)) names)
+  known-read [] = tt
+  known-read (name ∷ names) = (reads name, known-read names)
+
+  edge-read : (edge : script.Edge) → IsReadEdge reading (edge_of naming edge) (edge_of name_of edge)
+  edge-read edge = record { target = reads edge.block; arguments = known-read edge.args.items }
+
+  edges-read : (edges : List script.Edge) → AllZip (IsReadEdge reading) (map (edge_of naming) edges) (map (edge_of name_of) edges)
+  edges-read [] = tt
+  edges-read (edge ∷ edges) = (edge-read edge, edges-read edges)
+
+  passed-read : (args : List Passed) → AllZip (IsReadArgument reading) (map (passed_of naming) args) (map (passed_of name_of) args)
+  passed-read [] = tt
+  passed-read (passed.Value name ∷ args) = (reads name, passed-read args)
+  passed-read (passed.Returned place ∷ args) = (refl, passed-read args)
+  passed-read (passed.Thrown place ∷ args) = (refl, passed-read args)
+
+  items-read : (items : List TableItem) → AllZip (IsReadTableItem reading) (map (item_of naming) items) (map (item_of name_of) items)
+  items-read [] = tt
+  items-read (item.Tag tag name ∷ items) = ((refl, reads name), items-read items)
+  items-read (item.Default name ∷ items) = (reads name, items-read items)
+  items-read (item.Context name ∷ items) = (reads name, items-read items)
+
+  plan-read : (p : Plan) → IsReadRequest reading (request_in naming plain p) (request_in name_of ledger p)
+  plan-read p = (
+    refl,
+    record {
+      operation = refl;
+      controlling = controlling-same (λ name. or_invalid (type_of plain (naming name))) (λ name. or_invalid (type_of ledger (name_of name))) type-same p;
+      operands = names-read (operands_in p);
+      contexts = tt;
+      edges = edges-read (edges_in p);
+    },
+  )
+
+  -- what an exception table holds is read
+  held-read : (table : ℕ) → IsReadExceptionTable reading (exceptions_at plain table) (exceptions_at ledger table)
+  held-read table = exception-read reading plain.exception_tables ledger.exception_tables table joined.states.exception_tables
+
+  pub request-read : (declared : SignatureShape) (c : Call) → IsReadRequest reading (request_under naming declared plain c) (request_of declared ledger c)
+  request-read declared call.CreateBlock = tt
+  request-read declared (call.SwitchToBlock block) = reads block
+  request-read declared (call.SealBlock block) = reads block
+  request-read declared call.SealAllBlocks = tt
+  request-read declared (call.InsertBlockAfter block after) = (reads block, reads after)
+  request-read declared (call.SetColdBlock block) = reads block
+  request-read declared call.EnsureInsertedBlock = tt
+  request-read declared (call.AppendBlockParam block ty) = (reads block, refl)
+  request-read declared (call.AppendBlockParamsForFunctionParams block) = (reads block, refl)
+  request-read declared (call.AppendBlockParamsForFunctionReturns block) = (reads block, refl)
+  request-read declared (call.Entry entry) = refl
+  request-read declared (call.BlockCall edge) = record { target = reads edge.block; arguments = passed-read edge.args.items }
+  request-read declared (call.CreateJumpTable default entries) = (reads default, names-read entries.items)
+  request-read declared (call.CreateExceptionTable callee normal items) = (refl, reads normal, items-read items.items)
+  request-read declared (call.DeclareVar ty) = refl
+  request-read declared (call.DefVar variable value) = (refl, reads value)
+  request-read declared (call.UseVar variable) = refl
+  request-read declared (call.TryDefVar variable value) = (refl, reads value)
+  request-read declared (call.TryUseVar variable) = refl
+  request-read declared (call.Plain instruction) = plan-read (plan_of instruction)
+  request-read declared (call.Cursor instruction) = plan-read (plan_of instruction)
+  request-read declared (call.Immediate immediate) = tt
+  request-read declared (call.SetSrcloc srcloc) = tt
+  request-read declared call.CollectDebugInfo = tt
+  request-read declared (call.SetValLabel value label) = (reads value, tt)
+  request-read declared (call.ChangeJumpDestination branch from to) = (reads branch, reads from, reads to)
+  request-read declared (call.F128const bytes) = (refl, record { operation = refl; controlling = refl; operands = tt; contexts = tt; edges = tt })
+  request-read declared (call.Vconst ty bytes) = (refl, record { operation = refl; controlling = refl; operands = tt; contexts = tt; edges = tt })
+  request-read declared (call.Jump destination) =
+      (refl, record { operation = refl; controlling = refl; operands = tt; contexts = tt; edges = edges-read (destination ∷ []) })
+  request-read declared (call.Brif condition block_then block_else) = (
+    refl,
+    record {
+      operation = refl;
+      controlling = type-same condition;
+      operands = (reads condition, tt);
+      contexts = tt;
+      edges = edges-read (block_then ∷ block_else ∷ []);
+    },
+  )
+  request-read declared (call.Trap code) = (refl, record { operation = refl; controlling = refl; operands = tt; contexts = tt; edges = tt })
+  request-read declared (call.Return values) =
+      (refl, record { operation = refl; controlling = refl; operands = names-read values.items; contexts = tt; edges = tt })
+  request-read declared (call.BrTable index table) =
+      let edges = table-read reading plain.jump_tables ledger.jump_tables table joined.states.jump_tables in (
+        refl,
+        record {
+          operation = ap (λ (n : ℕ). BrTable (n - 1)) (as-long (IsReadEdge reading) _ _ edges);
+          controlling = refl;
+          operands = (reads index, tt);
+          contexts = tt;
+          edges = edges;
+        },
+      )
+  request-read declared (call.Outside (outside.Call function args)) = (
+    refl,
+    record {
+      operation = ap (λ (tables : TableLists). meaning.Call (function_at tables function).name (signature_at tables (function_at tables function).signature)) joined.states.tables;
+      controlling = refl;
+      operands = names-read args.items;
+      contexts = tt;
+      edges = tt;
+    },
+  )
+  request-read declared (call.Outside (outside.CallIndirect signature callee args)) = (
+    refl,
+    record {
+      operation = ap (λ (tables : TableLists). CallIndirect (signature_at tables signature)) joined.states.tables;
+      controlling = refl;
+      operands = (reads callee, names-read args.items);
+      contexts = tt;
+      edges = tt;
+    },
+  )
+  request-read declared (call.Throwing (throwing.TryCall function args table)) =
+      let held = held-read table in
+      let tables = joined.states.tables in (
+        ap (λ (signature : ℕ). TriedBy table ∷ Imported (AFunctionRef function) ∷ Imported (ASignatureRef signature) ∷ []) held.signature,
+        record {
+          operation = ap (λ (lists : TableLists). TryCall (function_at lists function).name (record { signature = signature_at lists (exceptions_at plain table).signature; items = (exceptions_at plain table).items })) tables
+              ∙ ap (λ (signature : ℕ). TryCall (function_at ledger.tables function).name (record { signature = signature_at ledger.tables signature; items = (exceptions_at plain table).items })) held.signature
+              ∙ ap (λ (items : List CallItem). TryCall (function_at ledger.tables function).name (record { signature = signature_at ledger.tables (exceptions_at ledger table).signature; items = items })) held.items;
+          controlling = refl;
+          operands = names-read args.items;
+          contexts = held.contexts;
+          edges = held.edges;
+        },
+      )
+  request-read declared (call.Throwing (throwing.TryCallIndirect callee args table)) =
+      let held = held-read table in
+      let tables = joined.states.tables in (
+        ap (λ (signature : ℕ). TriedBy table ∷ Imported (ASignatureRef signature) ∷ []) held.signature,
+        record {
+          operation = ap (λ (lists : TableLists). TryCallIndirect (record { signature = signature_at lists (exceptions_at plain table).signature; items = (exceptions_at plain table).items })) tables
+              ∙ ap (λ (signature : ℕ). TryCallIndirect (record { signature = signature_at ledger.tables signature; items = (exceptions_at plain table).items })) held.signature
+              ∙ ap (λ (items : List CallItem). TryCallIndirect (record { signature = signature_at ledger.tables (exceptions_at ledger table).signature; items = items })) held.items;
+          controlling = refl;
+          operands = (reads callee, names-read args.items);
+          contexts = held.contexts;
+          edges = held.edges;
+        },
+      )

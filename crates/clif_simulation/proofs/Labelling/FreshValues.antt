@@ -1,0 +1,226 @@
+-- What an instruction gives, and a parameter of the caller's, the ledger has as a value.
+use Rattle.std.proofs.Common.{◌≡◌, ℕ, zero, suc, ◌+◌, ◌<◌, Bool, true, false, List, [], ◌∷◌, ◌++◌, length, map, Option, Some, None, inl, inr, refl, sym, ◌∙◌, ap, subst, arith}
+use Rattle.std.specs.Prelude.{IsTrue, fold, if◌then◌else◌, is_some, option_and_then, slice_get}
+use Rattle.std.specs.List.{AllByRecursion}
+use Rattle.std.proofs.lemmas.Option.{slice_get_within}
+use Rattle.clif_types.specs.declared.types.«Type».{«Type»}
+use Rattle.clif_meaning.specs.Name.{Name, answer_of, same_name}
+use Rattle.clif_meaning.specs.Instruction.{Instruction}
+use Rattle.clif_meaning.specs.Request.{Annotate, AnsweredCall, AppendBlockParams, AppendFunctionParams, Build, ChangeJumpDestination, CreateBlock, DeclareVar, DefVar, EnsureInsertedBlock, Finalize, InsertBlockAfter, MakeEdge, MakeEntry, MakeExceptionTable, MakeJumpTable, Request, Script, SealAllBlocks, SealBlock, SetColdBlock, SwitchToBlock, UseVar, script_of}
+use Rattle.clif_meaning.specs.Ledger.{AValue, AnInstruction, Answered, Ledger, answers_to, empty_ledger, ledger_with, value_answer_type}
+use Rattle.clif_meaning.specs.Program.{Item, Instruct, Use, Assign, Program, answers_from, empty_program, extended, result_names, result_types, with_call, with_inserted, with_item_at, with_parameters}
+use Rattle.clif_simulation.specs.Carries.{IsValue}
+use Rattle.clif_simulation.specs.Reading.{IsGivenFresh}
+use Rattle.clif_simulation.specs.Tables.{program_so_far}
+use Rattle.clif_simulation.proofs.Carrying.{all_append}
+use Rattle.clif_simulation.proofs.Redirections.EachRedirected.{all_redirected}
+use Rattle.clif_simulation.proofs.Finished.Giving.{In, contained_in}
+use Rattle.clif_simulation.proofs.Numbers.{slice_get-front, slice_get-last}
+
+-- Among these answers the name's is a value.
+abbrev answer_in : Option (List Answered) → ℕ → Option Answered
+answer_in o index = option_and_then (λ (answers : List Answered). slice_get answers index) o
+
+abbrev IsValueIn : List (List Answered) → Name → Type 0
+IsValueIn answers name = IsTrue (is_some (value_answer_type (answer_in (slice_get answers name.place) name.index)))
+
+abbrev GivesValues : List (List Answered) → Item → Type 0
+GivesValues answers (Instruct place instruction results) = AllByRecursion (IsValueIn answers) results
+GivesValues answers (Use variable name) = Unit {0}
+GivesValues answers (Assign variable name) = Unit {0}
+
+record AreValues (answers : List (List Answered)) (program : Program) : Type 0 where
+  place : program.place ≡ length answers
+  items : (block : Name) → AllByRecursion (GivesValues answers) (program.items block)
+  parameters : (block : Name) → AllByRecursion (IsValueIn answers) (program.parameters block)
+
+none_is : IsTrue false → ⊥
+none_is is = cc
+
+module _ (answers : List (List Answered)) (new : List Answered) where
+  -- with one call more
+  abbrev after : List (List Answered)
+  after = answers ++ new ∷ []
+
+  value_stays : (name : Name) → IsValueIn answers name → IsValueIn after name
+  value_stays name is = by (slice_get answers name.place) refl is
+    where
+      by : (o : Option (List Answered)) → slice_get answers name.place ≡ o → IsTrue (is_some (value_answer_type (answer_in o name.index))) → IsValueIn after name
+      by None found h = absurd (none_is h)
+      by (Some there) found h =
+          subst (λ (o : Option (List Answered)). IsTrue (is_some (value_answer_type (answer_in o name.index))))
+          (sym (slice_get-front answers (new ∷ []) name.place (slice_get_within answers name.place there found) ∙ found)) h
+
+  values_stay : (names : List Name) → AllByRecursion (IsValueIn answers) names → AllByRecursion (IsValueIn after) names
+  values_stay [] all = tt
+  values_stay (name ∷ names) all = (value_stays name all.0, values_stay names all.1)
+
+  item_stays : (item : Item) → GivesValues answers item → GivesValues after item
+  item_stays (Instruct place instruction results) gives = values_stay results gives
+  item_stays (Use variable name) gives = tt
+  item_stays (Assign variable name) gives = tt
+
+  items_stay : (items : List Item) → AllByRecursion (GivesValues answers) items → AllByRecursion (GivesValues after) items
+  items_stay [] all = tt
+  items_stay (item ∷ items) all = (item_stays item all.0, items_stay items all.1)
+
+  -- what the call answers
+  value_new : (index : ℕ) → IsTrue (is_some (value_answer_type (slice_get new index))) → IsValueIn after (answer_of (length answers) index)
+  value_new index is = subst (λ (o : Option (List Answered)). IsTrue (is_some (value_answer_type (answer_in o index)))) (sym (slice_get-last answers new)) is
+
+  values_new : (index : ℕ) (types : List «Type») → ((k : ℕ) → k < length types → IsTrue (is_some (value_answer_type (slice_get new (index + k)))))
+      → AllByRecursion (IsValueIn after) (answers_from (length answers) index types)
+  values_new index [] are = tt
+  values_new index (ty ∷ types) are =
+      let here : index + 0 ≡ index = omega arith in (
+        value_new index (subst (λ (i : ℕ). IsTrue (is_some (value_answer_type (slice_get new i)))) here (are 0 (omega arith))),
+        values_new (suc index) types (λ k below.
+            let next : index + suc k ≡ suc index + k = omega arith in
+            subst (λ (i : ℕ). IsTrue (is_some (value_answer_type (slice_get new i)))) next (are (suc k) (omega (arith, below)))),
+      )
+
+  -- an item at the end of the current block
+  items_with : (program : Program) (current : Option Name) (item : Item) → ((block : Name) → AllByRecursion (GivesValues after) (program.items block)) → GivesValues after item
+      → (block : Name) → AllByRecursion (GivesValues after) ((with_item_at program current item).items block)
+  items_with program None item all one block = all block
+  items_with program (Some current) item all one block = by (same_name block current)
+    where
+      by : (t : Bool) → AllByRecursion (GivesValues after) (if t then program.items block ++ item ∷ [] else program.items block)
+      by true = all_append (GivesValues after) (program.items block) (item ∷ []) (all block) (one, tt)
+      by false = all block
+
+  parameters_leave : (program : Program) (current : Option Name) (item : Item) → (with_item_at program current item).parameters ≡ program.parameters
+  parameters_leave program None item = refl
+  parameters_leave program (Some current) item = refl
+
+  parameters_with : (program : Program) (names : List Name) (taking : Name) → ((block : Name) → AllByRecursion (IsValueIn after) (program.parameters block))
+      → AllByRecursion (IsValueIn after) names → (block : Name) → AllByRecursion (IsValueIn after) ((with_parameters program taking names).parameters block)
+  parameters_with program names taking all are block = by (same_name block taking)
+    where
+      by : (t : Bool) → AllByRecursion (IsValueIn after) (if t then program.parameters block ++ names else program.parameters block)
+      by true = all_append (IsValueIn after) (program.parameters block) names (all block) are
+      by false = all block
+
+  -- the items and parameters that were there
+  module _ (program : Program) (was : AreValues answers program) where
+    old_items : (block : Name) → AllByRecursion (GivesValues after) (program.items block)
+    old_items block = items_stay (program.items block) (was.items block)
+
+    old_parameters : (block : Name) → AllByRecursion (IsValueIn after) (program.parameters block)
+    old_parameters block = values_stay (program.parameters block) (was.parameters block)
+
+    next_place : suc program.place ≡ length after
+    next_place = ap suc was.place ∙ sym (longer answers)
+      where
+        longer : (xs : List (List Answered)) → length (xs ++ new ∷ []) ≡ suc (length xs)
+        longer [] = refl
+        longer (x ∷ xs) = ap suc (longer xs)
+
+    -- a program with these items and parameters
+    made : (other : Program) → ((block : Name) → AllByRecursion (GivesValues after) (other.items block)) → ((block : Name) → AllByRecursion (IsValueIn after) (other.parameters block))
+        → AreValues after (record other { place = suc program.place })
+    made other items parameters = record { place = next_place; items = items; parameters = parameters }
+
+typed_value : (types : List «Type») (k : ℕ) → k < length types → IsTrue (is_some (value_answer_type (slice_get (map AValue types) k)))
+typed_value [] k below = absurd (omega (arith, below))
+typed_value (ty ∷ types) zero below = refl
+typed_value (ty ∷ types) (suc k) below = typed_value types k (omega (arith, below))
+
+module _ (ledger : Ledger) (program : Program) (was : AreValues ledger.answers program) where
+  abbrev Becomes : Request → Type 0
+  Becomes request = AreValues (ledger.answers ++ answers_to ledger request ∷ []) (with_call program request)
+
+  -- nothing is given
+  keeps : (new : List Answered) (other : Program) → other.items ≡ program.items → other.parameters ≡ program.parameters
+      → AreValues (ledger.answers ++ new ∷ []) (record other { place = suc program.place })
+  keeps new other items parameters =
+      made ledger.answers new program was other
+      (λ block. subst (λ (of : Name → List Item). AllByRecursion (GivesValues (ledger.answers ++ new ∷ [])) (of block)) (sym items) (old_items ledger.answers new program was block))
+      (λ block. subst (λ (of : Name → List Name). AllByRecursion (IsValueIn (ledger.answers ++ new ∷ [])) (of block)) (sym parameters) (old_parameters ledger.answers new program was block))
+
+  -- an item that gives values alone
+  with_item_here : (new : List Answered) (from : Program) (item : Item) → from.items ≡ program.items → from.parameters ≡ program.parameters → GivesValues (ledger.answers ++ new ∷ []) item
+      → AreValues (ledger.answers ++ new ∷ []) (record (with_item_at from program.current item) { place = suc program.place })
+  with_item_here new from item items parameters gives =
+      made ledger.answers new program was (with_item_at from program.current item)
+      (items_with ledger.answers new from program.current item
+      (λ block. subst (λ (of : Name → List Item). AllByRecursion (GivesValues (ledger.answers ++ new ∷ [])) (of block)) (sym items) (old_items ledger.answers new program was block)) gives)
+      (λ block. subst (λ (of : Name → List Name). AllByRecursion (IsValueIn (ledger.answers ++ new ∷ [])) (of block))
+      (sym (parameters_leave ledger.answers new from program.current item ∙ parameters)) (old_parameters ledger.answers new program was block))
+
+  -- parameters of the caller's
+  takes : (block : Name) (types : List «Type»)
+      → AreValues (ledger.answers ++ map AValue types ∷ []) (record (with_parameters program block (answers_from program.place 0 types)) { place = suc program.place })
+  takes block types =
+      made ledger.answers (map AValue types) program was (with_parameters program block (answers_from program.place 0 types))
+      (old_items ledger.answers (map AValue types) program was)
+      (parameters_with ledger.answers (map AValue types) program (answers_from program.place 0 types) block (old_parameters ledger.answers (map AValue types) program was)
+      (subst (λ (place : ℕ). AllByRecursion (IsValueIn (ledger.answers ++ map AValue types ∷ [])) (answers_from place 0 types)) (sym was.place)
+      (values_new ledger.answers (map AValue types) 0 types (λ k below.
+      let same : k ≡ 0 + k = omega arith in
+      subst (λ (i : ℕ). IsTrue (is_some (value_answer_type (slice_get (map AValue types) i)))) same (typed_value types k below)))))
+
+  -- an instruction
+  builds : (instruction : Instruction Name Name)
+      → AreValues (ledger.answers ++ (AnInstruction ∷ map AValue (result_types instruction.operation instruction.controlling)) ∷ [])
+      (record (with_item_at (with_inserted program) program.current (Instruct program.place instruction (result_names program.place instruction))) { place = suc program.place })
+  builds instruction =
+      let types : List «Type» = result_types instruction.operation instruction.controlling in
+      with_item_here (AnInstruction ∷ map AValue types) (with_inserted program) (Instruct program.place instruction (result_names program.place instruction)) refl refl
+      (subst (λ (place : ℕ). AllByRecursion (IsValueIn (ledger.answers ++ (AnInstruction ∷ map AValue types) ∷ [])) (answers_from place 1 types)) (sym was.place)
+      (values_new ledger.answers (AnInstruction ∷ map AValue types) 1 types (λ k below.
+      let same : suc k ≡ 1 + k = omega arith in
+      subst (λ (i : ℕ). IsTrue (is_some (value_answer_type (slice_get (AnInstruction ∷ map AValue types) i)))) same (typed_value types k below))))
+
+  redirects : (branch from to : Name) → Becomes (ChangeJumpDestination branch from to)
+  redirects branch from to =
+      made ledger.answers [] program was (extended program (ChangeJumpDestination branch from to))
+      (λ block. all_redirected (GivesValues (ledger.answers ++ [] ∷ [])) (GivesValues (ledger.answers ++ [] ∷ [])) branch from to (λ item gives. gives)
+      (λ place instruction results gives. gives) (program.items block) (old_items ledger.answers [] program was block))
+      (old_parameters ledger.answers [] program was)
+
+  becomes : (request : Request) → Becomes request
+  becomes (AppendBlockParams block types) = takes block types
+  becomes (AppendFunctionParams block types) = takes block types
+  becomes (Build entries instruction) = builds instruction
+  becomes (ChangeJumpDestination branch from to) = redirects branch from to
+  becomes (DefVar variable value) = with_item_here _ program (Assign variable value) refl refl tt
+  becomes (UseVar variable) = with_item_here _ (with_inserted program) (Use variable (answer_of program.place 0)) refl refl tt
+  becomes EnsureInsertedBlock = keeps _ (with_inserted program) refl refl
+  becomes (SwitchToBlock block) = keeps _ (record program { current = Some block }) refl refl
+  becomes CreateBlock = keeps _ program refl refl
+  becomes (SealBlock block) = keeps _ program refl refl
+  becomes SealAllBlocks = keeps _ program refl refl
+  becomes (InsertBlockAfter block other) = keeps _ program refl refl
+  becomes (SetColdBlock block) = keeps _ program refl refl
+  becomes (DeclareVar ty) = keeps _ program refl refl
+  becomes (MakeEntry entry) = keeps _ program refl refl
+  becomes (MakeEdge edge) = keeps _ program refl refl
+  becomes (MakeJumpTable default entries) = keeps _ program refl refl
+  becomes (MakeExceptionTable signature normal items) = keeps _ program refl refl
+  becomes (Annotate values) = keeps _ program refl refl
+  becomes Finalize = keeps _ program refl refl
+
+are_from : (ledger : Ledger) (program : Program) (script : Script) → AreValues ledger.answers program
+    → AreValues (fold ledger_with ledger script).answers (fold with_call program script)
+are_from ledger program [] was = was
+are_from ledger program (request ∷ script) was = are_from (ledger_with ledger request) (with_call program request) script (becomes ledger program was request)
+
+are_values : (calls : List AnsweredCall) → AreValues (fold ledger_with empty_ledger (script_of calls)).answers (program_so_far calls)
+are_values calls = are_from empty_ledger empty_program (script_of calls) (record { place = refl; items = λ block. tt; parameters = λ block. tt })
+
+listed : {X : Type 0} (P : X → Type 0) (xs : List X) (x : X) → AllByRecursion P xs → In x xs → P x
+listed P [] x all there = absurd there
+listed P (y ∷ xs) x all (inl here) = subst P (sym here) all.0
+listed P (y ∷ xs) x all (inr later) = listed P xs x all.1 later
+
+-- a name that is given afresh was answered by a value
+pub fresh_value : (calls : List AnsweredCall) (name : Name) → IsGivenFresh (program_so_far calls) name → IsValue calls name
+fresh_value calls name (inl given) =
+    listed (IsValueIn (fold ledger_with empty_ledger (script_of calls)).answers) given.results name
+    (listed (GivesValues (fold ledger_with empty_ledger (script_of calls)).answers) ((program_so_far calls).items given.block) (Instruct given.place given.instruction given.results)
+    ((are_values calls).items given.block) (contained_in ((program_so_far calls).items given.block) (Instruct given.place given.instruction given.results) given.stands))
+    (contained_in given.results name given.among)
+fresh_value calls name (inr given) =
+    listed (IsValueIn (fold ledger_with empty_ledger (script_of calls)).answers) ((program_so_far calls).parameters given.0) name
+    ((are_values calls).parameters given.0) (contained_in ((program_so_far calls).parameters given.0) name given.1)

@@ -1,0 +1,4 @@
+pub mod Holding
+pub mod Outcomes
+pub mod ScriptSteps
+pub mod FunctionSteps

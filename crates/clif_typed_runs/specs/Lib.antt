@@ -1,0 +1,2 @@
+pub mod ValuesFit
+pub mod Laws

@@ -1,5 +1,0 @@
-use Rattle.clif_value_laws.proofs.FunctionSteps
-use Rattle.clif_value_laws.proofs.function_steps_fit.Goals as goal
-
-pub returns : goal.returns
-returns c = FunctionSteps.steps_fit
