@@ -39,7 +39,7 @@ BuiltFunctionsAgree =
     → Premises (script_of calls) declared (pointer_type_of width) (script_run (script_of calls) (view_of f) world)
     → SameMeaning (function_behaviour (script_of calls) (view_of f) world) (function_behaviour (script_of others) (view_of g) world)
 
--- what the calls of a list ask of the builder, and that they do nothing else: none of them emits
+-- what a script's calls ask of the builder, emissions left out
 abbrev pub requests_in : List ScriptCall → Script
 requests_in [] = []
 requests_in (Ask request ∷ calls) = request ∷ requests_in calls
@@ -48,6 +48,7 @@ requests_in (Emit instruction ∷ calls) = requests_in calls
 abbrev pub requests_of : SignatureShape → List Call → Script
 requests_of declared calls = requests_in (calls_of declared calls)
 
+-- no call of the list emits, so these are all its calls
 abbrev pub EmitsNothing : SignatureShape → List Call → Type 0
 EmitsNothing declared calls = calls_of declared calls ≡ map Ask (requests_of declared calls)
 
