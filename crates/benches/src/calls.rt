@@ -2,7 +2,7 @@
 ghost use Rattle.std.specs.Prelude.{◌≡◌, ◌<◌, length, slice_get, Some, OnOk, [], false};
 ghost use Rattle.clif_ssa.specs.Ssa.{sealed_of};
 ghost use Rattle.clif_records.specs.Tables.{is_yes};
-ghost use Rattle.cranelift_frontend.specs.Builder.{HasCurrent};
+ghost use Rattle.clif_builder.specs.Builder.{HasCurrent};
 ghost use Rattle.benches.specs.Variables.{eight, refused, word};
 
 use clif_types::types::{I32, I64};

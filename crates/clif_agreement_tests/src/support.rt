@@ -2,7 +2,7 @@
 #![tactic(auto)]
 
 ghost use Rattle.std.specs.Prelude.{◌≡◌};
-ghost use Rattle.cranelift_frontend.specs.Context.{empty_context};
+ghost use Rattle.clif_builder.specs.Context.{empty_context};
 
 use clif_interpreter::outside::Zeros;
 use clif_interpreter::{End, Ending, Memory, World, function, script};

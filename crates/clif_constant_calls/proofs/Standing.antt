@@ -20,12 +20,12 @@ use Rattle.clif_meaning.specs.Name.{Name, answer_of}
 use Rattle.clif_meaning.specs.Request.{AnsweredCall, Request, Script, script_of}
 use Rattle.clif_meaning.proofs.CallLists.{kept}
 use Rattle.clif_simulation.proofs.LedgerValues.{type_new, type_stays, value_earlier, value_stays}
-use Rattle.cranelift_frontend.specs.declared.builder.FunctionBuilder.{FunctionBuilder}
-use Rattle.cranelift_frontend.specs.Built.{BuildsValue, numbers_with}
-use Rattle.cranelift_frontend.specs.Calls.{answered}
-use Rattle.cranelift_frontend.specs.Ledger.{NamesValue, ledger_of, value_type}
-use Rattle.cranelift_frontend.specs.LedgerLaws.{AskForTheirShapes, AsksForShape, LedgerIsReadByNumber, RequestsAskForTheirShapes}
-use Rattle.cranelift_frontend.specs.StandsFor.{StandsFor}
+use Rattle.clif_builder.specs.declared.builder.FunctionBuilder.{FunctionBuilder}
+use Rattle.clif_builder.specs.Built.{BuildsValue, numbers_with}
+use Rattle.clif_builder.specs.Calls.{answered}
+use Rattle.clif_builder.specs.Ledger.{NamesValue, ledger_of, value_type}
+use Rattle.clif_builder.specs.LedgerLaws.{AskForTheirShapes, AsksForShape, LedgerIsReadByNumber, RequestsAskForTheirShapes}
+use Rattle.clif_builder.specs.StandsFor.{StandsFor}
 use Rattle.clif_constant_operands.specs.Chains.{BuildsConstant, BuildsWithConstant, is_wide}
 use Rattle.clif_expansion.specs.ConstantCalls.{constant_calls}
 use Rattle.clif_expansion.specs.Constants.{computing, i64, place_behind}

@@ -12,10 +12,10 @@ use Rattle.clif_ir.specs.Body.{value_at}
 use Rattle.clif_meaning.specs.Instruction.{Arithmetic, Binary, Compare}
 use Rattle.clif_meaning.specs.Name.{Name, answer_of}
 use Rattle.clif_meaning.specs.Request.{AnsweredCall, Script, script_of}
-use Rattle.cranelift_frontend.specs.declared.builder.FunctionBuilder.{FunctionBuilder}
-use Rattle.cranelift_frontend.specs.Built.{BuildsValue}
-use Rattle.cranelift_frontend.specs.Ledger.{NamesValue}
-use Rattle.cranelift_frontend.specs.StandsFor.{StandsFor}
+use Rattle.clif_builder.specs.declared.builder.FunctionBuilder.{FunctionBuilder}
+use Rattle.clif_builder.specs.Built.{BuildsValue}
+use Rattle.clif_builder.specs.Ledger.{NamesValue}
+use Rattle.clif_builder.specs.StandsFor.{StandsFor}
 use Rattle.clif_constant_operands.specs.Chains.{BuildsWithConstant}
 use Rattle.clif_expansion.specs.ConstantCalls.{constant_calls}
 use Rattle.clif_expansion.specs.Constants.{place_behind}

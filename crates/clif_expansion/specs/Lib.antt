@@ -25,3 +25,4 @@ pub mod CallsVerdict
 pub mod CallsHeadline
 pub mod HeadlineLaws
 pub mod HeadlineExamples
+pub mod Switching

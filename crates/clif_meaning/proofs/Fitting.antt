@@ -24,7 +24,7 @@ use Rattle.clif_opcodes.specs.declared.kinds.OperandKind.TheVariants as kind
 use Rattle.clif_opcodes.specs.Typing.{AreOfKinds, binary_second, convert_operand}
 use Rattle.clif_meaning.specs.Bits.{Bits, HasWidth, IsValue, AreValues, value_bytes, value_of_bytes, wrapped}
 use Rattle.clif_opcodes.specs.declared.opcodes.StackOpcode.TheVariants.{StackAddr, StackLoad}
-use Rattle.clif_meaning.specs.Instruction.{Iconst, FloatConst, PooledConst, Unary, Binary, Compare, Concat, Split, Convert, Select, AddConstant, CompareConstant, Operation, Compute, Load, Store, Stack, StackStore, Trap, CondTrap, Jump, Brif, BrTable, Return, Call, CallIndirect, TryCall, TryCallIndirect}
+use Rattle.clif_meaning.specs.Instruction.{Iconst, FloatConst, PooledConst, Unary, Binary, Compare, Concat, Split, Convert, Select, AddConstant, CompareConstant, Operation, Compute, Load, Store, Stack, StackStore, Trap, CondTrap, Jump, Brif, BrTable, Switch, Return, Call, CallIndirect, TryCall, TryCallIndirect}
 use Rattle.clif_meaning.specs.Memory.{Memory, Range, bytes_in, written}
 use Rattle.clif_meaning.specs.Access.{Accessible, Aligned, Holds, access_claims, call_claims, claims_if, claims_of, library_named}
 use Rattle.clif_meaning.specs.Outcome.{Outcome, Gives, Goes, NoStep, Traps, access_outcome, accessed, are_accessible, compares, converted_number, low_bits_at, no_claim, slot_accessed, slot_address, traps_on, unary_number, binary_fault, binary_number, call_outcome, library_outcome, outcome_of, outcome_of_computed, unless_fault}
@@ -264,6 +264,8 @@ outcomes_fit world Brif ty returns types operands memory outside at fits values 
     one_operand (Fits world Brif ty returns memory) ty kind.Controlling types operands fits values (λ t x is_kind is_value claims. tt)
 outcomes_fit world (BrTable entries) ty returns types operands memory outside at fits values =
     one_operand (Fits world (BrTable entries) ty returns memory) ty (kind.Exactly (type.Lane lane.I32)) types operands fits values (λ t x is_kind is_value claims. tt)
+outcomes_fit world (Switch keys) ty returns types operands memory outside at fits values =
+    one_operand (Fits world (Switch keys) ty returns memory) ty kind.Controlling types operands fits values (λ t x is_kind is_value claims. tt)
 outcomes_fit world Return ty returns types operands memory outside at fits values =
     λ claims. subst (λ (ts : List «Type»). AreValues ts operands) fits values
 outcomes_fit world (Call name signature) ty returns types operands memory outside at fits values =

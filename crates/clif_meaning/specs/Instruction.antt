@@ -76,6 +76,9 @@ pub data Operation : Type 0 where
   Brif : Operation
   -- goes along the entry whose number its operand is, of so many, and else along the default
   BrTable : (entries : ℕ) → Operation
+  -- Of scripts alone; tests and tables of a function stand for it. Goes along the edge of the key that its operand is, and else
+  -- along the one behind those of its keys.
+  Switch : (keys : List ℕ) → Operation
   -- ends the run with the operands
   Return : Operation
   -- calls a function by its name, with its operands
@@ -109,16 +112,18 @@ operation_opcode (CondTrap name reason) = opcode.CondTrap name
 operation_opcode Jump = opcode.Jump
 operation_opcode Brif = opcode.Brif
 operation_opcode (BrTable entries) = opcode.BrTable
+operation_opcode (Switch keys) = opcode.BrTable
 operation_opcode Return = opcode.Return
 operation_opcode (Call name signature) = opcode.Call
 operation_opcode (CallIndirect signature) = opcode.CallIndirect
 operation_opcode (TryCall name call) = opcode.TryCall
 operation_opcode (TryCallIndirect call) = opcode.TryCallIndirect
 
--- its row of the typing table; of what only scripts have a row without the constant
+-- its row of the typing table; of what only scripts have a row without the constant, and of a switch that of a branch on an integer
 abbrev pub operation_typing : Operation → Row
 operation_typing (Compute (AddConstant number)) = unary_row
 operation_typing (Compute (CompareConstant condition number)) = like_first AnInteger (Controlling ∷ []) (kind.Exactly (type.Lane lane.I8) ∷ [])
+operation_typing (Switch keys) = row_of opcode.Brif
 operation_typing operation = row_of (operation_opcode operation)
 
 -- what a plain call gives. A try call gives nothing itself: what it gets is passed along its first edge.
@@ -151,7 +156,7 @@ pub record Edge (Block Operand : Type 0) : Type 0 where
 -- an instruction. `controlling` is the type that an operation over several types is made at. The contexts of a try call are
 -- what its table names for the tags that follow, of any type: they are there for an unwinder, and no run reads them. The
 -- edges of `brif` are the one where the condition holds and the other; of `br_table` the default and then its entries in
--- order; of a try call the normal edge and then those of its items.
+-- order; of a try call the normal edge and then those of its items; of a switch those of its keys in order and then the default.
 pub record Instruction (Block Operand : Type 0) : Type 0 where
   pub operation : Operation
   pub controlling : «Type»

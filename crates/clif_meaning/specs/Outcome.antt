@@ -30,8 +30,9 @@ use Rattle.clif_opcodes.specs.declared.opcodes.ConvertOpcode.TheVariants.{Splat,
 use Rattle.clif_types.specs.Types.{bits_of, bytes_of, lane_count_of, lane_type_of}
 use Rattle.clif_meaning.specs.Bits.{Bits, value_bytes, value_of_bytes, wrapped}
 use Rattle.clif_meaning.specs.Memory.{Memory, Range, address_in, bytes_in, written}
-use Rattle.clif_meaning.specs.Instruction.{Arithmetic, Iconst, FloatConst, PooledConst, Unary, Binary, Compare, Concat, Split, Convert, Select, AddConstant, CompareConstant, Operation, Compute, Load, Store, Stack, StackStore, Trap, CondTrap, Jump, Brif, BrTable, Return, Call, CallIndirect, TryCall, TryCallIndirect}
+use Rattle.clif_meaning.specs.Instruction.{Arithmetic, Iconst, FloatConst, PooledConst, Unary, Binary, Compare, Concat, Split, Convert, Select, AddConstant, CompareConstant, Operation, Compute, Load, Store, Stack, StackStore, Trap, CondTrap, Jump, Brif, BrTable, Switch, Return, Call, CallIndirect, TryCall, TryCallIndirect}
 use Rattle.clif_meaning.specs.Event.{Callee, Named, AtAddress, CallShape, plain_call}
+use Rattle.clif_meaning.specs.Switch.{edge_of_key}
 use Rattle.clif_meaning.specs.World.{World}
 use Rattle.clif_meaning.specs.Library.{has_library_types, library_answer, library_apart, library_memory, library_ranges, pointer_of}
 use Rattle.clif_types.specs.declared.libcall.LibCall.{LibCall as LibraryFunction}
@@ -287,6 +288,7 @@ outcome_of world (CondTrap opcode reason) ty types (condition ∷ []) memory =
 outcome_of world Jump ty types [] memory = Goes 0 [] memory
 outcome_of world Brif ty types (condition ∷ []) memory = Goes (edge_by condition) [] memory
 outcome_of world (BrTable entries) ty types (index ∷ []) memory = Goes (edge_in_table entries index) [] memory
+outcome_of world (Switch keys) ty types (key ∷ []) memory = Goes (edge_of_key keys key) [] memory
 outcome_of world Return ty types operands memory = Returns operands
 outcome_of world (Call name signature) ty types arguments memory = call_outcome world Gives name (plain_call signature) arguments memory
 outcome_of world (CallIndirect signature) ty types (address ∷ arguments) memory = Calls (AtAddress address signature) (plain_call signature) arguments

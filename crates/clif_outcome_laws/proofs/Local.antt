@@ -16,7 +16,7 @@ use Rattle.clif_meaning.specs.Memory.{Memory, Range, address_in, index_in, lies_
 use Rattle.clif_meaning.specs.Access.{call_ranges}
 use Rattle.clif_meaning.specs.Library.{bytes_at, library_answer, library_memory, library_ranges}
 use Rattle.clif_opcodes.specs.declared.opcodes.StackOpcode.TheVariants.{StackAddr, StackLoad}
-use Rattle.clif_meaning.specs.Instruction.{Compute, Load, Store, Stack, StackStore, Trap, CondTrap, Jump, Brif, BrTable, Return, Call, CallIndirect, TryCall, TryCallIndirect}
+use Rattle.clif_meaning.specs.Instruction.{Compute, Load, Store, Stack, StackStore, Trap, CondTrap, Jump, Brif, BrTable, Switch, Return, Call, CallIndirect, TryCall, TryCallIndirect}
 use Rattle.clif_meaning.specs.Event.{CallShape, plain_call}
 use Rattle.clif_meaning.specs.Outcome.{Outcome, Computed, Values, Fault, Undefined, Gives, Goes, Traps, NoStep, access_outcome, accessed, call_outcome, library_runs, no_claim, slot_accessed, are_accessible, computed, outcome_of_computed, low_bits_at, operand_type}
 use Rattle.clif_meaning.specs.World.{World}
@@ -249,6 +249,9 @@ outcomes_are_local world Brif ty types (condition ∷ x ∷ operands) left right
 outcomes_are_local world (BrTable entries) ty types [] left right same = tt
 outcomes_are_local world (BrTable entries) ty types (index ∷ []) left right same = (refl, refl, stays [] left right same)
 outcomes_are_local world (BrTable entries) ty types (index ∷ x ∷ operands) left right same = tt
+outcomes_are_local world (Switch keys) ty types [] left right same = tt
+outcomes_are_local world (Switch keys) ty types (key ∷ []) left right same = (refl, refl, stays [] left right same)
+outcomes_are_local world (Switch keys) ty types (key ∷ x ∷ operands) left right same = tt
 outcomes_are_local world Return ty types operands left right same = refl
 outcomes_are_local world (Call name signature) ty types operands left right same =
     call_agrees world Gives (λ ranges one two after other bits others equal changed. (equal, changed)) name (plain_call signature) operands left right same

@@ -17,9 +17,9 @@ use Rattle.clif_calls.specs.declared.immediate.ImmediateCall.{ImmediateCall}
 use Rattle.clif_calls.specs.declared.immediate.ImmediateCall.TheVariants as immediate
 use Rattle.clif_constant_calls.specs.Stands.{BuildsLike, type_in}
 use Rattle.clif_constant_operands.specs.Chains.{BuildsConstant, i64}
-use Rattle.cranelift_frontend.specs.declared.builder.FunctionBuilder.{FunctionBuilder}
-use Rattle.cranelift_frontend.specs.Builder.{AppendsValue, SameLoans, with_appended}
-use Rattle.cranelift_frontend.specs.Built.{BuildsValue}
+use Rattle.clif_builder.specs.declared.builder.FunctionBuilder.{FunctionBuilder}
+use Rattle.clif_builder.specs.Builder.{AppendsValue, SameLoans, with_appended}
+use Rattle.clif_builder.specs.Built.{BuildsValue}
 use Rattle.clif_replay.specs.Emits.{BuildsEmission, shape_in}
 use Rattle.clif_replay.specs.Ready.{KeepsTables}
 use Rattle.clif_replay.proofs.Making.{loans-stay}

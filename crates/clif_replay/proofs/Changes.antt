@@ -11,9 +11,9 @@ use Rattle.clif_meaning.specs.Name.{same_name}
 use Rattle.clif_meaning.specs.Acceptance.{allows}
 use Rattle.clif_meaning.specs.Ledger.{BlockState, block_state, has_block, has_instruction, is_sealed, leads_to}
 use Rattle.clif_meaning.specs.Request.{AnsweredCall, ChangeJumpDestination}
-use Rattle.cranelift_frontend.specs.declared.builder.FunctionBuilder.{FunctionBuilder}
-use Rattle.cranelift_frontend.specs.LeadsLaw.{LeadsAreReadByNumber}
-use Rattle.cranelift_frontend.specs.Ledger.{NamesBlock, NamesInstruction, ledger_of}
+use Rattle.clif_builder.specs.declared.builder.FunctionBuilder.{FunctionBuilder}
+use Rattle.clif_builder.specs.LeadsLaw.{LeadsAreReadByNumber}
+use Rattle.clif_builder.specs.Ledger.{NamesBlock, NamesInstruction, ledger_of}
 use Rattle.clif_calls.specs.declared.call.Name.{Name}
 use Rattle.clif_resolution.specs.declared.answers.Answer.{Answer}
 use Rattle.clif_replay.specs.Ready.{IsReady, can_change}

@@ -25,12 +25,12 @@ use Rattle.clif_meaning.specs.Acceptance.{allows, blames_variable, can_assign, c
 use Rattle.clif_meaning.specs.Acceptance as acceptance
 use Rattle.clif_records.specs.Tables.{is_yes}
 use Rattle.clif_ssa.specs.Ssa.{predecessors_of, sealed_of}
-use Rattle.cranelift_frontend.specs.declared.context.BlockStatus.{BlockStatus}
-use Rattle.cranelift_frontend.specs.declared.context.BlockStatus.TheVariants.{Empty, Partial, Filled}
-use Rattle.cranelift_frontend.specs.declared.builder.FunctionBuilder.{FunctionBuilder}
-use Rattle.cranelift_frontend.specs.Context.{status_of}
-use Rattle.cranelift_frontend.specs.Builder.{CanLead, HasCurrent, is_elsewhere, is_empty_status, is_filled_status, is_free, is_free_at, is_nothing, may_be_left}
-use Rattle.cranelift_frontend.specs.Ledger.{NamesArguments, NamesEdge, block_name, ledger_of}
+use Rattle.clif_builder.specs.declared.context.BlockStatus.{BlockStatus}
+use Rattle.clif_builder.specs.declared.context.BlockStatus.TheVariants.{Empty, Partial, Filled}
+use Rattle.clif_builder.specs.declared.builder.FunctionBuilder.{FunctionBuilder}
+use Rattle.clif_builder.specs.Context.{status_of}
+use Rattle.clif_builder.specs.Builder.{CanLead, HasCurrent, is_elsewhere, is_empty_status, is_filled_status, is_free, is_free_at, is_nothing, may_be_left}
+use Rattle.clif_builder.specs.Ledger.{NamesArguments, NamesEdge, block_name, ledger_of}
 use Rattle.clif_calls.specs.declared.call.Edge.{Edge}
 use Rattle.clif_calls.specs.declared.call.Name.{Name}
 use Rattle.clif_resolution.specs.declared.answers.Answer.{Answer}

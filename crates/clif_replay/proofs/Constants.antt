@@ -17,9 +17,9 @@ use Rattle.clif_meaning.specs.Acceptance.{has_bytes, pooled_const}
 use Rattle.clif_meaning.specs.Instruction.{Compute, PooledConst}
 use Rattle.clif_meaning.specs.Request.{AnsweredCall}
 use Rattle.clif_meaning.specs.View.{made_at}
-use Rattle.cranelift_frontend.specs.declared.builder.FunctionBuilder.{FunctionBuilder}
-use Rattle.cranelift_frontend.specs.Ledger.{HasShape, NamesEdges, NamesExceptions, ledger_of}
-use Rattle.cranelift_frontend.specs.StandsFor.{StandsFor}
+use Rattle.clif_builder.specs.declared.builder.FunctionBuilder.{FunctionBuilder}
+use Rattle.clif_builder.specs.Ledger.{HasShape, NamesEdges, NamesExceptions, ledger_of}
+use Rattle.clif_builder.specs.StandsFor.{StandsFor}
 use Rattle.clif_replay.specs.Ready.{IsReady, KeepsTables, TablesAgree}
 use Rattle.clif_resolution.specs.Conditions.{is_open, is_open_at}
 use Rattle.clif_resolution.specs.declared.answers.Answer.{Answer}

@@ -13,8 +13,8 @@ use Rattle.clif_meaning.specs.Ledger.{Ledger, has_value, or_invalid}
 use Rattle.clif_meaning.specs.Request.{AnsweredCall}
 use Rattle.clif_expansion.specs.ScriptCall.{Emit, call_allowed, has_64_bits}
 use Rattle.clif_constant_calls.specs.Stands.{type_in}
-use Rattle.cranelift_frontend.specs.declared.builder.FunctionBuilder.{FunctionBuilder}
-use Rattle.cranelift_frontend.specs.Ledger.{ledger_of}
+use Rattle.clif_builder.specs.declared.builder.FunctionBuilder.{FunctionBuilder}
+use Rattle.clif_builder.specs.Ledger.{ledger_of}
 use Rattle.clif_calls.specs.declared.immediate.ImmediateCall.{ImmediateCall}
 use Rattle.clif_calls.specs.declared.immediate.ImmediateCall.TheVariants as immediate
 use Rattle.clif_resolution.specs.Answers.{value_of}

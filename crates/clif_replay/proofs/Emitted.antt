@@ -21,10 +21,10 @@ use Rattle.clif_expansion.specs.Constants.{computing, place_behind}
 use Rattle.clif_expansion.specs.Emission.{building}
 use Rattle.clif_expansion.specs.ScriptCall.{emitted_types}
 use Rattle.clif_constant_calls.specs.Stands.{ConstantOperandsStand, StandsBehind, StandsWith, type_in}
-use Rattle.cranelift_frontend.specs.declared.builder.FunctionBuilder.{FunctionBuilder}
-use Rattle.cranelift_frontend.specs.StandsFor.{StandsFor}
-use Rattle.cranelift_frontend.specs.Ledger.{NamesEdges, NamesExceptions, ledger_of}
-use Rattle.cranelift_frontend.proofs.LedgerLists.{and-then-some, get-front}
+use Rattle.clif_builder.specs.declared.builder.FunctionBuilder.{FunctionBuilder}
+use Rattle.clif_builder.specs.StandsFor.{StandsFor}
+use Rattle.clif_builder.specs.Ledger.{NamesEdges, NamesExceptions, ledger_of}
+use Rattle.clif_builder.proofs.LedgerLists.{and-then-some, get-front}
 use Rattle.clif_calls.specs.declared.call.Name.{Name}
 use Rattle.clif_calls.specs.declared.immediate.ImmediateCall.{ImmediateCall}
 use Rattle.clif_calls.specs.declared.immediate.ImmediateCall.TheVariants as immediate

@@ -6,8 +6,8 @@ use Rattle.clif_tables.specs.Lists.{TableLists}
 use Rattle.clif_meaning.specs.Acceptance.{allows, can_make}
 use Rattle.clif_meaning.specs.Ledger.{AnEntry, answers_to}
 use Rattle.clif_meaning.specs.Request.{AnsweredCall, MakeEntry}
-use Rattle.cranelift_frontend.specs.declared.builder.FunctionBuilder.{FunctionBuilder}
-use Rattle.cranelift_frontend.specs.Ledger.{ledger_of, tables_of_calls}
+use Rattle.clif_builder.specs.declared.builder.FunctionBuilder.{FunctionBuilder}
+use Rattle.clif_builder.specs.Ledger.{ledger_of, tables_of_calls}
 use Rattle.clif_resolution.specs.declared.answers.Answer.{Answer}
 use Rattle.clif_resolution.specs.declared.answers.Answer.TheVariants as answer
 use Rattle.clif_replay.specs.Ready.{AnswerIs, IsReady}

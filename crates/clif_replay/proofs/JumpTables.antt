@@ -23,13 +23,13 @@ use Rattle.clif_meaning.specs.Ledger.{AJumpTable, AnEdge, Answered, Ledger, answ
 use Rattle.clif_meaning.specs.Name as named
 use Rattle.clif_meaning.specs.Request.{AnsweredCall, MakeEdge, MakeJumpTable, Request}
 use Rattle.clif_ssa.specs.Limits.{IsFull}
-use Rattle.cranelift_frontend.specs.declared.builder.FunctionBuilder.{FunctionBuilder}
-use Rattle.cranelift_frontend.specs.Builder.{CanLead, SameLoans}
-use Rattle.cranelift_frontend.specs.Built.{Builds, numbers_of}
-use Rattle.cranelift_frontend.specs.Entries.{CreatesJumpTable, MakesEdge, MayServe, TakesJumpTable, table_edges}
-use Rattle.cranelift_frontend.specs.Ledger.{NamesArgument, NamesArguments, NamesEdge, NamesEdges, ledger_of}
-use Rattle.cranelift_frontend.specs.LedgerLaws.{RequestsAskForTheirShapes, TableCallsAddNothing}
-use Rattle.cranelift_frontend.specs.StandsFor.{StandsFor}
+use Rattle.clif_builder.specs.declared.builder.FunctionBuilder.{FunctionBuilder}
+use Rattle.clif_builder.specs.Builder.{CanLead, SameLoans}
+use Rattle.clif_builder.specs.Built.{Builds, numbers_of}
+use Rattle.clif_builder.specs.Entries.{CreatesJumpTable, MakesEdge, MayServe, TakesJumpTable, table_edges}
+use Rattle.clif_builder.specs.Ledger.{NamesArgument, NamesArguments, NamesEdge, NamesEdges, ledger_of}
+use Rattle.clif_builder.specs.LedgerLaws.{RequestsAskForTheirShapes, TableCallsAddNothing}
+use Rattle.clif_builder.specs.StandsFor.{StandsFor}
 use Rattle.clif_calls.specs.declared.call.Name.{Name}
 use Rattle.clif_calls.specs.declared.table.Passed.{Passed}
 use Rattle.clif_calls.specs.declared.table.Passed.TheVariants as passed

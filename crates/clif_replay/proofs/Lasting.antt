@@ -15,11 +15,11 @@ use Rattle.clif_meaning.specs.Instruction.{Argument, CallPayload, CallResult, Ed
 use Rattle.clif_meaning.specs.Name.{Name}
 use Rattle.clif_meaning.specs.Request.{AnsweredCall, Annotate, AppendBlockParams, AppendFunctionParams, Build, GivenEntry, ServedBy, TriedBy, Imported, ChangeJumpDestination, CreateBlock, DeclareVar, DefVar, EnsureInsertedBlock, Finalize, InsertBlockAfter, MakeEdge, MakeEntry, MakeJumpTable, MakeExceptionTable, Request, Script, SealAllBlocks, SealBlock, SetColdBlock, SwitchToBlock, UseVar, number_of, script_of}
 use Rattle.clif_meaning.specs.Ledger.{ABlock, AnEdge, AValue, Answered, ExceptionTable, Ledger, answer_at, answers_to, empty_ledger, has_value, is_inserted, ledger_with, value_answer_type, with_begun_at, with_layout, with_served, with_state, with_tried}
-use Rattle.cranelift_frontend.specs.declared.builder.FunctionBuilder.{FunctionBuilder}
-use Rattle.cranelift_frontend.specs.Ledger.{NamesArgument, NamesArguments, NamesBlock, NamesEdge, NamesEdges, NamesExceptions, NamesValue, block_name, ledger_of}
-use Rattle.cranelift_frontend.specs.LedgerLaws.{LedgerIsReadByNumber}
-use Rattle.cranelift_frontend.specs.StandsFor.{StandsFor}
-use Rattle.cranelift_frontend.proofs.LedgerLists.{and-then-some, get-front}
+use Rattle.clif_builder.specs.declared.builder.FunctionBuilder.{FunctionBuilder}
+use Rattle.clif_builder.specs.Ledger.{NamesArgument, NamesArguments, NamesBlock, NamesEdge, NamesEdges, NamesExceptions, NamesValue, block_name, ledger_of}
+use Rattle.clif_builder.specs.LedgerLaws.{LedgerIsReadByNumber}
+use Rattle.clif_builder.specs.StandsFor.{StandsFor}
+use Rattle.clif_builder.proofs.LedgerLists.{and-then-some, get-front}
 use Rattle.clif_replay.specs.Ready.{TableAgrees, TablesAgree}
 
 -- the ledger with one more call

@@ -16,9 +16,9 @@ use Rattle.clif_ssa.specs.Ssa.{SsaState, sealed_of}
 use Rattle.clif_meaning.specs.Ledger.{Ledger}
 use Rattle.clif_meaning.specs.Request.{AnsweredCall, Request}
 use Rattle.clif_meaning.specs.Acceptance.{allows, blames_variable}
-use Rattle.cranelift_frontend.specs.declared.builder.FunctionBuilder.{FunctionBuilder}
-use Rattle.cranelift_frontend.specs.Builder.{HasCurrent, SameLoans}
-use Rattle.cranelift_frontend.specs.Ledger.{ledger_of}
+use Rattle.clif_builder.specs.declared.builder.FunctionBuilder.{FunctionBuilder}
+use Rattle.clif_builder.specs.Builder.{HasCurrent, SameLoans}
+use Rattle.clif_builder.specs.Ledger.{ledger_of}
 use Rattle.clif_resolution.specs.Errors.{call_error_of}
 use Rattle.clif_resolution.specs.declared.answers.Answer.{Answer}
 use Rattle.clif_resolution.specs.declared.answers.CallError.{CallError}

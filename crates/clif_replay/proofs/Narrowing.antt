@@ -13,7 +13,7 @@ use Rattle.clif_meaning.specs.Request.{Request, CreateBlock, SwitchToBlock, Seal
 use Rattle.clif_expansion.specs.Joining.{IsJoined, IsReadRequest, IsReadState, IsReadTableItem}
 use Rattle.clif_expansion.specs.Reading.{IsReadArgument, IsReadAs, IsReadEdge, IsReadInstruction, Reading}
 use Rattle.clif_expansion.proofs.Names.{names_equal}
-use Rattle.cranelift_frontend.proofs.LedgerLists.{and-then-some}
+use Rattle.clif_builder.proofs.LedgerLists.{and-then-some}
 
 -- an answer is there where a test finds it
 some-of : (f : Option Answered → Bool) → f None ≡ false → (o : Option Answered) → f o ≡ true → (a : Answered) × (o ≡ Some a)

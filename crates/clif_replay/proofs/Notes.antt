@@ -5,10 +5,10 @@ use Rattle.clif_types.specs.Signature.{SignatureShape}
 use Rattle.clif_meaning.specs.Name as meaning
 use Rattle.clif_meaning.specs.Acceptance.{allows}
 use Rattle.clif_meaning.specs.Request.{AnsweredCall, Annotate}
-use Rattle.cranelift_frontend.specs.declared.builder.FunctionBuilder.{FunctionBuilder}
-use Rattle.cranelift_frontend.specs.Ledger.{ledger_of}
-use Rattle.cranelift_frontend.specs.LedgerLaws.{NotesAddNothing}
-use Rattle.cranelift_frontend.specs.StandsFor.{StandsFor}
+use Rattle.clif_builder.specs.declared.builder.FunctionBuilder.{FunctionBuilder}
+use Rattle.clif_builder.specs.Ledger.{ledger_of}
+use Rattle.clif_builder.specs.LedgerLaws.{NotesAddNothing}
+use Rattle.clif_builder.specs.StandsFor.{StandsFor}
 use Rattle.clif_calls.specs.declared.call.Name.{Name}
 use Rattle.clif_resolution.specs.declared.answers.Answer.{Answer}
 use Rattle.clif_resolution.specs.declared.answers.Answer.TheVariants as answer

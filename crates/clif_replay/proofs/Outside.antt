@@ -15,12 +15,12 @@ use Rattle.clif_tables.specs.Lists.{TableLists}
 use Rattle.clif_meaning.specs.Acceptance.{allows, has_entry}
 use Rattle.clif_meaning.specs.Ledger.{Ledger, answers_to}
 use Rattle.clif_meaning.specs.Request.{AnsweredCall, Request}
-use Rattle.cranelift_frontend.specs.declared.builder.FunctionBuilder.{FunctionBuilder}
-use Rattle.cranelift_frontend.specs.Builder.{CanLead}
-use Rattle.cranelift_frontend.specs.Built.{Builds, numbers_of}
-use Rattle.cranelift_frontend.specs.Ledger.{HasShape, ledger_of}
-use Rattle.cranelift_frontend.specs.StandsFor.{StandsFor}
-use Rattle.cranelift_frontend.specs.LedgerLaws.{AsksForShape, RequestsAskForTheirShapes}
+use Rattle.clif_builder.specs.declared.builder.FunctionBuilder.{FunctionBuilder}
+use Rattle.clif_builder.specs.Builder.{CanLead}
+use Rattle.clif_builder.specs.Built.{Builds, numbers_of}
+use Rattle.clif_builder.specs.Ledger.{HasShape, ledger_of}
+use Rattle.clif_builder.specs.StandsFor.{StandsFor}
+use Rattle.clif_builder.specs.LedgerLaws.{AsksForShape, RequestsAskForTheirShapes}
 use Rattle.clif_calls.specs.Outside.{operands_of}
 use Rattle.clif_calls.specs.declared.outside.OutsideCall.{OutsideCall}
 use Rattle.clif_calls.specs.declared.outside.OutsideCall.TheVariants as outside

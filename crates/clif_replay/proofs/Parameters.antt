@@ -13,9 +13,9 @@ use Rattle.clif_tables.specs.Callees.{types_of}
 use Rattle.clif_meaning.specs.Request.{AnsweredCall, Request}
 use Rattle.clif_meaning.specs.Ledger.{AValue, Answered, answers_to}
 use Rattle.clif_simulation.specs.Carries.{numbers_from, with_params}
-use Rattle.cranelift_frontend.specs.declared.builder.FunctionBuilder.{FunctionBuilder}
-use Rattle.cranelift_frontend.specs.Ledger.{ledger_of}
-use Rattle.cranelift_frontend.specs.StandsFor.{StandsFor}
+use Rattle.clif_builder.specs.declared.builder.FunctionBuilder.{FunctionBuilder}
+use Rattle.clif_builder.specs.Ledger.{ledger_of}
+use Rattle.clif_builder.specs.StandsFor.{StandsFor}
 use Rattle.clif_resolution.specs.declared.answers.Answer.{Answer}
 use Rattle.clif_replay.specs.Ready.{AnswerIs, IsReady, IsReadyAfter, KeepsTables, last_params, values_from}
 use Rattle.clif_replay.proofs.Lasting.{LeavesTables}

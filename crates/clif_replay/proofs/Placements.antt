@@ -10,8 +10,8 @@ use Rattle.clif_meaning.specs.Name as meaning
 use Rattle.clif_meaning.specs.Request.{AnsweredCall, InsertBlockAfter, SetColdBlock}
 use Rattle.clif_meaning.specs.Ledger.{Ledger, has_block, is_inserted}
 use Rattle.clif_meaning.specs.Acceptance.{allows}
-use Rattle.cranelift_frontend.specs.declared.builder.FunctionBuilder.{FunctionBuilder}
-use Rattle.cranelift_frontend.specs.Ledger.{block_name, ledger_of}
+use Rattle.clif_builder.specs.declared.builder.FunctionBuilder.{FunctionBuilder}
+use Rattle.clif_builder.specs.Ledger.{block_name, ledger_of}
 use Rattle.clif_calls.specs.declared.call.Name.{Name}
 use Rattle.clif_resolution.specs.declared.answers.Answer.{Answer}
 use Rattle.clif_replay.specs.Requests.{Naming}

@@ -18,9 +18,9 @@ use Rattle.clif_instructions.specs.declared.instructions.InstructionData.TheVari
 use Rattle.clif_meaning.specs.Acceptance.{allows, can_lead, has_entry}
 use Rattle.clif_meaning.specs.Ledger.{or_invalid, type_of}
 use Rattle.clif_meaning.specs.Request.{AnsweredCall}
-use Rattle.cranelift_frontend.specs.declared.builder.FunctionBuilder.{FunctionBuilder}
-use Rattle.cranelift_frontend.specs.Builder.{CanLead}
-use Rattle.cranelift_frontend.specs.Ledger.{HasShape, NamesEdges, ledger_of, tables_of_calls}
+use Rattle.clif_builder.specs.declared.builder.FunctionBuilder.{FunctionBuilder}
+use Rattle.clif_builder.specs.Builder.{CanLead}
+use Rattle.clif_builder.specs.Ledger.{HasShape, NamesEdges, ledger_of, tables_of_calls}
 use Rattle.clif_calls.specs.Plan.{edges_in, operands_in}
 use Rattle.clif_calls.specs.declared.call.Edge.{Edge}
 use Rattle.clif_calls.specs.declared.call.Name.{Name}
@@ -35,7 +35,7 @@ use Rattle.clif_opcodes.specs.Typing.{Row}
 use Rattle.clif_meaning.specs.Instruction.{Operation, operation_entries, operation_typing}
 use Rattle.clif_meaning.specs.View.{operation_of}
 use Rattle.clif_ssa.specs.Limits.{IsFull}
-use Rattle.cranelift_frontend.specs.Built.{HasFullTable}
+use Rattle.clif_builder.specs.Built.{HasFullTable}
 use Rattle.clif_meaning.proofs.OperationTypes.{operation_typed}
 use Rattle.clif_replay.specs.Limits.{PlanMeetsFullTable}
 use Rattle.clif_resolution.specs.Plans.{AreFound, IsPlanned, can_make, has_entries, has_names, type_in, controlling_in, first_type, operation_in}

@@ -34,7 +34,7 @@ use Rattle.clif_expansion.specs.Reading.{IsReadArgument, IsReadAs, IsReadEdge, I
 use Rattle.clif_replay.specs.Requests.{Naming, edge_of, item_of, name_of, passed_of, request_in, request_of, request_under, table_edge_of}
 use Rattle.clif_replay.proofs.Planning.{controlling-same}
 use Rattle.clif_replay.proofs.Options.{some-is}
-use Rattle.cranelift_frontend.proofs.LedgerLists.{and-then-some}
+use Rattle.clif_builder.proofs.LedgerLists.{and-then-some}
 
 -- what is read as an answer has its type
 type-read : (reading : Reading) (a b : Option Answered) → IsReadAnswer reading a b → value_answer_type a ≡ value_answer_type b

@@ -13,11 +13,11 @@ use Rattle.clif_nodes.specs.Nodes.{no_inst}
 use Rattle.clif_meaning.specs.Request.{AnsweredCall, number_of}
 use Rattle.clif_meaning.specs.Ledger.{Answered, ABlock, AVariable, AValue, AnInstruction, AnEntry, AnEdge, AJumpTable, AnExceptionTable, ExceptionTable, Ledger, answer_at, answered_edge, answers_to, edge_named, has_block, has_instruction, is_instruction_answer, ledger_with, has_value, type_of, value_answer_type}
 use Rattle.clif_simulation.specs.Carries.{numbers_from}
-use Rattle.cranelift_frontend.specs.declared.builder.FunctionBuilder.{FunctionBuilder}
-use Rattle.cranelift_frontend.specs.StandsFor.{StandsFor}
-use Rattle.cranelift_frontend.specs.Ledger.{AnswerAgrees, ResultsFollow, NamesBlock, NamesEdge, NamesEdges, NamesExceptions, NamesInstruction, NamesValue, block_name, value_type, ledger_of}
-use Rattle.cranelift_frontend.specs.LedgerLaws.{IsReadByNumber}
-use Rattle.cranelift_frontend.proofs.LedgerLists.{and-then-some, get-front}
+use Rattle.clif_builder.specs.declared.builder.FunctionBuilder.{FunctionBuilder}
+use Rattle.clif_builder.specs.StandsFor.{StandsFor}
+use Rattle.clif_builder.specs.Ledger.{AnswerAgrees, ResultsFollow, NamesBlock, NamesEdge, NamesEdges, NamesExceptions, NamesInstruction, NamesValue, block_name, value_type, ledger_of}
+use Rattle.clif_builder.specs.LedgerLaws.{IsReadByNumber}
+use Rattle.clif_builder.proofs.LedgerLists.{and-then-some, get-front}
 use Rattle.clif_calls.specs.declared.call.Name.{Name}
 use Rattle.clif_resolution.specs.declared.answers.Answer.{Answer}
 use Rattle.clif_resolution.specs.declared.answers.Answer.TheVariants as answer

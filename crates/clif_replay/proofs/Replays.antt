@@ -12,12 +12,12 @@ use Rattle.clif_meaning.specs.Typing.{EdgesMatch}
 use Rattle.clif_meaning.specs.WellPlaced.{WellPlaced}
 use Rattle.clif_meaning.specs.Request.{AnsweredCall, Finalize, script_of}
 use Rattle.clif_meaning.specs.Acceptance.{Accepted, Misuse, Refused, refusal_of}
-use Rattle.cranelift_frontend.specs.declared.builder.FunctionBuilder.{FunctionBuilder}
-use Rattle.cranelift_frontend.specs.declared.error.FinalizeError.{FinalizeError}
-use Rattle.cranelift_frontend.specs.Builder.{SameLoans}
-use Rattle.cranelift_frontend.specs.Ledger.{RefusalAgrees}
-use Rattle.cranelift_frontend.specs.Ledger.{ledger_of as plain_ledger_of}
-use Rattle.cranelift_frontend.specs.StandsFor.{LeavesNoParameter, StandsFor, StandsIn}
+use Rattle.clif_builder.specs.declared.builder.FunctionBuilder.{FunctionBuilder}
+use Rattle.clif_builder.specs.declared.error.FinalizeError.{FinalizeError}
+use Rattle.clif_builder.specs.Builder.{SameLoans}
+use Rattle.clif_builder.specs.Ledger.{RefusalAgrees}
+use Rattle.clif_builder.specs.Ledger.{ledger_of as plain_ledger_of}
+use Rattle.clif_builder.specs.StandsFor.{LeavesNoParameter, StandsFor, StandsIn}
 use Rattle.clif_calls.specs.declared.call.Call.{Call}
 use Rattle.clif_resolution.specs.declared.answers.CallError.{CallError}
 use Rattle.clif_resolution.specs.declared.answers.CallError.TheVariants as error

@@ -9,8 +9,8 @@ use Rattle.clif_meaning.specs.Ledger.{Ledger, empty_ledger, ledger_after}
 use Rattle.clif_meaning.specs.Name.{answer_of}
 use Rattle.clif_meaning.specs.Request.{AnsweredCall, Request, Script, script_of}
 use Rattle.clif_simulation.proofs.LedgerValues.{as_many}
-use Rattle.cranelift_frontend.specs.declared.builder.FunctionBuilder.{FunctionBuilder}
-use Rattle.cranelift_frontend.specs.Builder.{SameLoans}
+use Rattle.clif_builder.specs.declared.builder.FunctionBuilder.{FunctionBuilder}
+use Rattle.clif_builder.specs.Builder.{SameLoans}
 use Rattle.clif_expansion.specs.CallsVerdict.{AreCallsTaken, call_blames_variable}
 use Rattle.clif_expansion.specs.ScriptCall.{Ask, Emit, ScriptCall, call_allowed, call_answers, call_refusal, ledger_of, ledger_with_call}
 use Rattle.clif_expansion.proofs.EmittedPrograms.{one_longer}

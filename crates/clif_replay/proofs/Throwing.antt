@@ -30,12 +30,12 @@ use Rattle.clif_meaning.specs.Ledger.{AnExceptionTable, ExceptionTable, Ledger, 
 use Rattle.clif_meaning.specs.Name as named
 use Rattle.clif_meaning.specs.Request.{AnsweredCall, MakeExceptionTable, Request}
 use Rattle.clif_meaning.specs.View.{call_item_of}
-use Rattle.cranelift_frontend.specs.declared.builder.FunctionBuilder.{FunctionBuilder}
-use Rattle.cranelift_frontend.specs.Built.{Builds, numbers_of}
-use Rattle.cranelift_frontend.specs.Entries.{CreatesExceptionTable, MayServeTry, TakesExceptionTable, table_held}
-use Rattle.cranelift_frontend.specs.Ledger.{NamesArguments, NamesEdges, NamesExceptions, ledger_of}
-use Rattle.cranelift_frontend.specs.LedgerLaws.{AsksForShape, RequestsAskForTheirShapes, TableCallsAddNothing}
-use Rattle.cranelift_frontend.specs.StandsFor.{StandsFor}
+use Rattle.clif_builder.specs.declared.builder.FunctionBuilder.{FunctionBuilder}
+use Rattle.clif_builder.specs.Built.{Builds, numbers_of}
+use Rattle.clif_builder.specs.Entries.{CreatesExceptionTable, MayServeTry, TakesExceptionTable, table_held}
+use Rattle.clif_builder.specs.Ledger.{NamesArguments, NamesEdges, NamesExceptions, ledger_of}
+use Rattle.clif_builder.specs.LedgerLaws.{AsksForShape, RequestsAskForTheirShapes, TableCallsAddNothing}
+use Rattle.clif_builder.specs.StandsFor.{StandsFor}
 use Rattle.clif_calls.specs.Tables.{table_of, tried_operands}
 use Rattle.clif_calls.specs.declared.call.Name.{Name}
 use Rattle.clif_calls.specs.declared.table.TableItem.{TableItem}

@@ -11,10 +11,10 @@ use Rattle.clif_meaning.specs.Request.{AnsweredCall, Finalize, script_of}
 use Rattle.clif_meaning.specs.Ledger.{Ledger, empty_ledger}
 use Rattle.clif_meaning.specs.Acceptance.{Accepted, Misuse, Refusal, Refused, refusal_of}
 use Rattle.clif_meaning.specs.Acceptance as refusal
-use Rattle.cranelift_frontend.specs.declared.error.FinalizeError.{FinalizeError}
-use Rattle.cranelift_frontend.specs.declared.error.FinalizeError.TheVariants as ending
-use Rattle.cranelift_frontend.specs.Ledger.{RefusalAgrees}
-use Rattle.cranelift_frontend.specs.Ledger.{ledger_of as plain_ledger_of}
+use Rattle.clif_builder.specs.declared.error.FinalizeError.{FinalizeError}
+use Rattle.clif_builder.specs.declared.error.FinalizeError.TheVariants as ending
+use Rattle.clif_builder.specs.Ledger.{RefusalAgrees}
+use Rattle.clif_builder.specs.Ledger.{ledger_of as plain_ledger_of}
 use Rattle.clif_calls.specs.declared.call.Call.{Call}
 use Rattle.clif_calls.specs.declared.call.Call.TheVariants as call
 use Rattle.clif_calls.specs.declared.outside.OutsideCall.TheVariants as outside

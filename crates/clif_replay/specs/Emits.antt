@@ -17,10 +17,10 @@ use Rattle.clif_constant_operands.specs.Chains.{BuildsWithConstant}
 use Rattle.clif_expansion.specs.ConstantCalls.{constant_calls}
 use Rattle.clif_expansion.specs.Constants.{computing}
 use Rattle.clif_expansion.specs.ScriptCall.{Emit, call_allowed}
-use Rattle.cranelift_frontend.specs.declared.builder.FunctionBuilder.{FunctionBuilder}
-use Rattle.cranelift_frontend.specs.Builder.{SameLoans}
-use Rattle.cranelift_frontend.specs.Built.{BuildsValue}
-use Rattle.cranelift_frontend.specs.Ledger.{ledger_of}
+use Rattle.clif_builder.specs.declared.builder.FunctionBuilder.{FunctionBuilder}
+use Rattle.clif_builder.specs.Builder.{SameLoans}
+use Rattle.clif_builder.specs.Built.{BuildsValue}
+use Rattle.clif_builder.specs.Ledger.{ledger_of}
 use Rattle.clif_calls.specs.declared.call.Name.{Name}
 use Rattle.clif_calls.specs.declared.call.Call.{Call}
 use Rattle.clif_calls.specs.declared.call.Call.TheVariants as call

@@ -18,8 +18,8 @@ use Rattle.clif_calls.specs.declared.plan.Plan.{Plan}
 use Rattle.clif_calls.specs.declared.plan.Plan.TheVariants as plan
 use Rattle.clif_calls.specs.declared.call.Call.{Call}
 use Rattle.clif_calls.specs.declared.call.Call.TheVariants as call
-use Rattle.cranelift_frontend.specs.Context.{ContextState}
-use Rattle.cranelift_frontend.specs.Growth.{NoRoomFor}
+use Rattle.clif_builder.specs.Context.{ContextState}
+use Rattle.clif_builder.specs.Growth.{NoRoomFor}
 use Rattle.clif_replay.specs.Entries.{entry_in}
 
 -- the construction of SSA form alone leads from this function to one in which a table is full

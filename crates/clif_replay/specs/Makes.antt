@@ -7,10 +7,10 @@ use Rattle.clif_opcodes.specs.declared.opcodes.PooledConstOpcode.{PooledConstOpc
 use Rattle.clif_meaning.specs.Acceptance.{allows, blames_variable, pooled_const}
 use Rattle.clif_meaning.specs.Ledger.{Ledger}
 use Rattle.clif_meaning.specs.Request.{AnsweredCall, MakeExceptionTable, MakeJumpTable, Request}
-use Rattle.cranelift_frontend.specs.declared.builder.FunctionBuilder.{FunctionBuilder}
-use Rattle.cranelift_frontend.specs.Builder.{SameLoans}
-use Rattle.cranelift_frontend.specs.Labels.{labelled}
-use Rattle.cranelift_frontend.specs.Ledger.{ledger_of}
+use Rattle.clif_builder.specs.declared.builder.FunctionBuilder.{FunctionBuilder}
+use Rattle.clif_builder.specs.Builder.{SameLoans}
+use Rattle.clif_builder.specs.Labels.{labelled}
+use Rattle.clif_builder.specs.Ledger.{ledger_of}
 use Rattle.clif_calls.specs.declared.table.TableItem.{TableItem}
 use Rattle.clif_calls.specs.declared.call.Call.{Call}
 use Rattle.clif_calls.specs.declared.call.Name.{Name}

@@ -14,13 +14,13 @@ use Rattle.clif_meaning.specs.Instruction as meaning
 use Rattle.clif_meaning.specs.Name as named
 use Rattle.clif_simulation.specs.Carries.{numbers_from}
 use Rattle.clif_ssa.specs.Ssa.{predecessors_of}
-use Rattle.cranelift_frontend.specs.declared.builder.FunctionBuilder.{FunctionBuilder}
-use Rattle.cranelift_frontend.specs.Context.{status_of}
-use Rattle.cranelift_frontend.specs.Builder.{is_empty_status, is_filled_status, is_free, is_nothing}
+use Rattle.clif_builder.specs.declared.builder.FunctionBuilder.{FunctionBuilder}
+use Rattle.clif_builder.specs.Context.{status_of}
+use Rattle.clif_builder.specs.Builder.{is_empty_status, is_filled_status, is_free, is_nothing}
 use Rattle.clif_types.specs.Signature.{SignatureShape}
-use Rattle.cranelift_frontend.specs.Ledger.{NamesEdge, NamesEdges, NamesExceptions, ledger_of}
-use Rattle.cranelift_frontend.specs.StandsFor.{StandsFor}
-use Rattle.cranelift_frontend.specs.LedgerLaws.{LedgerIsReadByNumber}
+use Rattle.clif_builder.specs.Ledger.{NamesEdge, NamesEdges, NamesExceptions, ledger_of}
+use Rattle.clif_builder.specs.StandsFor.{StandsFor}
+use Rattle.clif_builder.specs.LedgerLaws.{LedgerIsReadByNumber}
 use Rattle.clif_calls.specs.declared.call.Edge.{Edge}
 use Rattle.clif_calls.specs.declared.call.Name.{Name}
 use Rattle.clif_calls.specs.declared.call.Call.{Call}

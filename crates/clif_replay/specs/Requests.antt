@@ -13,8 +13,8 @@ use Rattle.clif_types.specs.declared.types.«Type».{«Type»}
 use Rattle.clif_types.specs.declared.types.«Type».TheVariants.{Invalid}
 use Rattle.clif_types.specs.Signature.{SignatureShape}
 use Rattle.clif_types.specs.declared.extname.UserFuncName.{UserFuncName}
-use Rattle.cranelift_frontend.specs.Context.{ContextState}
-use Rattle.cranelift_frontend.specs.StandsFor.{LeavesNoParameter, StandsIn}
+use Rattle.clif_builder.specs.Context.{ContextState}
+use Rattle.clif_builder.specs.StandsFor.{LeavesNoParameter, StandsIn}
 use Rattle.clif_calls.specs.declared.call.Name as named
 use Rattle.clif_calls.specs.declared.call.Edge as script
 use Rattle.clif_calls.specs.declared.call.Call.{Call}

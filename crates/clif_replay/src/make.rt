@@ -26,7 +26,7 @@ use clif_opcodes::PooledConstOpcode;
 use clif_records::Variable;
 use clif_resolution::{Answer, CallError, has_current, value_named};
 use clif_types::{EntityRef, Type, Value};
-use cranelift_frontend::FunctionBuilder;
+use clif_builder::FunctionBuilder;
 
 // Makes one call, where its conditions hold.
 pub(crate) fn make_call(

@@ -1,13 +1,13 @@
 //! The calls of a script that make, mark and place blocks, each made on a builder if its condition holds.
 ghost use Rattle.std.specs.Prelude.{◌≡◌, ◌<◌, length};
-ghost use Rattle.cranelift_frontend.specs.Builder.{is_free};
+ghost use Rattle.clif_builder.specs.Builder.{is_free};
 ghost use Rattle.clif_replay.specs.Makes.{MakesCall};
 ghost use Rattle.clif_replay.specs.Ready.{IsSound, can_switch, can_insert};
 
 use clif_calls::{Call, Name};
 use clif_resolution::{Answer, CallError, block_named, has_current, may_seal};
 use clif_types::Block;
-use cranelift_frontend::FunctionBuilder;
+use clif_builder::FunctionBuilder;
 
 // `create_block()`.
 pub(crate) fn create_block(

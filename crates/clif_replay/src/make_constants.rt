@@ -2,8 +2,8 @@
 ghost use Rattle.std.specs.Prelude.{◌≡◌};
 ghost use Rattle.clif_types.specs.Types.{bytes_of};
 ghost use Rattle.clif_meaning.specs.Acceptance.{has_bytes};
-ghost use Rattle.cranelift_frontend.specs.Builder.{HasCurrent};
-ghost use Rattle.cranelift_frontend.specs.Entries.{PoolsConstant};
+ghost use Rattle.clif_builder.specs.Builder.{HasCurrent};
+ghost use Rattle.clif_builder.specs.Entries.{PoolsConstant};
 ghost use Rattle.clif_replay.specs.Makes.{MakesConstant};
 ghost use Rattle.clif_replay.specs.Ready.{IsSound};
 
@@ -12,7 +12,7 @@ use clif_ir::InstructionData;
 use clif_opcodes::{Demand, PooledConstOpcode};
 use clif_resolution::{Answer, CallError, has_current};
 use clif_types::{BuildError, Constant, Type};
-use cranelift_frontend::{FunctionBuilder, InstBuilderBase};
+use clif_builder::{FunctionBuilder, InstBuilderBase};
 
 // The instruction with this opcode, of the constant of these bytes, in a current unfilled block. The type is `Invalid` where the
 // opcode tells it.

@@ -1,7 +1,7 @@
 //! The calls of a script that make entries of tables, each made on a builder if its condition holds.
 ghost use Rattle.std.specs.Prelude.{◌≡◌, ◌<◌, IsTrue};
 ghost use Rattle.clif_meaning.specs.Acceptance as acceptance;
-ghost use Rattle.cranelift_frontend.specs.Entries.{MakesEntry};
+ghost use Rattle.clif_builder.specs.Entries.{MakesEntry};
 ghost use Rattle.clif_replay.specs.Entries.{entry_in, number_made};
 ghost use Rattle.clif_replay.specs.Makes.{MakesCall};
 ghost use Rattle.clif_replay.specs.Ready.{IsSound};
@@ -9,7 +9,7 @@ ghost use Rattle.clif_replay.specs.Ready.{IsSound};
 use clif_calls::{Call, EntryCall};
 use clif_resolution::{Answer, CallError, has_signature};
 use clif_types::{BuildError, EntityRef, StackSlotData};
-use cranelift_frontend::FunctionBuilder;
+use clif_builder::FunctionBuilder;
 
 // How many shifts of an alignment there are: it is at most 2^31 bytes.
 const ALIGN_SHIFTS: u8 = 32;

@@ -1,7 +1,7 @@
 //! Exception tables, and the calls that they serve, each made on a builder if its condition holds.
 ghost use Rattle.std.specs.Prelude.{◌<◌};
-ghost use Rattle.cranelift_frontend.specs.Builder.{HasCurrent};
-ghost use Rattle.cranelift_frontend.specs.Entries.{MayServeTry, TakesExceptionTable};
+ghost use Rattle.clif_builder.specs.Builder.{HasCurrent};
+ghost use Rattle.clif_builder.specs.Entries.{MayServeTry, TakesExceptionTable};
 ghost use Rattle.clif_replay.specs.Makes.{MakesCall, MakesExceptions};
 ghost use Rattle.clif_replay.specs.Ready.{IsSound};
 
@@ -10,8 +10,8 @@ use clif_calls::{Call, Name, TableItem, ThrowingCall};
 use clif_ir::{ExceptionTableData, ExceptionTargets};
 use clif_resolution::{Answer, CallError, edge_copied, items_found, operands_found, with_table};
 use clif_types::{BuildError, ExceptionTable, SigRef, Type};
-use cranelift_frontend::laws::{requests_ask_for_their_shapes, table_calls_add_nothing};
-use cranelift_frontend::{FunctionBuilder, InstBuilderBase};
+use clif_builder::laws::{requests_ask_for_their_shapes, table_calls_add_nothing};
+use clif_builder::{FunctionBuilder, InstBuilderBase};
 
 // `create_exception_table(ExceptionTableData { sig, normal, items })`, of edges that were answered.
 pub(crate) fn create_exception_table(

@@ -1,7 +1,7 @@
 //! The instructions of a script with a constant as an operand, each made on a builder if its condition holds.
 ghost use Rattle.std.specs.Prelude.{◌≡◌, ◌<◌, length, IsTrue};
 ghost use Rattle.clif_types.specs.Types.{is_int};
-ghost use Rattle.cranelift_frontend.specs.Builder.{HasCurrent};
+ghost use Rattle.clif_builder.specs.Builder.{HasCurrent};
 ghost use Rattle.clif_expansion.specs.ScriptCall.{has_64_bits};
 ghost use Rattle.clif_constant_calls.specs.Stands.{type_in};
 ghost use Rattle.clif_replay.specs.Emits.{BuildsEmission, MakesEmission, can_take_constant, constant_in};
@@ -13,7 +13,7 @@ use clif_calls::{ImmediateCall, Name};
 use clif_constant_calls::laws::constant_operands_stand;
 use clif_resolution::{Answer, CallError, has_current, value_named};
 use clif_types::{BuildError, Value};
-use cranelift_frontend::{ConstantOperands, FunctionBuilder};
+use clif_builder::{ConstantOperands, FunctionBuilder};
 
 // An instruction with a constant as an operand, in a current unfilled block, of an integer.
 pub(crate) fn make_immediate(

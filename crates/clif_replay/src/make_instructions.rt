@@ -2,8 +2,8 @@
 ghost use Rattle.std.specs.Prelude.{◌<◌, ◌-◌, length, slice_index, EachIndex, All};
 ghost use Rattle.clif_ir.specs.Consistent.{EntryExists, ValueExists};
 ghost use Rattle.clif_instructions.specs.Instruction.{contexts, destinations, entries_of, operands};
-ghost use Rattle.cranelift_frontend.specs.Builder.{CanLead, HasCurrent};
-ghost use Rattle.cranelift_frontend.specs.Built.{Builds};
+ghost use Rattle.clif_builder.specs.Builder.{CanLead, HasCurrent};
+ghost use Rattle.clif_builder.specs.Built.{Builds};
 ghost use Rattle.clif_replay.specs.Makes.{MakesPlan};
 ghost use Rattle.clif_replay.specs.Ready.{IsSound};
 
@@ -11,7 +11,7 @@ use clif_calls::Plan;
 use clif_ir::InstructionData;
 use clif_resolution::{Answer, CallError, plan_found};
 use clif_types::{BuildError, Inst, Type};
-use cranelift_frontend::{FunctionBuilder, InstBuilderBase};
+use clif_builder::{FunctionBuilder, InstBuilderBase};
 
 // The method that lends the builder for an instruction.
 #[derive(Clone, Copy)]

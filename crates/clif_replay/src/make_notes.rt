@@ -1,15 +1,15 @@
 //! Notes for a debugger: places in the source, and labels of values. Each is made on a builder if its condition holds.
 ghost use Rattle.std.specs.Prelude.{◌≡◌, OnOk};
-ghost use Rattle.cranelift_frontend.specs.Builder.{with_srcloc};
-ghost use Rattle.cranelift_frontend.specs.Labels.{CollectsLabels};
+ghost use Rattle.clif_builder.specs.Builder.{with_srcloc};
+ghost use Rattle.clif_builder.specs.Labels.{CollectsLabels};
 ghost use Rattle.clif_replay.specs.Makes.{LabelsValue, MakesCall};
 ghost use Rattle.clif_replay.specs.Ready.{IsSound};
 
 use clif_calls::{Call, Name};
 use clif_resolution::{Answer, CallError, value_named};
 use clif_types::{SourceLoc, ValueLabel};
-use cranelift_frontend::FunctionBuilder;
-use cranelift_frontend::laws::notes_add_nothing;
+use clif_builder::FunctionBuilder;
+use clif_builder::laws::notes_add_nothing;
 
 // `set_srcloc(srcloc)`.
 pub(crate) fn set_srcloc(

@@ -6,8 +6,8 @@ use crate::make_instructions::{Lender, append};
 use clif_calls::{Call, OutsideCall};
 use clif_resolution::{Answer, CallError, outside_call_found};
 use clif_types::Type;
-use cranelift_frontend::FunctionBuilder;
-use cranelift_frontend::laws::requests_ask_for_their_shapes;
+use clif_builder::FunctionBuilder;
+use clif_builder::laws::requests_ask_for_their_shapes;
 
 // An outside call of what was imported, in a current unfilled block.
 pub(crate) fn make_outside_call(

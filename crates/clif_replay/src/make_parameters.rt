@@ -2,7 +2,7 @@
 ghost use Rattle.std.specs.Prelude.{◌≡◌, ◌<◌, ◌≤◌, length};
 ghost use Rattle.clif_ir.specs.Body.{block_at};
 ghost use Rattle.clif_ssa.specs.Ssa.{predecessors_of};
-ghost use Rattle.cranelift_frontend.specs.Builder.{is_nothing};
+ghost use Rattle.clif_builder.specs.Builder.{is_nothing};
 ghost use Rattle.clif_replay.specs.Makes.{MakesCall};
 ghost use Rattle.clif_replay.specs.Ready.{IsSound, can_append, can_append_function_params, last_params};
 
@@ -10,7 +10,7 @@ use crate::make::one_value;
 use clif_calls::{Call, Name};
 use clif_resolution::{Answer, CallError, block_named};
 use clif_types::{Block, Type};
-use cranelift_frontend::FunctionBuilder;
+use clif_builder::FunctionBuilder;
 
 // `append_block_param(block, ty)`, where nothing was made in the block.
 pub(crate) fn append_block_param(

@@ -1,9 +1,9 @@
 //! Jump tables: their edges, the tables and the branches by them, each made on a builder if its condition holds.
 ghost use Rattle.std.specs.Prelude.{◌<◌, length, Some, Err};
 ghost use Rattle.clif_inst_builder.specs.Shapes.{TakesThenBuilds, branch_table};
-ghost use Rattle.cranelift_frontend.specs.Builder.{HasCurrent};
-ghost use Rattle.cranelift_frontend.specs.Built.{Builds};
-ghost use Rattle.cranelift_frontend.specs.Entries.{MayServe, TakesJumpTable};
+ghost use Rattle.clif_builder.specs.Builder.{HasCurrent};
+ghost use Rattle.clif_builder.specs.Built.{Builds};
+ghost use Rattle.clif_builder.specs.Entries.{MayServe, TakesJumpTable};
 ghost use Rattle.clif_replay.specs.Makes.{MakesCall, MakesTable};
 ghost use Rattle.clif_resolution.specs.Conditions.{serves};
 ghost use Rattle.clif_replay.specs.Ready.{IsSound};
@@ -14,8 +14,8 @@ use clif_resolution::{
     Answer, CallError, edge_copied, edge_found, edges_copied, has_current, may_serve, value_named,
 };
 use clif_types::{BuildError, Inst, JumpTable, Type, Value};
-use cranelift_frontend::laws::{requests_ask_for_their_shapes, table_calls_add_nothing};
-use cranelift_frontend::{FunctionBuilder, InstBuilder};
+use clif_builder::laws::{requests_ask_for_their_shapes, table_calls_add_nothing};
+use clif_builder::{FunctionBuilder, InstBuilder};
 
 // `block_call(block, args)`, where the block and the arguments exist.
 pub(crate) fn block_call(

@@ -7,7 +7,7 @@ use Rattle.clif_instructions.specs.ExceptionTables.{ExceptionShape}
 use Rattle.clif_instructions.specs.declared.instructions.InstructionData.{InstructionData}
 use Rattle.clif_instructions.specs.declared.instructions.InstructionData.TheVariants as shape
 use Rattle.clif_meaning.specs.Acceptance.{has_entry}
-use Rattle.cranelift_frontend.specs.declared.builder.FunctionBuilder.{FunctionBuilder}
+use Rattle.clif_builder.specs.declared.builder.FunctionBuilder.{FunctionBuilder}
 use Rattle.clif_calls.specs.Outside.{operands_of}
 use Rattle.clif_calls.specs.Tables.{table_of, tried_operands}
 use Rattle.clif_calls.specs.declared.table.ThrowingCall.{ThrowingCall}

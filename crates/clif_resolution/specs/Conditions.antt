@@ -6,10 +6,10 @@ use Rattle.clif_instructions.specs.ExceptionTables.{ExceptionShape}
 use Rattle.clif_inst_builder.specs.Served.{exception_tables}
 use Rattle.clif_records.specs.Tables.{is_yes}
 use Rattle.clif_ssa.specs.Ssa.{sealed_of}
-use Rattle.cranelift_frontend.specs.declared.builder.FunctionBuilder.{FunctionBuilder}
-use Rattle.cranelift_frontend.specs.Context.{ContextState, status_of}
-use Rattle.cranelift_frontend.specs.Builder.{is_filled_status}
-use Rattle.cranelift_frontend.specs.Entries.{table_edges, table_held}
+use Rattle.clif_builder.specs.declared.builder.FunctionBuilder.{FunctionBuilder}
+use Rattle.clif_builder.specs.Context.{ContextState, status_of}
+use Rattle.clif_builder.specs.Builder.{is_filled_status}
+use Rattle.clif_builder.specs.Entries.{table_edges, table_held}
 use Rattle.clif_calls.specs.declared.call.Edge.{Edge}
 use Rattle.clif_calls.specs.declared.table.TableEdge.{TableEdge}
 use Rattle.clif_resolution.specs.declared.answers.Answer.{Answer}

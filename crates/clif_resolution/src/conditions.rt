@@ -5,7 +5,7 @@ ghost use Rattle.std.specs.List.{list_all};
 
 use clif_ir::BlockCall;
 use clif_types::{Block, SigRef};
-use cranelift_frontend::FunctionBuilder;
+use clif_builder::FunctionBuilder;
 
 /// Whether there is a current block to which no terminator was appended.
 pub fn has_current(builder: &FunctionBuilder<'_>) -> bool

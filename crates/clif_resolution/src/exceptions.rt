@@ -12,7 +12,7 @@ use crate::tables::edge_copied;
 use clif_calls::{TableItem, ThrowingCall};
 use clif_ir::{ExceptionTableItem, ExceptionTargets, Function, InstructionData, ValueList};
 use clif_types::ExceptionTable;
-use cranelift_frontend::FunctionBuilder;
+use clif_builder::FunctionBuilder;
 
 // An item of a table, with what its name leads to.
 fn item_found(

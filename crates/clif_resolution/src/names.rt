@@ -10,7 +10,7 @@ use crate::conditions::may_seal;
 use clif_calls::{Edge, Name, Passed};
 use clif_ir::{BlockArg, BlockArgs, BlockCall, Function, ValueList};
 use clif_types::{Block, EntityRef, Inst, Value};
-use cranelift_frontend::FunctionBuilder;
+use clif_builder::FunctionBuilder;
 
 /// The block that a name leads to.
 pub fn block_named(answers: &[Answer], name: Name) -> Option<Block>

@@ -9,7 +9,7 @@ use crate::conditions::has_current;
 use crate::names::values_named;
 use clif_calls::OutsideCall;
 use clif_ir::{Function, InstructionData, ValueList};
-use cranelift_frontend::FunctionBuilder;
+use clif_builder::FunctionBuilder;
 
 /// The instruction of an outside call, where it may be made.
 ///

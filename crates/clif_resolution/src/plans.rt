@@ -16,7 +16,7 @@ use clif_opcodes::{
     UnaryOpcode,
 };
 use clif_types::{IntCC, MemFlagsData, StackSlot, TrapCode, Type, Value};
-use cranelift_frontend::FunctionBuilder;
+use clif_builder::FunctionBuilder;
 
 /// An instruction, before it is made: its shape and its controlling type.
 #[derive(Drop)]

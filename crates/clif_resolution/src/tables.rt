@@ -10,7 +10,7 @@ use crate::names::{block_named, edge_answered, passed_named};
 use clif_calls::{Name, TableEdge};
 use clif_ir::BlockCall;
 use clif_types::JumpTable;
-use cranelift_frontend::FunctionBuilder;
+use clif_builder::FunctionBuilder;
 use std::alloc::Global;
 
 /// The edge that names lead to, whether its target is sealed or not.

@@ -23,8 +23,8 @@ use Rattle.clif_expansion.proofs.JoinedCalls.{joined_calls}
 use Rattle.clif_expansion.proofs.ScriptCalls.{asking_stays}
 use Rattle.clif_expansion.proofs.calls.Alone.{asking_means}
 use Rattle.clif_replay.specs.Requests.{ArePlainCalls, calls_of}
-use Rattle.cranelift_frontend.specs.Context.{ContextState}
-use Rattle.cranelift_frontend.specs.StandsFor.{StandsIn}
+use Rattle.clif_builder.specs.Context.{ContextState}
+use Rattle.clif_builder.specs.StandsFor.{StandsIn}
 use Rattle.clif_sealing_laws.specs.Laws.{BuiltFunctionsAgree, ReplayedFunctionsAgree, requests_of}
 
 -- such scripts make the same entries of tables

@@ -17,8 +17,8 @@ use Rattle.clif_renaming.specs.Sealing.{DifferInSealing}
 use Rattle.clif_expansion.specs.CallsHeadline.{CallsMeanTheSame}
 use Rattle.clif_expansion.specs.ScriptCall.{Ask, Emit, ScriptCall}
 use Rattle.clif_replay.specs.Requests.{IsBuiltBy, calls_of}
-use Rattle.cranelift_frontend.specs.Context.{ContextState}
-use Rattle.cranelift_frontend.specs.StandsFor.{StandsIn}
+use Rattle.clif_builder.specs.Context.{ContextState}
+use Rattle.clif_builder.specs.StandsFor.{StandsIn}
 
 -- A finished function of a builder: the builder stood for the calls, with this context and current block, as `stands` of each
 -- call says; and the function means what they mean, as `same_meaning` of `finalize` says where it succeeds.

@@ -12,7 +12,7 @@ use Rattle.clif_types.specs.declared.extname.ExternalName.TheVariants.{LibCall}
 use Rattle.clif_tables.specs.Callees.{types_of}
 use Rattle.clif_meaning.specs.Event.{CallShape, plain_call}
 use Rattle.clif_meaning.specs.Bits.{Bits, AreValues, IsValue}
-use Rattle.clif_meaning.specs.Instruction.{Instruction, Operation, Compute, Load, Store, Stack, StackStore, Trap, CondTrap, Jump, Brif, BrTable, Return, Call, CallIndirect, TryCall, TryCallIndirect, operation_typing}
+use Rattle.clif_meaning.specs.Instruction.{Instruction, Operation, Compute, Load, Store, Stack, StackStore, Trap, CondTrap, Jump, Brif, BrTable, Switch, Return, Call, CallIndirect, TryCall, TryCallIndirect, operation_typing}
 use Rattle.clif_meaning.specs.Laws.{FitsTypes}
 use Rattle.clif_meaning.specs.Library.{library_answer, pointer_of}
 use Rattle.clif_meaning.specs.Memory.{Memory, Range}
@@ -121,6 +121,9 @@ outcome_values world Brif ty returns types (x ∷ y ∷ operands) memory met tak
 outcome_values world (BrTable entries) ty returns types [] memory met takes values = tt
 outcome_values world (BrTable entries) ty returns types (x ∷ []) memory met takes values = tt
 outcome_values world (BrTable entries) ty returns types (x ∷ y ∷ operands) memory met takes values = tt
+outcome_values world (Switch keys) ty returns types [] memory met takes values = tt
+outcome_values world (Switch keys) ty returns types (x ∷ []) memory met takes values = tt
+outcome_values world (Switch keys) ty returns types (x ∷ y ∷ operands) memory met takes values = tt
 outcome_values world Return ty returns types operands memory met takes values =
     outcomes_fit world Return ty returns types operands memory tt met takes values tt
 outcome_values world (Call name signature) ty returns types operands memory met takes values =

@@ -1,20 +1,10 @@
-//! A proved port of cranelift-frontend 0.137.1.
+//! A proved port of cranelift-frontend 0.137.1: the builder of functions, and all that its calls take and answer.
 #![tactic(auto)]
 
-pub mod attempts;
-pub mod blocks;
-pub mod branches;
-pub mod builder;
-pub mod context;
-pub mod entities;
-pub mod error;
-pub mod finalize;
-pub mod frontend;
-pub mod instructions;
-pub mod labels;
-pub mod laws;
-
-pub use builder::FunctionBuilder;
+pub use clif_builder::{
+    DefVariableError, FinalizeError, FuncInstBuilder, FunctionBuilder, FunctionBuilderContext,
+    UseVariableError,
+};
 pub use clif_check::{CheckError, CheckErrorKind, check};
 pub use clif_constant_operands::ConstantOperands;
 pub use clif_cursor::FuncCursor;
@@ -40,9 +30,6 @@ pub use clif_types::{
     StackSlot, StackSlotData, TargetFrontendConfig, TestcaseName, TrapCode, Type, UserExternalName,
     UserFuncName, UserStackMapEntry, Value, ValueLabel, types,
 };
-pub use context::FunctionBuilderContext;
-pub use error::{DefVariableError, FinalizeError, UseVariableError};
-pub use instructions::FuncInstBuilder;
 
 /// The version of the crate whose behaviour this one has.
 pub const VERSION: &str = "0.137.1";

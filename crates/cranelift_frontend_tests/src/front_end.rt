@@ -2,7 +2,7 @@
 #![tactic(auto)]
 
 ghost use Rattle.std.specs.Prelude.{◌≡◌, ◌<◌, length, slice_get, Some};
-ghost use Rattle.cranelift_frontend.specs.Builder.{HasCurrent};
+ghost use Rattle.clif_builder.specs.Builder.{HasCurrent};
 
 use crate::generic::there_and_back;
 use clif_types::types::{I16, I32, I32X4, I64};

@@ -2,7 +2,7 @@
 #![tactic(auto)]
 
 ghost use Rattle.std.specs.Prelude.{◌≡◌, ◌<◌, length, slice_get, Some};
-ghost use Rattle.cranelift_frontend.specs.Builder.{HasCurrent};
+ghost use Rattle.clif_builder.specs.Builder.{HasCurrent};
 
 use clif_types::types::I32;
 use cranelift_frontend::{Block, EntityRef, FunctionBuilder, InstBuilder, Value, Variable};

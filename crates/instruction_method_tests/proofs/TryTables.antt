@@ -7,9 +7,9 @@ use Rattle.clif_instructions.specs.declared.exception_table.ExceptionTableItem.{
 use Rattle.clif_instructions.specs.ExceptionTables.{exception_shape, item_context, item_edges, kept_item}
 use Rattle.clif_inst_builder.specs.Served.{exception_tables}
 use Rattle.clif_ir.specs.Consistent.{ValueExists}
-use Rattle.cranelift_frontend.specs.declared.builder.FunctionBuilder.{FunctionBuilder}
-use Rattle.cranelift_frontend.specs.Builder.{CanLead}
-use Rattle.cranelift_frontend.specs.Entries.{MayServeTry, table_held}
+use Rattle.clif_builder.specs.declared.builder.FunctionBuilder.{FunctionBuilder}
+use Rattle.clif_builder.specs.Builder.{CanLead}
+use Rattle.clif_builder.specs.Entries.{MayServeTry, table_held}
 
 -- what the items lead to and name is there
 abbrev pub ItemsExist : FunctionBuilder → List ExceptionTableItem → Type 0

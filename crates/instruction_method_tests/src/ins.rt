@@ -5,7 +5,7 @@ ghost use Rattle.std.specs.Prelude.{◌≡◌, ◌<◌, length, false};
 ghost use Rattle.clif_ir.specs.Body.{value_at};
 ghost use Rattle.clif_records.specs.Tables.{is_yes};
 ghost use Rattle.clif_ssa.specs.Ssa.{sealed_of};
-ghost use Rattle.cranelift_frontend.specs.Builder.{HasCurrent};
+ghost use Rattle.clif_builder.specs.Builder.{HasCurrent};
 
 use crate::fixture::{Given, callee, signature};
 use crate::formats::make_by_format;

@@ -9,15 +9,15 @@ use Rattle.clif_ir.specs.Body.{value_at}
 use Rattle.clif_records.specs.Tables.{is_yes}
 use Rattle.clif_ssa.proofs.Passing.{some_pushed}
 use Rattle.clif_ssa.specs.Ssa.{SameBlocks, SealedStays, sealed_of}
-use Rattle.cranelift_frontend.specs.declared.builder.FunctionBuilder.{FunctionBuilder}
-use Rattle.cranelift_frontend.specs.declared.context.BlockStatus.TheVariants.{Filled}
-use Rattle.cranelift_frontend.specs.Builder.{CanLead, IsLeft, with_position}
-use Rattle.cranelift_frontend.specs.Built.{Builds, BuildsValue}
-use Rattle.cranelift_frontend.specs.Calls.{IsCall}
-use Rattle.cranelift_frontend.specs.Construction.{SealsAtMost}
-use Rattle.cranelift_frontend.specs.Context.{ContextState, FillsNone, status_of}
-use Rattle.cranelift_frontend.specs.Growth.{Grows, TypesStay}
-use Rattle.cranelift_frontend.specs.Order.{IsUntouched}
+use Rattle.clif_builder.specs.declared.builder.FunctionBuilder.{FunctionBuilder}
+use Rattle.clif_builder.specs.declared.context.BlockStatus.TheVariants.{Filled}
+use Rattle.clif_builder.specs.Builder.{CanLead, IsLeft, with_position}
+use Rattle.clif_builder.specs.Built.{Builds, BuildsValue}
+use Rattle.clif_builder.specs.Calls.{IsCall}
+use Rattle.clif_builder.specs.Construction.{SealsAtMost}
+use Rattle.clif_builder.specs.Context.{ContextState, FillsNone, status_of}
+use Rattle.clif_builder.specs.Growth.{Grows, TypesStay}
+use Rattle.clif_builder.specs.Order.{IsUntouched}
 use Rattle.clif_inst_builder.specs.Shapes.{edge_to}
 
 -- CALLS -----------------------------------------------------------------------------------------------------------------

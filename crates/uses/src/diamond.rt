@@ -1,7 +1,7 @@
 //! A diamond: two arms that meet again.
 #![tactic(auto)]
 
-ghost use Rattle.cranelift_frontend.specs.Context.{IsClear, IsFresh};
+ghost use Rattle.clif_builder.specs.Context.{IsClear, IsFresh};
 
 use clif_types::types::I32;
 use cranelift_frontend::{

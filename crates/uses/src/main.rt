@@ -2,7 +2,7 @@
 #![tactic(auto)]
 
 ghost use Rattle.std.specs.Prelude.{IfOk};
-ghost use Rattle.cranelift_frontend.specs.Context.{IsClear, IsFresh};
+ghost use Rattle.clif_builder.specs.Context.{IsClear, IsFresh};
 
 mod count_down;
 mod diamond;

@@ -15,7 +15,7 @@ use Rattle.clif_meaning.specs.ScriptMachine.{ScriptRun, ScriptState}
 use Rattle.clif_meaning.specs.FunctionMachine as function_machine_of
 use Rattle.clif_meaning.specs.FunctionMachine.{FunctionRun, FunctionState}
 use Rattle.clif_opcodes.specs.declared.opcodes.StackOpcode.TheVariants.{StackAddr, StackLoad}
-use Rattle.clif_meaning.specs.Instruction.{Instruction, Operation, Compute, Load, Store, Stack, StackStore, Trap, CondTrap, Jump, Brif, BrTable, Return, Call, CallIndirect, TryCall, TryCallIndirect}
+use Rattle.clif_meaning.specs.Instruction.{Instruction, Operation, Compute, Load, Store, Stack, StackStore, Trap, CondTrap, Jump, Brif, BrTable, Switch, Return, Call, CallIndirect, TryCall, TryCallIndirect}
 use Rattle.clif_types.specs.declared.trapcode.TrapCode.{TrapCode}
 use Rattle.clif_types.specs.declared.trapcode.TrapCode.TheVariants.{HeapOutOfBounds}
 use Rattle.clif_types.specs.MemFlags.{MemFlagsShape}
@@ -187,6 +187,9 @@ outcome_plain world Brif no_call ty types (x ∷ y ∷ operands) memory = tt
 outcome_plain world (BrTable entries) no_call ty types [] memory = tt
 outcome_plain world (BrTable entries) no_call ty types (x ∷ []) memory = tt
 outcome_plain world (BrTable entries) no_call ty types (x ∷ y ∷ operands) memory = tt
+outcome_plain world (Switch keys) no_call ty types [] memory = tt
+outcome_plain world (Switch keys) no_call ty types (x ∷ []) memory = tt
+outcome_plain world (Switch keys) no_call ty types (x ∷ y ∷ operands) memory = tt
 outcome_plain world Return no_call ty types operands memory = tt
 outcome_plain world (Call name signature) no_call ty types operands memory = cc
 outcome_plain world (CallIndirect signature) no_call ty types operands memory = cc

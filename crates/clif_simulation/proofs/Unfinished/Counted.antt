@@ -22,7 +22,7 @@ use Rattle.clif_opcodes.specs.declared.opcodes.FloatConstOpcode.TheVariants.{F16
 use Rattle.clif_types.specs.MemFlags.{MemFlagsShape}
 use Rattle.clif_opcodes.specs.declared.opcodes.PooledConstOpcode.TheVariants.{F128const, Vconst}
 use Rattle.clif_opcodes.specs.declared.opcodes.StackOpcode.TheVariants.{StackAddr, StackLoad}
-use Rattle.clif_meaning.specs.Instruction.{Instruction, Operation, Compute, Load, Store, Stack, StackStore, Trap, CondTrap, Jump, Brif, BrTable, Return, Call, CallIndirect, TryCall, TryCallIndirect, Arithmetic, Iconst, FloatConst, PooledConst, Unary, Binary, Compare, Concat, Split, Convert, Select, AddConstant, CompareConstant}
+use Rattle.clif_meaning.specs.Instruction.{Instruction, Operation, Compute, Load, Store, Stack, StackStore, Trap, CondTrap, Jump, Brif, BrTable, Switch, Return, Call, CallIndirect, TryCall, TryCallIndirect, Arithmetic, Iconst, FloatConst, PooledConst, Unary, Binary, Compare, Concat, Split, Convert, Select, AddConstant, CompareConstant}
 use Rattle.clif_meaning.specs.Request.{Request, Script}
 use Rattle.clif_meaning.specs.Program.{Program, Item, Instruct, Use, Assign, result_types, result_names, answers_from, with_item_at, with_inserted, extended, with_call, empty_program, program_of}
 use Rattle.clif_meaning.specs.Ledger.{is_terminator}
@@ -230,6 +230,9 @@ counted_outcome world Brif ty types (x ∷ y ∷ operands) memory = tt
 counted_outcome world (BrTable entries) ty types [] memory = tt
 counted_outcome world (BrTable entries) ty types (x ∷ []) memory = tt
 counted_outcome world (BrTable entries) ty types (x ∷ y ∷ operands) memory = tt
+counted_outcome world (Switch keys) ty types [] memory = tt
+counted_outcome world (Switch keys) ty types (x ∷ []) memory = tt
+counted_outcome world (Switch keys) ty types (x ∷ y ∷ operands) memory = tt
 counted_outcome world Return ty types operands memory = tt
 counted_outcome world (Call name signature) ty types operands memory = counted_call world name signature operands memory
 counted_outcome world (CallIndirect signature) ty types [] memory = tt
@@ -305,6 +308,7 @@ calls_count world (CondTrap name reason) ty types operands memory = no_call_coun
 calls_count world (Jump) ty types operands memory = no_call_counts world (Jump) refl ty types operands memory
 calls_count world (Brif) ty types operands memory = no_call_counts world (Brif) refl ty types operands memory
 calls_count world (BrTable entries) ty types operands memory = no_call_counts world (BrTable entries) refl ty types operands memory
+calls_count world (Switch keys) ty types operands memory = no_call_counts world (Switch keys) refl ty types operands memory
 calls_count world (Return) ty types operands memory = no_call_counts world (Return) refl ty types operands memory
 
 pub call_count : (world : World) (place : ℕ) (instruction : Instruction Name Name) (results : List Name) → results ≡ result_names place instruction
@@ -342,6 +346,7 @@ terminator_gives_none place instruction ends = ap (answers_from place 1) (none i
     none Jump ends = refl
     none Brif ends = refl
     none (BrTable entries) ends = refl
+    none (Switch keys) ends = refl
     none Return ends = refl
     none (Call name signature) ends = cc
     none (CallIndirect signature) ends = cc

@@ -4,8 +4,8 @@ use Rattle.clif_resolution.specs.declared.answers.Answer.TheVariants as answer
 use Rattle.clif_replay.proofs.Making.{answered-sound, made-answer, made-misuse, made-refused}
 use Rattle.std.specs.Prelude.{◌≡◌, length}
 use Rattle.clif_meaning.specs.Ledger.{AVariable}
-use Rattle.cranelift_frontend.specs.Ledger.{ledger_of}
-use Rattle.cranelift_frontend.specs.Context.{ContextState}
+use Rattle.clif_builder.specs.Ledger.{ledger_of}
+use Rattle.clif_builder.specs.Context.{ContextState}
 use Rattle.clif_replay.proofs.ReadyLaws.{read, ready-more}
 use Rattle.clif_replay.proofs.make.declare_var.Goals as goal
 

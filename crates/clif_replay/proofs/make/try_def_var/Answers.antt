@@ -2,9 +2,9 @@ use Rattle.std.proofs.Common.{◌≡◌, [], sym, ◌∙◌, ap, refl, subst}
 use Rattle.std.specs.Prelude.{IfErr, OnOk, slice_get, slice_index_or, Some}
 use Rattle.clif_ir.specs.Body.{Body, value_at}
 use Rattle.clif_meaning.specs.Request.{DefVar}
-use Rattle.cranelift_frontend.specs.Attempts.{RefusesAssignment}
-use Rattle.cranelift_frontend.specs.Calls.{IsTold, answered}
-use Rattle.cranelift_frontend.specs.Ledger.{NamesValue}
+use Rattle.clif_builder.specs.Attempts.{RefusesAssignment}
+use Rattle.clif_builder.specs.Calls.{IsTold, answered}
+use Rattle.clif_builder.specs.Ledger.{NamesValue}
 use Rattle.clif_resolution.specs.declared.answers.Answer.TheVariants as answer
 use Rattle.clif_resolution.specs.Answers.{AnswerExists, value_of}
 use Rattle.clif_replay.proofs.Making.{answered-sound, made-answer, made-denied, made-refusal}

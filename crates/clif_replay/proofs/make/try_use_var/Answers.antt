@@ -3,9 +3,9 @@ use Rattle.std.specs.Prelude.{IfErr, OnOk}
 use Rattle.std.proofs.lemmas.Result.{err_from_is_err_and}
 use Rattle.clif_meaning.specs.Request.{UseVar}
 use Rattle.clif_meaning.specs.Ledger.{or_invalid, variable_type}
-use Rattle.cranelift_frontend.specs.Attempts.{RefusesUse, use_told}
-use Rattle.cranelift_frontend.specs.Ledger.{ledger_of}
-use Rattle.cranelift_frontend.specs.StandsFor.{StandsFor}
+use Rattle.clif_builder.specs.Attempts.{RefusesUse, use_told}
+use Rattle.clif_builder.specs.Ledger.{ledger_of}
+use Rattle.clif_builder.specs.StandsFor.{StandsFor}
 use Rattle.clif_resolution.specs.declared.answers.Answer.{Answer}
 use Rattle.clif_resolution.specs.declared.answers.Answer.TheVariants as answer
 use Rattle.clif_replay.specs.Ready.{IsReadyAfter}

@@ -6,7 +6,7 @@ use Rattle.std.proofs.lemmas.Bool.{and_parts}
 use Rattle.clif_types.specs.declared.types.«Type».{«Type»}
 use Rattle.clif_meaning.specs.Request.{UseVar}
 use Rattle.clif_meaning.specs.Ledger.{or_invalid, variable_type}
-use Rattle.cranelift_frontend.specs.Ledger.{ledger_of}
+use Rattle.clif_builder.specs.Ledger.{ledger_of}
 use Rattle.clif_resolution.specs.declared.answers.Answer.{Answer}
 use Rattle.clif_replay.specs.Ready.{IsReadyAfter, can_use}
 use Rattle.clif_replay.proofs.ReadyLaws.{ready-more}

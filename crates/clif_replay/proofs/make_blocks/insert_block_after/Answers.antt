@@ -5,7 +5,7 @@ use Rattle.clif_replay.proofs.Making.{answered-sound, made-answer, made-misuse, 
 use Rattle.std.specs.Prelude.{not}
 use Rattle.std.proofs.lemmas.Bool.{and_parts, not-true, false≢true}
 use Rattle.clif_instructions.specs.Members.{stands_in}
-use Rattle.cranelift_frontend.specs.Context.{ContextState}
+use Rattle.clif_builder.specs.Context.{ContextState}
 use Rattle.clif_replay.proofs.ReadyLaws.{ready-more, block-found, block-there}
 use Rattle.clif_replay.proofs.Placements.{insert-none, insert-nowhere, insert-some, Stands-from_test, test-from_Stands}
 use Rattle.clif_replay.proofs.make_blocks.insert_block_after.Goals as goal

@@ -1,5 +1,5 @@
 use Rattle.std.proofs.Common.{[], sym, ◌∙◌, ap, refl}
-use Rattle.cranelift_frontend.specs.Context.{ContextState}
+use Rattle.clif_builder.specs.Context.{ContextState}
 use Rattle.clif_resolution.specs.declared.answers.Answer.TheVariants as answer
 use Rattle.clif_replay.proofs.Making.{made-answer, made-misuse}
 use Rattle.clif_replay.proofs.ReadyLaws.{ready-more, block-found, block-there}

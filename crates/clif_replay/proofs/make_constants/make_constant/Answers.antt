@@ -3,7 +3,7 @@ use Rattle.std.specs.Prelude.{Bool, ◌&&◌}
 use Rattle.std.proofs.lemmas.Result.{err_from_is_err_and}
 use Rattle.clif_ssa.specs.Limits.{IsFull}
 use Rattle.clif_meaning.specs.Acceptance.{has_bytes}
-use Rattle.cranelift_frontend.specs.Context.{ContextState}
+use Rattle.clif_builder.specs.Context.{ContextState}
 use Rattle.clif_resolution.specs.declared.answers.Answer.TheVariants as answer
 use Rattle.clif_replay.proofs.Making.{answered-sound, full-either, made-answer, made-between, made-misuse, made-refused}
 use Rattle.clif_replay.proofs.ReadyLaws.{ready-more}

@@ -2,8 +2,8 @@ use Rattle.std.proofs.Common.{ap, sym, subst, ◌∙◌, ◌∷◌, []}
 use Rattle.std.specs.Prelude.{Ok}
 use Rattle.std.proofs.lemmas.Result.{err_from_is_err_and}
 use Rattle.clif_calls.specs.declared.entry.EntryCall.{EntryCall}
-use Rattle.cranelift_frontend.specs.Context.{ContextState}
-use Rattle.cranelift_frontend.specs.Entries.{MakesEntry}
+use Rattle.clif_builder.specs.Context.{ContextState}
+use Rattle.clif_builder.specs.Entries.{MakesEntry}
 use Rattle.clif_replay.specs.Entries.{entry_in}
 use Rattle.clif_resolution.specs.declared.answers.Answer.TheVariants as answer
 use Rattle.clif_replay.proofs.Entries.{entry-answered, entry-same}

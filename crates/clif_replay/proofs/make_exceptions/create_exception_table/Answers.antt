@@ -4,7 +4,7 @@ use Rattle.std.proofs.lemmas.Bool.{and_right}
 use Rattle.std.proofs.lemmas.Result.{err_from_is_err_and}
 use Rattle.clif_instructions.specs.declared.exception_table.ExceptionTableData.{ExceptionTableData}
 use Rattle.clif_ir.specs.Body.{Body}
-use Rattle.cranelift_frontend.specs.Context.{ContextState}
+use Rattle.clif_builder.specs.Context.{ContextState}
 use Rattle.clif_resolution.specs.Answers.{AnswersExist, all_items, edge_at, item_in}
 use Rattle.clif_resolution.specs.declared.answers.Answer.TheVariants as answer
 use Rattle.clif_replay.proofs.Making.{answered-sound, made-answer, made-misused, made-missed, made-refused}

@@ -8,10 +8,10 @@ use Rattle.clif_instructions.specs.declared.instructions.InstructionData.{Instru
 use Rattle.clif_ir.specs.Consistent.{EntryExists, ValueExists}
 use Rattle.clif_ssa.specs.Limits.{IsFull}
 use Rattle.clif_tables.specs.Callees.{count_of_results}
-use Rattle.cranelift_frontend.specs.Builder.{CanLead}
-use Rattle.cranelift_frontend.specs.Built.{Builds}
-use Rattle.cranelift_frontend.specs.Context.{ContextState}
-use Rattle.cranelift_frontend.specs.Entries.{MayServeTry, TakesExceptionTable}
+use Rattle.clif_builder.specs.Builder.{CanLead}
+use Rattle.clif_builder.specs.Built.{Builds}
+use Rattle.clif_builder.specs.Context.{ContextState}
+use Rattle.clif_builder.specs.Entries.{MayServeTry, TakesExceptionTable}
 use Rattle.clif_resolution.specs.declared.answers.Answer.TheVariants as answer
 use Rattle.clif_replay.proofs.Conditions.{has-current}
 use Rattle.clif_replay.proofs.Making.{answered-sound, full-either, made-answer, made-misused, made-refused}

@@ -1,6 +1,6 @@
 use Rattle.std.proofs.Common.{sym, subst}
-use Rattle.cranelift_frontend.specs.declared.builder.FunctionBuilder.{FunctionBuilder}
-use Rattle.cranelift_frontend.specs.Entries.{TakesExceptionTable}
+use Rattle.clif_builder.specs.declared.builder.FunctionBuilder.{FunctionBuilder}
+use Rattle.clif_builder.specs.Entries.{TakesExceptionTable}
 use Rattle.clif_replay.proofs.make_exceptions.take.Goals as goal
 
 pub returns : goal.returns

@@ -3,7 +3,7 @@ use Rattle.std.proofs.lemmas.Int.{to_z-of_z}
 use Rattle.std.specs.Prelude.{IsTrue}
 use mir.Val.{SFits}
 use Rattle.clif_expansion.specs.ScriptCall.{has_64_bits}
-use Rattle.cranelift_frontend.specs.declared.builder.FunctionBuilder.{FunctionBuilder}
+use Rattle.clif_builder.specs.declared.builder.FunctionBuilder.{FunctionBuilder}
 use Rattle.clif_calls.specs.declared.immediate.ImmediateCall.{ImmediateCall}
 use Rattle.clif_calls.specs.declared.immediate.ImmediateCall.TheVariants as immediate
 use Rattle.clif_replay.specs.Emits.{BuildsEmission, constant_in}

@@ -5,7 +5,7 @@ use Rattle.std.proofs.lemmas.Result.{err_from_is_err_and}
 use Rattle.clif_instructions.specs.Instruction.{contexts, destinations}
 use Rattle.clif_instructions.specs.declared.instructions.InstructionData.{InstructionData}
 use Rattle.clif_ir.specs.Consistent.{ValueExists}
-use Rattle.cranelift_frontend.specs.Builder.{CanLead}
+use Rattle.clif_builder.specs.Builder.{CanLead}
 use Rattle.clif_resolution.specs.declared.answers.Answer.TheVariants as answer
 use Rattle.clif_replay.proofs.Conditions.{has-current}
 use Rattle.clif_replay.proofs.Making.{answered-sound, made-answer, made-misused, made-refused}

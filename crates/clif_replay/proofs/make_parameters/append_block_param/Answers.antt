@@ -2,7 +2,7 @@ use Rattle.std.proofs.Common.{[], ◌∷◌, sym, ◌∙◌, ap, refl, subst}
 use Rattle.std.proofs.lemmas.Result.{err_from_is_err_and}
 use Rattle.clif_resolution.specs.declared.answers.Answer.TheVariants as answer
 use Rattle.clif_replay.proofs.Making.{answered-sound, made-answer, made-misuse, made-refused}
-use Rattle.cranelift_frontend.specs.Context.{ContextState, status_of}
+use Rattle.clif_builder.specs.Context.{ContextState, status_of}
 use Rattle.clif_meaning.specs.Request.{AppendBlockParams}
 use Rattle.clif_resolution.specs.declared.answers.Answer.{Answer}
 use Rattle.clif_replay.specs.Ready.{IsReadyAfter}

@@ -8,8 +8,8 @@ use Rattle.clif_tables.specs.Callees.{types_of}
 use Rattle.clif_meaning.specs.Request.{AppendFunctionParams}
 use Rattle.std.proofs.lemmas.Bool.{and_parts}
 use Rattle.clif_ssa.specs.Ssa.{predecessors_of}
-use Rattle.cranelift_frontend.specs.Builder.{is_nothing}
-use Rattle.cranelift_frontend.specs.Context.{ContextState, status_of}
+use Rattle.clif_builder.specs.Builder.{is_nothing}
+use Rattle.clif_builder.specs.Context.{ContextState, status_of}
 use Rattle.clif_replay.specs.Ready.{IsReadyAfter, can_append}
 use Rattle.clif_replay.proofs.ReadyLaws.{block-found, block-there}
 use Rattle.clif_replay.proofs.Parameters.{enough-params, params-ready}

@@ -6,7 +6,7 @@ use Rattle.clif_types.specs.Signature.{SignatureShape}
 use Rattle.clif_ir.specs.Body.{Body}
 use Rattle.clif_tables.specs.Callees.{types_of}
 use Rattle.clif_meaning.specs.Request.{AppendBlockParams}
-use Rattle.cranelift_frontend.specs.Context.{ContextState, status_of}
+use Rattle.clif_builder.specs.Context.{ContextState, status_of}
 use Rattle.clif_replay.specs.Ready.{IsReadyAfter}
 use Rattle.clif_replay.proofs.ReadyLaws.{block-found, block-there}
 use Rattle.clif_replay.proofs.Parameters.{enough-params, params-ready}

@@ -2,8 +2,8 @@ use Rattle.std.proofs.Common.{List, ap, ◌∙◌, subst}
 use Rattle.std.specs.Prelude.{Err, Ok}
 use Rattle.std.proofs.lemmas.Result.{err_from_is_err_and}
 use Rattle.clif_instructions.specs.declared.block_call.BlockArg.{BlockArg}
-use Rattle.cranelift_frontend.specs.Context.{ContextState}
-use Rattle.cranelift_frontend.specs.Entries.{MakesEdge}
+use Rattle.clif_builder.specs.Context.{ContextState}
+use Rattle.clif_builder.specs.Entries.{MakesEdge}
 use Rattle.clif_resolution.specs.declared.answers.Answer.TheVariants as answer
 use Rattle.clif_replay.proofs.JumpTables.{edge-ready, edge-same}
 use Rattle.clif_resolution.proofs.Found.{edge-there}

@@ -3,7 +3,7 @@ use Rattle.std.specs.Prelude.{Ok, ◌&&◌, is_some, slice_index_or, true}
 use Rattle.std.proofs.lemmas.Bool.{and_from, and_right}
 use Rattle.std.proofs.lemmas.Result.{err_from_is_err_and}
 use Rattle.clif_ir.specs.Body.{Body}
-use Rattle.cranelift_frontend.specs.Context.{ContextState}
+use Rattle.clif_builder.specs.Context.{ContextState}
 use Rattle.clif_resolution.specs.declared.answers.Answer.TheVariants as answer
 use Rattle.clif_resolution.specs.Answers.{AnswerExists, value_of}
 use Rattle.clif_resolution.specs.Conditions.{is_open, serves}

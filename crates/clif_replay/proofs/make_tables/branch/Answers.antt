@@ -1,9 +1,9 @@
 use Rattle.std.proofs.Common.{sym, subst}
 use Rattle.clif_types.specs.declared.types.«Type».TheVariants.{Invalid}
 use Rattle.clif_inst_builder.specs.Shapes.{TakesThenBuilds, branch_table}
-use Rattle.cranelift_frontend.specs.declared.builder.FunctionBuilder.{FunctionBuilder}
-use Rattle.cranelift_frontend.specs.Built.{Builds}
-use Rattle.cranelift_frontend.specs.Entries.{TakesJumpTable}
+use Rattle.clif_builder.specs.declared.builder.FunctionBuilder.{FunctionBuilder}
+use Rattle.clif_builder.specs.Built.{Builds}
+use Rattle.clif_builder.specs.Entries.{TakesJumpTable}
 use Rattle.clif_replay.proofs.make_tables.branch.Goals as goal
 
 pub returns : goal.returns

@@ -4,8 +4,8 @@ use Rattle.std.specs.List.{list_all}
 use Rattle.std.proofs.lemmas.Bool.{and_right}
 use Rattle.std.proofs.lemmas.Result.{err_from_is_err_and}
 use Rattle.clif_instructions.specs.declared.block_call.BlockCall.{BlockCall}
-use Rattle.cranelift_frontend.specs.Context.{ContextState}
-use Rattle.cranelift_frontend.specs.Entries.{CreatesJumpTable}
+use Rattle.clif_builder.specs.Context.{ContextState}
+use Rattle.clif_builder.specs.Entries.{CreatesJumpTable}
 use Rattle.clif_calls.specs.declared.call.Name.{Name}
 use Rattle.clif_resolution.specs.Answers.{edge_at}
 use Rattle.clif_resolution.specs.declared.answers.Answer.TheVariants as answer

@@ -1,6 +1,6 @@
 use Rattle.std.proofs.Common.{ap, length, refl, rules, arith}
 use Rattle.std.proofs.lemmas.Grind.{common_steps}
-use Rattle.cranelift_frontend.specs.declared.builder.FunctionBuilder.{FunctionBuilder}
+use Rattle.clif_builder.specs.declared.builder.FunctionBuilder.{FunctionBuilder}
 use Rattle.clif_replay.proofs.Replays.{finished-as, finished-replay, told-memory, told-refused}
 use Rattle.clif_replay.proofs.Verdicts.{never-full, verdict-refused}
 use Rattle.clif_replay.proofs.script.build.Goals as goal

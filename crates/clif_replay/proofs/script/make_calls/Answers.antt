@@ -3,7 +3,7 @@ use Rattle.std.proofs.lemmas.Grind.{common_steps}
 use Rattle.clif_meaning.specs.Request.{AnsweredCall}
 use Rattle.clif_calls.specs.declared.call.Call.{Call}
 use Rattle.clif_expansion.specs.ScriptCall.{ScriptCall}
-use Rattle.cranelift_frontend.specs.declared.builder.FunctionBuilder.{FunctionBuilder}
+use Rattle.clif_builder.specs.declared.builder.FunctionBuilder.{FunctionBuilder}
 use Rattle.clif_types.specs.Signature.{SignatureShape}
 use Rattle.clif_resolution.specs.declared.answers.Answer.{Answer}
 use Rattle.clif_replay.specs.Ready.{IsJudged, TablesAgree}
@@ -15,9 +15,9 @@ use Rattle.clif_replay.specs.declared.script.ReplayError.{ReplayError}
 use Rattle.clif_replay.specs.declared.script.ReplayError.TheVariants.{Full, Misuse, Refused}
 use Rattle.std.proofs.lemmas.Option.{slice_get-get_or, slice_get_within}
 use Rattle.clif_meaning.specs.Name.{answer_of}
-use Rattle.cranelift_frontend.specs.Ledger.{NamesEdges, NamesExceptions}
-use Rattle.cranelift_frontend.specs.LedgerLaws.{LedgerIsReadByNumber}
-use Rattle.cranelift_frontend.specs.StandsFor.{StandsFor}
+use Rattle.clif_builder.specs.Ledger.{NamesEdges, NamesExceptions}
+use Rattle.clif_builder.specs.LedgerLaws.{LedgerIsReadByNumber}
+use Rattle.clif_builder.specs.StandsFor.{StandsFor}
 use Rattle.clif_expansion.specs.JoinedCalls.{Starting}
 use Rattle.clif_expansion.specs.Reading.{NotMade}
 use Rattle.clif_replay.proofs.Replays.{last-place, loans-then, made-all, made-memory, misuse-place, refused-there}

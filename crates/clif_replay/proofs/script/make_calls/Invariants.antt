@@ -1,6 +1,6 @@
 use Rattle.std.proofs.Common.{◌≡◌}
 use Rattle.std.specs.Prelude.{false}
-use Rattle.cranelift_frontend.specs.Builder.{SameLoans}
+use Rattle.clif_builder.specs.Builder.{SameLoans}
 use Rattle.clif_replay.proofs.Stepping.{IsInStep}
 use Rattle.clif_replay.proofs.Verdicts.{HasRest, calls_before}
 use Rattle.clif_replay.proofs.script.make_calls.Given as goal

@@ -1,7 +1,7 @@
 use Rattle.std.proofs.Common.{rules, []}
 use Rattle.std.proofs.lemmas.List.Elements.{All-nil}
 use Rattle.clif_ir.specs.Consistent.{ValueExists}
-use Rattle.cranelift_frontend.specs.Builder.{CanLead}
+use Rattle.clif_builder.specs.Builder.{CanLead}
 use Rattle.instruction_method_tests.proofs.TryTables.{serves}
 use Rattle.instruction_method_tests.proofs.tables.by_address.Goals as goal
 

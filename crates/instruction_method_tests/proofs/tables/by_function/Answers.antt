@@ -2,7 +2,7 @@ use Rattle.std.proofs.Common.{rules, [], ◌∷◌}
 use Rattle.std.proofs.lemmas.List.Elements.{All-cons, All-nil}
 use Rattle.clif_instructions.specs.declared.exception_table.ExceptionTableItem.TheVariants.{Default}
 use Rattle.clif_ir.specs.Consistent.{ValueExists}
-use Rattle.cranelift_frontend.specs.Builder.{CanLead}
+use Rattle.clif_builder.specs.Builder.{CanLead}
 use Rattle.instruction_method_tests.proofs.TryTables.{serves}
 use Rattle.instruction_method_tests.proofs.tables.by_function.Goals as goal
 

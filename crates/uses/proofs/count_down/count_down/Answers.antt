@@ -1,8 +1,8 @@
 -- Each block that was made stays, unsealed and unfilled, until its own call; each variable keeps the type I32.
 use Rattle.std.proofs.Common.{◌≡◌, ◌<◌, ℕ, length, refl, sym, subst, ap, ◌∙◌, arith}
 use Rattle.std.specs.Prelude.{Some}
-use Rattle.cranelift_frontend.specs.Builder.{HasCurrent}
-use Rattle.cranelift_frontend.specs.declared.builder.FunctionBuilder.{FunctionBuilder}
+use Rattle.clif_builder.specs.Builder.{HasCurrent}
+use Rattle.clif_builder.specs.declared.builder.FunctionBuilder.{FunctionBuilder}
 use Rattle.uses.proofs.Lasting.{Keeps, IsOpen, IsUnfilled, and_then, called, carries_kept, created, same_context, assigned, valued, lent_on, made_open, made_unfilled, open_kept, unfilled_kept, open_sealed, unfilled_called, open_ended, unfilled_ended, open_moved, unfilled_moved, leads, made_before, not_above, not_below, one_exists, left_ended, typed_alike, declared}
 use Rattle.uses.proofs.count_down.count_down.Goals as goal
 use Rattle.uses.proofs.count_down.count_down.Goals.{After-ins-2, After-ins-3, After-ins-7}

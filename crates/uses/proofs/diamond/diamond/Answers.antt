@@ -5,8 +5,8 @@ use Rattle.clif_types.specs.declared.types.«Type».{«Type»}
 use Rattle.clif_types.specs.declared.types.«Type».TheVariants.{Lane}
 use Rattle.clif_types.specs.declared.types.LaneType.TheVariants.{I32}
 use Rattle.clif_ir.specs.Body.{value_at}
-use Rattle.cranelift_frontend.specs.declared.builder.FunctionBuilder.{FunctionBuilder}
-use Rattle.cranelift_frontend.specs.Context.{ContextState}
+use Rattle.clif_builder.specs.declared.builder.FunctionBuilder.{FunctionBuilder}
+use Rattle.clif_builder.specs.Context.{ContextState}
 use Rattle.uses.proofs.Lasting.{Keeps, Carries, IsOpen, IsUnfilled, and_then, created, same_context, assigned, valued, lent_on, same, carries_then, carries_kept, carries_called, carries_ended, carries_moved, made_open, made_unfilled, open_kept, unfilled_kept, open_sealed, unfilled_called, open_ended, unfilled_ended, open_moved, unfilled_moved, leads, made_before, not_below, one_exists, typed_alike, declared, last_declared}
 use Rattle.uses.proofs.diamond.diamond.Goals as goal
 use Rattle.uses.proofs.diamond.diamond.Goals.{After-ins, After-ins-2, After-ins-3, After-ins-4, After-ins-5}

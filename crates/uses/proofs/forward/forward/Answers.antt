@@ -1,6 +1,6 @@
 -- The value that the call gives exists.
 use Rattle.std.proofs.Common.{rules, ◌<◌, length, sym, subst}
-use Rattle.cranelift_frontend.specs.declared.builder.FunctionBuilder.{FunctionBuilder}
+use Rattle.clif_builder.specs.declared.builder.FunctionBuilder.{FunctionBuilder}
 use Rattle.uses.proofs.Lasting.{first_exists, one_exists}
 use Rattle.uses.proofs.forward.forward.Goals as goal
 

@@ -1,6 +1,6 @@
 -- The block stays unsealed until its own call, and the variable keeps its type.
 use Rattle.std.proofs.Common.{◌<◌, length, refl, sym, subst}
-use Rattle.cranelift_frontend.specs.declared.builder.FunctionBuilder.{FunctionBuilder}
+use Rattle.clif_builder.specs.declared.builder.FunctionBuilder.{FunctionBuilder}
 use Rattle.uses.proofs.Lasting.{Keeps, IsOpen, and_then, called, carries_kept, assigned, valued, lent_on, made_open, open_kept, open_ended, open_moved, one_exists, typed_alike, declared}
 use Rattle.uses.proofs.straight_line.straight_line.Goals as goal
 use Rattle.uses.proofs.straight_line.straight_line.Goals.{After-ins-2, After-ins-3}

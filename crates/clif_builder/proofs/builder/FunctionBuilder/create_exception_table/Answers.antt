@@ -1,0 +1,22 @@
+use Rattle.std.proofs.Common.{true, refl}
+use Rattle.clif_instructions.specs.ExceptionTables.{exception_shape}
+use Rattle.clif_inst_builder.specs.Served.{exception_tables}
+use Rattle.clif_builder.proofs.Entries.{tables_kept}
+use Rattle.clif_builder.proofs.Tabling.{exception_created_aside, table_created, table_refused}
+use Rattle.clif_builder.proofs.builder.FunctionBuilder.create_exception_table.Goals as goal
+
+pub returns-then-self : goal.returns-then-self
+returns-then-self c = table_refused exception_tables (exception_shape c.args.table) c.args.self.now c.if-self.true
+
+pub returns : goal.returns
+returns c =
+    table_created exception_tables (exception_shape c.args.table) c.args.self.now _ c.create_exception_table-made.result (exception_created_aside c.args.self.now.func.now (exception_shape c.args.table)) refl c.if-self.false (record { func = refl; ctx = refl }) refl refl refl
+    c.is_err-self.ensures.value c.law_consistent.ensures c.create_exception_table-made.ensures
+
+pub invariant_of-self : goal.invariant_of-self
+invariant_of-self c = record {
+  named =
+      let makes = c.create_exception_table-made.ensures in
+      tables_kept _ c.create_exception_table-made.result c.args.self.now.func.now _ c.args.self.now.ctx.now _ _ (exception_created_aside c.args.self.now.func.now (exception_shape c.args.table)).constants c.if-self.false
+      c.is_err-self.ensures.value makes.ok makes.err c.args.self.now.named;
+}

@@ -1,0 +1,35 @@
+use Rattle.std.proofs.Common.{subst, sym}
+use Rattle.clif_ssa.specs.Ssa.{NamesExist}
+use Rattle.clif_builder.proofs.Framed.{filled-declared, same-types}
+use Rattle.clif_builder.proofs.Named.{kept_by}
+use Rattle.clif_builder.proofs.Ordered.{order-declared}
+use Rattle.std.proofs.Common.{refl}
+use Rattle.clif_builder.proofs.Calls.{same_looks, told_by, made}
+use Rattle.clif_builder.proofs.Remembered.{remembers_declared}
+use Rattle.clif_builder.proofs.LedgerVariables.{declared}
+use Rattle.clif_builder.proofs.StandingResults.{declared_stands}
+use Rattle.clif_builder.proofs.builder.FunctionBuilder.declare_var.Goals as goal
+
+pub returns-clause-told : goal.returns-clause-told
+returns-clause-told c =
+    told_by c.args.self.now _ c.declare_var-declared.result _ _
+    (λ calls agrees _. declared calls _ _ _ _ c.args.ty _ agrees c.declare_var-declared.ensures.ok c.declare_var-declared.ensures.number)
+    (λ signature calls stands _ ledger.
+    declared_stands signature calls _ _ _ _ c.args.ty _ stands c.declare_var-declared.ensures.ok ledger)
+
+pub returns-clause-call : goal.returns-clause-call
+returns-clause-call c =
+    made c.args.self.now _ c.declare_var-declared.result (record { func = refl; ctx = refl }) refl refl c.if-self.false c.declare_var-declared.ensures.never_failed c.is_err-self.ensures.value
+    (same_looks _ _ c.declare_var-declared.ensures.ssa) (same-types c.declare_var-declared.result c.args.self.now.func.now)
+    (filled-declared c.declare_var-declared.result c.args.self.now.ctx.now c.declare_var-declared.new.self _ c.declare_var-declared.ensures.ok)
+
+pub returns-clause-remembers : goal.returns-clause-remembers
+returns-clause-remembers c = λ x b. remembers_declared c.declare_var-declared.result x b c.args.self.now.func.now _ _ c.args.ty c.declare_var-declared.ensures.ok
+
+pub invariant_of-self : goal.invariant_of-self
+invariant_of-self c = record {
+  named = kept_by c.declare_var-declared.result _ _ _ _ _ _ c.if-self.false c.is_err-self.ensures.value
+      (λ names. subst (NamesExist c.args.self.now.func.now) (sym c.declare_var-declared.ensures.ssa) names)
+      (order-declared c.declare_var-declared.result c.args.self.now.func.now c.args.self.now.ctx.now c.declare_var-declared.new.self c.args.ty c.declare_var-declared.ensures.ok)
+      c.args.self.now.named;
+}

@@ -1,0 +1,42 @@
+use Rattle.clif_builder.proofs.Framed.{filled-same, same-types}
+use Rattle.clif_builder.proofs.Named.{kept_by}
+use Rattle.clif_builder.proofs.Ordered.{order-assigned}
+use Rattle.clif_builder.proofs.Calls.{told, made, by_memory}
+use Rattle.std.proofs.Common.{refl, ap, sym, ◌∙◌, Some}
+use Rattle.clif_builder.proofs.Remembered.{remembers_assigned}
+use Rattle.clif_builder.proofs.LedgerVariables.{assigned}
+use Rattle.clif_builder.proofs.Standing.{current_open}
+use Rattle.clif_builder.proofs.StandingResults.{assigned_stands}
+use Rattle.clif_builder.proofs.builder.FunctionBuilder.def_var.Goals as goal
+
+pub returns-clause-told : goal.returns-clause-told
+returns-clause-told c = λ name.
+    told c.args.self.now _ c.def_var-recorded.result _ _
+    (λ calls agrees names.
+    let done = c.def_var-recorded.ensures in
+    assigned calls _ _ _ _ c.args.variable name c.in-Some.block c.args.value _ agrees c.requires.value_exists c.requires.same_type done.ok done.blocks done.status done.variables)
+    (λ signature calls stands names ledger.
+    let done = c.def_var-recorded.ensures in
+    assigned_stands signature calls _ _ _ _ c.args.variable c.args.value c.in-Some.block name _ stands c.in-Some.is c.law_consistent.ensures
+    (current_open c.args.self.now c.requires.current c.in-Some.block c.in-Some.is) c.requires.value_exists c.requires.same_type names done.ok done.blocks done.status
+    ledger)
+
+pub returns-clause-call : goal.returns-clause-call
+returns-clause-call c =
+    made c.args.self.now _ c.def_var-recorded.result (record { func = refl; ctx = refl }) refl refl c.if-self.false (by_memory _ c.def_var-recorded.ensures.only_memory) c.is_err-self.ensures.value
+    c.def_var-recorded.ensures.looks_once (same-types c.def_var-recorded.result c.args.self.now.func.now)
+    (filled-same c.def_var-recorded.result c.args.self.now.ctx.now c.def_var-recorded.new.self c.def_var-recorded.ensures.status)
+
+pub returns-clause-remembers : goal.returns-clause-remembers
+returns-clause-remembers c = λ x b apart.
+    remembers_assigned c.def_var-recorded.result c.args.variable c.in-Some.block x b c.args.value _ _ _ _
+    (λ first second. apart first (c.in-Some.is ∙ ap Some (sym second))) refl c.def_var-recorded.ensures.ok
+
+pub invariant_of-self : goal.invariant_of-self
+invariant_of-self c =
+    let done = c.def_var-recorded.ensures in
+    record {
+      named = kept_by c.def_var-recorded.result _ _ _ _ _ _ c.if-self.false c.is_err-self.ensures.value (done.names _ c.requires.value_exists)
+          (order-assigned c.def_var-recorded.result c.args.self.now.func.now c.args.self.now.ctx.now c.def_var-recorded.new.self c.args.variable c.in-Some.block c.args.value _
+          c.requires.same_type (c.requires.value_exists, refl) done.ok done.blocks done.status done.variables) c.args.self.now.named;
+    }

@@ -1,0 +1,29 @@
+use Rattle.std.proofs.Common.{List, ℕ, sym, ap, subst}
+use Rattle.clif_ssa.specs.Ssa.{SsaState}
+use Rattle.clif_builder.specs.Context.{ContextState}
+use Rattle.clif_builder.specs.Construction.{IsUse}
+use Rattle.clif_builder.proofs.Statuses.{begins_from}
+use Rattle.clif_builder.proofs.context.FunctionBuilderContext.use_var.Goals as goal
+
+pub returns-clause-is_use : goal.returns-clause-is_use
+returns-clause-is_use c =
+    let done = c.in_ok-value.ensures in
+    let told : List ℕ = c.in_ok-value.side_effects.instructions_added_to_blocks.items in
+    let is_use : IsUse c.args.func.now c.self.inside.ssa c.use_var.new.func c.use_var.new.self c.args.variable c.args.ty c.args.block c.in_ok-value.value told = record {
+      constructs = done.constructs;
+      tells = done.tells;
+      within = done.within;
+      predecessors = done.predecessors;
+      flags = done.flags;
+      stay = done.stay;
+      remembers = done.remembers;
+      recorded = done.recorded;
+      structured = done.structured;
+      keeps = done.keeps;
+    } in (
+      told,
+      subst (λ (v : ContextState). IsUse c.args.func.now v.ssa c.use_var.new.func c.begin_all.new.self.ssa c.args.variable c.args.ty c.args.block c.in_ok-value.value told) c.self.view_is
+          (subst (λ (t : SsaState). IsUse c.args.func.now c.self.inside.ssa c.use_var.new.func t c.args.variable c.args.ty c.args.block c.in_ok-value.value told) (sym c.begin_all.ensures.ssa) is_use),
+      begins_from c.args.self.now (record { ssa = c.use_var.new.self; status = c.self.inside.status; variables = c.self.inside.variables.items }) c.begin_all.new.self c.as_slice.result.now told
+          (ap (λ (v : ContextState). v.status) c.self.view_is) c.as_slice.ensures.value c.in_ok-begin_all.ensures.status,
+    )

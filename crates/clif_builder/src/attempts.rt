@@ -1,0 +1,139 @@
+//! Uses and assignments of variables that may not be declared: each is tried, and refused where the variable is to blame.
+ghost use Rattle.std.specs.Prelude.{◌≡◌, ◌≢◌, ◌↔◌, ◌<◌, ℕ, List, [], ◌∷◌, OnOk, IfErr, IfOk, IfSome, IsTrue, Some, is_some, length, slice_get};
+ghost use Rattle.clif_ir.specs.Body.{value_at};
+ghost use Rattle.clif_ir.specs.Changes.{inserted_in};
+ghost use Rattle.clif_meaning.specs.Name.{Name};
+ghost use Rattle.clif_meaning.specs.Request.{AnsweredCall, DefVar};
+ghost use Rattle.clif_simulation.specs.Structure.{KeepsNoParameter};
+ghost use Rattle.clif_ssa.specs.Constructs.{OnlyConstructs};
+ghost use Rattle.clif_ssa.specs.Pools.{MayPool, UseIsFull};
+ghost use Rattle.clif_ssa.specs.Ssa.{Records, SealedStays};
+ghost use Rattle.clif_types.specs.Signature.{SignatureShape};
+ghost use Rattle.clif_types.specs.declared.types.«Type».{«Type»};
+ghost use Rattle.clif_builder.specs.Attempts.{IsMistyped, RefusesAssignment, RefusesUse, use_told};
+ghost use Rattle.clif_builder.specs.Builder.{HasCurrent, Uses};
+ghost use Rattle.clif_builder.specs.Calls.{IsCall, IsTold, answered};
+ghost use Rattle.clif_builder.specs.Construction.{IsUse};
+ghost use Rattle.clif_builder.specs.Context.{Begins, SetsStatus, begun, status_of};
+ghost use Rattle.clif_builder.specs.Growth.{Grows, HasRecordIn, RemembersIn};
+ghost use Rattle.clif_builder.specs.Ledger.{AgreesWithLedger, NamesValue};
+ghost use Rattle.clif_builder.specs.StandsFor.{StandsFor};
+
+use crate::builder::FunctionBuilder;
+use crate::error::{DefVariableError, UseVariableError};
+use clif_ssa::Variable;
+use clif_types::{BuildError, Type, Value};
+
+impl<'a> FunctionBuilder<'a> {
+    /// The value that a variable has at this point of the current block, as [`FunctionBuilder::use_var`] returns it,
+    /// if the variable is declared.
+    ///
+    /// Otherwise it is refused with `UsedBeforeDeclared`, and the current block is in the layout, as after
+    /// [`FunctionBuilder::ensure_inserted_block`]; nothing else has changed, and the builder goes on. There is a
+    /// current block, which isn't filled. After `Memory` or `Full` the builder has failed.
+    pub fn try_use_var(
+        &mut self,
+        variable: Variable,
+    ) -> Result<Result<Value, UseVariableError>, BuildError>
+        requires current { HasCurrent self.old }
+        ensures call { IsCall self.old self.new result }
+        ensures declared { IfOk result (λ answer. OnOk answer (variable < length self.old.ctx.now.variables)) }
+        ensures refused { IfOk result (λ answer. IfErr answer (RefusesUse self.old self.new variable)) }
+        ensures uses { IfSome self.old.position (λ block. IfOk result (λ answer. IfOk answer (Uses self.old self.new variable block))) }
+        ensures typed { IfOk result (λ answer. IfOk answer (λ v.
+            slice_get self.old.ctx.now.variables variable ≡ Some (value_at self.new.func.now v).ty)) }
+        ensures seals { OnOk result (SealedStays self.old.ctx.now.ssa self.new.ctx.now.ssa) }
+        ensures is_use { (ty : «Type») → slice_get self.old.ctx.now.variables variable ≡ Some ty → IfSome self.old.position (λ block. IfOk result (λ answer. IfOk answer (λ value. (told : List ℕ) × IsUse (inserted_in self.old.func.now block) self.old.ctx.now.ssa self.new.func.now self.new.ctx.now.ssa variable ty block value told × Begins self.old.ctx.now self.new.ctx.now (block ∷ told)))) }
+        ensures status { (calls : List AnsweredCall) → AgreesWithLedger calls self.old → IfSome self.old.position (λ block. OnOk result (SetsStatus self.old.ctx.now self.new.ctx.now block (begun (status_of self.old.ctx.now block)))) }
+        ensures variables { self.new.ctx.now.variables ≡ self.old.ctx.now.variables }
+        ensures pools { (ty : «Type») → slice_get self.old.ctx.now.variables variable ≡ Some ty → MayPool ty self.old.func.now.tables self.new.func.now.tables }
+        ensures full { (ty : «Type») → slice_get self.old.ctx.now.variables variable ≡ Some ty → result ≡ Err BuildError.Full → UseIsFull ty self.new.func.now }
+        ensures full_declared { result ≡ Err BuildError.Full → variable < length self.old.ctx.now.variables }
+        ensures constructs { IfSome self.old.position (λ block. result ≡ Err BuildError.Full →
+            OnlyConstructs (inserted_in self.old.func.now block) self.new.func.now) }
+        ensures told { IsTold self.old self.new result
+            (λ _. Unit {0})
+            (use_told variable) }
+        ensures parameters { (signature : SignatureShape) (calls : List AnsweredCall) → StandsFor signature calls self.new → KeepsNoParameter calls self.new.func.now self.new.ctx.now.ssa }
+        ensures exists { IfOk result (λ answer. IfOk answer (λ v. v < length self.new.func.now.values)) }
+        ensures grows { OnOk result (Grows self.old.func.now self.new.func.now) }
+        ensures remembers { (x b : ℕ) → OnOk result (RemembersIn x b self.old self.new) }
+        ensures has_record { IfSome self.old.position (λ block. IfOk result (λ answer. IfOk answer (HasRecordIn self.new variable block))) }
+        ensures current { OnOk result (HasCurrent self.new) }
+    {
+        if !self.is_declared(variable) {
+            self.ensure_inserted_block()?;
+            return Ok(Err(UseVariableError::UsedBeforeDeclared(variable)));
+        }
+        let value = self.use_var(variable)?;
+        Ok(Ok(value))
+    }
+
+    /// Assigns a value to a variable, as [`FunctionBuilder::def_var`] does, if the variable is declared and its type is
+    /// the value's.
+    ///
+    /// Otherwise it is refused, and nothing has changed: with `DefinedBeforeDeclared`, or else with `TypeMismatch`. There
+    /// is a current block, which isn't filled. After `Memory` the variable is what it was, and the builder has failed.
+    pub fn try_def_var(
+        &mut self,
+        variable: Variable,
+        value: Value,
+    ) -> Result<Result<(), DefVariableError>, BuildError>
+        requires current { HasCurrent self.old }
+        requires value_exists { value < length self.old.func.now.values }
+        ensures call { IsCall self.old self.new result }
+        ensures same_type { IfOk result (λ answer. OnOk answer (slice_get self.old.ctx.now.variables variable ≡ Some (value_at self.old.func.now value).ty)) }
+        ensures refused { IfOk result (λ answer. IfErr answer (RefusesAssignment self.old self.new variable value)) }
+        ensures function { self.new.func.now ≡ self.old.func.now }
+        ensures records { IfSome self.old.position (λ block. IfOk result (λ answer. OnOk answer (Records self.old.ctx.now.ssa self.new.ctx.now.ssa variable block value))) }
+        ensures sealed { self.new.ctx.now.ssa.blocks ≡ self.old.ctx.now.ssa.blocks }
+        ensures status { self.new.ctx.now.status ≡ self.old.ctx.now.status }
+        ensures variables { self.new.ctx.now.variables ≡ self.old.ctx.now.variables }
+        ensures never_full { result ≢ Err BuildError.Full }
+        ensures told { (name : Name) → IfOk result (λ answer. IsTold self.old self.new answer
+            (λ calls. NamesValue calls name value)
+            (λ _. answered (DefVar variable name) [])) }
+        ensures grows { OnOk result (Grows self.old.func.now self.new.func.now) }
+        ensures remembers { (x b : ℕ) → (x ≡ variable → self.old.position ≡ Some b → ⊥) → OnOk result (RemembersIn x b self.old self.new) }
+        ensures current { OnOk result (HasCurrent self.new) }
+    {
+        if self.failed {
+            return Err(BuildError::Failed);
+        }
+        if let Err(error) = self.check_assignment(variable, value) {
+            return Ok(Err(error));
+        }
+        self.def_var(variable, value)?;
+        Ok(Ok(()))
+    }
+
+    // Whether a variable is declared.
+    fn is_declared(&self, variable: Variable) -> bool
+        ensures { result ≡ is_some (slice_get self.now.ctx.now.variables variable) }
+    {
+        self.ctx.var_type(variable).is_some()
+    }
+
+    // Whether a value may be assigned to a variable.
+    fn check_assignment(&self, variable: Variable, value: Value) -> Result<(), DefVariableError>
+        requires { value < length self.now.func.now.values }
+        ensures same_type { OnOk result (slice_get self.now.ctx.now.variables variable ≡ Some (value_at self.now.func.now value).ty) }
+        ensures mistyped { IfErr result (IsMistyped self.now variable value) }
+    {
+        let Some(ty) = self.ctx.var_type(variable) else {
+            return Err(DefVariableError::DefinedBeforeDeclared(variable));
+        };
+        if is_same_type(ty, self.func.value_type(value)) {
+            Ok(())
+        } else {
+            Err(DefVariableError::TypeMismatch(variable, value))
+        }
+    }
+}
+
+// Whether two types are equal.
+fn is_same_type(a: Type, b: Type) -> bool
+    ensures { IsTrue result ↔ (a ≡ b) }
+{
+    a == b
+}

@@ -1,0 +1,2 @@
+-- What the laws of this crate cite.
+pub mod SwitchCalls

@@ -1,7 +1,0 @@
-use Rattle.std.proofs.Common.{ap, sym, ◌∙◌}
-use Rattle.std.specs.Prelude.{Some}
-use Rattle.cranelift_frontend.proofs.builder.FunctionBuilder.check_assignment.Goals as goal
-
-pub returns-then-is_same_type-clause-same_type : goal.returns-then-is_same_type-clause-same_type
-returns-then-is_same_type-clause-same_type c =
-    (sym c.var_type.ensures ∙ c.in-Some.is) ∙ ap Some (c.is_same_type.ensures.0 c.if-is_same_type.true ∙ c.value_type.ensures)

@@ -1,6 +1,0 @@
-use Rattle.cranelift_frontend.proofs.builder.FunctionBuilder.try_def_var.Goals as goal
-
-pub returns-clause-told : goal.returns-clause-told
-returns-clause-told c = λ name.
-    let told = c.in_ok-def_var.ensures.told name in
-    record { ledger = told.ledger; stands = told.stands }

@@ -1,6 +1,0 @@
-use Rattle.cranelift_frontend.proofs.Redirected.{leads_by_number}
-use Rattle.cranelift_frontend.proofs.laws.leads_are_read_by_number.Goals as goal
-
-pub returns : goal.returns
-returns c = λ declared calls b branch block inst number stands names_branch names_block.
-    leads_by_number calls b.func.now b.ctx.now b.position stands branch block inst number names_branch names_block

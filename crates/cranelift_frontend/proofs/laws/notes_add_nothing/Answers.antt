@@ -1,8 +1,0 @@
-use Rattle.cranelift_frontend.proofs.TableCalls.{note_agrees, note_stands}
-use Rattle.cranelift_frontend.proofs.laws.notes_add_nothing.Goals as goal
-
-pub returns : goal.returns
-returns c = record {
-  ledger = λ calls b values. note_agrees calls b.func.now b.ctx.now b.position values;
-  stands = λ signature calls b values. note_stands signature calls b.func.now b.ctx.now b.position values;
-}
