@@ -1,8 +1,6 @@
 //! A proved port of cranelift-frontend 0.137.1: the builder of functions, and all that its calls take and answer.
 #![tactic(auto)]
 
-pub mod switch;
-
 pub use clif_builder::{
     DefVariableError, FinalizeError, FuncInstBuilder, FunctionBuilder, FunctionBuilderContext,
     UseVariableError,
@@ -21,8 +19,8 @@ pub use clif_ir::{
 pub use clif_opcodes::{
     Control, Demand, Opcode, OperandKind, OtherOperands, ResultKind, StackOpcode, Typing,
 };
-pub use clif_ranges::SwitchError;
 pub use clif_ssa::Variable;
+pub use clif_switch::{Switch, SwitchError};
 pub use clif_tables::{ConstantData, Tables};
 pub use clif_types::entity_set::Members;
 pub use clif_types::{
@@ -33,7 +31,6 @@ pub use clif_types::{
     StackSlot, StackSlotData, TargetFrontendConfig, TestcaseName, TrapCode, Type, UserExternalName,
     UserFuncName, UserStackMapEntry, Value, ValueLabel, types,
 };
-pub use switch::Switch;
 
 /// The version of the crate whose behaviour this one has.
 pub const VERSION: &str = "0.137.1";
