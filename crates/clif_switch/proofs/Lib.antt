@@ -6,4 +6,6 @@ mod Values
 mod Numbers
 mod Compared
 mod Differences
+mod Blocks
+mod Indices
 mod Counting

@@ -1,8 +1,8 @@
 -- What the steps of a switch make of a builder. Source: own.
-use Rattle.std.specs.Prelude.{◌≡◌, ◌≢◌, ◌↔◌, ◌<◌, ◌≤◌, ◌+◌, ◌==◌, if◌then◌else◌, ℕ, suc, false, IsTrue, List, [], ◌∷◌, ◌++◌, length, map, replicate, Contains, All, AllPairs, Option, Some, None, Result, Ok, Err, OnOk, IfOk, IfSome, is_err, slice_get}
+use Rattle.std.specs.Prelude.{◌≡◌, ◌≢◌, ◌↔◌, ◌<◌, ◌≤◌, ◌+◌, ◌-◌, ◌^◌, ◌==◌, if◌then◌else◌, ℕ, suc, false, IsTrue, List, [], ◌∷◌, ◌++◌, length, map, replicate, Contains, All, AllPairs, Option, Some, None, Result, Ok, Err, OnOk, IfOk, IfSome, is_err, slice_get}
 use Rattle.std.specs.List.{AllZip}
 use Rattle.clif_types.specs.Signature.{SignatureShape}
-use Rattle.clif_types.specs.declared.condcodes.IntCC.TheVariants.{Equal}
+use Rattle.clif_types.specs.declared.condcodes.IntCC.TheVariants.{Equal, UnsignedGreaterThan}
 use Rattle.clif_types.specs.declared.error.BuildError.{BuildError}
 use Rattle.clif_types.specs.declared.error.BuildError.TheVariants.{Failed}
 use Rattle.clif_types.specs.declared.types.«Type».{«Type»}
@@ -11,24 +11,25 @@ use Rattle.clif_instructions.specs.declared.block_call.BlockCall.{BlockCall}
 use Rattle.clif_ir.specs.Body.{value_at}
 use Rattle.clif_ir.specs.Changes.{with_tables}
 use Rattle.clif_tables.specs.Lists.{with_jump_table}
+use Rattle.clif_ranges.specs.declared.search.Next.{Next}
 use Rattle.clif_ranges.specs.declared.search.Test.{Test}
 use Rattle.clif_ranges.specs.declared.search.Test.TheVariants as test
-use Rattle.clif_meaning.specs.Instruction.{Instruction}
+use Rattle.clif_meaning.specs.Instruction.{Compare, Instruction}
 use Rattle.clif_meaning.specs.Ledger.{type_of}
-use Rattle.clif_meaning.specs.Name.{Name}
-use Rattle.clif_meaning.specs.Request.{AnsweredCall, Script, script_of}
+use Rattle.clif_meaning.specs.Name.{Name, answer_of}
+use Rattle.clif_meaning.specs.Request.{AnsweredCall, CreateBlock, SealBlock, SwitchToBlock, Script, script_of}
 use Rattle.clif_records.specs.Tables.{is_yes}
 use Rattle.clif_ssa.specs.Ssa.{sealed_of}
 use Rattle.clif_ssa.specs.Structure.{LooksOnce}
 use Rattle.clif_builder.specs.declared.builder.FunctionBuilder.{FunctionBuilder}
 use Rattle.clif_builder.specs.declared.context.BlockStatus.TheVariants.{Filled}
 use Rattle.clif_builder.specs.Builder.{HasCurrent, IsLeft, SameLoans, is_free}
-use Rattle.clif_builder.specs.Context.{status_of}
+use Rattle.clif_builder.specs.Context.{FillsNone, status_of}
 use Rattle.clif_builder.specs.Growth.{EntriesStay, GrowsBesideTables, TypesStay}
 use Rattle.clif_builder.specs.Ledger.{NamesBlock, NamesValue, ledger_of}
 use Rattle.clif_builder.specs.StandsFor.{StandsFor}
 use Rattle.clif_expansion.specs.Emission.{building}
-use Rattle.clif_switch_calls.specs.SwitchCalls.{Switched, blocks_of, branching, compared, difference, difference_name, number_instructions, number_name, test_calls}
+use Rattle.clif_switch_calls.specs.SwitchCalls.{Switched, block_for, blocks_of, branching, compared, difference, difference_name, i8, name_for, number_instructions, number_name, other_of, test_calls, with_number, with_number_name}
 use Rattle.clif_switch.specs.declared.emission.SwitchedValue.{SwitchedValue}
 
 -- STEPS -------------------------------------------------------------------------------------------------------------------
@@ -79,8 +80,24 @@ pub record GivesValue (ty : «Type») (old new : FunctionBuilder) (answer : Resu
   pub exists : IfOk answer (λ value. value < length new.func.now.values)
   pub typed : IfOk answer (λ value. (value_at new.func.now value).ty ≡ ty)
 
+-- something was made, and the current block is as before
+pub record StaysHere {A : Type 0} (old new : FunctionBuilder) (answer : Result A BuildError) : Type 0 where
+  pub steps : Steps old new answer
+  pub leaves : OnOk answer (LeavesBlocks old new)
+  pub tables : OnOk answer (ServesMore 0 old new)
+  pub position : OnOk answer (new.position ≡ old.position)
+  pub current : OnOk answer (HasCurrent new)
+
+-- the block was sealed and became the current one, and nothing else changed
+pub record IsEntered (block : ℕ) (old new : FunctionBuilder) : Type 0 where
+  pub seals : (other : ℕ) → other ≢ block → is_yes (sealed_of new.ctx.now.ssa other) ≡ is_yes (sealed_of old.ctx.now.ssa other)
+  pub fills : FillsNone old.ctx.now new.ctx.now
+  pub position : new.position ≡ Some block
+  pub tables : new.func.now.tables.jump_tables ≡ old.func.now.tables.jump_tables
+  pub current : HasCurrent new
+
 -- code was built up to a terminator, in the current block or into new ones, and served so many jump tables
-pub record EndsBlock (count : ℕ) (old new : FunctionBuilder) (answer : Result (Unit {0}) BuildError) : Type 0 where
+pub record EndsBlock {A : Type 0} (count : ℕ) (old new : FunctionBuilder) (answer : Result A BuildError) : Type 0 where
   pub steps : Steps old new answer
   pub leaves : OnOk answer (LeavesBlocks old new)
   pub tables : OnOk answer (ServesMore count old new)
@@ -124,6 +141,31 @@ cases_in (test.Table range) = range.now.blocks.items
 abbrev pub HasItsBlock : Test → Type 0
 HasItsBlock (test.OneKey range other) = 0 < length range.now.blocks.items
 HasItsBlock _ = Unit {0}
+
+-- THE CALLS OF THE STEPS ---------------------------------------------------------------------------------------------------
+
+abbrev pub number_calls : (number : ℕ) → Switched → (place : ℕ) → Script
+number_calls number s place = map building (number_instructions s.ty number place)
+
+abbrev pub number_named : (number : ℕ) → Switched → (place : ℕ) → Name
+number_named number s place = number_name s.ty number place
+
+abbrev pub difference_calls : (first : ℕ) → Switched → (place : ℕ) → Script
+difference_calls first s place = map building (difference s.ty first place s.value)
+
+abbrev pub difference_named : (first : ℕ) → Switched → (place : ℕ) → Name
+difference_named first s place = difference_name s.ty first place s.value
+
+-- a branch to the block of a key, or else to another one
+abbrev pub key_calls : Switched → (key place : ℕ) (taken other : Name) → Script
+key_calls s key place taken other =
+    if key == 0 then branching s.ty s.value other taken ∷ [] else compared s Equal key place taken other
+
+-- control goes to `otherwise` where a number is greater than each index, and else to a new block
+abbrev pub check_calls : Switched → (place : ℕ) (x : Name) → Script
+check_calls s place x =
+    CreateBlock ∷ map building (with_number (Compare UnsignedGreaterThan) s.ty (2 ^ 32 - 1) (suc place) x)
+    ++ branching i8 (with_number_name s.ty (2 ^ 32 - 1) (suc place)) s.otherwise (answer_of place 0) ∷ []
 
 -- WHAT A BUILDER STANDS FOR ------------------------------------------------------------------------------------------------
 
@@ -174,6 +216,41 @@ MakesValue switched made name old new answer =
     (at : StandsAt signature calls s switched.val switched.otherwise cases plain old)
     → IfOk answer (NamesAnswer at (made s (next_place calls plain)) new (name s (next_place calls plain)))
 
+-- the same, and this names the block that is answered
+pub record NamesTarget {signature : SignatureShape} {calls : List AnsweredCall} {s : Switched} {x otherwise : ℕ} {cases : List ℕ} {plain : Script} {old : FunctionBuilder}
+    (at : StandsAt signature calls s x otherwise cases plain old) (more : Script) (new : FunctionBuilder) (name : Name) (block : ℕ) : Type 0 where
+  pub on : StandsOn at more new
+  pub named : NamesBlock (calls ++ on.later.added) name block
+
+-- the same of a new block
+abbrev pub MakesBlock : (old new : FunctionBuilder) → Result ℕ BuildError → Type 0
+MakesBlock old new answer =
+    (signature : SignatureShape) (calls : List AnsweredCall) (s : Switched) (x otherwise : ℕ) (cases : List ℕ) (plain : Script)
+    (at : StandsAt signature calls s x otherwise cases plain old)
+    → IfOk answer (NamesTarget at (CreateBlock ∷ []) new (answer_of (next_place calls plain) 0))
+
+-- the same of the block to which control goes next, and names lead to the blocks of nodes
+abbrev pub MakesNext : SwitchedValue → Next → (old new : FunctionBuilder) → (before after : List ℕ) → Result ℕ BuildError → Type 0
+MakesNext switched next old new before after answer =
+    (signature : SignatureShape) (calls : List AnsweredCall) (s : Switched) (cases : List ℕ) (plain : Script)
+    (at : StandsAt signature calls s switched.val switched.otherwise cases plain old) (names : List Name) → AllZip (NamesBlock (calls ++ at.added)) names before
+    → IfOk answer (λ block. (target : NamesTarget at (block_for next) new (name_for s next (next_place calls plain)) block)
+    × AllZip (NamesBlock (calls ++ target.on.later.added)) (names ++ other_of next (next_place calls plain)) after)
+
+-- the same of the calls that make a block the current one
+abbrev pub MakesEntry : (block : ℕ) → (old new : FunctionBuilder) → Result (Unit {0}) BuildError → Type 0
+MakesEntry block old new answer =
+    (signature : SignatureShape) (calls : List AnsweredCall) (s : Switched) (x otherwise : ℕ) (cases : List ℕ) (plain : Script)
+    (at : StandsAt signature calls s x otherwise cases plain old) (name : Name) → NamesBlock (calls ++ at.added) name block
+    → OnOk answer (StandsOn at (SealBlock name ∷ SwitchToBlock name ∷ []) new)
+
+-- the same of the test of an index, behind which another block is answered
+abbrev pub MakesCheck : SwitchedValue → (operand : ℕ) → (old new : FunctionBuilder) → Result ℕ BuildError → Type 0
+MakesCheck switched operand old new answer =
+    (signature : SignatureShape) (calls : List AnsweredCall) (s : Switched) (cases : List ℕ) (plain : Script)
+    (at : StandsAt signature calls s switched.val switched.otherwise cases plain old) (x : Name) → NamesValue (calls ++ at.added) x operand
+    → IfOk answer (NamesTarget at (check_calls s (next_place calls plain) x) new (answer_of (next_place calls plain) 0))
+
 -- the same of code on a value
 abbrev pub MakesOf : SwitchedValue → (operand : ℕ) → (Switched → (place : ℕ) (x : Name) → Script) → (Switched → (place : ℕ) (x : Name) → Name) → (old new : FunctionBuilder) → Result ℕ BuildError → Type 0
 MakesOf switched operand made name old new answer =
@@ -195,22 +272,3 @@ MakesTest switched tested old new before after answer =
     (at : StandsAt signature calls s switched.val switched.otherwise cases plain old) (names : List Name) → All (Contains cases) (cases_in tested) → AllZip (NamesBlock (calls ++ at.added)) names before
     → OnOk answer ((on : StandsOn at (test_calls s (tables_at at) tested (next_place calls plain)) new)
     × AllZip (NamesBlock (calls ++ on.later.added)) (names ++ blocks_of tested (next_place calls plain)) after)
-
--- THE CALLS OF THE STEPS ---------------------------------------------------------------------------------------------------
-
-abbrev pub number_calls : (number : ℕ) → Switched → (place : ℕ) → Script
-number_calls number s place = map building (number_instructions s.ty number place)
-
-abbrev pub number_named : (number : ℕ) → Switched → (place : ℕ) → Name
-number_named number s place = number_name s.ty number place
-
-abbrev pub difference_calls : (first : ℕ) → Switched → (place : ℕ) → Script
-difference_calls first s place = map building (difference s.ty first place s.value)
-
-abbrev pub difference_named : (first : ℕ) → Switched → (place : ℕ) → Name
-difference_named first s place = difference_name s.ty first place s.value
-
--- a branch to the block of a key, or else to another one
-abbrev pub key_calls : Switched → (key place : ℕ) (taken other : Name) → Script
-key_calls s key place taken other =
-    if key == 0 then branching s.ty s.value other taken ∷ [] else compared s Equal key place taken other

@@ -1,11 +1,11 @@
 //! How a switch is emitted: each node of its search tree in a block of its own, the first one in the current block.
 #![tactic(auto)]
 
-ghost use Rattle.std.specs.Prelude.{◌≡◌, ◌<◌, [], ◌∷◌, false, OnOk, length, map, All};
+ghost use Rattle.std.specs.Prelude.{◌≡◌, ◌<◌, ◌≤◌, suc, [], ◌∷◌, ◌++◌, false, IfOk, IsTrue, OnOk, length, map, All};
 ghost use Rattle.clif_ir.specs.Body.{value_at};
-ghost use Rattle.clif_ranges.specs.Search.{named_by};
-ghost use Rattle.clif_builder.specs.Builder.{HasCurrent};
-ghost use Rattle.clif_switch.specs.Emission.{AddsBlocks, EndsBlock, GivesValue, HasItsBlock, IsSwitchedIn, Makes, MakesBranch, MakesOf, MakesTable, MakesTest, MakesValue, MayLead, bare_to, cases_in, difference_calls, difference_named, key_calls, number_calls, number_named};
+ghost use Rattle.clif_ranges.specs.Search.{named_by, number_of};
+ghost use Rattle.clif_builder.specs.Builder.{HasCurrent, IsLeft, is_free};
+ghost use Rattle.clif_switch.specs.Emission.{AddsBlocks, EndsBlock, GivesValue, HasItsBlock, IsEntered, IsOpenFor, IsSwitchedIn, Makes, MakesBlock, MakesBranch, MakesCheck, MakesEntry, MakesNext, MakesOf, MakesTable, MakesTest, MakesValue, MayLead, StaysHere, Steps, bare_to, cases_in, difference_calls, difference_named, key_calls, number_calls, number_named};
 ghost use Rattle.clif_switch_calls.specs.SwitchCalls.{compared, i32, index_calls, index_name, is_widest, signed_64, table_calls, tables_of};
 
 use clif_builder::laws::{ledger_is_read_by_number, requests_ask_for_their_shapes};
@@ -32,19 +32,26 @@ pub(crate) fn emit_nodes(
 ) -> Result<(), BuildError> {
     let mut blocks = Vec::new(bx.func().allocator());
     for node in nodes {
-        enter(bx, blocks.as_slice(), node.number)?;
+        if node.number > 0 {
+            enter(bx, blocks[node.number - 1])?;
+        }
         emit_test(bx, switched, &mut blocks, node.test)?;
     }
     Ok(())
 }
 
-// Makes the block of a node the current one, once the one branch to it was made.
-fn enter(bx: &mut FunctionBuilder<'_>, blocks: &[Block], number: usize) -> Result<(), BuildError> {
-    if number > 0 {
-        let block = blocks[number - 1];
-        bx.seal_block(block)?;
-        bx.switch_to_block(block);
-    }
+// Makes a block the current one, once the one branch to it was made.
+fn enter(bx: &mut FunctionBuilder<'_>, block: Block) -> Result<(), BuildError>
+    requires open { IsOpenFor bx.old block }
+    requires left { IsLeft bx.old }
+    requires free { IsTrue (is_free bx.old) }
+    ensures steps { Steps bx.old bx.new result }
+    ensures entered { OnOk result (IsEntered block bx.old bx.new) }
+    ensures made { MakesEntry block bx.old bx.new result }
+{
+    ledger_is_read_by_number();
+    bx.seal_block(block)?;
+    bx.switch_to_block(block);
     Ok(())
 }
 
@@ -106,7 +113,15 @@ fn branch_on_key(
 }
 
 // A new block, for the node with the next number.
-fn new_block(bx: &mut FunctionBuilder<'_>, blocks: &mut Vec<Block>) -> Result<Block, BuildError> {
+fn new_block(bx: &mut FunctionBuilder<'_>, blocks: &mut Vec<Block>) -> Result<Block, BuildError>
+    requires current { HasCurrent bx.old }
+    ensures here { StaysHere bx.old bx.new result }
+    ensures open { IfOk result (IsOpenFor bx.new) }
+    ensures number { IfOk result (λ block. (block ≡ length bx.old.func.now.blocks) × (length bx.new.func.now.blocks ≡ suc block)) }
+    ensures added { IfOk result (λ block. blocks.new.items ≡ blocks.old.items ++ block ∷ []) }
+    ensures made { MakesBlock bx.old bx.new result }
+{
+    ledger_is_read_by_number();
     let block = bx.create_block()?;
     if blocks.push(block).is_err() {
         return Err(bx.refuse());
@@ -120,7 +135,16 @@ fn block_for(
     switched: SwitchedValue,
     blocks: &mut Vec<Block>,
     next: Next,
-) -> Result<Block, BuildError> {
+) -> Result<Block, BuildError>
+    requires current { HasCurrent bx.old }
+    requires switched { IsSwitchedIn bx.old switched }
+    requires sound { bx.old.failed ≡ false }
+    ensures here { StaysHere bx.old bx.new result }
+    ensures leads { IfOk result (MayLead bx.new) }
+    ensures blocks { OnOk result (AddsBlocks (length (number_of next)) bx.old bx.new blocks.old.items blocks.new.items) }
+    ensures made { MakesNext switched next bx.old bx.new blocks.old.items blocks.new.items result }
+{
+    ledger_is_read_by_number();
     match next {
         Next::Otherwise => Ok(switched.otherwise),
         Next::Node(_) => new_block(bx, blocks),
@@ -276,18 +300,41 @@ fn emit_index(
     ensures gives { GivesValue i32 bx.old bx.new result }
     ensures made { MakesOf switched place index_calls index_name bx.old bx.new result }
 {
+    ledger_is_read_by_number();
+    requests_ask_for_their_shapes();
     let bits = switched.ty.bits();
     if bits > 32 {
-        let block = bx.create_block()?;
-        let cond = IntCC::UnsignedGreaterThan;
-        let is_greater = bx.icmp_imm_s(cond, place, 0xffff_ffff)?;
-        bx.brif(is_greater, switched.otherwise, &[], block, &[])?;
-        bx.seal_block(block)?;
-        bx.switch_to_block(block);
+        let block = check_index(bx, switched, place)?;
+        enter(bx, block)?;
         bx.ireduce(I32, place)
     } else if bits < 32 {
         bx.uextend(I32, place)
     } else {
         Ok(place)
     }
+}
+
+// The branch to `otherwise` where a number is greater than each index, and else to a new block, which is answered.
+fn check_index(
+    bx: &mut FunctionBuilder<'_>,
+    switched: SwitchedValue,
+    place: Value,
+) -> Result<Block, BuildError>
+    requires current { HasCurrent bx.old }
+    requires switched { IsSwitchedIn bx.old switched }
+    requires exists { place < length bx.old.func.now.values }
+    requires typed { (value_at bx.old.func.now place).ty ≡ switched.ty }
+    ensures ends { EndsBlock 0 bx.old bx.new result }
+    ensures open { IfOk result (IsOpenFor bx.new) }
+    ensures behind { IfOk result (λ block. length bx.old.func.now.blocks ≤ block) }
+    ensures made { MakesCheck switched place bx.old bx.new result }
+{
+    ledger_is_read_by_number();
+    requests_ask_for_their_shapes();
+    constant_operands_stand();
+    let block = bx.create_block()?;
+    let cond = IntCC::UnsignedGreaterThan;
+    let is_greater = bx.icmp_imm_s(cond, place, 0xffff_ffff)?;
+    bx.brif(is_greater, switched.otherwise, &[], block, &[])?;
+    Ok(block)
 }
