@@ -7,5 +7,6 @@ mod Numbers
 mod Compared
 mod Differences
 mod Blocks
+mod Targets
 mod Indices
 mod Counting
