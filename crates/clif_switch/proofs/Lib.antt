@@ -8,5 +8,6 @@ mod Compared
 mod Differences
 mod Blocks
 mod Targets
+mod Edges
 mod Indices
 mod Counting

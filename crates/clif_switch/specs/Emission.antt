@@ -111,6 +111,7 @@ pub record MakesTable (edges : List BlockCall) (old new : FunctionBuilder) (answ
   pub position : OnOk answer (new.position ≡ old.position)
   pub function : OnOk answer (new.func.now ≡ with_tables old.func.now (with_jump_table old.func.now.tables edges))
   pub number : IfOk answer (λ table. table ≡ length old.func.now.tables.jump_tables)
+  pub stands : (signature : SignatureShape) (calls : List AnsweredCall) → StandsFor signature calls old → OnOk answer (StandsFor signature calls new)
 
 -- a block that was made for a node: a branch may lead to it, and it hasn't its terminator
 pub record IsOpenFor (b : FunctionBuilder) (block : ℕ) : Type 0 where

@@ -8,7 +8,9 @@ ghost use Rattle.clif_builder.specs.Builder.{HasCurrent, IsLeft, is_free};
 ghost use Rattle.clif_switch.specs.Emission.{AddsBlocks, EndsBlock, GivesValue, HasItsBlock, IsEntered, IsOpenFor, IsSwitchedIn, Makes, MakesBlock, MakesBranch, MakesCheck, MakesEntry, MakesNext, MakesOf, MakesTable, MakesTest, MakesValue, MayLead, StaysHere, Steps, bare_to, cases_in, difference_calls, difference_named, key_calls, number_calls, number_named};
 ghost use Rattle.clif_switch_calls.specs.SwitchCalls.{compared, i32, index_calls, index_name, is_widest, signed_64, table_calls, tables_of};
 
-use clif_builder::laws::{ledger_is_read_by_number, requests_ask_for_their_shapes};
+use clif_builder::laws::{
+    ledger_is_read_by_number, requests_ask_for_their_shapes, table_calls_add_nothing,
+};
 use clif_builder::{ConstantOperands, FunctionBuilder, InstBuilder, InstBuilderBase};
 use clif_constant_calls::laws::constant_operands_stand;
 use clif_ir::JumpTableData;
@@ -104,6 +106,8 @@ fn branch_on_key(
     ensures ends { EndsBlock 0 bx.old bx.new result }
     ensures made { MakesBranch switched block other (λ s place. key_calls s key place) bx.old bx.new result }
 {
+    ledger_is_read_by_number();
+    requests_ask_for_their_shapes();
     if key == 0 {
         bx.brif(switched.val, other, &[], block, &[])?;
         Ok(())
@@ -229,8 +233,12 @@ fn emit_table(
     ensures ends { EndsBlock 1 bx.old bx.new result }
     ensures made { Makes switched range.now.blocks.items (λ s tables place. table_calls s tables range.now place) bx.old bx.new result }
 {
-    let table = jump_table(bx, switched.otherwise, range.blocks.as_slice())?;
-    let place = emit_difference(bx, switched, range.first)?;
+    ledger_is_read_by_number();
+    requests_ask_for_their_shapes();
+    table_calls_add_nothing();
+    let on = switched;
+    let table = jump_table(bx, on.otherwise, range.blocks.as_slice())?;
+    let place = emit_difference(bx, on, range.first)?;
     let index = emit_index(bx, switched, place)?;
     bx.br_table(index, table)?;
     Ok(())

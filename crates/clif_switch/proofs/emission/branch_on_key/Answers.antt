@@ -1,0 +1,18 @@
+-- The key zero needs no comparison.
+use Rattle.std.proofs.Common.{◌≡◌, ℕ, Bool, true, List, [], ◌∷◌, ◌++◌, refl, sym, ◌∙◌, ap, subst}
+use Rattle.std.specs.Prelude.{if◌then◌else◌, ◌==◌}
+use Rattle.clif_types.specs.declared.condcodes.IntCC.TheVariants.{Equal}
+use Rattle.clif_meaning.specs.Request.{Script}
+use Rattle.clif_switch_calls.specs.SwitchCalls.{branching, compared}
+use Rattle.clif_switch.specs.Emission.{StandsOn, key_calls, next_place}
+use Rattle.clif_switch.proofs.Compared.{branch_made}
+use Rattle.clif_switch.proofs.Numbers.{held_is, type_is}
+use Rattle.clif_switch.proofs.emission.branch_on_key.Goals as goal
+
+pub returns-in_ok-brif-clause-made : goal.returns-in_ok-brif-clause-made
+returns-in_ok-brif-clause-made c = λ signature calls s cases plain at t o tn on.
+    let reads = c.ledger_is_read_by_number.ensures in
+    let asks = c.requests_ask_for_their_shapes.ensures in
+    subst (λ (k : ℕ). StandsOn at (key_calls s k (next_place calls plain) t o) c.brif.new.self) (sym c.if-key-eq0.true)
+    (branch_made reads asks at c.brif.new.self s.ty s.value o t c.args.switched.val c.args.other c.args.block c.in_ok-brif.field-0 at.value
+    (held_is reads asks at s.value c.args.switched.val at.value ∙ sym (type_is reads asks at)) on tn c.in_ok-brif.ensures.built)

@@ -1,0 +1,34 @@
+-- Each edge leaves the builder as it is, and so the table is created where they were made.
+use Rattle.std.proofs.Common.{◌≡◌, false, arith, pos, List, [], ◌∷◌, ◌++◌, map, refl, sym, ◌∙◌, ap, subst}
+use Rattle.std.proofs.lemmas.Grind.{common_steps}
+use Rattle.clif_types.specs.declared.types.«Type».TheVariants as type
+use Rattle.clif_inst_builder.specs.Shapes as shapes
+use Rattle.clif_instructions.specs.declared.block_call.BlockCall.{BlockCall}
+use Rattle.clif_switch.specs.Emission.{MakesTable, bare_to}
+use Rattle.clif_switch.proofs.Edges.{all_taken, edges_pushed, kept_first, kept_on, table_is, table_made, table_refused}
+use Rattle.clif_switch.proofs.emission.jump_table.Goals as goal
+
+pub returns-then-is_err : goal.returns-then-is_err
+returns-then-is_err c =
+    table_refused _ c.args.bx.now c.block_call-in-loop-block.new.self c.refuse.new.self c.refuse.result (shapes.unary_imm (pos 0)) type.Invalid
+    (kept_on c.args.bx.now c.loop-block.bx c.block_call-in-loop-block.new.self c.loop-block.invariant.0 (kept_first c.loop-block.bx c.block_call-in-loop-block.new.self _ [] c.in_ok-entry.entry c.in_ok-entry.ensures))
+    (c.refuse.ensures.refused (shapes.unary_imm (pos 0)) type.Invalid)
+
+pub loop-block-preserved : goal.loop-block-preserved
+loop-block-preserved c =
+    let pushed : c.push.new.self.items ≡ c.loop-block.entries.items ++ c.in_ok-entry.entry ∷ [] = grind (arith, common_steps, c.push.ensures.items, c.is_err.ensures.value, c.is_err.ensures.negation, c.if-is_err.false) in
+    (kept_on c.args.bx.now c.loop-block.bx c.block_call-in-loop-block.new.self c.loop-block.invariant.0 (kept_first c.loop-block.bx c.block_call-in-loop-block.new.self _ [] c.in_ok-entry.entry c.in_ok-entry.ensures),
+    c.loop-block.invariant.1,
+    edges_pushed c.loop-block.entries.items c.push.new.self.items c.args.blocks.now c.loop-block.block-index _ c.in_ok-entry.entry c.loop-block-test.true c.loop-block.invariant.2 (c.in_ok-entry.ensures.edge ∙ ap bare_to c.block-item.is) pushed)
+
+pub returns-in_default : goal.returns-in_default
+returns-in_default c =
+    table_refused _ c.args.bx.now c.loop-block.bx c.refuse-in_default.new.self c.refuse-in_default.result (shapes.unary_imm (pos 0)) type.Invalid c.loop-block.invariant.0
+    (c.refuse-in_default.ensures.refused (shapes.unary_imm (pos 0)) type.Invalid)
+
+pub returns : goal.returns
+returns c =
+    subst (λ (edges : List BlockCall). MakesTable edges c.args.bx.now c.create_jump_table.new.self c.create_jump_table.result)
+    (sym (table_is c.in_ok-default.default c.in-Ok.table c.loop-block.entries.items c.args.blocks.now c.args.otherwise c.loop-block.invariant.1
+    (all_taken c.loop-block.entries.items c.args.blocks.now c.loop-block.block-index c.loop-block-test.false c.loop-block.invariant.2) c.in-Ok.ensures.ok))
+    (table_made c.in-Ok.table c.args.bx.now c.loop-block.bx c.create_jump_table.new.self c.create_jump_table.result c.loop-block.invariant.0 c.create_jump_table.ensures)
