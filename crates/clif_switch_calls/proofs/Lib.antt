@@ -1,0 +1,3 @@
+-- The plain calls of a switch are code of the switch.
+pub mod Numbers
+pub mod Lines

@@ -1,0 +1,168 @@
+-- Walks through instructions that compute, and along branches.
+use Rattle.std.proofs.Common.{◌≡◌, ◌<◌, ◌≤◌, ◌+◌, ◌-◌, ◌*◌, ℕ, suc, Bool, true, false, List, [], ◌∷◌, ◌++◌, length, map, refl, sym, ◌∙◌, ap, ap₂, subst, arith, append_assoc, Some}
+use Rattle.std.specs.Prelude.{◌^◌, ◌%◌, ◌/◌, ◌==◌, ℤ, pos, if◌then◌else◌, nat_lt, nat_le, IsTrue, slice_get}
+use Rattle.std.specs.List.{AllByRecursion}
+use Rattle.std.proofs.lemmas.Bool.{and_parts, eqb-true}
+use Rattle.std.proofs.lemmas.Bool.Decides.{nat_tests}
+use Rattle.clif_opcodes.specs.declared.opcodes.BinaryOpcode.TheVariants.{Iadd, Isub}
+use Rattle.clif_opcodes.specs.declared.opcodes.ConvertOpcode.TheVariants.{Sextend}
+use Rattle.clif_types.specs.declared.condcodes.IntCC.{IntCC}
+use Rattle.clif_types.specs.declared.types.LaneType.TheVariants as lane
+use Rattle.clif_types.specs.declared.types.«Type».{«Type»}
+use Rattle.clif_types.specs.declared.types.«Type».TheVariants as type
+use Rattle.clif_types.specs.Types.{bits_of, is_int}
+use Rattle.clif_meaning.specs.Bits.{Bits, wrapped}
+use Rattle.clif_meaning.specs.Instruction.{Arithmetic, Binary, Brif, Compare, Compute, Concat, Convert, Edge, Iconst, Instruction}
+use Rattle.clif_meaning.specs.Memory.{Memory}
+use Rattle.clif_meaning.specs.Name.{Name, answer_of, same_name}
+use Rattle.clif_meaning.specs.Outcome.{Values, Goes, compares, computed, edge_by}
+use Rattle.clif_meaning.specs.Program.{Item, Instruct}
+use Rattle.clif_meaning.specs.Store.{assigned}
+use Rattle.clif_expansion.specs.ConstantCalls.{constant_instructions, constant_name}
+use Rattle.clif_expansion.specs.Constants.{computing, i64}
+use Rattle.clif_expansion.specs.JoinedPrograms.{built_items}
+use Rattle.clif_expansion.specs.Walk.{Computes, Computing, IsGenerated, Surroundings, Takes, Walk}
+use Rattle.clif_expansion.proofs.Names.{equal_names, names_equal}
+use Rattle.clif_switch_calls.specs.SwitchCalls.{bare_edge, is_composed, negated_64, number_instructions, number_name, signed_64, with_number, with_number_name}
+use Rattle.clif_switch_calls.proofs.Numbers.{extended, of_halves, small_signed, wrapped_64, wrapped_small}
+
+-- Control goes through these items, whatever stands behind them.
+pub record Leads (around : Surroundings) (items : List Item) (before after : Name → Bits) : Type 0 where
+  pub leads : (block : Name) (rest : List Item) (final : Name → Bits) (branches tables : ℕ)
+      → Walk around block rest after final branches tables → Walk around block (items ++ rest) before final branches tables
+
+-- So these items, from this place on, leave bits in a name, and earlier names as they were.
+pub record Makes (around : Surroundings) (place : ℕ) (items : List Item) (name : Name) (bits : Bits) (before : Name → Bits) : Type 0 where
+  pub after : Name → Bits
+  pub leads : Leads around items before after
+  pub holds : after name ≡ bits
+  pub kept : (x : Name) → x.place < place → after x ≡ before x
+
+pub built_append : (place : ℕ) (code more : List (Instruction Name Name)) → built_items place (code ++ more) ≡ built_items place code ++ built_items (place + length code) more
+built_append place [] more = ap (λ (p : ℕ). built_items p more) (omega arith)
+built_append place (first ∷ code) more =
+    ap (λ (items : List Item). built_items place (first ∷ []) ++ items)
+    (built_append (suc place) code more ∙ ap (λ (p : ℕ). built_items (suc place) code ++ built_items p more) (omega arith))
+
+-- a name of another place
+other_place : (x y : Name) → x.place < y.place → same_name x y ≡ false
+other_place x y before = by (same_name x y) refl
+  where
+    by : (c : Bool) → same_name x y ≡ c → same_name x y ≡ false
+    by true is = let same = ap (λ (n : Name). n.place) (names_equal x y is) in absurd (omega (arith, same, before))
+    by false is = is
+
+module _ (base : ℕ) (around : Surroundings) (generated : (x : Name) → base ≤ x.place → IsGenerated around.reading x) where
+  -- nothing is computed
+  pub made_before : (place : ℕ) (name : Name) (before : Name → Bits) → Makes around place [] name (before name) before
+  made_before place name before = record {
+    after = before;
+    leads = record { leads = λ block rest final branches tables walk. walk };
+    holds = refl;
+    kept = λ x earlier. refl;
+  }
+
+  -- one result is computed
+  pub made_one : (place : ℕ) (arithmetic : Arithmetic) (ty : «Type») (operands : List Name) (value : Bits) (before : Name → Bits)
+      → base ≤ place → computed arithmetic ty (map around.types operands) (map before operands) ≡ Values (value ∷ [])
+      → Makes around place (Instruct place (computing arithmetic ty operands) (answer_of place 1 ∷ []) ∷ []) (answer_of place 1) value before
+  made_one place arithmetic ty operands value before behind does = record {
+    after = assigned same_name (answer_of place 1 ∷ []) (value ∷ []) before;
+    leads = record {
+      leads = λ block rest final branches tables walk.
+          Computing place (computing arithmetic ty operands) (answer_of place 1 ∷ []) rest (value ∷ []) before final branches tables
+          (record { arithmetic = arithmetic; is_arithmetic = refl; computes = does; generated = (generated (answer_of place 1) behind, tt) }) walk;
+    };
+    holds = ap (λ (c : Bool). if c then value else before (answer_of place 1)) (equal_names (answer_of place 1) (answer_of place 1) refl);
+    kept = λ x earlier. ap (λ (c : Bool). if c then value else before x) (other_place x (answer_of place 1) earlier);
+  }
+
+  -- one thing behind another
+  pub made_both : (place : ℕ) (items : List Item) (name : Name) (bits : Bits) (before : Name → Bits) → (first : Makes around place items name bits before)
+      → (place' : ℕ) (items' : List Item) (name' : Name) (bits' : Bits) → place ≤ place' → Makes around place' items' name' bits' first.after
+      → Makes around place (items ++ items') name' bits' before
+  made_both place items name bits before first place' items' name' bits' later second = record {
+    after = second.after;
+    leads = record {
+      leads = λ block rest final branches tables walk.
+          subst (λ (all : List Item). Walk around block all before final branches tables) (sym (append_assoc items items' rest))
+          (first.leads.leads block (items' ++ rest) final branches tables (second.leads.leads block rest final branches tables walk));
+    };
+    holds = second.holds;
+    kept = λ x earlier. second.kept x (omega (arith, earlier, later)) ∙ first.kept x earlier;
+  }
+
+  -- NUMBERS ---------------------------------------------------------------------------------------------------------------
+
+  -- the narrow constant has 64 bits, where there is one
+  abbrev pub HasNarrow : «Type» → ℕ → Type 0
+  HasNarrow ty place = ty ≡ type.Lane lane.I128 → around.types (answer_of place 1) ≡ i64
+
+  abbrev wide : «Type»
+  wide = type.Lane lane.I128
+
+  -- at once, by a constant with a number of 64 bits
+  pub at_once : (ty : «Type») (number : ℤ) (value place : ℕ) (before : Name → Bits) → base ≤ place → wrapped (bits_of ty) number ≡ value
+      → Makes around place (Instruct place (computing (Iconst number) ty []) (answer_of place 1 ∷ []) ∷ []) (answer_of place 1) value before
+  at_once ty number value place before behind is =
+      made_one place (Iconst number) ty [] value before behind (ap (λ (bits : Bits). Values (bits ∷ [])) is)
+
+  -- with its sign repeated
+  pub at_twice : (number : ℤ) (value place : ℕ) (before : Name → Bits) → base ≤ place → around.types (answer_of place 1) ≡ i64
+      → computed (Convert Sextend) wide (i64 ∷ []) (wrapped 64 number ∷ []) ≡ Values (value ∷ [])
+      → Makes around place (built_items place (constant_instructions wide number place)) (answer_of (suc place) 1) value before
+  at_twice number value place before behind narrow extends =
+      let first = at_once i64 number (wrapped 64 number) place before behind refl in
+      made_both place _ (answer_of place 1) (wrapped 64 number) before first (suc place) _ (answer_of (suc place) 1) value (omega arith)
+      (made_one (suc place) (Convert Sextend) wide (answer_of place 1 ∷ []) value first.after (omega (arith, behind))
+      (ap₂ (λ (ty : «Type») (bits : Bits). computed (Convert Sextend) wide (ty ∷ []) (bits ∷ [])) narrow first.holds ∙ extends))
+
+  -- of two halves
+  composed : (number place : ℕ) (before : Name → Bits) → base ≤ place → number < 2 ^ 128
+      → Makes around place
+      (built_items place (computing (Iconst (signed_64 number)) i64 [] ∷ computing (Iconst (signed_64 (number / 2 ^ 64))) i64 []
+      ∷ computing Concat i64 (answer_of place 1 ∷ answer_of (suc place) 1 ∷ []) ∷ []))
+      (answer_of (suc (suc place)) 1) number before
+  composed number place before behind small =
+      let low = at_once i64 (signed_64 number) (wrapped 64 (signed_64 number)) place before behind refl in
+      let high = at_once i64 (signed_64 (number / 2 ^ 64)) (wrapped 64 (signed_64 (number / 2 ^ 64))) (suc place) low.after (omega (arith, behind)) refl in
+      made_both place _ (answer_of place 1) (wrapped 64 (signed_64 number)) before low (suc place) _ (answer_of (suc (suc place)) 1) number (omega arith)
+      (made_both (suc place) _ (answer_of (suc place) 1) (wrapped 64 (signed_64 (number / 2 ^ 64))) low.after high (suc (suc place)) _ (answer_of (suc (suc place)) 1) number (omega arith)
+      (made_one (suc (suc place)) Concat i64 (answer_of place 1 ∷ answer_of (suc place) 1 ∷ []) number high.after (omega (arith, behind))
+      (ap₂ (λ (a b : Bits). computed Concat i64 (around.types (answer_of place 1) ∷ around.types (answer_of (suc place) 1) ∷ []) (a ∷ b ∷ []))
+      (high.kept (answer_of place 1) (omega arith) ∙ low.holds) high.holds
+      ∙ ap (λ (bits : Bits). Values (bits ∷ [])) (of_halves number small))))
+
+  abbrev pub MakesNumber : «Type» → (number place : ℕ) → (Name → Bits) → Type 0
+  MakesNumber ty number place before = Makes around place (built_items place (number_instructions ty number place)) (number_name ty number place) number before
+
+  abbrev MakesWide : (number place : ℕ) (before : Name → Bits) → Bool → Type 0
+  MakesWide number place before c = Makes around place
+      (built_items place (if c then computing (Iconst (signed_64 number)) i64 [] ∷ computing (Iconst (signed_64 (number / 2 ^ 64))) i64 []
+      ∷ computing Concat i64 (answer_of place 1 ∷ answer_of (suc place) 1 ∷ []) ∷ [] else constant_instructions wide (signed_64 number) place))
+      (if c then answer_of (suc (suc place)) 1 else constant_name wide place) number before
+
+  wide_made : (number place : ℕ) (before : Name → Bits) → base ≤ place → number < 2 ^ 128 → around.types (answer_of place 1) ≡ i64 → MakesNumber wide number place before
+  wide_made number place before behind small narrow = by (nat_le (2 ^ 63) number) refl
+    where
+      by : (c : Bool) → nat_le (2 ^ 63) number ≡ c → MakesNumber wide number place before
+      by true is = subst (MakesWide number place before) (sym is) (composed number place before behind small)
+      by false is =
+          let under : number < 9223372036854775808 = grind (arith, nat_tests) in
+          subst (MakesWide number place before) (sym is)
+          (at_twice (signed_64 number) number place before behind narrow
+          (ap (λ (z : ℤ). computed (Convert Sextend) wide (i64 ∷ []) (wrapped 64 z ∷ [])) (small_signed number under)
+          ∙ ap (λ (bits : Bits). Values (bits ∷ [])) (extended number under)))
+
+  pub number_made : (ty : «Type») (number place : ℕ) (before : Name → Bits) → IsTrue (is_int ty) → base ≤ place → number < 2 ^ bits_of ty → HasNarrow ty place → MakesNumber ty number place before
+  number_made (type.Lane lane.I8) number place before int behind small narrow = at_once (type.Lane lane.I8) (signed_64 number) number place before behind (wrapped_small 8 number (omega (arith, small)) small)
+  number_made (type.Lane lane.I16) number place before int behind small narrow = at_once (type.Lane lane.I16) (signed_64 number) number place before behind (wrapped_small 16 number (omega (arith, small)) small)
+  number_made (type.Lane lane.I32) number place before int behind small narrow = at_once (type.Lane lane.I32) (signed_64 number) number place before behind (wrapped_small 32 number (omega (arith, small)) small)
+  number_made (type.Lane lane.I64) number place before int behind small narrow = at_once (type.Lane lane.I64) (signed_64 number) number place before behind (wrapped_64 number small)
+  number_made (type.Lane lane.I128) number place before int behind small narrow = wide_made number place before behind small (narrow refl)
+  number_made type.Invalid number place before int behind small narrow = let none : ⊥ = cc in absurd none
+  number_made (type.Vector l n) number place before int behind small narrow = let none : ⊥ = cc in absurd none
+  number_made (type.Lane lane.F16) number place before int behind small narrow = let none : ⊥ = cc in absurd none
+  number_made (type.Lane lane.F32) number place before int behind small narrow = let none : ⊥ = cc in absurd none
+  number_made (type.Lane lane.F64) number place before int behind small narrow = let none : ⊥ = cc in absurd none
+  number_made (type.Lane lane.F128) number place before int behind small narrow = let none : ⊥ = cc in absurd none
