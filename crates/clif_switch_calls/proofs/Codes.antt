@@ -1,8 +1,9 @@
 -- What calls build, block by block.
 use Rattle.std.proofs.Common.{◌≡◌, ◌+◌, ℕ, suc, List, [], ◌∷◌, ◌++◌, length, map, refl, sym, ◌∙◌, ap, subst, arith}
 use Rattle.clif_meaning.specs.Instruction.{Instruction}
-use Rattle.clif_meaning.specs.Name.{Name}
-use Rattle.clif_meaning.specs.Program.{Item, Instruct, Program, result_names}
+use Rattle.clif_meaning.specs.Name.{Name, answer_of}
+use Rattle.clif_types.specs.declared.types.«Type».{«Type»}
+use Rattle.clif_meaning.specs.Program.{Item, Instruct, Program, result_names, result_types}
 use Rattle.clif_meaning.specs.Request.{Request, SwitchToBlock, MakeEdge, Build, Script}
 use Rattle.clif_expansion.specs.Emission.{building}
 use Rattle.clif_expansion.specs.JoinedPrograms.{built_items}
@@ -20,6 +21,13 @@ abbrev pub Entered : Program → ℕ → Script → Type 0
 Entered program place [] = Unit {0}
 Entered program place (SwitchToBlock block ∷ more) = (program.items block ≡ code_of (suc place) more) × Entered program (suc place) more
 Entered program place (_ ∷ more) = Entered program (suc place) more
+
+-- each instruction with one result has it of its type
+abbrev pub AreTyped : (Name → «Type») → ℕ → Script → Type 0
+AreTyped types place [] = Unit {0}
+AreTyped types place (Build entries instruction ∷ more) =
+    ((ty : «Type») → result_types instruction.operation instruction.controlling ≡ ty ∷ [] → types (answer_of place 1) ≡ ty) × AreTyped types (suc place) more
+AreTyped types place (_ ∷ more) = AreTyped types (suc place) more
 
 -- it builds nothing before another block becomes the current one
 abbrev pub IsClosed : Script → Type 0
@@ -55,3 +63,15 @@ pub entered_edges : (program : Program) (place : ℕ) (targets : List Name) (mor
 entered_edges program place [] more entered = subst (λ (p : ℕ). Entered program p more) (place_here place) entered
 entered_edges program place (target ∷ targets) more entered =
     subst (λ (p : ℕ). Entered program p more) (place_on place (length targets)) (entered_edges program (suc place) targets more entered)
+
+pub typed_building : (types : Name → «Type») (place : ℕ) (code : List (Instruction Name Name)) (more : Script)
+    → AreTyped types place (map building code ++ more) → AreTyped types (place + length code) more
+typed_building types place [] more typed = subst (λ (p : ℕ). AreTyped types p more) (place_here place) typed
+typed_building types place (first ∷ code) more typed =
+    subst (λ (p : ℕ). AreTyped types p more) (place_on place (length code)) (typed_building types (suc place) code more typed.1)
+
+pub typed_edges : (types : Name → «Type») (place : ℕ) (targets : List Name) (more : Script)
+    → AreTyped types place (map (λ target. MakeEdge (bare_edge target)) targets ++ more) → AreTyped types (place + length targets) more
+typed_edges types place [] more typed = subst (λ (p : ℕ). AreTyped types p more) (place_here place) typed
+typed_edges types place (target ∷ targets) more typed =
+    subst (λ (p : ℕ). AreTyped types p more) (place_on place (length targets)) (typed_edges types (suc place) targets more typed)

@@ -3,3 +3,4 @@ pub mod Numbers
 pub mod Lines
 pub mod Codes
 pub mod Branches
+pub mod Tables

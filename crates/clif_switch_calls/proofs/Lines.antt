@@ -278,12 +278,12 @@ module _ (base : ℕ) (around : Surroundings) (generated : (x : Name) → base �
       grind (arith, nat_tests)
 
   pub difference_made : (ty : «Type») (first place : ℕ) (x : Name) (before : Name → Bits) → IsTrue (is_int ty) → base ≤ place → first < 2 ^ bits_of ty → before x < 2 ^ bits_of ty
-      → HasNarrow ty place → x.place < place → MakesDifference ty first place x before
+      → (0 < first → HasNarrow ty place) → x.place < place → MakesDifference ty first place x before
   difference_made ty zero place x before int behind small value narrow earlier =
       subst (λ (bits : Bits). Makes around place [] x bits before) (sym (difference_above (2 ^ bits_of ty) (before x) 0 value (omega arith) ∙ omega arith)) (made_before place x before)
   difference_made ty (suc n) place x before int behind small value narrow earlier = by (is_subtracted ty (suc n)) refl
     where
       by : (c : Bool) → is_subtracted ty (suc n) ≡ c → MakesDifference ty (suc n) place x before
-      by true is = subst (MakesBy ty (suc n) place x before) (sym is) (by_difference ty (suc n) place x before int behind small narrow earlier)
+      by true is = subst (MakesBy ty (suc n) place x before) (sym is) (by_difference ty (suc n) place x before int behind small (narrow (omega arith)) earlier)
       by false is = subst (MakesBy ty (suc n) place x before) (sym is)
-          (by_sum ty (suc n) place x before int behind (omega arith) small (subtracted_so ty (suc n) is) narrow earlier)
+          (by_sum ty (suc n) place x before int behind (omega arith) small (subtracted_so ty (suc n) is) (narrow (omega arith)) earlier)

@@ -1,0 +1,228 @@
+-- Walks through the code of a table.
+use Rattle.std.proofs.Common.{◌≡◌, ◌<◌, ◌≤◌, ◌+◌, ◌-◌, ◌*◌, ℕ, zero, suc, Bool, true, false, List, [], ◌∷◌, ◌++◌, length, map, refl, sym, ◌∙◌, ap, ap₂, subst, arith, append_assoc, length-append, append-nil, Some, None, Option}
+use Rattle.std.specs.Prelude.{◌^◌, ◌%◌, ◌==◌, ◌&&◌, ℤ, if◌then◌else◌, nat_lt, nat_le, slice_get, IsTrue}
+use Rattle.std.proofs.Math.Nat.{mod-eq_of_lt}
+use Rattle.std.proofs.lemmas.List.{length-map}
+use Rattle.std.proofs.lemmas.Bool.Decides.{nat_tests}
+use Rattle.clif_opcodes.specs.declared.opcodes.ConvertOpcode.TheVariants.{Ireduce, Uextend}
+use Rattle.clif_opcodes.specs.declared.opcodes.BinaryOpcode.TheVariants.{Iadd, Isub}
+use Rattle.clif_types.specs.declared.condcodes.IntCC.TheVariants as cc
+use Rattle.clif_types.specs.declared.types.LaneType.TheVariants as lane
+use Rattle.clif_types.specs.declared.types.«Type».{«Type»}
+use Rattle.clif_types.specs.declared.types.«Type».TheVariants as type
+use Rattle.clif_types.specs.Types.{bits_of, is_int}
+use Rattle.clif_ranges.specs.declared.ranges.CaseRange.{CaseRange}
+use Rattle.clif_ranges.specs.Search.{block_in}
+use Rattle.clif_meaning.specs.Acceptance.{table_branch}
+use Rattle.clif_meaning.specs.Bits.{Bits}
+use Rattle.clif_meaning.specs.Instruction.{Arithmetic, Binary, Compare, Convert, Edge, Iconst, Instruction}
+use Rattle.clif_meaning.specs.Name.{Name, answer_of}
+use Rattle.clif_meaning.specs.Outcome.{Values, edge_in_table}
+use Rattle.clif_meaning.specs.Program.{Item, Instruct}
+use Rattle.clif_meaning.specs.Request.{Request, CreateBlock, SwitchToBlock, SealBlock, MakeEdge, MakeJumpTable, Build, ServedBy, Script}
+use Rattle.clif_expansion.specs.ConstantCalls.{constant_instructions, constant_name}
+use Rattle.clif_expansion.specs.Constants.{computing, i64}
+use Rattle.clif_expansion.specs.Emission.{building}
+use Rattle.clif_expansion.specs.JoinedPrograms.{built_items}
+use Rattle.clif_expansion.specs.Walk.{IsGenerated, Surroundings}
+use Rattle.clif_switch_calls.specs.SwitchCalls.{Switched, answers_of, bare_edge, branching, difference, difference_name, i32, i8, index_calls, index_name, is_composed, is_subtracted, negated_64, number_instructions, number_name, signed_64, table_calls, table_targets, with_number, with_number_name}
+use Rattle.clif_switch_calls.proofs.Branches.{Reaches, At, Through, Walked, no_entry, table_edge, table_edges, target_of, walked_on, walks_conditional, walks_table}
+use Rattle.clif_switch_calls.proofs.Codes.{AreTyped, Entered, IsClosed, code_building, code_edges, code_of, entered_building, entered_edges, typed_building, typed_edges}
+use Rattle.clif_switch_calls.proofs.Lines.{HasNarrow, Makes, compared_with, difference_made, made_one}
+
+abbrev wide : «Type»
+wide = type.Lane lane.I128
+
+-- NARROW CONSTANTS --------------------------------------------------------------------------------------------------------
+
+-- the instructions begin with a constant of 64 bits
+abbrev pub BeginsNarrow : List (Instruction Name Name) → Type 0
+BeginsNarrow code = (number : ℤ) × (rest : List (Instruction Name Name)) × (code ≡ computing (Iconst number) i64 [] ∷ rest)
+
+begins_behind : (code more : List (Instruction Name Name)) → BeginsNarrow code → BeginsNarrow (code ++ more)
+begins_behind code more begins = (begins.0, begins.1 ++ more, ap (λ (c : List (Instruction Name Name)). c ++ more) begins.2)
+
+-- whichever of two lines it is
+either_begins : (c : Bool) (first second : List (Instruction Name Name)) → BeginsNarrow first → BeginsNarrow second → BeginsNarrow (if c then first else second)
+either_begins true first second begins others = begins
+either_begins false first second begins others = others
+
+number_begins : (number place : ℕ) → BeginsNarrow (number_instructions wide number place)
+number_begins number place = either_begins (is_composed wide number) _ _ (signed_64 number, _, refl) (signed_64 number, _, refl)
+
+pub with_begins : (arithmetic : Arithmetic) (number place : ℕ) (x : Name) → BeginsNarrow (with_number arithmetic wide number place x)
+with_begins arithmetic number place x = begins_behind (number_instructions wide number place) _ (number_begins number place)
+
+pub difference_begins : (first place : ℕ) (x : Name) → 0 < first → BeginsNarrow (difference wide first place x)
+difference_begins zero place x some = absurd (omega (arith, some))
+difference_begins (suc n) place x some =
+    either_begins (is_subtracted wide (suc n)) _ _ (with_begins (Binary Isub) (suc n) place x) (negated_64 (suc n), _, refl)
+
+module _ (types : Name → «Type») where
+  narrow_of : (place : ℕ) (code : List (Instruction Name Name)) (more : Script) → BeginsNarrow code → AreTyped types place (map building code ++ more) → types (answer_of place 1) ≡ i64
+  narrow_of place code more begins typed =
+      (subst (λ (c : List (Instruction Name Name)). AreTyped types place (map building c ++ more)) begins.2 typed).0 i64 refl
+
+  -- where instructions of a type begin with a narrow constant at 128 bits
+  pub has_narrow : (ty : «Type») (place : ℕ) (code : «Type» → List (Instruction Name Name)) (more : Script) → BeginsNarrow (code wide)
+      → AreTyped types place (map building (code ty) ++ more) → ty ≡ wide → types (answer_of place 1) ≡ i64
+  has_narrow ty place code more begins typed same =
+      narrow_of place (code wide) more begins (subst (λ (t : «Type»). AreTyped types place (map building (code t) ++ more)) same typed)
+
+-- INDICES -----------------------------------------------------------------------------------------------------------------
+
+-- the calls of an index, and its name, by how wide the number is: wider than 32 bits, or narrower, or neither
+abbrev IndexCalls : Switched → (wider narrower : Bool) → (place : ℕ) (x : Name) → Script
+IndexCalls s wider narrower place x =
+    if wider
+    then (CreateBlock ∷ map building (with_number (Compare cc.UnsignedGreaterThan) s.ty (2 ^ 32 - 1) (suc place) x)
+    ++ branching i8 (with_number_name s.ty (2 ^ 32 - 1) (suc place)) s.otherwise (answer_of place 0)
+    ∷ SealBlock (answer_of place 0) ∷ SwitchToBlock (answer_of place 0) ∷ building (computing (Convert Ireduce) i32 (x ∷ [])) ∷ [])
+    else (if narrower then building (computing (Convert Uextend) i32 (x ∷ [])) ∷ [] else [])
+
+abbrev IndexName : (same : Bool) → Script → (place : ℕ) (x : Name) → Name
+IndexName same calls place x = if same then x else answer_of (place + (length calls - 1)) 1
+
+-- how wide a type is
+data Width (ty : «Type») : Type 0 where
+  Wider : nat_lt 32 (bits_of ty) ≡ true → (bits_of ty == 32) ≡ false → 2 ^ 32 ≤ 2 ^ bits_of ty → Width ty
+  Narrower : nat_lt 32 (bits_of ty) ≡ false → nat_lt (bits_of ty) 32 ≡ true → (bits_of ty == 32) ≡ false → 2 ^ bits_of ty ≤ 2 ^ 32 → Width ty
+  Same : nat_lt 32 (bits_of ty) ≡ false → nat_lt (bits_of ty) 32 ≡ false → (bits_of ty == 32) ≡ true → Width ty
+
+width_of : (ty : «Type») → IsTrue (is_int ty) → Width ty
+width_of (type.Lane lane.I8) int = Narrower refl refl refl (omega arith)
+width_of (type.Lane lane.I16) int = Narrower refl refl refl (omega arith)
+width_of (type.Lane lane.I32) int = Same refl refl refl
+width_of (type.Lane lane.I64) int = Wider refl refl (omega arith)
+width_of (type.Lane lane.I128) int = Wider refl refl (omega arith)
+width_of type.Invalid int = let none : ⊥ = cc in absurd none
+width_of (type.Vector l n) int = let none : ⊥ = cc in absurd none
+width_of (type.Lane lane.F16) int = let none : ⊥ = cc in absurd none
+width_of (type.Lane lane.F32) int = let none : ⊥ = cc in absurd none
+width_of (type.Lane lane.F64) int = let none : ⊥ = cc in absurd none
+width_of (type.Lane lane.F128) int = let none : ⊥ = cc in absurd none
+
+module _ (base : ℕ) (around : Surroundings) (generated : (x : Name) → base ≤ x.place → IsGenerated around.reading x) (s : Switched) (int : IsTrue (is_int s.ty)) where
+  -- the index is in a name: a table comes
+  ends_in_table : (tables place : ℕ) (index : Name) (edges : List (Edge Name Name)) (target : Name) (more : Script) (names : Name → Bits) (d branches : ℕ)
+      → names index ≡ d → slice_get edges (edge_in_table (length edges - 1) d) ≡ Some (bare_edge target)
+      → Walked around target (code_of place (Build (ServedBy tables ∷ []) (table_branch index edges) ∷ more)) names branches
+  ends_in_table tables place index edges target more names d branches is there =
+      walks_table around place index edges target (code_of (suc place) more) names branches
+      (ap (λ (n : ℕ). slice_get edges (edge_in_table (length edges - 1) n)) is ∙ there)
+
+  module _ (tables q : ℕ) (x : Name) (edges : List (Edge Name Name)) (target : Name) (more : Script) (names : Name → Bits) (d : ℕ)
+      (behind : base ≤ q) (earlier : x.place < q) (is : names x ≡ d) (small : d < 2 ^ bits_of s.ty)
+      (there : slice_get edges (edge_in_table (length edges - 1) d) ≡ Some (bare_edge target)) (far : 2 ^ 32 ≤ d → s.otherwise ≡ target) where
+    abbrev Whole : Script → Name → Script
+    Whole calls index = calls ++ Build (ServedBy tables ∷ []) (table_branch index edges) ∷ more
+
+    abbrev IndexWalks : (wider narrower same : Bool) → Type 0
+    IndexWalks wider narrower same =
+        let calls : Script = IndexCalls s wider narrower q x in
+        let all : Script = Whole calls (IndexName same calls q x) in
+        Entered around.program q all → AreTyped around.types q all → Walked around target (code_of q all) names 1
+
+    same_walks : IndexWalks false false true
+    same_walks entered typed = ends_in_table tables q x edges target more names d 1 is there
+
+    narrower_walks : d < 2 ^ 32 → IndexWalks false true false
+    narrower_walks below entered typed =
+        let made = made_one base around generated q (Convert Uextend) i32 (x ∷ []) d names behind
+        (ap (λ (n : ℕ). Values (n % 2 ^ 32 ∷ [])) is ∙ ap (λ (n : ℕ). Values (n ∷ [])) (mod-eq_of_lt (omega (arith, below)))) in
+        let here : q ≡ q + 0 = omega arith in
+        walked_on around target (Instruct q (computing (Convert Uextend) i32 (x ∷ [])) (answer_of q 1 ∷ []) ∷ []) _ names made.after 1 made.leads
+        (ends_in_table tables (suc q) (answer_of (q + 0) 1) edges target more made.after d 1
+        (ap (λ (p : ℕ). made.after (answer_of p 1)) (sym here) ∙ made.holds) there)
+
+    -- WIDER ---------------------------------------------------------------------------------------------------------------
+
+    abbrev test : List (Instruction Name Name)
+    test = with_number (Compare cc.UnsignedGreaterThan) s.ty (2 ^ 32 - 1) (suc q) x
+
+    abbrev follow : Name
+    follow = answer_of q 0
+
+    abbrev branch : Request
+    branch = branching i8 (with_number_name s.ty (2 ^ 32 - 1) (suc q)) s.otherwise follow
+
+    -- where the number is reduced
+    abbrev reducing : ℕ
+    reducing = suc (suc (suc (suc q + length test)))
+
+    abbrev behind_branch : Name → Script
+    behind_branch index = SealBlock follow ∷ SwitchToBlock follow ∷ building (computing (Convert Ireduce) i32 (x ∷ [])) ∷ Build (ServedBy tables ∷ []) (table_branch index edges) ∷ more
+
+    regrouped : (index : Name) → Whole (IndexCalls s true true q x) index ≡ CreateBlock ∷ (map building test ++ branch ∷ behind_branch index)
+    regrouped index = ap (λ (calls : Script). CreateBlock ∷ calls) (append_assoc (map building test) _ _)
+
+    index_there : IndexName false (IndexCalls s true true q x) q x ≡ answer_of reducing 1
+    index_there =
+        let longer = length-append (map building test) (branch ∷ SealBlock follow ∷ SwitchToBlock follow ∷ building (computing (Convert Ireduce) i32 (x ∷ [])) ∷ []) in
+        let count = length-map test building in
+        ap (λ (n : ℕ). answer_of n 1) (omega (arith, longer, count))
+
+    module _ (index : Name) (named : index ≡ answer_of reducing 1) (fits : 2 ^ 32 ≤ 2 ^ bits_of s.ty)
+        (entered : Entered around.program q (CreateBlock ∷ (map building test ++ branch ∷ behind_branch index)))
+        (typed : AreTyped around.types q (CreateBlock ∷ (map building test ++ branch ∷ behind_branch index))) where
+      in_follow : around.program.items follow ≡ code_of (suc (suc (suc (suc q + length test)))) (building (computing (Convert Ireduce) i32 (x ∷ [])) ∷ Build (ServedBy tables ∷ []) (table_branch index edges) ∷ more)
+      in_follow = (entered_building around.program (suc q) test (branch ∷ behind_branch index) entered).0
+
+      -- in the new block
+      follow_walks : (held : Name → Bits) → held x ≡ d → d < 2 ^ 32 → Walked around target (around.program.items follow) held 0
+      follow_walks held holds below =
+          let made = made_one base around generated reducing (Convert Ireduce) i32 (x ∷ []) d held (omega (arith, behind))
+          (ap (λ (n : ℕ). Values (n % 2 ^ 32 ∷ [])) holds ∙ ap (λ (n : ℕ). Values (n ∷ [])) (mod-eq_of_lt (omega (arith, below)))) in
+          subst (λ (items : List Item). Walked around target items held 0) (sym in_follow)
+          (walked_on around target (Instruct reducing (computing (Convert Ireduce) i32 (x ∷ [])) (answer_of reducing 1 ∷ []) ∷ []) _ held made.after 0 made.leads
+          (ends_in_table tables (suc reducing) index edges target more made.after d 0 (ap made.after named ∙ made.holds) there))
+
+      tested : Makes around (suc q) (built_items (suc q) test) (with_number_name s.ty (2 ^ 32 - 1) (suc q)) (if nat_lt (2 ^ 32 - 1) (names x) then 1 else 0) names
+      tested = compared_with base around generated cc.UnsignedGreaterThan s.ty (2 ^ 32 - 1) (suc q) x names int (omega (arith, behind)) (omega (arith, fits))
+          (has_narrow around.types s.ty (suc q) (λ t. with_number (Compare cc.UnsignedGreaterThan) t (2 ^ 32 - 1) (suc q) x) (branch ∷ behind_branch index)
+          (with_begins (Compare cc.UnsignedGreaterThan) (2 ^ 32 - 1) (suc q) x) typed)
+          (omega (arith, earlier))
+
+      wider_walks : Walked around target (code_of q (CreateBlock ∷ (map building test ++ branch ∷ behind_branch index))) names 1
+      wider_walks =
+          subst (λ (items : List Item). Walked around target items names 1) (sym (code_building (suc q) test (branch ∷ behind_branch index)))
+          (walked_on around target (built_items (suc q) test) _ names tested.after 1 tested.leads (by (nat_lt 4294967295 d) refl))
+        where
+          holds : tested.after x ≡ d
+          holds = tested.kept x (omega (arith, earlier)) ∙ is
+
+          condition : (c : Bool) → nat_lt 4294967295 d ≡ c → tested.after (with_number_name s.ty (2 ^ 32 - 1) (suc q)) ≡ (if c then 1 else 0)
+          condition c over = tested.holds ∙ ap (λ (n : ℕ). if nat_lt 4294967295 n then 1 else 0) is ∙ ap (λ (e : Bool). if e then 1 else 0) over
+
+          by : (c : Bool) → nat_lt 4294967295 d ≡ c
+              → Walked around target (code_of (suc q + length test) (branch ∷ behind_branch index)) tested.after 1
+          by true over =
+              walks_conditional around (λ held. held x ≡ d) tested.after holds (suc q + length test) i8 (with_number_name s.ty (2 ^ 32 - 1) (suc q)) s.otherwise follow _ false target 0
+              (ap (λ (n : ℕ). n == 0) (condition true over)) (At (far (grind (arith, nat_tests))))
+          by false over =
+              walks_conditional around (λ held. held x ≡ d) tested.after holds (suc q + length test) i8 (with_number_name s.ty (2 ^ 32 - 1) (suc q)) s.otherwise follow _ true target 0
+              (ap (λ (n : ℕ). n == 0) (condition false over))
+              (Through (generated follow behind) (λ held fine. follow_walks held fine (grind (arith, nat_tests))))
+
+    wider_index : 2 ^ 32 ≤ 2 ^ bits_of s.ty → IndexWalks true true false
+    wider_index fits entered typed =
+        let index : Name = IndexName false (IndexCalls s true true q x) q x in
+        subst (λ (all : Script). Walked around target (code_of q all) names 1) (sym (regrouped index))
+        (wider_walks index index_there fits (subst (Entered around.program q) (regrouped index) entered) (subst (AreTyped around.types q) (regrouped index) typed))
+
+    pub index_walks : Entered around.program q (Whole (index_calls s q x) (index_name s q x)) → AreTyped around.types q (Whole (index_calls s q x) (index_name s q x))
+        → Walked around target (code_of q (Whole (index_calls s q x) (index_name s q x))) names 1
+    index_walks = by (width_of s.ty int)
+      where
+        by : Width s.ty → IndexWalks (nat_lt 32 (bits_of s.ty)) (nat_lt (bits_of s.ty) 32) (bits_of s.ty == 32)
+        by (Wider a c fits) =
+            subst (λ (u : Bool). IndexWalks u (nat_lt (bits_of s.ty) 32) (bits_of s.ty == 32)) (sym a)
+            (subst (λ (w : Bool). IndexWalks true (nat_lt (bits_of s.ty) 32) w) (sym c) (wider_index fits))
+        by (Narrower a b c fits) =
+            subst (λ (u : Bool). IndexWalks u (nat_lt (bits_of s.ty) 32) (bits_of s.ty == 32)) (sym a)
+            (subst (λ (v : Bool). IndexWalks false v (bits_of s.ty == 32)) (sym b)
+            (subst (λ (w : Bool). IndexWalks false true w) (sym c) (narrower_walks (omega (arith, small, fits)))))
+        by (Same a b c) =
+            subst (λ (u : Bool). IndexWalks u (nat_lt (bits_of s.ty) 32) (bits_of s.ty == 32)) (sym a)
+            (subst (λ (v : Bool). IndexWalks false v (bits_of s.ty == 32)) (sym b)
+            (subst (λ (w : Bool). IndexWalks false false w) (sym c) same_walks))
