@@ -1,5 +1,5 @@
 -- Walks through the code of a table.
-use Rattle.std.proofs.Common.{◌≡◌, ◌<◌, ◌≤◌, ◌+◌, ◌-◌, ◌*◌, ℕ, zero, suc, Bool, true, false, List, [], ◌∷◌, ◌++◌, length, map, refl, sym, ◌∙◌, ap, ap₂, subst, arith, append_assoc, length-append, append-nil, Some, None, Option}
+use Rattle.std.proofs.Common.{◌≡◌, ◌<◌, ◌≤◌, ◌+◌, ◌-◌, ◌*◌, ℕ, zero, suc, Bool, true, false, List, [], ◌∷◌, ◌++◌, length, map, refl, sym, ◌∙◌, ap, ap₂, subst, arith, append_assoc, length-append, append-nil, Some, None, Option, mod-lt}
 use Rattle.std.specs.Prelude.{◌^◌, ◌%◌, ◌==◌, ◌&&◌, ℤ, if◌then◌else◌, nat_lt, nat_le, slice_get, IsTrue}
 use Rattle.std.proofs.Math.Nat.{mod-eq_of_lt}
 use Rattle.std.proofs.lemmas.List.{length-map}
@@ -226,3 +226,95 @@ module _ (base : ℕ) (around : Surroundings) (generated : (x : Name) → base �
             subst (λ (u : Bool). IndexWalks u (nat_lt (bits_of s.ty) 32) (bits_of s.ty == 32)) (sym a)
             (subst (λ (v : Bool). IndexWalks false v (bits_of s.ty == 32)) (sym b)
             (subst (λ (w : Bool). IndexWalks false false w) (sym c) same_walks))
+
+  -- TABLES ----------------------------------------------------------------------------------------------------------------
+
+  regroup : (a b c : Script) (m last : Request) (more : Script) → (a ++ m ∷ b ++ c ++ last ∷ []) ++ more ≡ a ++ (m ∷ (b ++ (c ++ (last ∷ more))))
+  regroup a b c m last more =
+      append_assoc ((a ++ m ∷ b) ++ c) (last ∷ []) more ∙ append_assoc (a ++ m ∷ b) c (last ∷ more) ∙ append_assoc a (m ∷ b) (c ++ last ∷ more)
+
+  -- a difference is named before what follows
+  differs_before : (ty : «Type») (first place : ℕ) (x : Name) → x.place < place → (difference_name ty first place x).place < place + length (difference ty first place x)
+  differs_before ty zero place x earlier = omega (arith, earlier)
+  differs_before ty (suc n) place x earlier = by (is_subtracted ty (suc n)) refl
+    where
+      longer : (code : List (Instruction Name Name)) (last : Instruction Name Name) → place + (length (code ++ last ∷ []) - 1) < place + length (code ++ last ∷ [])
+      longer code last = let is = length-append code (last ∷ []) in omega (arith, is)
+
+      by : (c : Bool) → is_subtracted ty (suc n) ≡ c → (difference_name ty (suc n) place x).place < place + length (difference ty (suc n) place x)
+      by true is =
+          subst (λ (c : Bool). place + (length (if c then with_number (Binary Isub) ty (suc n) place x
+          else constant_instructions ty (negated_64 (suc n)) place ++ computing (Binary Iadd) ty (x ∷ constant_name ty place ∷ []) ∷ []) - 1)
+          < place + length (if c then with_number (Binary Isub) ty (suc n) place x
+          else constant_instructions ty (negated_64 (suc n)) place ++ computing (Binary Iadd) ty (x ∷ constant_name ty place ∷ []) ∷ [])) (sym is)
+          (longer (number_instructions ty (suc n) place) _)
+      by false is =
+          subst (λ (c : Bool). place + (length (if c then with_number (Binary Isub) ty (suc n) place x
+          else constant_instructions ty (negated_64 (suc n)) place ++ computing (Binary Iadd) ty (x ∷ constant_name ty place ∷ []) ∷ []) - 1)
+          < place + length (if c then with_number (Binary Isub) ty (suc n) place x
+          else constant_instructions ty (negated_64 (suc n)) place ++ computing (Binary Iadd) ty (x ∷ constant_name ty place ∷ []) ∷ [])) (sym is)
+          (longer (constant_instructions ty (negated_64 (suc n)) place) _)
+
+  module _ (tables place : ℕ) (range : CaseRange) (more : Script) (behind : base ≤ place) (before : s.value.place < base) where
+    abbrev line_at : ℕ
+    line_at = place + suc (length (table_targets s range))
+
+    abbrev line : List (Instruction Name Name)
+    line = difference s.ty range.first line_at s.value
+
+    abbrev differed : Name
+    differed = difference_name s.ty range.first line_at s.value
+
+    abbrev index_at : ℕ
+    index_at = line_at + length line
+
+    abbrev rest : Script
+    rest = index_calls s index_at differed ++ Build (ServedBy tables ∷ []) (table_branch (index_name s index_at differed) (table_edges s range)) ∷ more
+
+    abbrev making : Request
+    making = MakeJumpTable (answer_of place 0) (answers_of (suc place) (length range.blocks.items))
+
+    grouped : table_calls s tables range place ++ more ≡ map (λ target. MakeEdge (bare_edge target)) (table_targets s range) ++ (making ∷ (map building line ++ rest))
+    grouped = regroup (map (λ target. MakeEdge (bare_edge target)) (table_targets s range)) (map building line) (index_calls s index_at differed) making
+        (Build (ServedBy tables ∷ []) (table_branch (index_name s index_at differed) (table_edges s range))) more
+
+    at_line : suc (place + length (table_targets s range)) ≡ line_at
+    at_line = omega arith
+
+    pub table_code : code_of place (table_calls s tables range place ++ more) ≡ built_items line_at line ++ code_of index_at rest
+    table_code =
+        ap (code_of place) grouped ∙ code_edges place (table_targets s range) (making ∷ (map building line ++ rest))
+        ∙ ap (λ (p : ℕ). code_of p (map building line ++ rest)) at_line ∙ code_building line_at line rest
+
+    table_typed : AreTyped around.types place (table_calls s tables range place ++ more) → AreTyped around.types line_at (map building line ++ rest)
+    table_typed typed =
+        subst (λ (p : ℕ). AreTyped around.types p (map building line ++ rest)) at_line
+        (typed_edges around.types place (table_targets s range) (making ∷ (map building line ++ rest)) (subst (AreTyped around.types place) grouped typed))
+
+    table_entered : Entered around.program place (table_calls s tables range place ++ more) → Entered around.program line_at (map building line ++ rest)
+    table_entered entered =
+        subst (λ (p : ℕ). Entered around.program p (map building line ++ rest)) at_line
+        (entered_edges around.program place (table_targets s range) (making ∷ (map building line ++ rest)) (subst (Entered around.program place) grouped entered))
+
+    -- the table's code leads to the block of a key
+    pub table_walks : Entered around.program place (table_calls s tables range place ++ more) → AreTyped around.types place (table_calls s tables range place ++ more)
+        → 0 < length range.blocks.items → range.first + length range.blocks.items ≤ 2 ^ bits_of s.ty → length range.blocks.items < 2 ^ 32
+        → (key : ℕ) → key < 2 ^ bits_of s.ty → (names : Name → Bits) → names s.value ≡ key
+        → Walked around (target_of s (block_in range key)) (code_of place (table_calls s tables range place ++ more)) names 1
+    table_walks entered typed some fits short key small names holds =
+        let d : ℕ = (key + 2 ^ bits_of s.ty - range.first) % 2 ^ bits_of s.ty in
+        let typed_line = table_typed typed in
+        let made = difference_made base around generated s.ty range.first line_at s.value names int (omega (arith, behind)) (omega (arith, some, fits))
+        (subst (λ (n : ℕ). n < 2 ^ bits_of s.ty) (sym holds) small)
+        (λ above. has_narrow around.types s.ty line_at (λ t. difference t range.first line_at s.value) rest (difference_begins range.first line_at s.value above) typed_line)
+        (omega (arith, before, behind)) in
+        subst (λ (items : List Item). Walked around (target_of s (block_in range key)) items names 1) (sym table_code)
+        (walked_on around (target_of s (block_in range key)) (built_items line_at line) (code_of index_at rest) names made.after 1 made.leads
+        (index_walks tables index_at differed (table_edges s range) (target_of s (block_in range key)) more made.after d (omega (arith, behind))
+        (differs_before s.ty range.first line_at s.value (omega (arith, before, behind)))
+        (made.holds ∙ ap (λ (n : ℕ). (n + 2 ^ bits_of s.ty - range.first) % 2 ^ bits_of s.ty) holds)
+        (mod-lt (key + 2 ^ bits_of s.ty - range.first) (omega (arith, small)))
+        (table_edge s range (2 ^ bits_of s.ty) key small some fits)
+        (λ over. ap (target_of s) (sym (no_entry range (2 ^ bits_of s.ty) key small some fits (omega (arith, over, short)))))
+        (entered_building around.program line_at line rest (table_entered entered))
+        (typed_building around.types line_at line rest typed_line)))
