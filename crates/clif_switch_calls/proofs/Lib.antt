@@ -4,3 +4,4 @@ pub mod Lines
 pub mod Codes
 pub mod Branches
 pub mod Tables
+pub mod Searched
