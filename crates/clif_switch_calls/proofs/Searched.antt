@@ -137,3 +137,119 @@ module _ (base : ℕ) (around : Surroundings) (generated : (x : Name) → base �
     zero_walks from tables place range other more zero_first some goes names holds false is =
         walks_conditional around Holds names holds (place + length (block_for other)) s.ty s.value (name_for s other place) (first_block s range) _ false _ ((goes_on from other).branches + 1)
         (ap (λ (n : ℕ). n == 0) holds ∙ is) goes
+
+    -- ONE KEY -------------------------------------------------------------------------------------------------------------
+
+    module _ (from : ℕ → Found) (tables place : ℕ) (range : CaseRange) (other : Next) (more : Script) (behind : base ≤ place) (fits : Fits s.ty range)
+        (goes : IsAt (name_for s other place) (goes_on from other)) where
+      abbrev begin : ℕ
+      begin = place + length (block_for other)
+
+      abbrev OneKeyCalls : Bool → Script
+      OneKeyCalls c =
+          block_for other
+          ++ (if c then branching s.ty s.value (name_for s other place) (first_block s range) ∷ []
+          else compared s cc.Equal range.first begin (first_block s range) (name_for s other place))
+
+      abbrev found : Bool → Found
+      found c = if c then record { block = block_in range key; branches = 0 } else goes_on from other
+
+      abbrev OneKeyWalks : (names : Name → Bits) → (c same : Bool) → Type 0
+      OneKeyWalks names c same =
+          Walked around (target_of s (behind_a_branch (found same)).block) (code_of place (OneKeyCalls c ++ more)) names ((behind_a_branch (found same)).branches + 1)
+
+      found_there : (c : Bool) → (key == range.first) ≡ c → Reaches around Holds (if c then first_block s range else name_for s other place) (target_of s (found c).block) ((found c).branches + 1)
+      found_there true is = At (first_there s range key fits.some (grind (arith, nat_tests)))
+      found_there false is = goes
+
+      on_zero : (names : Name → Bits) → Holds names → (range.first == 0) ≡ true → OneKeyWalks names true (key == range.first)
+      on_zero names holds zero_is =
+          let zero_first : range.first ≡ 0 = grind (arith, nat_tests) in
+          subst (λ (n : ℕ). OneKeyWalks names true (key == n)) (sym zero_first)
+          (subst (λ (items : List Item). Walked around (target_of s (behind_a_branch (found (key == 0))).block) items names ((behind_a_branch (found (key == 0))).branches + 1))
+          (sym (ap (code_of place) (append_assoc (block_for other) _ more) ∙ code_behind other place _))
+          (more_allowed around _ _ names _ _ (omega arith) (zero_walks from tables place range other more zero_first fits.some goes names holds (key == 0) refl)))
+
+      on_other : (names : Name → Bits) → Holds names → AreTyped around.types place (OneKeyCalls false ++ more) → OneKeyWalks names false (key == range.first)
+      on_other names holds typed =
+          let calls : Script = compared s cc.Equal range.first begin (first_block s range) (name_for s other place) in
+          let typed_on : AreTyped around.types begin (calls ++ more) =
+          typed_behind around.types place (block_for other) (calls ++ more) (subst (AreTyped around.types place) (append_assoc (block_for other) calls more) typed) in
+          subst (λ (items : List Item). Walked around (target_of s (behind_a_branch (found (key == range.first))).block) items names ((behind_a_branch (found (key == range.first))).branches + 1))
+          (sym (ap (code_of place) (append_assoc (block_for other) calls more) ∙ code_behind other place (calls ++ more)))
+          (more_allowed around _ _ names _ _ (omega arith)
+          (compared_walks cc.Equal range.first begin (first_block s range) (name_for s other place) more (omega (arith, behind)) (let some = fits.some in let keys = fits.keys in omega (arith, some, keys)) typed_on
+          (key == range.first) (target_of s (found (key == range.first)).block) ((found (key == range.first)).branches + 1) refl (found_there (key == range.first) refl) names holds))
+
+      one_key_walks : AreTyped around.types place (OneKeyCalls (range.first == 0) ++ more) → (names : Name → Bits) → Holds names → OneKeyWalks names (range.first == 0) (key == range.first)
+      one_key_walks typed names holds = by (range.first == 0) refl
+        where
+          by : (c : Bool) → (range.first == 0) ≡ c → OneKeyWalks names (range.first == 0) (key == range.first)
+          by true is = subst (λ (c : Bool). OneKeyWalks names c (key == range.first)) (sym is) (on_zero names holds is)
+          by false is = subst (λ (c : Bool). OneKeyWalks names c (key == range.first)) (sym is)
+              (on_other names holds (subst (λ (c : Bool). AreTyped around.types place (OneKeyCalls c ++ more)) is typed))
+
+    -- NOT BELOW -----------------------------------------------------------------------------------------------------------
+
+    module _ (from : ℕ → Found) (tables place first above : ℕ) (other : Next) (more : Script) (behind : base ≤ place) (fits : first < 2 ^ bits_of s.ty)
+        (goes : IsAt (name_for s other place) (goes_on from other)) (rises : IsAt (answer_of (place + length (block_for other)) 0) (from above))
+        (typed : AreTyped around.types place (test_calls s tables (test.NotBelow first above other) place ++ more)) where
+      abbrev upper : Name
+      upper = answer_of (place + length (block_for other)) 0
+
+      abbrev compare_at : ℕ
+      compare_at = place + suc (length (block_for other))
+
+      abbrev comparing : Script
+      comparing = compared s cc.UnsignedGreaterThanOrEqual first compare_at upper (name_for s other place)
+
+      at_compare : suc (place + length (block_for other)) ≡ compare_at
+      at_compare = omega arith
+
+      split_calls : test_calls s tables (test.NotBelow first above other) place ++ more ≡ block_for other ++ (CreateBlock ∷ (comparing ++ more))
+      split_calls = append_assoc (block_for other) (CreateBlock ∷ comparing) more
+
+      split_code : code_of place (test_calls s tables (test.NotBelow first above other) place ++ more) ≡ code_of compare_at (comparing ++ more)
+      split_code =
+          ap (code_of place) split_calls ∙ code_behind other place (CreateBlock ∷ (comparing ++ more)) ∙ ap (λ (p : ℕ). code_of p (comparing ++ more)) at_compare
+
+      split_typed : AreTyped around.types compare_at (comparing ++ more)
+      split_typed =
+          subst (λ (p : ℕ). AreTyped around.types p (comparing ++ more)) at_compare
+          (typed_behind around.types place (block_for other) (CreateBlock ∷ (comparing ++ more)) (subst (AreTyped around.types place) split_calls typed))
+
+      abbrev side : Bool → Found
+      side c = if c then goes_on from other else from above
+
+      not_below_walks : (names : Name → Bits) → Holds names
+          → Walked around (target_of s (behind_a_branch (side (nat_lt key first))).block) (code_of place (test_calls s tables (test.NotBelow first above other) place ++ more)) names
+          ((behind_a_branch (side (nat_lt key first))).branches + 1)
+      not_below_walks names holds =
+          subst (λ (items : List Item). Walked around (target_of s (behind_a_branch (side (nat_lt key first))).block) items names ((behind_a_branch (side (nat_lt key first))).branches + 1)) (sym split_code)
+          (more_allowed around _ _ names _ _ (omega arith) (by (nat_lt key first) refl))
+        where
+          by : (c : Bool) → nat_lt key first ≡ c
+              → Walked around (target_of s (side c).block) (code_of compare_at (comparing ++ more)) names (suc ((side c).branches + 1))
+          by true is =
+              compared_walks cc.UnsignedGreaterThanOrEqual first compare_at upper (name_for s other place) more (omega (arith, behind)) fits split_typed
+              false _ _ (grind (arith, nat_tests)) goes names holds
+          by false is =
+              compared_walks cc.UnsignedGreaterThanOrEqual first compare_at upper (name_for s other place) more (omega (arith, behind)) fits split_typed
+              true _ _ (grind (arith, nat_tests)) rises names holds
+
+    -- ANY TEST ------------------------------------------------------------------------------------------------------------
+
+    pub test_walks : (from : ℕ → Found) (tables : ℕ) (t : Test) (place : ℕ) (more : Script) → base ≤ place → IsTestOf ranges t → GoOn from t place
+        → Entered around.program place (test_calls s tables t place ++ more) → AreTyped around.types place (test_calls s tables t place ++ more) → TestWalks from tables t place more
+    test_walks from tables test.Nothing place more behind is goes entered typed names holds =
+        walks_jump around place _ s.otherwise s.otherwise (code_of (suc place) more) names 1 refl refl
+    test_walks from tables (test.OneKey range other) place more behind is goes entered typed names holds =
+        one_key_walks from tables place range.now other more behind (fit range.now is.0) goes typed names holds
+    test_walks from tables (test.NotBelow first above other) place more behind is goes entered typed names holds =
+        let fits = fit is.0 is.1 in
+        let some = fits.some in
+        let keys = fits.keys in
+        not_below_walks from tables place first above other more behind (omega (arith, some, keys, is.2)) goes.0 goes.1 typed names holds
+    test_walks from tables (test.Table range) place more behind is goes entered typed names holds =
+        let fits = fit range.now is.0 in
+        table_walks base around generated s int tables place range.now more behind before entered typed fits.some fits.keys fits.short key small names holds
