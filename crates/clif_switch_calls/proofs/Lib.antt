@@ -5,3 +5,4 @@ pub mod Codes
 pub mod Branches
 pub mod Tables
 pub mod Searched
+pub mod Nodes
