@@ -6,3 +6,4 @@ pub mod Branches
 pub mod Tables
 pub mod Searched
 pub mod Nodes
+pub mod Emits
