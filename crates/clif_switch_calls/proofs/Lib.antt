@@ -7,3 +7,4 @@ pub mod Tables
 pub mod Searched
 pub mod Nodes
 pub mod Emits
+pub mod Emitted
