@@ -8,3 +8,4 @@ pub mod Searched
 pub mod Nodes
 pub mod Emits
 pub mod Emitted
+pub mod Ledgers
