@@ -81,10 +81,10 @@ pub record Grown (state later : BlockState) : Type 0 where
   pub begun : state.is_pristine ≡ false → later.is_pristine ≡ false
   pub led : (branch : Name) → list_any (same_name branch) state.predecessors ≡ true → list_any (same_name branch) later.predecessors ≡ true
 
-grown_same : (state : BlockState) → Grown state state
+pub grown_same : (state : BlockState) → Grown state state
 grown_same state = record { block = refl; filled = λ is. is; is_sealed = λ is. is; begun = λ is. is; led = λ branch is. is }
 
-grown_both : (a b c : BlockState) → Grown a b → Grown b c → Grown a c
+pub grown_both : (a b c : BlockState) → Grown a b → Grown b c → Grown a c
 grown_both a b c first second = record {
   block = second.block ∙ first.block;
   filled = λ is. second.filled (first.filled is);
@@ -93,29 +93,23 @@ grown_both a b c first second = record {
   led = λ branch is. second.led branch (first.led branch is);
 }
 
-abbrev Grows : (BlockState → BlockState) → Type 0
+abbrev pub Grows : (BlockState → BlockState) → Type 0
 Grows change = (state : BlockState) → Grown state (change state)
 
-grows_if : (test : BlockState → Bool) (change : BlockState → BlockState) → Grows change → Grows (λ state. if test state then change state else state)
+pub grows_if : (test : BlockState → Bool) (change : BlockState → BlockState) → Grows change → Grows (λ state. if test state then change state else state)
 grows_if test change grows state = by (test state)
   where
     by : (c : Bool) → Grown state (if c then change state else state)
     by true = grows state
     by false = grown_same state
 
-beginning : BlockState → BlockState
-beginning state = record state { is_pristine = false }
-
-filling : BlockState → BlockState
-filling state = record state { is_filled = true }
-
-grows_beginning : Grows (λ state. record state { is_pristine = false })
+pub grows_beginning : Grows (λ state. record state { is_pristine = false })
 grows_beginning state = record { block = refl; filled = λ is. is; is_sealed = λ is. is; begun = λ is. refl; led = λ branch is. is }
 
-grows_filling : Grows (λ state. record state { is_filled = true })
+pub grows_filling : Grows (λ state. record state { is_filled = true })
 grows_filling state = record { block = refl; filled = λ is. refl; is_sealed = λ is. is; begun = λ is. is; led = λ branch is. is }
 
-grows_sealed : Grows sealed
+pub grows_sealed : Grows sealed
 grows_sealed state = record { block = refl; filled = λ is. is; is_sealed = λ is. refl; begun = λ is. is; led = λ branch is. is }
 
 any_behind : (test : Name → Bool) (xs : List Name) (x : Name) → list_any test xs ≡ true → list_any test (xs ++ x ∷ []) ≡ true
@@ -134,14 +128,14 @@ any_last test (y ∷ xs) x is = by (test y) (any_last test xs x is)
     by true later = refl
     by false later = later
 
-grows_led : (branch : Name) → Grows (led_by branch)
+pub grows_led : (branch : Name) → Grows (led_by branch)
 grows_led branch state = by (list_any (same_name branch) state.predecessors)
   where
     by : (c : Bool) → Grown state (if c then state else record state { predecessors = state.predecessors ++ branch ∷ [] })
     by true = grown_same state
     by false = record { block = refl; filled = λ is. is; is_sealed = λ is. is; begun = λ is. is; led = λ other is. any_behind (same_name other) state.predecessors branch is }
 
-is_led : (branch : Name) (state : BlockState) → list_any (same_name branch) (led_by branch state).predecessors ≡ true
+pub is_led : (branch : Name) (state : BlockState) → list_any (same_name branch) (led_by branch state).predecessors ≡ true
 is_led branch state = by (list_any (same_name branch) state.predecessors) refl
   where
     by : (c : Bool) → list_any (same_name branch) state.predecessors ≡ c
@@ -159,14 +153,14 @@ abbrev pub LedgerGrows : (ledger later : Ledger) → Type 0
 LedgerGrows ledger later = (block : Name) (state : BlockState) → block_state ledger block ≡ Some state
     → (grown : BlockState) × (block_state later block ≡ Some grown) × Grown state grown
 
-grows_twice : (a b c : Ledger) → LedgerGrows a b → LedgerGrows b c → LedgerGrows a c
+pub grows_twice : (a b c : Ledger) → LedgerGrows a b → LedgerGrows b c → LedgerGrows a c
 grows_twice a b c first second block state is =
     let one = first block state is in
     let two = second block one.0 one.1 in
     (two.0, two.1, grown_both state one.0 two.0 one.2 two.2)
 
 -- blocks that are changed in place
-found_mapped : (change : BlockState → BlockState) → Grows change → (block : Name) (blocks : List BlockState) (state : BlockState)
+pub found_mapped : (change : BlockState → BlockState) → Grows change → (block : Name) (blocks : List BlockState) (state : BlockState)
     → find (λ s. same_name s.block block) blocks ≡ Some state → find (λ s. same_name s.block block) (map change blocks) ≡ Some (change state)
 found_mapped change grows block [] state is = let none : ⊥ = cc in absurd none
 found_mapped change grows block (first ∷ blocks) state is = by (same_name first.block block) refl is (found_mapped change grows block blocks state)
@@ -188,7 +182,7 @@ found_mapped change grows block (first ∷ blocks) state is = by (same_name firs
         ap (λ (c : Bool). cond c (Some (change first)) (find (λ s. same_name s.block block) (map change blocks))) (ap (λ (n : Name). same_name n block) (grows first).block ∙ other)
         ∙ later so
 
-found_behind : (block : Name) (blocks more : List BlockState) (state : BlockState) → find (λ s. same_name s.block block) blocks ≡ Some state
+pub found_behind : (block : Name) (blocks more : List BlockState) (state : BlockState) → find (λ s. same_name s.block block) blocks ≡ Some state
     → find (λ s. same_name s.block block) (blocks ++ more) ≡ Some state
 found_behind block [] more state is = let none : ⊥ = cc in absurd none
 found_behind block (first ∷ blocks) more state is = by (same_name first.block block) is (found_behind block blocks more state)
@@ -200,7 +194,7 @@ found_behind block (first ∷ blocks) more state is = by (same_name first.block 
     by false so later = later so
 
 -- what is found has the name
-found_named : (block : Name) (blocks : List BlockState) (state : BlockState) → find (λ s. same_name s.block block) blocks ≡ Some state → same_name state.block block ≡ true
+pub found_named : (block : Name) (blocks : List BlockState) (state : BlockState) → find (λ s. same_name s.block block) blocks ≡ Some state → same_name state.block block ≡ true
 found_named block [] state is = let none : ⊥ = cc in absurd none
 found_named block (first ∷ blocks) state is = by (same_name first.block block) refl is (found_named block blocks state)
   where
@@ -214,7 +208,7 @@ found_named block (first ∷ blocks) state is = by (same_name first.block block)
     by false other so later = later so
 
 -- the last of some blocks
-found_last : (block : Name) (blocks : List BlockState) → (state : BlockState) × (find (λ s. same_name s.block block) (blocks ++ new_block block ∷ []) ≡ Some state)
+pub found_last : (block : Name) (blocks : List BlockState) → (state : BlockState) × (find (λ s. same_name s.block block) (blocks ++ new_block block ∷ []) ≡ Some state)
 found_last block [] = (new_block block, ap (λ (c : Bool). cond c (Some (new_block block)) None) (equal_names block block refl))
 found_last block (first ∷ blocks) = by (same_name first.block block) (found_last block blocks)
   where
@@ -223,7 +217,7 @@ found_last block (first ∷ blocks) = by (same_name first.block block) (found_la
     by true rest = (first, refl)
     by false rest = rest
 
-mapped_grows : (ledger later : Ledger) (change : BlockState → BlockState) → Grows change → later.blocks ≡ map change ledger.blocks → LedgerGrows ledger later
+pub mapped_grows : (ledger later : Ledger) (change : BlockState → BlockState) → Grows change → later.blocks ≡ map change ledger.blocks → LedgerGrows ledger later
 mapped_grows ledger later change grows is block state here = (
   change state,
   ap (find (λ s. same_name s.block block)) is ∙ found_mapped change grows block ledger.blocks state here,

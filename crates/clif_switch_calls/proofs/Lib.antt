@@ -9,3 +9,5 @@ pub mod Nodes
 pub mod Emits
 pub mod Emitted
 pub mod Ledgers
+pub mod Built
+pub mod Left
