@@ -11,3 +11,4 @@ pub mod Emitted
 pub mod Ledgers
 pub mod Built
 pub mod Left
+pub mod Laid
