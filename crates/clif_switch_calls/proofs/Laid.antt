@@ -56,7 +56,7 @@ module _ (reading : Reading) (program : Program) (item : Item) where
     kept = λ x here. contained_later (answer_of place 1) given x here;
   }
 
-  fed_single : (given : List Name) (place : ℕ) (arithmetic : Arithmetic) (ty : «Type») (x : Name) → ToHand given x → FeedsOne given place arithmetic ty (x ∷ [])
+  pub fed_single : (given : List Name) (place : ℕ) (arithmetic : Arithmetic) (ty : «Type») (x : Name) → ToHand given x → FeedsOne given place arithmetic ty (x ∷ [])
   fed_single given place arithmetic ty x hand = record {
     after = answer_of place 1 ∷ given;
     lays = λ rest lays. Laying given (computed place arithmetic ty (x ∷ [])) rest (hand, tt) tt lays;
@@ -81,7 +81,7 @@ module _ (reading : Reading) (program : Program) (item : Item) where
   }
 
   -- what is to hand stays so
-  still : (given later : List Name) → ((x : Name) → Contains given x → Contains later x) → (x : Name) → ToHand given x → ToHand later x
+  pub still : (given later : List Name) → ((x : Name) → Contains given x → Contains later x) → (x : Name) → ToHand given x → ToHand later x
   still given later keeps x (inl here) = inl (keeps x here)
   still given later keeps x (inr named) = inr named
 

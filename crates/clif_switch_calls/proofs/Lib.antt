@@ -12,3 +12,4 @@ pub mod Ledgers
 pub mod Built
 pub mod Left
 pub mod Laid
+pub mod LaidNodes

@@ -66,7 +66,7 @@ as_many (test.Table range) place = refl
 abbrev pub From : ℕ → List Name → Type 0
 From base names = AllByRecursion (λ x. base ≤ x.place) names
 
-from_both : (base : ℕ) (names more : List Name) → From base names → From base more → From base (names ++ more)
+pub from_both : (base : ℕ) (names more : List Name) → From base names → From base more → From base (names ++ more)
 from_both base [] more all others = others
 from_both base (x ∷ names) more all others = (all.0, from_both base names more all.1 others)
 
@@ -78,7 +78,7 @@ made_from (test.NotBelow first above next.Otherwise) base place behind = (omega 
 made_from (test.NotBelow first above (next.Node n)) base place behind = (behind, (omega (arith, behind), tt))
 made_from (test.Table range) base place behind = tt
 
-from_at : (base : ℕ) (names : List Name) (k : ℕ) → From base names → k < length names → base ≤ (slice_index_or names k (answer_of 0 0)).place
+pub from_at : (base : ℕ) (names : List Name) (k : ℕ) → From base names → k < length names → base ≤ (slice_index_or names k (answer_of 0 0)).place
 from_at base [] k all inside = absurd (omega (arith, inside))
 from_at base (x ∷ names) zero all inside = all.0
 from_at base (x ∷ names) (suc k) all inside = from_at base names k all.1 (omega (arith, inside))

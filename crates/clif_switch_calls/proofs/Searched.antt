@@ -39,7 +39,7 @@ pub record Fits (ty : «Type») (range : CaseRange) : Type 0 where
 
 -- CALLS THAT MAKE A BLOCK -------------------------------------------------------------------------------------------------
 
-code_behind : (other : Next) (place : ℕ) (more : Script) → code_of place (block_for other ++ more) ≡ code_of (place + length (block_for other)) more
+pub code_behind : (other : Next) (place : ℕ) (more : Script) → code_of place (block_for other ++ more) ≡ code_of (place + length (block_for other)) more
 code_behind next.Otherwise place more = ap (λ (p : ℕ). code_of p more) (omega arith)
 code_behind (next.Node n) place more = ap (λ (p : ℕ). code_of p more) (omega arith)
 

@@ -72,7 +72,7 @@ module _ (types : Name → «Type») where
 -- INDICES -----------------------------------------------------------------------------------------------------------------
 
 -- the calls of an index, and its name, by how wide the number is: wider than 32 bits, or narrower, or neither
-abbrev IndexCalls : Switched → (wider narrower : Bool) → (place : ℕ) (x : Name) → Script
+abbrev pub IndexCalls : Switched → (wider narrower : Bool) → (place : ℕ) (x : Name) → Script
 IndexCalls s wider narrower place x =
     if wider
     then (CreateBlock ∷ map building (with_number (Compare cc.UnsignedGreaterThan) s.ty (2 ^ 32 - 1) (suc place) x)
@@ -80,16 +80,16 @@ IndexCalls s wider narrower place x =
     ∷ SealBlock (answer_of place 0) ∷ SwitchToBlock (answer_of place 0) ∷ building (computing (Convert Ireduce) i32 (x ∷ [])) ∷ [])
     else (if narrower then building (computing (Convert Uextend) i32 (x ∷ [])) ∷ [] else [])
 
-abbrev IndexName : (same : Bool) → Script → (place : ℕ) (x : Name) → Name
+abbrev pub IndexName : (same : Bool) → Script → (place : ℕ) (x : Name) → Name
 IndexName same calls place x = if same then x else answer_of (place + (length calls - 1)) 1
 
 -- how wide a type is
-data Width (ty : «Type») : Type 0 where
+pub data Width (ty : «Type») : Type 0 where
   Wider : nat_lt 32 (bits_of ty) ≡ true → (bits_of ty == 32) ≡ false → 2 ^ 32 ≤ 2 ^ bits_of ty → Width ty
   Narrower : nat_lt 32 (bits_of ty) ≡ false → nat_lt (bits_of ty) 32 ≡ true → (bits_of ty == 32) ≡ false → 2 ^ bits_of ty ≤ 2 ^ 32 → Width ty
   Same : nat_lt 32 (bits_of ty) ≡ false → nat_lt (bits_of ty) 32 ≡ false → (bits_of ty == 32) ≡ true → Width ty
 
-width_of : (ty : «Type») → IsTrue (is_int ty) → Width ty
+pub width_of : (ty : «Type») → IsTrue (is_int ty) → Width ty
 width_of (type.Lane lane.I8) int = Narrower refl refl refl (omega arith)
 width_of (type.Lane lane.I16) int = Narrower refl refl refl (omega arith)
 width_of (type.Lane lane.I32) int = Same refl refl refl
@@ -137,26 +137,26 @@ module _ (base : ℕ) (around : Surroundings) (generated : (x : Name) → base �
 
     -- WIDER ---------------------------------------------------------------------------------------------------------------
 
-    abbrev test : List (Instruction Name Name)
+    abbrev pub test : List (Instruction Name Name)
     test = with_number (Compare cc.UnsignedGreaterThan) s.ty (2 ^ 32 - 1) (suc q) x
 
-    abbrev follow : Name
+    abbrev pub follow : Name
     follow = answer_of q 0
 
-    abbrev branch : Request
+    abbrev pub branch : Request
     branch = branching i8 (with_number_name s.ty (2 ^ 32 - 1) (suc q)) s.otherwise follow
 
     -- where the number is reduced
-    abbrev reducing : ℕ
+    abbrev pub reducing : ℕ
     reducing = suc (suc (suc (suc q + length test)))
 
-    abbrev behind_branch : Name → Script
+    abbrev pub behind_branch : Name → Script
     behind_branch index = SealBlock follow ∷ SwitchToBlock follow ∷ building (computing (Convert Ireduce) i32 (x ∷ [])) ∷ Build (ServedBy tables ∷ []) (table_branch index edges) ∷ more
 
-    regrouped : (index : Name) → Whole (IndexCalls s true true q x) index ≡ CreateBlock ∷ (map building test ++ branch ∷ behind_branch index)
+    pub regrouped : (index : Name) → Whole (IndexCalls s true true q x) index ≡ CreateBlock ∷ (map building test ++ branch ∷ behind_branch index)
     regrouped index = ap (λ (calls : Script). CreateBlock ∷ calls) (append_assoc (map building test) _ _)
 
-    index_there : IndexName false (IndexCalls s true true q x) q x ≡ answer_of reducing 1
+    pub index_there : IndexName false (IndexCalls s true true q x) q x ≡ answer_of reducing 1
     index_there =
         let longer = length-append (map building test) (branch ∷ SealBlock follow ∷ SwitchToBlock follow ∷ building (computing (Convert Ireduce) i32 (x ∷ [])) ∷ []) in
         let count = length-map test building in
@@ -229,7 +229,7 @@ module _ (base : ℕ) (around : Surroundings) (generated : (x : Name) → base �
 
   -- TABLES ----------------------------------------------------------------------------------------------------------------
 
-  regroup : (a b c : Script) (m last : Request) (more : Script) → (a ++ m ∷ b ++ c ++ last ∷ []) ++ more ≡ a ++ (m ∷ (b ++ (c ++ (last ∷ more))))
+  pub regroup : (a b c : Script) (m last : Request) (more : Script) → (a ++ m ∷ b ++ c ++ last ∷ []) ++ more ≡ a ++ (m ∷ (b ++ (c ++ (last ∷ more))))
   regroup a b c m last more =
       append_assoc ((a ++ m ∷ b) ++ c) (last ∷ []) more ∙ append_assoc (a ++ m ∷ b) c (last ∷ more) ∙ append_assoc a (m ∷ b) (c ++ last ∷ more)
 
@@ -256,25 +256,25 @@ module _ (base : ℕ) (around : Surroundings) (generated : (x : Name) → base �
           (longer (constant_instructions ty (negated_64 (suc n)) place) _)
 
   module _ (tables place : ℕ) (range : CaseRange) (more : Script) (behind : base ≤ place) (before : s.value.place < base) where
-    abbrev line_at : ℕ
+    abbrev pub line_at : ℕ
     line_at = place + suc (length (table_targets s range))
 
-    abbrev line : List (Instruction Name Name)
+    abbrev pub line : List (Instruction Name Name)
     line = difference s.ty range.first line_at s.value
 
-    abbrev differed : Name
+    abbrev pub differed : Name
     differed = difference_name s.ty range.first line_at s.value
 
-    abbrev index_at : ℕ
+    abbrev pub index_at : ℕ
     index_at = line_at + length line
 
-    abbrev rest : Script
+    abbrev pub rest : Script
     rest = index_calls s index_at differed ++ Build (ServedBy tables ∷ []) (table_branch (index_name s index_at differed) (table_edges s range)) ∷ more
 
-    abbrev making : Request
+    abbrev pub making : Request
     making = MakeJumpTable (answer_of place 0) (answers_of (suc place) (length range.blocks.items))
 
-    grouped : table_calls s tables range place ++ more ≡ map (λ target. MakeEdge (bare_edge target)) (table_targets s range) ++ (making ∷ (map building line ++ rest))
+    pub grouped : table_calls s tables range place ++ more ≡ map (λ target. MakeEdge (bare_edge target)) (table_targets s range) ++ (making ∷ (map building line ++ rest))
     grouped = regroup (map (λ target. MakeEdge (bare_edge target)) (table_targets s range)) (map building line) (index_calls s index_at differed) making
         (Build (ServedBy tables ∷ []) (table_branch (index_name s index_at differed) (table_edges s range))) more
 
@@ -286,12 +286,12 @@ module _ (base : ℕ) (around : Surroundings) (generated : (x : Name) → base �
         ap (code_of place) grouped ∙ code_edges place (table_targets s range) (making ∷ (map building line ++ rest))
         ∙ ap (λ (p : ℕ). code_of p (map building line ++ rest)) at_line ∙ code_building line_at line rest
 
-    table_typed : AreTyped around.types place (table_calls s tables range place ++ more) → AreTyped around.types line_at (map building line ++ rest)
+    pub table_typed : AreTyped around.types place (table_calls s tables range place ++ more) → AreTyped around.types line_at (map building line ++ rest)
     table_typed typed =
         subst (λ (p : ℕ). AreTyped around.types p (map building line ++ rest)) at_line
         (typed_edges around.types place (table_targets s range) (making ∷ (map building line ++ rest)) (subst (AreTyped around.types place) grouped typed))
 
-    table_entered : Entered around.program place (table_calls s tables range place ++ more) → Entered around.program line_at (map building line ++ rest)
+    pub table_entered : Entered around.program place (table_calls s tables range place ++ more) → Entered around.program line_at (map building line ++ rest)
     table_entered entered =
         subst (λ (p : ℕ). Entered around.program p (map building line ++ rest)) at_line
         (entered_edges around.program place (table_targets s range) (making ∷ (map building line ++ rest)) (subst (Entered around.program place) grouped entered))
