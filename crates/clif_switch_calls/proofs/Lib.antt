@@ -13,3 +13,4 @@ pub mod Built
 pub mod Left
 pub mod Laid
 pub mod LaidNodes
+pub mod Typed
