@@ -14,3 +14,4 @@ pub mod Left
 pub mod Laid
 pub mod LaidNodes
 pub mod Typed
+pub mod Plain
