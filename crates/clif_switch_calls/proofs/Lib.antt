@@ -15,3 +15,4 @@ pub mod Laid
 pub mod LaidNodes
 pub mod Typed
 pub mod Plain
+pub mod Led

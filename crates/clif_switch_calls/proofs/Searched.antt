@@ -44,7 +44,7 @@ code_behind next.Otherwise place more = ap (λ (p : ℕ). code_of p more) (omega
 code_behind (next.Node n) place more = ap (λ (p : ℕ). code_of p more) (omega arith)
 
 -- the first key's block
-first_there : (s : Switched) (range : CaseRange) (key : ℕ) → 0 < length range.blocks.items → key ≡ range.first → first_block s range ≡ target_of s (block_in range key)
+pub first_there : (s : Switched) (range : CaseRange) (key : ℕ) → 0 < length range.blocks.items → key ≡ range.first → first_block s range ≡ target_of s (block_in range key)
 first_there s range key some same =
     let above : nat_lt key range.first ≡ false = grind (arith, nat_tests) in
     let none : key - range.first ≡ 0 = omega (arith, same) in
