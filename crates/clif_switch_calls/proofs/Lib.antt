@@ -16,3 +16,4 @@ pub mod LaidNodes
 pub mod Typed
 pub mod Plain
 pub mod Led
+pub mod Served
