@@ -17,3 +17,4 @@ pub mod Typed
 pub mod Plain
 pub mod Led
 pub mod Served
+pub mod Counted
