@@ -110,7 +110,7 @@ module _ (keys : List ℕ) where
   counted (range ∷ ranges) = if is_long range then suc (counted ranges) else counted ranges
 
   -- the first key of a range doesn't follow another one, and is followed where the range is long
-  abbrev Separate : List CaseRange → Type 0
+  abbrev pub Separate : List CaseRange → Type 0
   Separate [] = Unit {0}
   Separate (range ∷ ranges) = AllByRecursion (λ other. end_of range < other.first) ranges × Separate ranges
 
@@ -171,7 +171,7 @@ module _ (keys : List ℕ) where
           follow zero at below = absurd (omega (arith, at))
           follow (suc key) at below = with_key range key (contained_first range ranges) (omega (arith, at, first_is)) (omega (arith, below, first_is, longer))
 
-separate : (ranges : List CaseRange) → AllPairs HasGap ranges → Separate [] ranges
+pub separate : (ranges : List CaseRange) → AllPairs HasGap ranges → Separate [] ranges
 separate [] gaps = tt
 separate (range ∷ ranges) gaps =
     (heads ranges (λ i d inside. gaps 0 (suc i) d (omega arith) (omega (arith, inside))), separate ranges (λ i j d before inside. gaps (suc i) (suc j) d (omega (arith, before)) (omega (arith, inside))))

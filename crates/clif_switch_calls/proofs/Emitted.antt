@@ -281,7 +281,7 @@ module _ (base first_table : ℕ) (targets : List Name) where
     -- NODES -----------------------------------------------------------------------------------------------------------------
 
     -- the names of the nodes that a test names, behind those that waited
-    new_names : (t : Test) (blocks : List Name) (from place bound : ℕ) (rest : List ℕ) → from ≡ suc (length blocks) → AreNumbersFrom from (named_by t) → bound ≤ from → Fall bound rest
+    pub new_names : (t : Test) (blocks : List Name) (from place bound : ℕ) (rest : List ℕ) → from ≡ suc (length blocks) → AreNumbersFrom from (named_by t) → bound ≤ from → Fall bound rest
         → map (name_in (blocks ++ blocks_of t place)) (reverse (named_by t) ++ rest) ≡ reverse (blocks_of t place) ++ map (name_in blocks) rest
     new_names t blocks from place bound rest is are below fall = by t are
       where

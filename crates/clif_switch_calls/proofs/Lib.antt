@@ -18,3 +18,4 @@ pub mod Plain
 pub mod Led
 pub mod Served
 pub mod Counted
+pub mod Targets

@@ -1,2 +1,3 @@
 -- What the laws of this crate cite.
 pub mod SwitchCalls
+pub mod SwitchLaw
