@@ -178,7 +178,7 @@ module _ (base tables : ℕ) (targets : List Name) where
     abbrev pub AllTo : List Node → Script → List ℕ → Type 0
     AllTo nodes script numbers = AllByRecursion (λ n. To (target_of s (search nodes n key).block) script) numbers
 
-    goes_on_so : (t : Test) (nodes : List Node) (script : Script) (rest : List ℕ) → AllTo nodes script (reverse (named_by t) ++ rest)
+    pub goes_on_so : (t : Test) (nodes : List Node) (script : Script) (rest : List ℕ) → AllTo nodes script (reverse (named_by t) ++ rest)
         → GoOnAll (λ later. search nodes later key) t script × AllTo nodes script rest
     goes_on_so test.Nothing nodes script rest all = (tt, all)
     goes_on_so (test.OneKey range next.Otherwise) nodes script rest all = (tt, all)

@@ -19,3 +19,4 @@ pub mod Led
 pub mod Served
 pub mod Counted
 pub mod Targets
+pub mod Law

@@ -1,1 +1,9 @@
 //! The laws.
+
+ghost use Rattle.clif_switch_calls.specs.SwitchLaw.{SwitchCallsAreCode};
+
+/// The plain calls of a switch, node by node of a search among its cases, are code of the switch: from before it control walks to
+/// the block of each key's case.
+pub fn switch_calls_are_code()
+    ensures { SwitchCallsAreCode }
+{}
