@@ -15,6 +15,7 @@ pub mod Placing
 pub mod LaidPaths
 pub mod LaidCodes
 pub mod LayingExamples
+pub mod Among
 pub mod JoinedStates
 pub mod Joins
 pub mod ReadConditions

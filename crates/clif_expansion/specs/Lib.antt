@@ -11,6 +11,7 @@ pub mod WalkLaws
 pub mod ScriptsAlone
 pub mod Laying
 pub mod LayingExamples
+pub mod Keys
 pub mod ScriptCall
 pub mod Joining
 pub mod ScriptCallExamples
