@@ -16,6 +16,11 @@ pub mod LaidPaths
 pub mod LaidCodes
 pub mod LayingExamples
 pub mod Among
+pub mod BlockNames
+pub mod Across
+pub mod Instructions
+pub mod Switches
+pub mod SwitchedLedgers
 pub mod JoinedStates
 pub mod Joins
 pub mod ReadConditions

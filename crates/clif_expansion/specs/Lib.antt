@@ -16,6 +16,8 @@ pub mod ScriptCall
 pub mod Joining
 pub mod ScriptCallExamples
 pub mod Emission
+pub mod LedgerTypes
+pub mod Switching
 pub mod JoinedCalls
 pub mod ConstantCalls
 pub mod JoinedPrograms
@@ -26,4 +28,3 @@ pub mod CallsVerdict
 pub mod CallsHeadline
 pub mod HeadlineLaws
 pub mod HeadlineExamples
-pub mod Switching

@@ -14,7 +14,7 @@ use Rattle.clif_meaning.specs.WellPlaced.{edge_targets}
 use Rattle.clif_meaning.specs.World.{World}
 use Rattle.clif_expansion.specs.Keys.{table_count}
 use Rattle.clif_expansion.specs.Laying.{IsLaid}
-use Rattle.clif_expansion.specs.PerformedCalls.{HaveTypes, IsTypedInLine}
+use Rattle.clif_expansion.specs.LedgerTypes.{HaveTypes, IsTypedInLine}
 use Rattle.clif_expansion.specs.Reading.{Generated, Reading, ScriptName}
 use Rattle.clif_expansion.specs.Walk.{Surroundings, Walk}
 
@@ -23,6 +23,10 @@ use Rattle.clif_expansion.specs.Walk.{Surroundings, Walk}
 -- where edges lead
 abbrev pub targets_of : List (Edge Name Name) → List Name
 targets_of edges = map (λ edge. edge.target) edges
+
+-- the switch of a value by these keys
+abbrev pub switching : List ℕ → «Type» → (value : Name) → List (Edge Name Name) → Instruction Name Name
+switching keys ty value edges = record { operation = Switch keys; controlling = ty; operands = value ∷ []; contexts = []; edges = edges }
 
 -- names that were made before this place stand for themselves, and later ones were generated
 abbrev pub generated_from : (base : ℕ) → Reading
@@ -80,8 +84,9 @@ BeginsHere [] = ⊥
 BeginsHere (Build entries instruction ∷ more) = Unit {0}
 BeginsHere (request ∷ more) = IsMaking request × BeginsHere more
 
--- if it builds a branch, generated blocks to which that leads are there
+-- a block that becomes the current one is there, and so are generated blocks to which a branch leads that is built
 abbrev pub LeadsToBlocks : (base : ℕ) → Ledger → Request → Type 0
+LeadsToBlocks base ledger (SwitchToBlock block) = IsTrue (has_block ledger block)
 LeadsToBlocks base ledger (Build entries instruction) =
     AllByRecursion (λ edge. base ≤ edge.target.place → IsTrue (has_block ledger edge.target)) instruction.edges
 LeadsToBlocks base ledger _ = Unit {0}
