@@ -305,7 +305,7 @@ module _ (reading : Reading) (plain ledger : Ledger) (joined : IsJoined reading 
   goes_on = record { keeps = keeps; generated = keeps_generated; unread = keeps_unread }
 
   -- what is generated behind the call was so before
-  generated_before : (x : Name) → IsGenerated later x → IsGenerated reading x
+  pub generated_before : (x : Name) → IsGenerated later x → IsGenerated reading x
   generated_before x is = by (read_either reading here' (answers_at here) x Generated is)
     where
       by : ((x.place ≡ here') × (ScriptName (answer_of here x.index) ≡ Generated)) ⊎ IsGenerated reading x → IsGenerated reading x

@@ -21,6 +21,7 @@ pub mod Across
 pub mod Instructions
 pub mod Switches
 pub mod SwitchedLedgers
+pub mod DecidingPrograms
 pub mod JoinedStates
 pub mod Joins
 pub mod ReadConditions
@@ -30,6 +31,8 @@ pub mod JoinedCalls
 pub mod ConstantCalls
 pub mod JoinedPrograms
 pub mod CalledPrograms
+pub mod SwitchedPrograms
+pub mod ProgramsOfCalls
 pub mod EmittedPrograms
 pub mod LedgerTypes
 pub mod LaterCodes

@@ -341,7 +341,7 @@ module _ (reading : Reading) (plain more : Script) (ledger : Ledger) (joined : I
   abbrev branch : Name
   branch = next_answer ledger
 
-  branch_unread : IsUnread across (suc made) branch
+  pub branch_unread : IsUnread across (suc made) branch
   branch_unread = record {
     unread = λ x read. let below = (kept x branch (across_read reading base count x branch read)).1 in absurd (omega (arith, below));
     before = omega arith;

@@ -5,7 +5,7 @@ use Rattle.std.specs.List.{AllByRecursion}
 use Rattle.clif_types.specs.declared.types.«Type».{«Type»}
 use Rattle.clif_meaning.specs.Bits.{Bits, IsValue}
 use Rattle.clif_meaning.specs.Instruction.{Compute, Jump, Brif, BrTable, Switch, Operation, Edge, Instruction}
-use Rattle.clif_meaning.specs.Ledger.{BlockState, Ledger, is_filled, has_block, is_inserted, is_pristine, leads_to, ledger_after}
+use Rattle.clif_meaning.specs.Ledger.{BlockState, Ledger, is_filled, has_block, is_inserted, is_pristine, leads_to, ledger_after, type_of}
 use Rattle.clif_meaning.specs.Name.{Name}
 use Rattle.clif_meaning.specs.Program.{Item, Instruct, Program, program_of}
 use Rattle.clif_meaning.specs.Request.{Request, CreateBlock, SwitchToBlock, SealBlock, MakeEdge, MakeJumpTable, Build, GivenEntry, ServedBy, Script}
@@ -127,6 +127,7 @@ pub record GoesByKey (around : Surroundings) (code : List Item) (edges : List (E
 -- whose edges pass nothing.
 pub record IsSwitchCode (plain more : Script) (block value : Name) (ty : «Type») (keys : List ℕ) (edges : List (Edge Name Name)) (branches tables : ℕ) : Type 0 where
   pub nothing : AllByRecursion (λ edge. edge.arguments ≡ []) edges
+  pub value_type : type_of (ledger_after plain) value ≡ Some ty
   pub calls : AllByRecursion (IsDecidingCall (length plain) (length (ledger_after plain).jump_tables) (targets_of edges)) more
   pub typed : (types : Name → «Type») → HaveTypes (ledger_after (plain ++ more)) types → AllByRecursion (BuildsTyped types) more
   -- the first instruction stands in that block: before it blocks, edges and tables are made alone
