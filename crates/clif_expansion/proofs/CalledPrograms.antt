@@ -645,7 +645,7 @@ module _ (Known : Reading → List Item → Item → Type 0) (lasts : LastsLater
       abbrev script_program : Program
       script_program = record (with_items_at (with_inserted program) program.current (emitted_item program.place whole ∷ [])) { place = suc program.place }
 
-      script_is : program_with_call program (Emit whole) ≡ script_program
+      pub script_is : program_with_call program (Emit whole) ≡ script_program
       script_is =
           ap (λ (p : Program). record p { place = suc program.place })
           (program_line whole.operation (with_item_at (with_inserted program) program.current (emitted_item program.place whole)) whole_stays.goes_on
