@@ -1,13 +1,18 @@
 -- What code does, and that it is laid, stays true in a later reading.
-use Rattle.std.proofs.Common.{inl, inr, ℕ, List, [], ◌∷◌, ◌++◌, map, refl, sym, ◌∙◌, ap, subst, Some}
+use Rattle.std.proofs.Common.{◌≡◌, inl, inr, ℕ, List, [], ◌∷◌, ◌++◌, map, refl, sym, ◌∙◌, ap, subst, Some}
 use Rattle.std.specs.List.{AllByRecursion}
 use Rattle.clif_meaning.specs.Instruction.{Instruction}
 use Rattle.clif_meaning.specs.Name.{Name}
 use Rattle.clif_meaning.specs.Program.{Program, Item, Instruct, Use, Assign}
 use Rattle.clif_meaning.specs.WellPlaced.{item_gives, item_names, item_passes, item_targets}
-use Rattle.clif_expansion.specs.Code.{NameTypes, Performs, PerformsItem}
+use Rattle.clif_meaning.specs.World.{World}
+use Rattle.clif_types.specs.declared.types.«Type».{«Type»}
+use Rattle.clif_expansion.specs.Code.{Decides, DecidesItem, NameTypes, Performs, PerformsItem}
 use Rattle.clif_expansion.specs.Laying.{Ending, Entering, HasGiven, IsAmong, IsLaid, IsToHand, IsToPass, Laying, Lays, Leaving}
 use Rattle.clif_expansion.specs.Reading.{Reading}
+use Rattle.clif_expansion.specs.Walk.{Surroundings, Walk}
+use Rattle.clif_expansion.specs.WalkLaws.{Extends}
+use Rattle.clif_expansion.proofs.Walking.{walks_go_on}
 use Rattle.clif_expansion.proofs.JoinedPrograms.{KeepsOwn}
 use Rattle.clif_expansion.proofs.Joins.{KeepsGenerated, KeepsReading, names_later}
 
@@ -76,3 +81,53 @@ module _ (reading later : Reading) (keeps : KeepsReading reading later) (generat
 
   pub laid_later : (program after : Program) → KeepsOwn reading program after → (code : List Item) (item : Item) → IsLaid reading program code item → IsLaid later after code item
   laid_later program after own code item is = record { begins = is.begins; lays = lays_later program after own item [] [] code is.lays }
+
+  -- DECIDED ---------------------------------------------------------------------------------------------------------------
+
+  module _ (before after : Program) (own : KeepsOwn reading before after) where
+    abbrev around : World → (Name → «Type») → Surroundings
+    around world types = record { world = world; reading = reading; types = types; program = before }
+
+    abbrev around_later : World → (Name → «Type») → Surroundings
+    around_later world types = record { world = world; reading = later; types = types; program = after }
+
+    no_more : (items : List Item) → items ≡ items ++ []
+    no_more [] = refl
+    no_more (item ∷ items) = ap (λ (rest : List Item). item ∷ rest) (no_more items)
+
+    extends : (world : World) (types : Name → «Type») → Extends (around world types) (around_later world types)
+    extends world types = record {
+      world = refl;
+      generated = generated;
+      types = λ x. refl;
+      items = λ block is. ([], (own block is).0 ∙ no_more (before.items block));
+    }
+
+    decides_later : (pointer_width : ℕ) (types : NameTypes) (code : List Item) (instruction : Instruction Name Name) (branches tables : ℕ)
+        → Decides pointer_width reading types before code instruction branches tables → Decides pointer_width later types after code instruction branches tables
+    decides_later pointer_width types code instruction branches tables is = record {
+      decides = λ world plain names memory width agree sound.
+          let did = is.decides world plain names memory width (λ x name read. agree x name (keeps x name read)) sound in
+          record {
+            index = did.index;
+            edge = did.edge;
+            outcome = did.outcome;
+            there = did.there;
+            nothing = did.nothing;
+            block = did.block;
+            target = keeps did.block did.edge.target did.target;
+            after = did.after;
+            walked_branches = did.walked_branches;
+            walked_tables = did.walked_tables;
+            walk = subst (λ (items : List Item). Walk (around_later world types.plain) did.block items plain did.after did.walked_branches did.walked_tables) (sym (no_more code))
+                (walks_go_on.kept (around world types.plain) (around_later world types.plain) did.block code [] plain did.after did.walked_branches did.walked_tables (extends world types.plain) did.walk);
+            few_branches = did.few_branches;
+            few_tables = did.few_tables;
+          };
+    }
+
+    pub item_decides_later : (pointer_width : ℕ) (types : NameTypes) (code : List Item) (item : Item)
+        → DecidesItem pointer_width reading types before code item → DecidesItem pointer_width later types after code item
+    item_decides_later pointer_width types code (Instruct place instruction results) (branches, tables, is) = (branches, tables, decides_later pointer_width types code instruction branches tables is)
+    item_decides_later pointer_width types code (Use variable name) is = absurd is
+    item_decides_later pointer_width types code (Assign variable name) is = absurd is

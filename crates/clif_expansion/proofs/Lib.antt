@@ -36,6 +36,7 @@ pub mod ProgramsOfCalls
 pub mod EmittedPrograms
 pub mod LedgerTypes
 pub mod LaterCodes
+pub mod SwitchCodes
 pub mod JoinedRuns
 pub mod PerformedConstants
 pub mod JoinedRunExamples

@@ -22,6 +22,8 @@ use Rattle.clif_expansion.proofs.EmittedPrograms.{built, built_program, emitted_
 use Rattle.clif_expansion.proofs.JoinedCalls.{calls_made, current_read, fold_on, joined_calls}
 use Rattle.clif_expansion.proofs.JoinedPrograms.{IsCalledSo, LastsIn, LastsLater, cut_each}
 use Rattle.clif_expansion.proofs.Joins.{read_before, read_either, read_there}
+use Rattle.clif_expansion.proofs.LaterCodes
+use Rattle.clif_expansion.proofs.SwitchCodes
 use Rattle.clif_expansion.proofs.SwitchedLedgers.{fold_longer}
 use Rattle.clif_expansion.proofs.SwitchedPrograms.{switched_goes}
 
