@@ -20,10 +20,8 @@ use Rattle.clif_expansion.proofs.DecidingPrograms.{AllBuilt}
 use Rattle.clif_expansion.proofs.Emissions.{behind_line}
 use Rattle.clif_expansion.proofs.EmittedPrograms.{built, built_program, emitted_before, emitted_inner, none_on, one_longer}
 use Rattle.clif_expansion.proofs.JoinedCalls.{calls_made, current_read, fold_on, joined_calls}
-use Rattle.clif_expansion.proofs.JoinedPrograms.{IsCalledSo, LastsIn, LastsLater, cut_each}
+use Rattle.clif_expansion.proofs.JoinedPrograms.{IsBareFrom, IsCalledSo, LastsIn, LastsLater, cut_each}
 use Rattle.clif_expansion.proofs.Joins.{read_before, read_either, read_there}
-use Rattle.clif_expansion.proofs.LaterCodes
-use Rattle.clif_expansion.proofs.SwitchCodes
 use Rattle.clif_expansion.proofs.SwitchedLedgers.{fold_longer}
 use Rattle.clif_expansion.proofs.SwitchedPrograms.{switched_goes}
 
@@ -250,3 +248,8 @@ unmade reading plain calls (Switching old script more earlier block value ty key
         absurd (omega (arith, below, behind, made))
     by (inr from) (inl inside) before = let apart : Generated ≡ NotMade = sym (across_inside old (length script) (length more) x from inside) ∙ is in let no_way : ⊥ = cc in absurd no_way
     by (inr from) (inr behind) before = omega (arith, behind, longer)
+
+-- nothing is in a block that isn't made
+pub joined_bare : (reading : Reading) (plain : Script) (calls : List ScriptCall) → AreJoinedCalls reading plain calls → IsBareFrom (length (ledger_after plain).answers) (program_of plain)
+joined_bare reading plain calls are =
+    (go nothing (λ a b c d e f g. tt) undecided (λ a b c d e f g h i j. tt) anything reading plain calls are (none_known reading plain calls are)).bare'
