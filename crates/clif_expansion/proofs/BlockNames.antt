@@ -58,7 +58,7 @@ new_names : (states : List BlockState) (block : Name) → names_of (states ++ ne
 new_names [] block = refl
 new_names (state ∷ states) block = ap (λ (rest : List Name). state.block ∷ rest) (new_names states block)
 
-asked_names : (ledger : Ledger) (request : Request) → names_of (changed_by ledger request).blocks ≡ names_of ledger.blocks ++ created ledger request
+pub asked_names : (ledger : Ledger) (request : Request) → names_of (changed_by ledger request).blocks ≡ names_of ledger.blocks ++ created ledger request
 asked_names ledger CreateBlock = new_names ledger.blocks (next_answer ledger)
 asked_names ledger (SealBlock block) = none_more _ (names_of ledger.blocks) (mapped_names (changed_at block sealed) (keeps_at block sealed keeps_sealing) ledger.blocks)
 asked_names ledger SealAllBlocks = none_more _ (names_of ledger.blocks) (mapped_names sealed keeps_sealing ledger.blocks)

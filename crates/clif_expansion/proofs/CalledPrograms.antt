@@ -128,7 +128,10 @@ module _ (Known : Reading → List Item → Item → Type 0) (lasts : LastsLater
     pub item : Item
     pub there : Contains (program.items block) item
     pub other : ℕ
+    pub keys : List ℕ
     pub switch : Instruction Name Name
+    pub is_switch : switch.operation ≡ Switch keys
+    pub nothing : AllByRecursion (λ edge. edge.arguments ≡ []) switch.edges
     pub emitted : item ≡ emitted_item other switch
     pub unread : IsUnread reading made (answer_of other 0)
     pub decides : AllByRecursion (IsDecidingItem reading item) (plain.items x)
@@ -213,7 +216,10 @@ module _ (Known : Reading → List Item → Item → Type 0) (lasts : LastsLater
           item = own.item;
           there = kept own.block own.item own.other own.switch own.emitted own.unread own.there;
           other = own.other;
+          keys = own.keys;
           switch = own.switch;
+          is_switch = own.is_switch;
+          nothing = own.nothing;
           emitted = own.emitted;
           unread = on.unread (answer_of own.other 0) own.unread;
           decides = subst (AllByRecursion (IsDecidingItem later own.item)) (sym same.0) (deciders_later reading later on.keeps on.generated own.item (plain.items x) own.decides);

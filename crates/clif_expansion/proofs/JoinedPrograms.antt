@@ -137,6 +137,7 @@ module _ (reading later : Reading) (keeps : KeepsReading reading later) where
           keys = is.switched.keys;
           switch = is.switched.switch;
           is_switch = is.switched.is_switch;
+          nothing = is.switched.nothing;
           emitted = is.switched.emitted;
           unread = still.unread;
           decides = deciders_later generated item code is.switched.decides;

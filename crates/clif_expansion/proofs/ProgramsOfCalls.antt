@@ -144,21 +144,21 @@ module _ (Known : Reading → List Item → Item → Type 0) (lasts : LastsLater
       (currents_same (script ++ more))))
 
 -- nothing is known
-abbrev nothing : Reading → List Item → Item → Type 0
+abbrev pub nothing : Reading → List Item → Item → Type 0
 nothing reading code item = Unit {0}
 
-abbrev undecided : Reading → Program → List Item → Item → Type 0
+abbrev pub undecided : Reading → Program → List Item → Item → Type 0
 undecided reading program code item = Unit {0}
 
-abbrev anything : Item → Type 0
+abbrev pub anything : Item → Type 0
 anything item = Unit {0}
 
-all_anything : (place : ℕ) (more : Script) → AllBuilt anything place more
+pub all_anything : (place : ℕ) (more : Script) → AllBuilt anything place more
 all_anything place [] = tt
 all_anything place (Build entries instruction ∷ more) = (tt, all_anything (suc place) more)
 all_anything place (_ ∷ more) = all_anything (suc place) more
 
-none_known : (reading : Reading) (plain : Script) (calls : List ScriptCall) (are : AreJoinedCalls reading plain calls)
+pub none_known : (reading : Reading) (plain : Script) (calls : List ScriptCall) (are : AreJoinedCalls reading plain calls)
     → EachKnown nothing (λ a b c d e f g. tt) undecided (λ a b c d e f g h i j. tt) anything reading plain calls are
 none_known reading plain calls Starting = tt
 none_known reading plain calls (Asking old script earlier ask request are is placed) = none_known old script earlier are

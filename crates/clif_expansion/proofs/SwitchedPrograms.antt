@@ -4,7 +4,7 @@ use Rattle.std.specs.Prelude.{◌≢◌, Contains, IsTrue, fold, if◌then◌els
 use Rattle.std.specs.List.{AllByRecursion, AllZip}
 use Rattle.std.proofs.lemmas.Bool.{cases_lt}
 use Rattle.clif_types.specs.declared.types.«Type».{«Type»}
-use Rattle.clif_meaning.specs.Instruction.{Edge, Instruction, Operation, Switch}
+use Rattle.clif_meaning.specs.Instruction.{Argument, Edge, Instruction, Operation, Switch}
 use Rattle.clif_meaning.specs.Ledger.{Ledger, has_block, ledger_after, ledger_with, with_instruction}
 use Rattle.clif_meaning.specs.Name.{Name, answer_of, same_name}
 use Rattle.clif_meaning.specs.Program.{Program, Item, Instruct, Use, Assign, first_block, program_of, result_names, with_call, with_inserted}
@@ -14,7 +14,7 @@ use Rattle.clif_expansion.specs.Emission.{reading_across}
 use Rattle.clif_expansion.specs.Expansion.{AreCut, IsCutProgram, IsReadBlock}
 use Rattle.clif_expansion.specs.JoinedPrograms.{DecidesAlong, IsDecidingItem, IsSwitched}
 use Rattle.clif_expansion.specs.Joining.{IsJoined, IsUnread}
-use Rattle.clif_expansion.specs.Reading.{Generated, IsOneToOne, IsReadAs, IsReadEdge, IsReadInstruction, Reading, ScriptName}
+use Rattle.clif_expansion.specs.Reading.{Generated, IsOneToOne, IsReadArgument, IsReadAs, IsReadEdge, IsReadInstruction, Reading, ScriptName}
 use Rattle.clif_expansion.specs.ScriptCall.{Emit, emitted_item, program_behind, program_with_call}
 use Rattle.clif_expansion.specs.Switching.{IsDecidingCall, IsSwitchCode, LeadsInside, LeadsToBlocks, switching, targets_of}
 use Rattle.clif_expansion.specs.Walk.{IsGenerated}
@@ -40,6 +40,19 @@ target_read reading (edge' ∷ edges') (edge ∷ edges) are x there = by (contai
         → (name : Name) × IsReadAs reading x name × Contains (targets_of (edge ∷ edges)) name
     by (inl same) rest = (edge.target, ap reading (sym same) ∙ are.0.target, contained_first edge.target (targets_of edges))
     by (inr further) rest = let found = rest further in (found.0, found.1, contained_later edge.target (targets_of edges) found.0 found.2)
+
+-- edges that pass nothing, read
+none_read : (reading : Reading) (arguments' arguments : List (Argument Name)) → AllZip (IsReadArgument reading) arguments' arguments → arguments' ≡ [] → arguments ≡ []
+none_read reading [] [] are none = refl
+none_read reading [] (argument ∷ arguments) are none = absurd are
+none_read reading (argument' ∷ arguments') arguments are none = let no_way : ⊥ = cc in absurd no_way
+
+pub nothing_read : (reading : Reading) (edges' edges : List (Edge Name Name)) → AllZip (IsReadEdge reading) edges' edges → AllByRecursion (λ edge. edge.arguments ≡ []) edges'
+    → AllByRecursion (λ edge. edge.arguments ≡ []) edges
+nothing_read reading [] [] are all = tt
+nothing_read reading [] (edge ∷ edges) are all = absurd are
+nothing_read reading (edge' ∷ edges') [] are all = absurd are
+nothing_read reading (edge' ∷ edges') (edge ∷ edges) are all = (none_read reading edge'.arguments edge.arguments are.0.arguments all.0, nothing_read reading edges' edges are.1 all.1)
 
 pub all_two : {X : Type 0} (P Q : X → Type 0) (xs : List X) → AllByRecursion (λ x. P x × Q x) xs → AllByRecursion P xs × AllByRecursion Q xs
 all_two P Q [] all = (tt, tt)
@@ -242,6 +255,7 @@ module _ (reading : Reading) (plain more : Script) (ledger : Ledger) (joined : I
           keys = keys;
           switch = switch;
           is_switch = sym is.operation;
+          nothing = nothing_read reading edges switch.edges is.edges code.nothing;
           emitted = refl;
           unread = unread.unread;
           decides = (all_two (IsDecidingItem across item) KnownItem code.code code_built).0;
@@ -309,7 +323,10 @@ module _ (reading : Reading) (plain more : Script) (ledger : Ledger) (joined : I
                   item = item;
                   there = item_there;
                   other = made;
+                  keys = keys;
                   switch = switch;
+                  is_switch = sym is.operation;
+                  nothing = nothing_read reading edges switch.edges is.edges code.nothing;
                   emitted = refl;
                   unread = SwitchedLedgers.branch_unread reading plain more ledger joined block here value ty keys edges switch branches tables at' at is_block is code place end_is;
                   decides = built.0;

@@ -66,6 +66,7 @@ pub record IsSwitched (reading : Reading) (code : List Item) (item : Item) : Typ
   pub keys : List ℕ
   pub switch : Instruction Name Name
   pub is_switch : switch.operation ≡ Switch keys
+  pub nothing : AllByRecursion (λ edge. edge.arguments ≡ []) switch.edges
   pub emitted : item ≡ emitted_item other switch
   pub unread : (x : Name) → reading x ≢ ScriptName (answer_of other 0)
   pub decides : AllByRecursion (IsDecidingItem reading item) code
