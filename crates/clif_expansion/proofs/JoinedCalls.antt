@@ -1,14 +1,18 @@
 -- Joined calls have joined ledgers.
-use Rattle.std.proofs.Common.{◌≡◌, true, false, List, [], ◌∷◌, ◌++◌, length, map, refl, sym, ◌∙◌, ap, subst, arith, Option, Some, None}
-use Rattle.std.specs.Prelude.{fold, is_some}
-use Rattle.clif_meaning.specs.Ledger.{Ledger, empty_ledger, ledger_after, ledger_with}
-use Rattle.clif_meaning.specs.Request.{Script}
+use Rattle.std.proofs.Common.{◌≡◌, Bool, true, false, List, [], ◌∷◌, ◌++◌, length, map, refl, sym, ◌∙◌, ap, subst, arith, Option, Some, None}
+use Rattle.std.specs.Prelude.{◌&&◌, fold, is_some}
+use Rattle.std.specs.List.{list_all}
+use Rattle.std.proofs.lemmas.Bool.{and_parts}
+use Rattle.clif_meaning.specs.Acceptance.{allows, can_assign, can_lead, can_operate, has_entry, is_open, may_give_all}
+use Rattle.clif_meaning.specs.Instruction.{Instruction, operation_entries}
+use Rattle.clif_meaning.specs.Ledger.{Ledger, empty_ledger, has_value, ledger_after, ledger_with, type_of, variable_type}
+use Rattle.clif_meaning.specs.Request.{Request, EnsureInsertedBlock, DefVar, UseVar, Build, Script}
 use Rattle.clif_meaning.specs.Name.{Name}
 use Rattle.clif_expansion.specs.Emission.{building, reading_across, reading_emitted}
-use Rattle.clif_expansion.specs.JoinedCalls.{Asking, Emitting, JoinedCallsHaveJoinedLedgers, Starting, Switching}
+use Rattle.clif_expansion.specs.JoinedCalls.{Asking, Emitting, HaveCurrent, JoinedCallsHaveJoinedLedgers, Starting, Switching, uses_current}
 use Rattle.clif_expansion.specs.Joining.{IsJoined, IsReadCurrent, reading_after}
 use Rattle.clif_expansion.specs.Reading.{IsReadAs, Reading}
-use Rattle.clif_expansion.specs.ScriptCall.{Ask, Emit, ScriptCall, ledger_of, ledger_with_call}
+use Rattle.clif_expansion.specs.ScriptCall.{Ask, Emit, ScriptCall, call_allowed, can_emit, ledger_of, ledger_with_call}
 use Rattle.clif_expansion.proofs.Emissions.{emitting_keeps_joins}
 use Rattle.clif_expansion.proofs.Joins.{asking_keeps_joins}
 use Rattle.clif_expansion.proofs.SwitchedLedgers.{fold_longer, switched_joined}
@@ -39,6 +43,46 @@ current_read reading plain ledger (Some y) (Some block) x read same both = (bloc
         name_or : Name → Option Name → Name
         name_or other None = other
         name_or other (Some n) = n
+
+-- where the script's current block is open, there is one on both sides
+pub have_current : (reading : Reading) (plain ledger : Ledger) → IsJoined reading plain ledger → is_open ledger ledger.current ≡ true → HaveCurrent plain ledger
+have_current reading plain ledger joined opened = by plain.current ledger.current joined.ledgers.states.current opened
+  where
+    by : (current' current : Option Name) → IsReadCurrent reading plain current' current → is_open ledger current ≡ true → is_some current' ≡ is_some current
+    by None None read is = refl
+    by None (Some block) read is = absurd read
+    by (Some x) (Some block) read is = refl
+    by (Some x) None read is = let no_way : false ≡ true = is in cc
+
+-- so a call that may be made finds one on both sides if it uses the current block, and so does an emission that may be made
+pub asked_placed : (reading : Reading) (plain ledger : Ledger) → IsJoined reading plain ledger → (request : Request) → allows ledger request ≡ true → uses_current request ≡ true → HaveCurrent plain ledger
+asked_placed reading plain ledger joined EnsureInsertedBlock may uses = have_current reading plain ledger joined may
+asked_placed reading plain ledger joined (DefVar variable value) may uses =
+    have_current reading plain ledger joined (and_parts (is_open ledger ledger.current) (can_assign (variable_type ledger variable) (type_of ledger value)) may).0
+asked_placed reading plain ledger joined (UseVar variable) may uses =
+    have_current reading plain ledger joined (and_parts (is_open ledger ledger.current) (is_some (variable_type ledger variable)) may).0
+asked_placed reading plain ledger joined (Build entries instruction) may uses =
+    have_current reading plain ledger joined
+    (built_open (list_all (has_value ledger) instruction.contexts) (may_give_all ledger entries) (is_open ledger ledger.current) (list_all (has_value ledger) instruction.operands)
+    (list_all (can_lead ledger) instruction.edges) (can_operate instruction.operation instruction.controlling) (list_all (has_entry ledger.tables) (operation_entries instruction.operation)) may)
+  where
+    built_open : (a b c d e f g : Bool) → (a && b && c && d && e && f && g) ≡ true → c ≡ true
+    built_open true true true d e f g is = refl
+    built_open true true false d e f g is = is
+    built_open true false c d e f g is = let no_way : false ≡ true = is in cc
+    built_open false b c d e f g is = let no_way : false ≡ true = is in cc
+asked_placed reading plain ledger joined _ may uses = let no_way : false ≡ true = uses in cc
+
+pub emission_placed : (reading : Reading) (plain ledger : Ledger) → IsJoined reading plain ledger → (instruction : Instruction Name Name) → call_allowed ledger (Emit instruction) ≡ true → HaveCurrent plain ledger
+emission_placed reading plain ledger joined instruction may =
+    have_current reading plain ledger joined
+    (emitted_open (list_all (has_value ledger) instruction.contexts) (is_open ledger ledger.current) (list_all (has_value ledger) instruction.operands)
+    (list_all (can_lead ledger) instruction.edges) (can_emit instruction.operation instruction.controlling) may)
+  where
+    emitted_open : (a c d e f : Bool) → (a && c && d && e && f) ≡ true → c ≡ true
+    emitted_open true true d e f is = refl
+    emitted_open true false d e f is = is
+    emitted_open false c d e f is = let no_way : false ≡ true = is in cc
 
 pub calls_made : (script : Script) → length script ≡ length (ledger_after script).answers
 calls_made script = let all = fold_longer script empty_ledger in omega (arith, all)
