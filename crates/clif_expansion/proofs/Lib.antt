@@ -15,6 +15,7 @@ pub mod Placing
 pub mod LaidPaths
 pub mod LaidCodes
 pub mod LayingExamples
+pub mod Keys
 pub mod Among
 pub mod BlockNames
 pub mod Across

@@ -9,7 +9,7 @@ use Rattle.clif_meaning.specs.Ledger.{BlockState, Ledger, is_filled, has_block, 
 use Rattle.clif_meaning.specs.Name.{Name}
 use Rattle.clif_meaning.specs.Program.{Item, Instruct, Program, program_of}
 use Rattle.clif_meaning.specs.Request.{Request, CreateBlock, SwitchToBlock, SealBlock, MakeEdge, MakeJumpTable, Build, GivenEntry, ServedBy, Script}
-use Rattle.clif_meaning.specs.Switch.{edge_of_key}
+use Rattle.clif_meaning.specs.Switch.{edge_of_key, switch_target}
 use Rattle.clif_meaning.specs.WellPlaced.{edge_targets}
 use Rattle.clif_meaning.specs.World.{World}
 use Rattle.clif_expansion.specs.Keys.{table_count}
@@ -147,3 +147,13 @@ pub record IsSwitchCode (plain more : Script) (block value : Name) (ty : «Type�
   pub goes : (world : World) (types : Name → «Type») (names : Name → Bits) → HaveTypes (ledger_after (plain ++ more)) types → IsValue ty (names value)
       → GoesByKey (record { world = world; reading = generated_from (length plain); types = types; program = program_of (plain ++ more) })
       code edges keys names (names value) branches tables
+
+-- LAWS --------------------------------------------------------------------------------------------------------------------
+
+-- The edge of a key leads where the finite map has the key, where edges lead to the blocks of the entries, in order, and then to the
+-- default.
+abbrev pub KeysFindTheirBlocks : Type 0
+KeysFindTheirBlocks =
+    (entries : List (ℕ × Name)) (otherwise : Name) (edge_to : Name → Edge Name Name) (key : ℕ)
+    → slice_get (map (λ entry. edge_to entry.1) entries ++ edge_to otherwise ∷ []) (edge_of_key (map (λ entry. entry.0) entries) key)
+    ≡ Some (edge_to (switch_target entries otherwise key))
