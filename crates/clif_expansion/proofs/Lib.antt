@@ -27,6 +27,7 @@ pub mod JoinedStates
 pub mod Joins
 pub mod ReadConditions
 pub mod ScriptCalls
+pub mod SwitchExamples
 pub mod Emissions
 pub mod JoinedCalls
 pub mod ConstantCalls
