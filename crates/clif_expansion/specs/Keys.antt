@@ -31,14 +31,14 @@ abbrev pub has_key_twice : List ℕ → Bool
 has_key_twice [] = false
 has_key_twice (key ∷ keys) = is_key keys key || has_key_twice keys
 
--- so many keys follow one another, this one first
-abbrev pub begins_run : List ℕ → ℕ → (count : ℕ) → Bool
-begins_run keys key zero = true
-begins_run keys key (suc count) = is_key keys key && begins_run keys (suc key) count
+-- how many keys follow one another, from this one on: no more than there are keys, as the last argument tells
+abbrev pub run_from : List ℕ → ℕ → (all : List ℕ) → ℕ
+run_from keys key [] = 0
+run_from keys key (other ∷ all) = if is_key keys key then suc (run_from keys (suc key) all) else 0
 
 -- the first of these that there is
 abbrev pub keys_refusal : «Type» → List ℕ → Option SwitchRefusal
 keys_refusal ty keys =
     if has_key_twice keys then Some SetTwice
     else (if list_any (nat_lt (greatest_of ty false)) keys then Some TooGreat
-    else (if list_any (λ key. begins_run keys key (2 ^ 32)) keys then Some TooLong else None))
+    else (if list_any (λ key. not (nat_lt (run_from keys key keys) (2 ^ 32))) keys then Some TooLong else None))
