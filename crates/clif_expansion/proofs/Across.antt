@@ -1,10 +1,10 @@
 -- The reading behind code in blocks of its own: all that it answers was generated.
-use Rattle.std.proofs.Common.{◌≡◌, ◌<◌, ◌≤◌, ◌+◌, ◌⊎◌, inl, inr, ℕ, suc, Bool, true, false, List, [], ◌∷◌, length, refl, sym, ◌∙◌, ap, arith, subst}
+use Rattle.std.proofs.Common.{◌≡◌, ◌<◌, ◌≤◌, ◌+◌, ◌⊎◌, inl, inr, ℕ, Bool, sym, ◌∙◌, ap, arith}
 use Rattle.std.specs.Prelude.{if◌then◌else◌, nat_lt}
 use Rattle.std.proofs.lemmas.Bool.{cases_lt, le-ltb, lt-ltb}
 use Rattle.clif_meaning.specs.Name.{Name}
 use Rattle.clif_expansion.specs.Emission.{reading_across}
-use Rattle.clif_expansion.specs.Reading.{Generated, IsOneToOne, IsReadAs, Reading, ScriptName, StandsFor}
+use Rattle.clif_expansion.specs.Reading.{Generated, IsOneToOne, IsReadAs, Reading, ScriptName}
 use Rattle.clif_expansion.specs.Walk.{IsGenerated}
 
 module _ (reading : Reading) (place count : ℕ) where

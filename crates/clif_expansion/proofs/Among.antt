@@ -1,6 +1,6 @@
 -- Lists whose elements stand among those of another one, branches that lead to a block, and blocks that have ended.
-use Rattle.std.proofs.Common.{◌≡◌, ◌<◌, ◌≤◌, ℕ, zero, suc, Bool, true, false, cond, not, List, [], ◌∷◌, ◌++◌, map, refl, sym, ◌∙◌, ap, ap₂, arith, subst, Option, Some, None}
-use Rattle.std.specs.Prelude.{IsTrue, filter, find, if◌then◌else◌, ◌||◌, ◌&&◌}
+use Rattle.std.proofs.Common.{◌≡◌, ℕ, Bool, true, false, cond, not, List, [], ◌∷◌, ◌++◌, map, refl, sym, ◌∙◌, ap, ap₂, subst, Some}
+use Rattle.std.specs.Prelude.{IsTrue, filter, find, if◌then◌else◌, ◌||◌}
 use Rattle.std.specs.List.{AllByRecursion, AllZip, list_any}
 use Rattle.clif_meaning.specs.Ledger.{BlockState, is_empty, led_by, put_after, redirected_state, state_has, with_cold_mark, with_parameter_types, sealed}
 use Rattle.clif_meaning.specs.Name.{Name, same_name}
@@ -8,7 +8,7 @@ use Rattle.clif_types.specs.declared.types.«Type».{«Type»}
 use Rattle.clif_expansion.specs.Joining.{AreLeading, Both, IsAnother, IsEmitted, IsEnded, IsRead, IsUnread, NoMore, NoneLeads, Own, StandAmong}
 use Rattle.clif_expansion.specs.Reading.{IsOneToOne, IsReadAs, Reading, ScriptName}
 use Rattle.clif_expansion.specs.Walk.{IsGenerated}
-use Rattle.clif_expansion.proofs.Names.{equal_names, names_equal, not_generated, same_read}
+use Rattle.clif_expansion.proofs.Names.{names_equal, not_generated, same_read}
 
 -- LISTS -------------------------------------------------------------------------------------------------------------------
 

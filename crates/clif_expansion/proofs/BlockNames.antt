@@ -4,7 +4,7 @@ use Rattle.std.specs.Prelude.{IsTrue, find, fold, if◌then◌else◌, is_some}
 use Rattle.std.specs.List.{AllByRecursion}
 use Rattle.clif_meaning.specs.Instruction.{Edge, Instruction, Operation}
 use Rattle.clif_meaning.specs.Ledger.{BlockState, Ledger, answers_to, changed_by, empty_ledger, is_inserted, is_terminator, led_by, ledger_after, ledger_with, new_block, next_answer, redirected_state, sealed, state_has, with_begun, with_begun_at, with_cold_mark, with_filled_at, with_instruction, with_parameter_types, with_predecessor, with_terminator}
-use Rattle.clif_meaning.specs.Name.{Name, answer_of, same_name}
+use Rattle.clif_meaning.specs.Name.{Name, same_name}
 use Rattle.clif_meaning.specs.Request.{Request, CreateBlock, SwitchToBlock, SealBlock, SealAllBlocks, InsertBlockAfter, SetColdBlock, EnsureInsertedBlock, AppendBlockParams, AppendFunctionParams, DeclareVar, DefVar, UseVar, MakeEntry, MakeEdge, MakeJumpTable, MakeExceptionTable, Annotate, Build, ChangeJumpDestination, Finalize, Script}
 use Rattle.clif_expansion.proofs.Among.{KeepsEnds, changed_at, keeps_at, keeps_beginning, keeps_cold, keeps_filling, keeps_leading, keeps_redirecting, keeps_sealing, keeps_taking}
 use Rattle.clif_expansion.proofs.EmittedPrograms.{one_longer}

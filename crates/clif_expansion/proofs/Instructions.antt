@@ -1,12 +1,11 @@
 -- The ledger behind an instruction, with its lists written out.
-use Rattle.std.proofs.Common.{◌≡◌, ℕ, Bool, true, false, List, [], ◌∷◌, ◌++◌, map, refl, sym, ◌∙◌, ap, ap₂, Option, Some, None}
-use Rattle.std.specs.Prelude.{fold, if◌then◌else◌, ◌||◌}
+use Rattle.std.proofs.Common.{◌≡◌, Bool, true, false, List, [], ◌∷◌, ◌++◌, map, refl, sym, ◌∙◌, ap, Option, Some}
+use Rattle.std.specs.Prelude.{fold, if◌then◌else◌}
 use Rattle.std.specs.List.{list_any}
 use Rattle.clif_meaning.specs.Instruction.{Edge, Instruction, Operation}
-use Rattle.clif_meaning.specs.Ledger.{BlockState, Ledger, is_inserted, is_terminator, led_by, next_answer, with_begun, with_begun_at, with_filled_at, with_instruction, with_layout, with_predecessor, with_terminator}
+use Rattle.clif_meaning.specs.Ledger.{BlockState, Ledger, is_inserted, is_terminator, led_by, next_answer, with_begun_at, with_filled_at, with_instruction, with_layout, with_predecessor, with_terminator}
 use Rattle.clif_meaning.specs.Name.{Name, same_name}
 use Rattle.clif_expansion.proofs.Among.{changed_at}
-use Rattle.clif_expansion.proofs.Names.{equal_names}
 
 -- at the end of a layout, unless it is there
 abbrev pub laid_list : Name → List Name → List Name

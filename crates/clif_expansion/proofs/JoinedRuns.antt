@@ -92,7 +92,6 @@ module _ (pointer_width : ℕ) (types : NameTypes) where
             (call_types_before (ledger_of earlier) (Emit whole) types.script after) done.0,
         (done.1.performs types behind' after, done.1.laid),
       )
-
   each_done reading plain calls (Switching old script more earlier block value ty keys edges switch branches tables are at placed is code) have' have done =
       let joined = joined_calls old script earlier are in
       let here = current_read old (ledger_after script) (ledger_of earlier) (ledger_after script).current (ledger_of earlier).current block joined.ledgers.states.current at placed in
@@ -258,7 +257,6 @@ module _ (marks' marks : Ledger) (same : (v : ℕ) → is_marked marks' v ≡ is
       behind (reading_emitted old (ledger_after script) (ledger_of earlier) code) script (map building code ++ building last ∷ []) earlier (Emit whole ∷ [])
       (names_later old (reading_emitted old (ledger_after script) (ledger_of earlier) code) keeps _ _ (tracked old script earlier are))
       (subst (λ (xs : List Name). AllZip (IsReadAs (reading_emitted old (ledger_after script) (ledger_of earlier) code)) xs []) (sym (built_track marks' (length script) code last)) tt)
-
   tracked reading plain calls (Switching old script more earlier block value ty keys edges switch branches tables are at placed is code) =
       let joined = joined_calls old script earlier are in
       let across : Reading = reading_across old (length script) (length more) in

@@ -1,27 +1,26 @@
 -- Joined calls have joined programs.
-use Rattle.std.proofs.Common.{◌≡◌, ◌<◌, ◌≤◌, ◌+◌, ◌⊎◌, inl, inr, ℕ, zero, suc, Bool, true, false, List, [], ◌∷◌, ◌++◌, length, map, refl, sym, ◌∙◌, ap, subst, arith, Option, Some, None}
-use Rattle.std.specs.Prelude.{fold, is_some}
+use Rattle.std.proofs.Common.{◌≡◌, ◌<◌, ◌≤◌, ◌+◌, ◌⊎◌, inl, inr, ℕ, zero, suc, List, [], ◌∷◌, ◌++◌, length, map, refl, sym, ◌∙◌, ap, subst, arith, Option, Some, None}
+use Rattle.std.specs.Prelude.{fold}
 use Rattle.std.proofs.lemmas.Bool.{cases_lt}
-use Rattle.clif_meaning.specs.Instruction.{Edge, Instruction, Operation, Switch}
+use Rattle.clif_meaning.specs.Instruction.{Instruction, Operation}
 use Rattle.clif_meaning.specs.Ledger.{AValue, Ledger, answers_to, empty_ledger, ledger_after, ledger_with, with_instruction}
 use Rattle.clif_meaning.specs.Name.{Name, answer_of}
 use Rattle.clif_meaning.specs.Program.{Program, Item, empty_program, program_of, with_call, with_inserted, with_item_at}
-use Rattle.clif_meaning.specs.Request.{Request, CreateBlock, SwitchToBlock, SealBlock, MakeEdge, MakeJumpTable, Build, Script}
+use Rattle.clif_meaning.specs.Request.{Build, Script}
 use Rattle.clif_expansion.specs.Emission.{building, reading_across, reading_emitted, reading_generated}
-use Rattle.clif_expansion.specs.Expansion.{IsCutProgram}
 use Rattle.clif_expansion.specs.JoinedCalls.{AreJoinedCalls, Asking, Emitting, Starting, Switching}
 use Rattle.clif_expansion.specs.JoinedPrograms.{IsCalled, JoinedCallsHaveJoinedPrograms, built_items}
 use Rattle.clif_expansion.specs.Joining.{answers_at, reading_after, reading_with, results_at}
-use Rattle.clif_expansion.specs.Reading.{Generated, NotMade, Reading, ScriptName, StandsFor}
+use Rattle.clif_expansion.specs.Reading.{Generated, NotMade, Reading, StandsFor}
 use Rattle.clif_expansion.specs.ScriptCall.{Ask, Emit, ScriptCall, emitted_item, emitted_types, ledger_behind, ledger_of, ledger_with_call, program_behind, program_of_calls, program_with_call}
 use Rattle.clif_expansion.proofs.Across.{across_apart, across_before, across_inside}
 use Rattle.clif_expansion.proofs.CalledPrograms.{GoesWith, asked_current, asked_goes, current_behind, emitted_goes, extended_current, instruction_current, script_is}
 use Rattle.clif_expansion.proofs.DecidingPrograms.{AllBuilt}
 use Rattle.clif_expansion.proofs.Emissions.{behind_line}
-use Rattle.clif_expansion.proofs.EmittedPrograms.{built, built_program, emitted_before, emitted_inner, none_on, one_longer}
+use Rattle.clif_expansion.proofs.EmittedPrograms.{built, built_program, none_on, one_longer}
 use Rattle.clif_expansion.proofs.JoinedCalls.{calls_made, current_read, fold_on, joined_calls}
 use Rattle.clif_expansion.proofs.JoinedPrograms.{IsBareFrom, IsCalledSo, LastsIn, LastsLater, cut_each}
-use Rattle.clif_expansion.proofs.Joins.{read_before, read_either, read_there}
+use Rattle.clif_expansion.proofs.Joins.{read_before, read_there}
 use Rattle.clif_expansion.proofs.SwitchedLedgers.{fold_longer}
 use Rattle.clif_expansion.proofs.SwitchedPrograms.{switched_goes}
 

@@ -1,37 +1,36 @@
 -- The code of a switch decides, and is laid, with its names read.
-use Rattle.std.proofs.Common.{◌≡◌, ◌<◌, ◌≤◌, ◌+◌, ◌⊎◌, inl, inr, ℕ, zero, suc, Bool, true, false, List, [], ◌∷◌, ◌++◌, length, map, refl, sym, ◌∙◌, ap, subst, arith, Option, Some, None}
-use Rattle.std.specs.Prelude.{Contains, flat_map, fold, if◌then◌else◌, nat_lt, slice_get}
+use Rattle.std.proofs.Common.{◌≡◌, ◌<◌, ◌≤◌, ◌+◌, ◌⊎◌, inl, inr, ℕ, zero, suc, Bool, List, [], ◌∷◌, ◌++◌, length, map, refl, sym, ◌∙◌, ap, subst, arith, Option, Some, None}
+use Rattle.std.specs.Prelude.{Contains, flat_map, fold, if◌then◌else◌, slice_get}
 use Rattle.std.specs.List.{AllByRecursion, AllZip}
 use Rattle.std.proofs.lemmas.Bool.{cases_lt, le-ltb, lt-ltb}
 use Rattle.clif_types.specs.declared.types.«Type».{«Type»}
 use Rattle.clif_meaning.specs.Bits.{AreValues, Bits, IsValue}
 use Rattle.clif_meaning.specs.Instruction.{Argument, Edge, Instruction, Operation, Switch}
 use Rattle.clif_meaning.specs.Ledger.{Ledger, ledger_after, ledger_with}
-use Rattle.clif_meaning.specs.Memory.{Memory}
 use Rattle.clif_meaning.specs.Name.{Name, answer_of, same_name}
 use Rattle.clif_meaning.specs.Outcome.{Goes, outcome_of}
-use Rattle.clif_meaning.specs.Program.{Program, Item, Instruct, Use, Assign, answers_from, program_of, result_names, result_types, with_call}
-use Rattle.clif_meaning.specs.Request.{Request, CreateBlock, SwitchToBlock, SealBlock, MakeEdge, MakeJumpTable, Build, Script}
+use Rattle.clif_meaning.specs.Program.{Program, Item, Instruct, Use, Assign, answers_from, program_of, result_types, with_call}
+use Rattle.clif_meaning.specs.Request.{Build, Script}
 use Rattle.clif_meaning.specs.Store.{assigned}
 use Rattle.clif_meaning.specs.Switch.{edge_of_key}
-use Rattle.clif_meaning.specs.WellPlaced.{item_gives, item_names, item_passes, item_targets, known_argument, passed_operands}
+use Rattle.clif_meaning.specs.WellPlaced.{item_gives, item_names, item_passes, item_targets, known_argument}
 use Rattle.clif_meaning.specs.World.{World}
-use Rattle.clif_expansion.specs.Code.{Decides, DecidesIn, DecidesItem, IsSound, NameTypes}
+use Rattle.clif_expansion.specs.Code.{Decides, DecidesItem, NameTypes}
 use Rattle.clif_expansion.specs.Emission.{reading_across}
 use Rattle.clif_expansion.specs.JoinedPrograms.{DecidesAlong, IsDecidingItem}
 use Rattle.clif_expansion.specs.Joining.{IsJoined}
 use Rattle.clif_expansion.specs.Laying.{Ending, Entering, HasGiven, IsAmong, IsLaid, IsToHand, IsToPass, Laying, Lays, Leaving}
 use Rattle.clif_expansion.specs.LedgerTypes.{HaveTypes}
-use Rattle.clif_expansion.specs.Reading.{Agree, Generated, IsReadArgument, IsReadAs, IsReadEdge, IsReadInstruction, Reading, ScriptName}
+use Rattle.clif_expansion.specs.Reading.{Generated, IsReadArgument, IsReadAs, IsReadEdge, IsReadInstruction, Reading, ScriptName}
 use Rattle.clif_expansion.specs.ScriptCall.{emitted_item, emitted_types}
-use Rattle.clif_expansion.specs.Switching.{GoesByKey, IsDecidingCall, IsSwitchCode, generated_from, switching, targets_of}
-use Rattle.clif_expansion.specs.Walk.{Arriving, Computes, Computing, IsGenerated, Passing, Surroundings, Takes, Walk}
+use Rattle.clif_expansion.specs.Switching.{IsSwitchCode, generated_from, switching, targets_of}
+use Rattle.clif_expansion.specs.Walk.{Arriving, Computing, IsGenerated, Passing, Surroundings, Takes, Walk}
 use Rattle.clif_expansion.proofs.Across.{across_inside, across_read}
 use Rattle.clif_expansion.proofs.DecidingPrograms.{AllBuilt}
 use Rattle.clif_expansion.proofs.JoinedPrograms.{IsBareFrom}
 use Rattle.clif_expansion.proofs.Joins.{GoesOn}
 use Rattle.clif_expansion.proofs.Names.{same_script}
-use Rattle.clif_expansion.proofs.Placing.{contained_first, contained_in, contained_later, none_contained}
+use Rattle.clif_expansion.proofs.Placing.{contained_first, contained_in, none_contained}
 use Rattle.clif_expansion.proofs.ReadConditions
 use Rattle.clif_expansion.proofs.SwitchedPrograms
 use Rattle.clif_expansion.proofs.SwitchedPrograms.{all_two, target_read}

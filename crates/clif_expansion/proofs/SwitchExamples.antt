@@ -1,29 +1,25 @@
 -- The worked examples: a switch of one key.
-use Rattle.std.proofs.Common.{◌≡◌, ◌<◌, ◌≤◌, ◌⊎◌, inl, inr, ℕ, zero, suc, Bool, true, false, List, [], ◌∷◌, ◌++◌, map, refl, sym, ◌∙◌, ap, subst, arith, Option, Some, None}
+use Rattle.std.proofs.Common.{◌≡◌, ◌⊎◌, inl, inr, ℕ, Bool, true, false, List, [], ◌∷◌, ◌++◌, refl, sym, ◌∙◌, ap, subst, arith, Option, Some, None}
 use Rattle.std.specs.Prelude.{◌==◌, Contains, if◌then◌else◌, pos, slice_get}
-use Rattle.std.specs.List.{AllByRecursion}
 use Rattle.std.proofs.lemmas.Bool.{eq-eqb, eqb-true}
 use Rattle.clif_types.specs.declared.condcodes.IntCC.TheVariants as cc
 use Rattle.clif_types.specs.declared.types.«Type».{«Type»}
 use Rattle.clif_meaning.specs.Acceptance.{iconst}
-use Rattle.clif_meaning.specs.Bits.{Bits, IsValue}
+use Rattle.clif_meaning.specs.Bits.{Bits}
 use Rattle.clif_meaning.specs.BranchExamples.{block, plain}
 use Rattle.clif_meaning.specs.Examples.{i32}
 use Rattle.clif_meaning.specs.Instruction.{Arithmetic, Brif, Compare, Compute, Edge, Iconst, Instruction, Operation}
 use Rattle.clif_meaning.specs.Ledger.{ledger_after, or_invalid, type_of}
-use Rattle.clif_meaning.specs.Memory.{Memory}
 use Rattle.clif_meaning.specs.Name.{Name, answer_of, same_name}
 use Rattle.clif_meaning.specs.Outcome.{Computed, Goes, Outcome, Values, computed, edge_by}
 use Rattle.clif_meaning.specs.Program.{Item, Instruct, program_of}
-use Rattle.clif_meaning.specs.Request.{CreateBlock, SwitchToBlock, Build}
+use Rattle.clif_meaning.specs.Request.{CreateBlock, SwitchToBlock}
 use Rattle.clif_meaning.specs.Store.{assigned}
-use Rattle.clif_meaning.specs.Switch.{edge_of_key}
 use Rattle.clif_meaning.specs.World.{World}
 use Rattle.clif_meaning.proofs.SampleWorld
 use Rattle.clif_expansion.specs.Constants.{computing}
 use Rattle.clif_expansion.specs.JoinedCalls.{AreJoinedCalls, Asking, Starting, Switching}
 use Rattle.clif_expansion.specs.Laying.{Ending, IsLaid, Laying, Leaving}
-use Rattle.clif_expansion.specs.LedgerTypes.{HaveTypes}
 use Rattle.clif_expansion.specs.Reading.{Generated, NotMade, Reading, ScriptName}
 use Rattle.clif_expansion.specs.ScriptCall.{Ask}
 use Rattle.clif_expansion.specs.SwitchExamples.{SwitchExamples, both_edges, branching, deciding, is_seven, opened_calls, opened_script, switched_calls}

@@ -1,24 +1,23 @@
 -- Code of a switch in blocks of its own keeps ledgers joined with the switch that is emitted.
-use Rattle.std.proofs.Common.{◌≡◌, ◌<◌, ◌≤◌, ◌+◌, ◌⊎◌, inl, inr, ℕ, zero, suc, Bool, true, false, List, [], ◌∷◌, ◌++◌, length, map, refl, sym, ◌∙◌, ap, ap₂, subst, arith, Option, Some, None}
-use Rattle.std.specs.Prelude.{◌≢◌, Contains, IfSome, IsTrue, find, fold, if◌then◌else◌, option_and_then, replicate, slice_get, ◌||◌, ◌&&◌}
+use Rattle.std.proofs.Common.{◌≡◌, ◌<◌, ◌≤◌, ◌+◌, ◌⊎◌, inl, inr, ℕ, zero, suc, Bool, true, false, List, [], ◌∷◌, ◌++◌, length, map, refl, sym, ◌∙◌, ap, subst, arith, Option, Some, None}
+use Rattle.std.specs.Prelude.{◌≢◌, Contains, IfSome, find, fold, if◌then◌else◌, replicate, ◌||◌}
 use Rattle.std.specs.List.{AllByRecursion, AllZip, list_any}
 use Rattle.std.proofs.lemmas.Bool.{and_parts}
 use Rattle.clif_types.specs.declared.types.«Type».{«Type»}
-use Rattle.clif_tables.specs.Lists.{TableLists}
 use Rattle.clif_meaning.specs.Instruction.{Edge, Instruction, Operation, Switch}
-use Rattle.clif_meaning.specs.Ledger.{AValue, Answered, BlockState, ExceptionTable, Ledger, VariableState, answer_at, answers_to, empty_ledger, is_filled, is_pristine, is_terminator, leads_to, led_by, ledger_after, ledger_with, next_answer, or_invalid, state_has, with_instruction}
-use Rattle.clif_meaning.specs.Name.{Name, answer_of, same_name}
-use Rattle.clif_meaning.specs.Request.{Request, Script}
+use Rattle.clif_meaning.specs.Ledger.{AValue, Answered, BlockState, ExceptionTable, Ledger, answer_at, answers_to, is_filled, is_pristine, led_by, ledger_after, ledger_with, next_answer, state_has, with_instruction}
+use Rattle.clif_meaning.specs.Name.{Name, same_name}
+use Rattle.clif_meaning.specs.Request.{Script}
 use Rattle.clif_expansion.specs.Emission.{reading_across}
-use Rattle.clif_expansion.specs.Joining.{AreJoinedStates, AreLeading, Both, IsAnother, IsEmitted, IsEnded, IsJoined, IsOwnState, IsRead, IsReadAnswer, IsReadCurrent, IsReadException, IsReadLayout, IsReadState, IsReadTable, IsUnread, NoMore, NoneLeads, Own, StandAmong}
+use Rattle.clif_expansion.specs.Joining.{AreJoinedStates, AreLeading, Both, IsAnother, IsEmitted, IsEnded, IsJoined, IsOwnState, IsRead, IsReadAnswer, IsReadCurrent, IsReadException, IsReadState, IsReadTable, IsUnread, NoMore, NoneLeads, Own, StandAmong}
 use Rattle.clif_expansion.specs.Keys.{table_count}
 use Rattle.clif_expansion.specs.Reading.{Generated, IsOneToOne, IsReadAs, IsReadEdge, IsReadInstruction, NotMade, Reading, ScriptName}
 use Rattle.clif_expansion.specs.ScriptCall.{Emit, emitted_types, ledger_behind, ledger_with_call}
-use Rattle.clif_expansion.specs.Switching.{IsFinishedFrom, IsLedFrom, IsSpent, IsSwitchCode, switching, targets_of}
+use Rattle.clif_expansion.specs.Switching.{IsFinishedFrom, IsSpent, IsSwitchCode, switching, targets_of}
 use Rattle.clif_expansion.specs.Walk.{IsGenerated}
-use Rattle.clif_expansion.proofs.Across.{across_apart, across_before, across_generated, across_inside, across_read}
-use Rattle.clif_expansion.proofs.Among.{among_each, among_mapped, changed_at, leading_emitted, leading_joined, leading_later}
-use Rattle.clif_expansion.proofs.BlockNames.{HasApart, AreApart, found_apart, names_of, script_apart}
+use Rattle.clif_expansion.proofs.Across.{across_apart, across_before, across_generated, across_read}
+use Rattle.clif_expansion.proofs.Among.{among_each, changed_at, leading_emitted, leading_joined, leading_later}
+use Rattle.clif_expansion.proofs.BlockNames.{AreApart, found_apart, names_of, script_apart}
 use Rattle.clif_expansion.proofs.EmittedPrograms.{one_longer}
 use Rattle.clif_expansion.proofs.Instructions.{beginning, ending, instruction_is, laid_list, led_all, stated}
 use Rattle.clif_expansion.proofs.JoinedStates.{zip_joined}
@@ -454,9 +453,10 @@ module _ (reading : Reading) (plain more : Script) (ledger : Ledger) (joined : I
 
   current_ended : IsReadCurrent across end' end'.current None
   current_ended =
-      subst (λ (current : Option Name). IsReadCurrent across end' current None) (sym behind_end.at)
-      (made_later behind_end.current behind_end.side,
-      ended behind_end.current (subst (λ (current : Option Name). IfSome current (IsSpent end')) behind_end.at code.left))
+      subst (λ (current : Option Name). IsReadCurrent across end' current None) (sym behind_end.at) (
+        made_later behind_end.current behind_end.side,
+        ended behind_end.current (subst (λ (current : Option Name). IfSome current (IsSpent end')) behind_end.at code.left),
+      )
 
   -- ALL OF THE LEDGERS ----------------------------------------------------------------------------------------------------
 
@@ -515,8 +515,13 @@ module _ (reading : Reading) (plain more : Script) (ledger : Ledger) (joined : I
       states = subst (λ (l : Ledger). AreJoinedStates across (length end.answers) end' (record l { answers = end.answers })) (sym end_script)
           (subst (λ (n : ℕ). AreJoinedStates across n end' (record script_end { answers = end.answers })) (sym longer)
           (record {
-            blocks = states_end.blocks; current = states_end.current; layout = states_end.layout; variables = states_end.variables;
-            jump_tables = states_end.jump_tables; exception_tables = states_end.exception_tables; tables = states_end.tables;
+            blocks = states_end.blocks;
+            current = states_end.current;
+            layout = states_end.layout;
+            variables = states_end.variables;
+            jump_tables = states_end.jump_tables;
+            exception_tables = states_end.exception_tables;
+            tables = states_end.tables;
           }));
       answers = answers_end;
     };

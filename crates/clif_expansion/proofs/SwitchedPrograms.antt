@@ -1,30 +1,28 @@
 -- Programs behind a switch that is emitted and its code in blocks of its own.
-use Rattle.std.proofs.Common.{◌≡◌, ◌<◌, ◌≤◌, ◌+◌, ◌⊎◌, inl, inr, ℕ, suc, Bool, true, false, List, [], ◌∷◌, ◌++◌, length, map, refl, sym, ◌∙◌, ap, subst, arith, Option, Some, None}
-use Rattle.std.specs.Prelude.{◌≢◌, Contains, IsTrue, fold, if◌then◌else◌}
+use Rattle.std.proofs.Common.{◌≡◌, ◌<◌, ◌≤◌, ◌+◌, ◌⊎◌, inl, inr, ℕ, suc, Bool, true, false, List, [], ◌∷◌, ◌++◌, length, refl, sym, ◌∙◌, ap, subst, arith, Option, Some, None}
+use Rattle.std.specs.Prelude.{Contains, IsTrue, fold, if◌then◌else◌}
 use Rattle.std.specs.List.{AllByRecursion, AllZip}
-use Rattle.std.proofs.lemmas.Bool.{cases_lt}
 use Rattle.clif_types.specs.declared.types.«Type».{«Type»}
-use Rattle.clif_meaning.specs.Instruction.{Argument, Edge, Instruction, Operation, Switch}
-use Rattle.clif_meaning.specs.Ledger.{Ledger, has_block, ledger_after, ledger_with, with_instruction}
+use Rattle.clif_meaning.specs.Instruction.{Argument, Edge, Instruction}
+use Rattle.clif_meaning.specs.Ledger.{Ledger, has_block, ledger_after, ledger_with}
 use Rattle.clif_meaning.specs.Name.{Name, answer_of, same_name}
-use Rattle.clif_meaning.specs.Program.{Program, Item, Instruct, Use, Assign, first_block, program_of, result_names, with_call, with_inserted}
-use Rattle.clif_meaning.specs.Request.{Request, CreateBlock, SwitchToBlock, SealBlock, MakeEdge, MakeJumpTable, Build, Script}
+use Rattle.clif_meaning.specs.Program.{Program, Item, first_block, program_of, with_call, with_inserted}
+use Rattle.clif_meaning.specs.Request.{CreateBlock, SwitchToBlock, SealBlock, MakeEdge, MakeJumpTable, Build, Script}
 use Rattle.clif_meaning.specs.WellPlaced.{item_targets}
 use Rattle.clif_expansion.specs.Emission.{reading_across}
 use Rattle.clif_expansion.specs.Expansion.{AreCut, IsCutProgram, IsReadBlock}
-use Rattle.clif_expansion.specs.JoinedPrograms.{DecidesAlong, IsDecidingItem, IsSwitched}
+use Rattle.clif_expansion.specs.JoinedPrograms.{DecidesAlong, IsDecidingItem}
 use Rattle.clif_expansion.specs.Joining.{IsJoined, IsUnread}
 use Rattle.clif_expansion.specs.Reading.{Generated, IsOneToOne, IsReadArgument, IsReadAs, IsReadEdge, IsReadInstruction, Reading, ScriptName}
-use Rattle.clif_expansion.specs.ScriptCall.{Emit, emitted_item, program_behind, program_with_call}
+use Rattle.clif_expansion.specs.ScriptCall.{emitted_item}
 use Rattle.clif_expansion.specs.Switching.{IsDecidingCall, IsSwitchCode, LeadsInside, LeadsToBlocks, switching, targets_of}
 use Rattle.clif_expansion.specs.Walk.{IsGenerated}
-use Rattle.clif_expansion.proofs.Across.{across_before, across_generated, across_inside, across_read}
-use Rattle.clif_expansion.proofs.Among.{other_generated}
+use Rattle.clif_expansion.proofs.Across.{across_generated, across_inside, across_read}
 use Rattle.clif_expansion.proofs.BlockNames.{script_apart, there_made}
 use Rattle.clif_expansion.proofs.CalledPrograms
-use Rattle.clif_expansion.proofs.DecidingPrograms.{AllBuilt, AllSwitched, Grown, GrownAt, cancelled, entry_of, grown_more, starting}
-use Rattle.clif_expansion.proofs.JoinedPrograms.{IsBareFrom, IsBefore, IsCalledSo, KeepsOwn, LastsIn, LastsLater, bare_items, cut_inserted, cut_items, one_item, with_items_at}
-use Rattle.clif_expansion.proofs.Joins.{GoesOn, block_later}
+use Rattle.clif_expansion.proofs.DecidingPrograms.{AllBuilt, AllSwitched, Grown, cancelled, entry_of, grown_more, starting}
+use Rattle.clif_expansion.proofs.JoinedPrograms.{IsBareFrom, IsBefore, IsCalledSo, KeepsOwn, LastsIn, LastsLater, bare_items, cut_inserted, cut_items, with_items_at}
+use Rattle.clif_expansion.proofs.Joins.{GoesOn}
 use Rattle.clif_expansion.proofs.Names.{equal_names, names_equal}
 use Rattle.clif_expansion.proofs.Placing.{contained_first, contained_in, contained_later, contained_left, none_contained}
 use Rattle.clif_expansion.proofs.SwitchedLedgers

@@ -1,16 +1,14 @@
 -- Code of a switch in blocks of its own: what it leaves of the states of the script's blocks.
-use Rattle.std.proofs.Common.{◌≡◌, ◌<◌, ◌≤◌, ◌+◌, ◌⊎◌, inl, inr, ℕ, zero, suc, Bool, true, false, List, [], ◌∷◌, ◌++◌, length, map, refl, sym, ◌∙◌, ap, ap₂, subst, arith, Option, Some, None, append_assoc}
-use Rattle.std.specs.Prelude.{Contains, IsTrue, find, fold, if◌then◌else◌, is_some, ◌||◌}
+use Rattle.std.proofs.Common.{◌≡◌, ◌<◌, ◌≤◌, ◌+◌, ◌⊎◌, inl, inr, ℕ, suc, Bool, true, false, List, [], ◌∷◌, ◌++◌, length, map, refl, sym, ◌∙◌, ap, subst, arith, Option, Some, append_assoc}
+use Rattle.std.specs.Prelude.{Contains, IsTrue, fold, if◌then◌else◌, ◌||◌}
 use Rattle.std.specs.List.{AllByRecursion, list_any}
-use Rattle.clif_types.specs.declared.types.«Type».{«Type»}
-use Rattle.clif_tables.specs.Lists.{TableLists}
 use Rattle.clif_meaning.specs.Instruction.{Edge, Instruction, Operation}
-use Rattle.clif_meaning.specs.Ledger.{BlockState, ExceptionTable, Ledger, VariableState, answers_to, changed_by, has_block, is_terminator, led_by, ledger_with, new_block, next_answer, sealed, with_instruction, with_tried}
-use Rattle.clif_meaning.specs.Name.{Name, answer_of, same_name}
+use Rattle.clif_meaning.specs.Ledger.{BlockState, ExceptionTable, Ledger, answers_to, has_block, is_terminator, led_by, ledger_with, new_block, next_answer, sealed, with_tried}
+use Rattle.clif_meaning.specs.Name.{Name, same_name}
 use Rattle.clif_meaning.specs.Request.{Request, CreateBlock, SwitchToBlock, SealBlock, MakeEdge, MakeJumpTable, Build, GivenEntry, ServedBy, Script}
 use Rattle.clif_expansion.specs.Emission.{reading_across}
-use Rattle.clif_expansion.specs.Joining.{AreLeading, Both, IsJoined, IsReadLayout, NoMore, Own, StandAmong}
-use Rattle.clif_expansion.specs.Reading.{Generated, IsOneToOne, IsReadAs, Reading, ScriptName}
+use Rattle.clif_expansion.specs.Joining.{AreLeading, Both, IsReadLayout, NoMore, Own, StandAmong}
+use Rattle.clif_expansion.specs.Reading.{IsOneToOne, IsReadAs, Reading}
 use Rattle.clif_expansion.specs.Switching.{BeginsHere, IsDecidingCall, IsTableFrom, LeadsInside, LeadsToBlocks}
 use Rattle.clif_expansion.specs.Walk.{IsGenerated}
 use Rattle.clif_expansion.proofs.Across.{across_before, across_inside}
@@ -18,7 +16,7 @@ use Rattle.clif_expansion.proofs.Among.{KeepsEnds, among_joined, any_among, chan
 use Rattle.clif_expansion.proofs.BlockNames.{HasApart, there_made}
 use Rattle.clif_expansion.proofs.EmittedPrograms.{one_longer}
 use Rattle.clif_expansion.proofs.Instructions.{beginning, ending, instruction_is, laid_list, led_all, stated}
-use Rattle.clif_expansion.proofs.Names.{equal_names, names_equal, same_read}
+use Rattle.clif_expansion.proofs.Names.{equal_names, names_equal}
 
 -- changes of the plain states alone
 among_left : {X Y : Type 0} (R : X → Y → Type 0) (O : X → Type 0) (f : X → X) → ((x : X) (y : Y) → R x y → R (f x) y) → ((x : X) → O x → O (f x))
@@ -120,9 +118,17 @@ module _ (reading : Reading) (one_to_one : IsOneToOne reading) (block here : Nam
     where
       by : (c : Bool) → same_name plain.block block ≡ c → InSwitch (if c then beginning plain else plain) state
       by true same = record {
-        block_read = is.block_read; parameters = is.parameters; is_sealed = is.is_sealed; is_cold = is.is_cold;
+        block_read = is.block_read;
+        parameters = is.parameters;
+        is_sealed = is.is_sealed;
+        is_cold = is.is_cold;
         others = λ other. absurd (other (names_equal plain.block block same));
-        old = is.old; new = is.new; split = is.split; led = is.led; generated = is.generated; targeted = is.targeted;
+        old = is.old;
+        new = is.new;
+        split = is.split;
+        led = is.led;
+        generated = is.generated;
+        targeted = is.targeted;
       }
       by false same = is
 
@@ -131,9 +137,17 @@ module _ (reading : Reading) (one_to_one : IsOneToOne reading) (block here : Nam
     where
       by : (c : Bool) → same_name plain.block block ≡ c → InSwitch (if c then ending plain else plain) state
       by true same = record {
-        block_read = is.block_read; parameters = is.parameters; is_sealed = is.is_sealed; is_cold = is.is_cold;
+        block_read = is.block_read;
+        parameters = is.parameters;
+        is_sealed = is.is_sealed;
+        is_cold = is.is_cold;
         others = λ other. absurd (other (names_equal plain.block block same));
-        old = is.old; new = is.new; split = is.split; led = is.led; generated = is.generated; targeted = is.targeted;
+        old = is.old;
+        new = is.new;
+        split = is.split;
+        led = is.led;
+        generated = is.generated;
+        targeted = is.targeted;
       }
       by false same = is
 
@@ -144,7 +158,11 @@ module _ (reading : Reading) (one_to_one : IsOneToOne reading) (block here : Nam
       by : (c : Bool) → InSwitch (if c then plain else record plain { predecessors = plain.predecessors ++ branch ∷ [] }) state
       by true = is
       by false = record {
-        block_read = is.block_read; parameters = is.parameters; is_sealed = is.is_sealed; is_cold = is.is_cold; others = is.others;
+        block_read = is.block_read;
+        parameters = is.parameters;
+        is_sealed = is.is_sealed;
+        is_cold = is.is_cold;
+        others = is.others;
         old = is.old;
         new = is.new ++ branch ∷ [];
         split = ap (λ (names : List Name). names ++ branch ∷ []) is.split ∙ append_assoc is.old is.new (branch ∷ []);
@@ -401,34 +419,55 @@ module _ (reading : Reading) (one_to_one : IsOneToOne reading) (block here : Nam
             (record {
               stays = record { variables = is.stays.variables; exception_tables = is.stays.exception_tables; tables = is.stays.tables };
               blocks = created ledger k place (next_own ledger k CreateBlock more place whole) is.blocks;
-              current = is.current; at = is.at; side = is.side; layout_read = is.layout_read;
+              current = is.current;
+              at = is.at;
+              side = is.side;
+              layout_read = is.layout_read;
               begun = all_more IsBegun ledger.blocks (new_block (next_answer ledger)) is.begun (new_begun ledger k place);
             })
         goes_behind (SwitchToBlock x ∷ more) ledger k place whole deciding leads is =
             goes_behind more (ledger_with ledger (SwitchToBlock x)) (suc k) (further ledger (SwitchToBlock x) k place) (shorter k (SwitchToBlock x) more whole) deciding.1 leads.1
             (record {
               stays = record { variables = is.stays.variables; exception_tables = is.stays.exception_tables; tables = is.stays.tables };
-              blocks = is.blocks; current = x; at = refl; side = inr (there_generated x deciding.0 leads.0); layout_read = is.layout_read; begun = is.begun;
+              blocks = is.blocks;
+              current = x;
+              at = refl;
+              side = inr (there_generated x deciding.0 leads.0);
+              layout_read = is.layout_read;
+              begun = is.begun;
             })
         goes_behind (SealBlock x ∷ more) ledger k place whole deciding leads is =
             goes_behind more (ledger_with ledger (SealBlock x)) (suc k) (further ledger (SealBlock x) k place) (shorter k (SealBlock x) more whole) deciding.1 leads.1
             (record {
               stays = record { variables = is.stays.variables; exception_tables = is.stays.exception_tables; tables = is.stays.tables };
               blocks = changed_among states ledger.blocks (changed_at x sealed) (keeps_at x sealed keeps_sealing) (sealed_side x deciding.0) is.blocks;
-              current = is.current; at = is.at; side = is.side; layout_read = is.layout_read;
+              current = is.current;
+              at = is.at;
+              side = is.side;
+              layout_read = is.layout_read;
               begun = all_changed IsBegun (changed_at x sealed) (begun_kept (changed_at x sealed) (keeps_at x sealed keeps_sealing)) ledger.blocks is.begun;
             })
         goes_behind (MakeEdge edge ∷ more) ledger k place whole deciding leads is =
             goes_behind more (ledger_with ledger (MakeEdge edge)) (suc k) (further ledger (MakeEdge edge) k place) (shorter k (MakeEdge edge) more whole) deciding.1 leads.1
             (record {
               stays = record { variables = is.stays.variables; exception_tables = is.stays.exception_tables; tables = is.stays.tables };
-              blocks = is.blocks; current = is.current; at = is.at; side = is.side; layout_read = is.layout_read; begun = is.begun;
+              blocks = is.blocks;
+              current = is.current;
+              at = is.at;
+              side = is.side;
+              layout_read = is.layout_read;
+              begun = is.begun;
             })
         goes_behind (MakeJumpTable default entries ∷ more) ledger k place whole deciding leads is =
             goes_behind more (ledger_with ledger (MakeJumpTable default entries)) (suc k) (further ledger (MakeJumpTable default entries) k place) (shorter k (MakeJumpTable default entries) more whole) deciding.1 leads.1
             (record {
               stays = record { variables = is.stays.variables; exception_tables = is.stays.exception_tables; tables = is.stays.tables };
-              blocks = is.blocks; current = is.current; at = is.at; side = is.side; layout_read = is.layout_read; begun = is.begun;
+              blocks = is.blocks;
+              current = is.current;
+              at = is.at;
+              side = is.side;
+              layout_read = is.layout_read;
+              begun = is.begun;
             })
         goes_behind (Build entries instruction ∷ more) ledger k place whole deciding leads is =
             goes_behind more (ledger_with ledger (Build entries instruction)) (suc k) (further ledger (Build entries instruction) k place) (shorter k (Build entries instruction) more whole) deciding.1 leads.1
@@ -443,20 +482,25 @@ module _ (reading : Reading) (one_to_one : IsOneToOne reading) (block here : Nam
             (record {
               stays = record { variables = is.stays.variables; exception_tables = is.stays.exception_tables; tables = is.stays.tables };
               blocks = created ledger k place (next_own ledger k CreateBlock more place whole) is.blocks;
-              current = is.current; layout_same = is.layout_same;
+              current = is.current;
+              layout_same = is.layout_same;
             })
         goes_before (MakeEdge edge ∷ more) ledger k place whole deciding leads begins is =
             goes_before more (ledger_with ledger (MakeEdge edge)) (suc k) (further ledger (MakeEdge edge) k place) (shorter k (MakeEdge edge) more whole) deciding.1 leads.1 begins.1
             (record {
               stays = record { variables = is.stays.variables; exception_tables = is.stays.exception_tables; tables = is.stays.tables };
-              blocks = is.blocks; current = is.current; layout_same = is.layout_same;
+              blocks = is.blocks;
+              current = is.current;
+              layout_same = is.layout_same;
             })
         goes_before (MakeJumpTable default entries ∷ more) ledger k place whole deciding leads begins is =
             goes_before more (ledger_with ledger (MakeJumpTable default entries)) (suc k) (further ledger (MakeJumpTable default entries) k place) (shorter k (MakeJumpTable default entries) more whole)
             deciding.1 leads.1 begins.1
             (record {
               stays = record { variables = is.stays.variables; exception_tables = is.stays.exception_tables; tables = is.stays.tables };
-              blocks = is.blocks; current = is.current; layout_same = is.layout_same;
+              blocks = is.blocks;
+              current = is.current;
+              layout_same = is.layout_same;
             })
         goes_before (Build entries instruction ∷ more) ledger k place whole deciding leads begins is =
             goes_behind more (ledger_with ledger (Build entries instruction)) (suc k) (further ledger (Build entries instruction) k place) (shorter k (Build entries instruction) more whole) deciding.1 leads.1

@@ -10,7 +10,7 @@ use Rattle.clif_meaning.specs.Examples.{i32}
 use Rattle.clif_meaning.specs.Instruction.{Brif, Compare, Edge, Instruction}
 use Rattle.clif_meaning.specs.Ledger.{is_filled, leads_to}
 use Rattle.clif_meaning.specs.Name.{Name, answer_of}
-use Rattle.clif_meaning.specs.Request.{Request, CreateBlock, SwitchToBlock, Build, Script}
+use Rattle.clif_meaning.specs.Request.{CreateBlock, SwitchToBlock, Build, Script}
 use Rattle.clif_expansion.specs.CallsVerdict.{verdict_on_calls}
 use Rattle.clif_expansion.specs.Constants.{computing}
 use Rattle.clif_expansion.specs.JoinedCalls.{AreJoinedCalls}

@@ -1,16 +1,15 @@
 -- The plain calls of a switch: they make blocks that are generated, and decide in them where control goes. What the calls do is said
 -- by what control does, not by the calls. Names are those of the plain script, and all answers to these calls are generated. Own.
-use Rattle.std.specs.Prelude.{◌≡◌, ◌⊎◌, ◌≤◌, ◌&&◌, ℕ, nat_lt, if◌then◌else◌, false, IsTrue, List, [], ◌∷◌, ◌++◌, length, map, replicate, slice_get, Some, Option, None, Contains, IfSome}
+use Rattle.std.specs.Prelude.{◌≡◌, ◌⊎◌, ◌≤◌, ◌&&◌, ℕ, nat_lt, if◌then◌else◌, false, IsTrue, List, [], ◌∷◌, ◌++◌, length, map, replicate, slice_get, Some, None, Contains, IfSome}
 use Rattle.std.specs.List.{AllByRecursion}
 use Rattle.clif_types.specs.declared.types.«Type».{«Type»}
 use Rattle.clif_meaning.specs.Bits.{Bits, IsValue}
 use Rattle.clif_meaning.specs.Instruction.{Compute, Jump, Brif, BrTable, Switch, Operation, Edge, Instruction}
 use Rattle.clif_meaning.specs.Ledger.{BlockState, Ledger, is_filled, has_block, is_inserted, is_pristine, leads_to, ledger_after, type_of}
 use Rattle.clif_meaning.specs.Name.{Name}
-use Rattle.clif_meaning.specs.Program.{Item, Instruct, Program, program_of}
+use Rattle.clif_meaning.specs.Program.{Item, Instruct, program_of}
 use Rattle.clif_meaning.specs.Request.{Request, CreateBlock, SwitchToBlock, SealBlock, MakeEdge, MakeJumpTable, Build, GivenEntry, ServedBy, Script}
 use Rattle.clif_meaning.specs.Switch.{edge_of_key, switch_target}
-use Rattle.clif_meaning.specs.WellPlaced.{edge_targets}
 use Rattle.clif_meaning.specs.World.{World}
 use Rattle.clif_expansion.specs.Keys.{table_count}
 use Rattle.clif_expansion.specs.Laying.{IsLaid}

@@ -1,7 +1,7 @@
 -- What the premises ask of code of switches: it goes from the switch that was emitted to what decides for it.
-use Rattle.std.proofs.Common.{◌≡◌, ◌<◌, ◌≤◌, ◌⊎◌, inl, inr, ℕ, suc, Bool, true, false, cond, List, [], ◌∷◌, ◌++◌, length, map, refl, sym, ◌∙◌, ap, subst, arith, Option, Some, None}
-use Rattle.std.specs.Prelude.{Contains, IsTrue, find, fold, if◌then◌else◌, is_some}
-use Rattle.std.specs.List.{AllByRecursion, AllZip, list_any}
+use Rattle.std.proofs.Common.{◌≡◌, ◌≤◌, ◌⊎◌, inl, inr, ℕ, suc, Bool, true, false, cond, List, [], ◌∷◌, ◌++◌, length, map, refl, sym, ◌∙◌, subst, Option, Some, None}
+use Rattle.std.specs.Prelude.{Contains, IsTrue, find, fold, is_some}
+use Rattle.std.specs.List.{AllByRecursion, list_any}
 use Rattle.clif_opcodes.specs.Typing.{FitOperands}
 use Rattle.clif_opcodes.specs.declared.kinds.OtherOperands.{OtherOperands}
 use Rattle.clif_opcodes.specs.declared.kinds.OtherOperands.TheVariants as others
@@ -9,16 +9,16 @@ use Rattle.clif_opcodes.specs.declared.opcodes.FloatConstOpcode.TheVariants as f
 use Rattle.clif_opcodes.specs.declared.opcodes.PooledConstOpcode.TheVariants as pooled
 use Rattle.clif_types.specs.declared.types.«Type».{«Type»}
 use Rattle.clif_meaning.specs.Access.{library_call}
-use Rattle.clif_meaning.specs.Instruction.{AddConstant, Binary, Compare, CompareConstant, Concat, Convert, FloatConst, Iconst, PooledConst, Select, Split, Unary, Compute, Jump, Brif, BrTable, Edge, Instruction, Operation, Switch, operation_typing}
-use Rattle.clif_meaning.specs.Ledger.{BlockState, Ledger, block_state, empty_ledger, has_block, is_filled, leads_to, ledger_after, ledger_with, state_has}
+use Rattle.clif_meaning.specs.Instruction.{AddConstant, Binary, Compare, CompareConstant, Concat, Convert, FloatConst, Iconst, PooledConst, Select, Split, Unary, Compute, Jump, Brif, BrTable, Edge, Instruction, Operation, operation_typing}
+use Rattle.clif_meaning.specs.Ledger.{BlockState, Ledger, block_state, empty_ledger, has_block, is_filled, ledger_after, ledger_with, state_has}
 use Rattle.clif_meaning.specs.Name.{Name, same_name}
-use Rattle.clif_meaning.specs.Premises.{EachItem, IfLibraryCall}
-use Rattle.clif_meaning.specs.Program.{Program, Item, Instruct, Use, Assign, program_of, result_names, with_call, empty_program}
-use Rattle.clif_meaning.specs.Request.{Request, CreateBlock, SwitchToBlock, SealBlock, MakeEdge, MakeJumpTable, Build, Script}
+use Rattle.clif_meaning.specs.Premises.{IfLibraryCall}
+use Rattle.clif_meaning.specs.Program.{Program, Item, Instruct, Use, Assign, with_call, empty_program}
+use Rattle.clif_meaning.specs.Request.{CreateBlock, SwitchToBlock, SealBlock, MakeEdge, MakeJumpTable, Build, Script}
 use Rattle.clif_meaning.specs.Typing.{TakesOperands, argument_types, call_shape}
-use Rattle.clif_expansion.specs.Joining.{AreJoinedLedgers, Both, IsJoined, IsOwnState, IsReadState, NoMore, Own, StandAmong}
+use Rattle.clif_expansion.specs.Joining.{AreJoinedLedgers, Both, IsOwnState, IsReadState, Own, StandAmong}
 use Rattle.clif_expansion.specs.LedgerTypes.{HaveTypes, IsTypedInLine}
-use Rattle.clif_expansion.specs.Reading.{IsReadAs, IsReadInstruction, Reading}
+use Rattle.clif_expansion.specs.Reading.{IsReadInstruction, Reading}
 use Rattle.clif_expansion.specs.Switching.{BuildsTyped, IsDeciding, IsDecidingCall, IsSwitchCode, LeadsInside, LeadsToBlocks, switching, targets_of}
 use Rattle.clif_expansion.specs.Walk.{IsGenerated}
 use Rattle.clif_expansion.proofs.Among.{generated_other}
@@ -33,7 +33,7 @@ use Rattle.clif_expansion.proofs.ProgramsOfCalls.{EachKnown, anything, currents_
 use Rattle.clif_expansion.proofs.SwitchedPrograms
 use Rattle.clif_expansion.proofs.SwitchedPrograms.{all_two}
 use Rattle.clif_expansion.proofs.DecidingPrograms.{AllBuilt}
-use Rattle.clif_expansion.proofs.JoinedPrograms.{IsCalledSo, LastsIn, LastsLater}
+use Rattle.clif_expansion.proofs.JoinedPrograms.{LastsIn, LastsLater}
 use Rattle.clif_expansion.proofs.Names.{equal_names, names_equal}
 use Rattle.clif_expansion.proofs.Placing.{contained_first, contained_in, contained_later, contained_left, none_contained}
 

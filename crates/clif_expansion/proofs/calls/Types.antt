@@ -93,7 +93,6 @@ module _ (pointer_width : ℕ) (types : NameTypes) where
           items_as_named (pointer_of pointer_width) (length (ledger_after script).answers) (code ++ last ∷ []) done.1.as_named,
         ),
       )
-
   each_typed reading plain calls (Switching old script more earlier block value ty keys edges switch branches tables are at placed is code) have' done =
       let behind' : HaveTypes (fold ledger_with (ledger_after script) more) types.plain =
       subst (λ (l : Ledger). HaveTypes l types.plain) (fold_on ledger_with empty_ledger script more) have' in (
