@@ -66,6 +66,13 @@ impl<'a> FunctionBuilder<'a> {
         self.func
     }
 
+    /// Whether an earlier call met refused memory or a full table, so that calls answer `Failed`.
+    pub fn has_failed(&self) -> bool
+        ensures { result ≡ self.now.failed }
+    {
+        self.failed
+    }
+
     /// The block that instructions are appended to, if [`FunctionBuilder::switch_to_block`] was called.
     pub fn current_block(&self) -> Option<Block>
         ensures { result ≡ self.now.position }

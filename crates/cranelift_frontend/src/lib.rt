@@ -20,6 +20,7 @@ pub use clif_opcodes::{
     Control, Demand, Opcode, OperandKind, OtherOperands, ResultKind, StackOpcode, Typing,
 };
 pub use clif_ssa::Variable;
+pub use clif_switch::{Switch, SwitchError};
 pub use clif_tables::{ConstantData, Tables};
 pub use clif_types::entity_set::Members;
 pub use clif_types::{
