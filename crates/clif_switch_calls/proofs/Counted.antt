@@ -13,7 +13,7 @@ use Rattle.clif_ranges.proofs.Keys.{of_key}
 use Rattle.clif_meaning.specs.Instruction.{Edge}
 use Rattle.clif_meaning.specs.Name.{Name}
 use Rattle.clif_meaning.specs.Switch.{edge_of_key}
-use Rattle.clif_expansion.specs.Switching.{follows, is_key, table_count}
+use Rattle.clif_expansion.specs.Keys.{follows, is_key, table_count}
 use Rattle.clif_expansion.proofs.Placing.{contained_first, contained_in, contained_later, none_contained}
 use Rattle.clif_switch_calls.specs.SwitchCalls.{Switched, bare_edge}
 use Rattle.clif_switch_calls.proofs.Branches.{target_of}

@@ -19,7 +19,7 @@ use Rattle.clif_ranges.proofs.Keys.{of_key, of_ranges}
 use Rattle.clif_ranges.proofs.Searching.{begins, none_over}
 use Rattle.clif_meaning.specs.Bits.{Bits, IsValue}
 use Rattle.clif_meaning.specs.Instruction.{Edge, Instruction}
-use Rattle.clif_meaning.specs.Ledger.{BlockState, Ledger, empty_ledger, has_block, ledger_after, ledger_with, block_state}
+use Rattle.clif_meaning.specs.Ledger.{BlockState, Ledger, empty_ledger, has_block, is_filled, ledger_after, ledger_with, block_state}
 use Rattle.clif_meaning.specs.Name.{Name, answer_of}
 use Rattle.clif_meaning.specs.Program.{Item, Instruct, Program, empty_program, program_of, with_call}
 use Rattle.clif_meaning.specs.Request.{Request, Script}
@@ -28,7 +28,8 @@ use Rattle.clif_meaning.specs.World.{World}
 use Rattle.clif_expansion.specs.Laying.{IsLaid, IsToHand, Leaving, Lays}
 use Rattle.clif_expansion.specs.PerformedCalls.{HaveTypes}
 use Rattle.clif_expansion.specs.Reading.{Generated, IsReadAs, ScriptName}
-use Rattle.clif_expansion.specs.Switching.{GoesByKey, IsFinishedFrom, IsLedFrom, IsSpent, IsSwitchCode, generated_from, table_count, targets_of}
+use Rattle.clif_expansion.specs.Switching.{GoesByKey, IsFinishedFrom, IsLedFrom, IsSpent, IsSwitchCode, LeadsToBlocks, generated_from, targets_of}
+use Rattle.clif_expansion.specs.Keys.{table_count}
 use Rattle.clif_expansion.specs.Walk.{IsGenerated, Surroundings}
 use Rattle.clif_expansion.proofs.LedgerTypes.{types_before}
 use Rattle.clif_expansion.proofs.Placing.{contained_first, contained_left, of_contained}
@@ -43,7 +44,7 @@ use Rattle.clif_switch_calls.proofs.LaidNodes as laid
 use Rattle.clif_switch_calls.proofs.Laid.{LaysTo, ToHand}
 use Rattle.clif_switch_calls.proofs.Led as led
 use Rattle.clif_switch_calls.proofs.Ledgers.{HasState, emits_begin, emits_calls}
-use Rattle.clif_switch_calls.proofs.Left.{BranchesTo, Ended, IsUnderWay, Standing, emits_end, emits_lead}
+use Rattle.clif_switch_calls.proofs.Left.{BranchesTo, Ended, IsUnderWay, Standing, emits_blocks, emits_end, emits_lead}
 use Rattle.clif_switch_calls.proofs.Nodes.{Fall, as_many, fall_on, goes_on_so, head_same, made_from, name_in, nodes_walk, tail_same}
 use Rattle.clif_switch_calls.proofs.Plain.{AreBefore, all_typed, answered, block_before, names_of, placed, plain_blocks, value_before}
 use Rattle.clif_switch_calls.proofs.Searched.{Fits, test_walks}
@@ -443,16 +444,25 @@ module _ (plain : Script) (block : Name) (s : Switched) (cases : CaseMap) (range
           laid.goes_on_so base (generated_from base) (program_of (plain ++ more)) (Instruct place instruction []) (read_later base) (λ given. tt) s may.int hand to_otherwise t [] 1 here waits refl
           searches.order.2 they
 
+  bare_edges : (list : List (ℕ × ℕ)) → AllByRecursion (λ edge. edge.arguments ≡ []) (edges_from s list)
+  bare_edges [] = (refl, tt)
+  bare_edges (case ∷ list) = (refl, bare_edges list)
+
   -- THE WHOLE -------------------------------------------------------------------------------------------------------------
 
   is_code : IsSwitchCode plain more block s.value s.ty (case_keys cases) (case_edges s cases) (k + 2) 1
   is_code = record {
+    nothing = bare_edges entries;
+    value_type = may.value;
     calls = emits_calls base tables targets [] true block base more emits (omega arith) tt;
     typed = λ types have.
         nodes_fine types s may.int (value_is types have) nodes [] tables base []
         (subst (AreTyped types base) (sym (append-nil more)) (typed types have));
     begins = emits_begin base tables targets [] true block base more emits refl;
+    blocks = subst (λ (l : Ledger). AllByRecursion (LeadsToBlocks base l) more) (sym behind_is)
+        (emits_blocks base tables targets [] true block base more emits before may.current answers_so tt target_earlier);
     finished = subst (λ (l : Ledger). AllByRecursion (IsFinishedFrom base) l.blocks) (sym behind_is) ended.finished;
+    filled = subst (λ (l : Ledger). IsTrue (is_filled l block)) (sym behind_is) ended.filled;
     left = left;
     led = λ target is. subst (λ (l : Ledger). IsLedFrom base l target) (sym behind_is)
         (emits_lead base tables targets [] true block base more emits before may.current answers_so (omega arith) target (target_there target is) (leads target is));

@@ -1,12 +1,12 @@
 -- The ledger that calls leave which fill blocks one by one.
 use Rattle.std.proofs.Common.{◌≡◌, ◌≢◌, ◌<◌, ◌≤◌, ◌+◌, ℕ, suc, Bool, true, false, List, [], ◌∷◌, ◌++◌, length, map, refl, sym, ◌∙◌, ap, ap₂, subst, arith, inl, inr, Some, None, Option}
-use Rattle.std.specs.Prelude.{◌⊎◌, ◌&&◌, if◌then◌else◌, fold, find, Contains, IsTrue}
+use Rattle.std.specs.Prelude.{◌⊎◌, ◌&&◌, if◌then◌else◌, fold, find, is_some, Contains, IsTrue}
 use Rattle.std.specs.List.{AllByRecursion, list_any}
 use Rattle.clif_meaning.specs.Instruction.{Compute, Edge, Instruction, Operation}
 use Rattle.clif_meaning.specs.Ledger.{BlockState, Ledger, block_state, has_block, is_filled, is_inserted, is_pristine, is_terminator, leads_to, ledger_with, new_block, next_answer, sealed, state_has}
 use Rattle.clif_meaning.specs.Name.{Name, answer_of, same_name}
 use Rattle.clif_meaning.specs.Request.{Request, CreateBlock, SwitchToBlock, SealBlock, MakeEdge, MakeJumpTable, Build, GivenEntry, Script}
-use Rattle.clif_expansion.specs.Switching.{IsFinishedFrom, IsLedFrom, IsSpent, targets_of}
+use Rattle.clif_expansion.specs.Switching.{IsFinishedFrom, IsLedFrom, IsSpent, LeadsToBlocks, targets_of}
 use Rattle.clif_expansion.proofs.EmittedPrograms.{one_longer}
 use Rattle.clif_expansion.proofs.Names.{equal_names, names_equal}
 use Rattle.clif_expansion.proofs.Placing.{contained_first, contained_in, contained_later, of_contained}
@@ -289,3 +289,59 @@ module _ (base tables : ℕ) (targets : List Name) where
   emits_lead _ _ _ _ _ (Ends waiting current place entries instruction more branches given emits) ledger is at behind target has (inr leads) =
       emits_lead waiting false current (suc place) more emits (ledger_with ledger (Build entries instruction)) (built_current ledger current is entries instruction)
       (one_longer ledger.answers _ ∙ ap suc at) (omega (arith, behind)) target (still_has ledger (ledger_with ledger (Build entries instruction)) (built_grows ledger current is entries instruction) target has) leads
+
+  -- BLOCKS ----------------------------------------------------------------------------------------------------------------
+
+  there_later : (ledger later : Ledger) → LedgerGrows ledger later → (block : Name) → HasState ledger block → IsTrue (has_block later block)
+  there_later ledger later grows block has = let grown = grows block has.0 has.1 in ap (λ (o : Option BlockState). is_some o) grown.1
+
+  edges_there : (later : Ledger) (waiting : List Name) (edges : List (Edge Name Name)) → ((x : Name) → Contains targets x → x.place < base)
+      → ((x : Name) → Contains waiting x → IsTrue (has_block later x)) → AllByRecursion (LeadsOn targets waiting) edges
+      → AllByRecursion (λ edge. base ≤ edge.target.place → IsTrue (has_block later edge.target)) edges
+  edges_there later waiting [] earlier there leads = tt
+  edges_there later waiting (edge ∷ edges) earlier there leads =
+      ((λ behind. elim leads.0.there [
+        | inl waits ↦ there edge.target waits
+        | inr target ↦ (let before = earlier edge.target target in absurd (omega (arith, behind, before)))
+      ]), edges_there later waiting edges earlier there leads.1)
+
+  -- what becomes the current block is there, and so is what is led to
+  pub emits_blocks : (waiting : List Name) (runs : Bool) (current : Name) (place : ℕ) (script : Script) → Emits base tables targets waiting runs current place script
+      → (ledger : Ledger) → ledger.current ≡ Some current → length ledger.answers ≡ place → AllByRecursion (HasState ledger) waiting → ((x : Name) → Contains targets x → x.place < base)
+      → AllByRecursion (LeadsToBlocks base (fold ledger_with ledger script)) script
+  emits_blocks _ _ _ _ _ (Stops current place) ledger is at wait earlier = tt
+  emits_blocks _ _ _ _ _ (Enters block waiting current place more emits) ledger is at wait earlier =
+      let next : Ledger = ledger_with (ledger_with ledger (SealBlock block)) (SwitchToBlock block) in (
+        tt,
+        (
+          there_later ledger (fold ledger_with next more)
+              (emits_grow (block ∷ waiting) false current place (SealBlock block ∷ SwitchToBlock block ∷ more) (Enters block waiting current place more emits) ledger is) block wait.0,
+          emits_blocks waiting true block (suc (suc place)) more emits next refl (one_longer (ledger_with ledger (SealBlock block)).answers [] ∙ ap suc (one_longer ledger.answers [] ∙ ap suc at))
+              (all_have ledger next (entered_grows ledger block) waiting wait.1) earlier,
+        ),
+      )
+  emits_blocks _ _ _ _ _ (Creates waiting current place more emits) ledger is at wait earlier =
+      let next : Ledger = ledger_with ledger CreateBlock in
+      let new : next_answer ledger ≡ answer_of place 0 = ap (λ (n : ℕ). answer_of n 0) at in (
+        tt,
+        emits_blocks (answer_of place 0 ∷ waiting) true current (suc place) more emits next is (one_longer ledger.answers _ ∙ ap suc at)
+            (subst (HasState next) new (found_last (next_answer ledger) ledger.blocks), all_have ledger next (created_grows ledger) waiting wait) earlier,
+      )
+  emits_blocks _ _ _ _ _ (Links waiting current place edge more leads emits) ledger is at wait earlier =
+      (tt, emits_blocks waiting true current (suc place) more emits (ledger_with ledger (MakeEdge edge)) is (one_longer ledger.answers _ ∙ ap suc at) wait earlier)
+  emits_blocks _ _ _ _ _ (Tables waiting current place default entries more first are emits) ledger is at wait earlier =
+      (tt, emits_blocks waiting true current (suc place) more emits (ledger_with ledger (MakeJumpTable default entries)) is (one_longer ledger.answers _ ∙ ap suc at) wait earlier)
+  emits_blocks _ _ _ _ _ (Computes waiting current place instruction more here emits) ledger is at wait earlier =
+      let next : Ledger = ledger_with ledger (Build [] instruction) in (
+        subst (λ (edges : List (Edge Name Name)). AllByRecursion (λ edge. base ≤ edge.target.place → IsTrue (has_block (fold ledger_with next more) edge.target)) edges) (sym here.no_edges) tt,
+        emits_blocks waiting true current (suc place) more emits next (built_current ledger current is [] instruction) (one_longer ledger.answers _ ∙ ap suc at)
+            (all_have ledger next (built_grows ledger current is [] instruction) waiting wait) earlier,
+      )
+  emits_blocks _ _ _ _ _ (Ends waiting current place entries instruction more branches given emits) ledger is at wait earlier =
+      let next : Ledger = ledger_with ledger (Build entries instruction) in
+      let grows = emits_grow waiting true current place (Build entries instruction ∷ more) (Ends waiting current place entries instruction more branches given emits) ledger is in (
+        edges_there (fold ledger_with next more) waiting instruction.edges earlier
+            (λ x waits. there_later ledger (fold ledger_with next more) grows x (of_contained (HasState ledger) waiting x wait waits)) branches.edges,
+        emits_blocks waiting false current (suc place) more emits next (built_current ledger current is entries instruction) (one_longer ledger.answers _ ∙ ap suc at)
+            (all_have ledger next (built_grows ledger current is entries instruction) waiting wait) earlier,
+      )
