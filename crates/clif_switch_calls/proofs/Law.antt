@@ -35,6 +35,7 @@ use Rattle.clif_expansion.proofs.LedgerTypes.{types_before}
 use Rattle.clif_expansion.proofs.Placing.{contained_first, contained_left, of_contained}
 use Rattle.clif_switch_calls.specs.SwitchCalls.{Switched, bare_edge, blocks_of, blocks_with, first_block, node_calls, nodes_calls, tables_of, test_calls}
 use Rattle.clif_switch_calls.specs.SwitchLaw.{MaySwitch, SearchesCases, SwitchCallsAreCode, case_edges, case_keys, switch_calls}
+use Rattle.clif_switch_calls.proofs.Allowed.{same_currents}
 use Rattle.clif_switch_calls.proofs.Branches.{Walked, target_of}
 use Rattle.clif_switch_calls.proofs.Codes.{AreTyped, Entered, code_of, entered_behind, typed_behind}
 use Rattle.clif_switch_calls.proofs.Counted.{edge_found, edges_from, keys_of, tables_counted}
@@ -258,7 +259,7 @@ module _ (plain : Script) (block : Name) (s : Switched) (cases : CaseMap) (range
 
   ready : Ready written [] block base
   ready = record {
-    is = may.current_there;
+    is = same_currents plain ∙ may.current;
     at = placed plain empty_program ∙ omega arith;
     earlier = block_earlier;
     fall = tt;

@@ -19,4 +19,5 @@ pub mod Led
 pub mod Served
 pub mod Counted
 pub mod Targets
+pub mod Allowed
 pub mod Law

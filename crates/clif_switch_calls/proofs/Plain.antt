@@ -1,10 +1,10 @@
 -- What is known of each script of plain calls: how many answers there are, and that what is named was made before.
 use Rattle.std.proofs.Common.{◌≡◌, ◌<◌, ◌≤◌, ◌+◌, ℕ, zero, suc, Bool, true, false, List, [], ◌∷◌, ◌++◌, length, map, refl, sym, ◌∙◌, ap, ap₂, subst, arith, inl, inr, Some, None, Option, cond}
-use Rattle.std.specs.Prelude.{◌⊎◌, if◌then◌else◌, find, fold, option_and_then, slice_get}
+use Rattle.std.specs.Prelude.{◌⊎◌, if◌then◌else◌, find, fold, option_and_then, slice_get, is_some, IsTrue}
 use Rattle.std.specs.List.{AllByRecursion, list_any}
 use Rattle.clif_types.specs.declared.types.«Type».{«Type»}
 use Rattle.clif_meaning.specs.Instruction.{Edge, Instruction}
-use Rattle.clif_meaning.specs.Ledger.{AValue, AnInstruction, Answered, BlockState, Ledger, answers_to, block_state, changed_by, empty_ledger, is_inserted, is_terminator, ledger_after, ledger_with, led_by, left_by, new_block, next_answer, redirected_state, sealed, type_of, value_answer_type, with_begun, with_begun_at, with_cold_mark, with_filled_at, with_instruction, with_layout, with_parameter_types, with_predecessor, with_state, with_terminator}
+use Rattle.clif_meaning.specs.Ledger.{AValue, AnInstruction, Answered, BlockState, Ledger, answers_to, block_state, has_block, changed_by, empty_ledger, is_inserted, is_terminator, ledger_after, ledger_with, led_by, left_by, new_block, next_answer, redirected_state, sealed, type_of, value_answer_type, with_begun, with_begun_at, with_cold_mark, with_filled_at, with_instruction, with_layout, with_parameter_types, with_predecessor, with_state, with_terminator}
 use Rattle.clif_meaning.specs.Name.{Name, answer_of, same_name}
 use Rattle.clif_meaning.specs.Program.{Program, empty_program, program_of, result_types, with_call}
 use Rattle.clif_meaning.specs.Request.{Request, CreateBlock, SwitchToBlock, SealBlock, SealAllBlocks, InsertBlockAfter, SetColdBlock, EnsureInsertedBlock, AppendBlockParams, AppendFunctionParams, DeclareVar, DefVar, UseVar, MakeEntry, MakeEdge, MakeJumpTable, MakeExceptionTable, Annotate, Build, ChangeJumpDestination, Finalize, GivenEntry, Script}
@@ -108,7 +108,7 @@ before_last : (bound : ℕ) (blocks : List BlockState) (last : BlockState) → l
 before_last bound [] last below all = (below, tt)
 before_last bound (s ∷ blocks) last below all = (all.0, before_last bound blocks last below all.1)
 
-kept_names : (ledger : Ledger) (request : Request) → AreBefore (length ledger.answers) (names_of ledger.blocks) → AreBefore (suc (length ledger.answers)) (names_of (changed_by ledger request).blocks)
+pub kept_names : (ledger : Ledger) (request : Request) → AreBefore (length ledger.answers) (names_of ledger.blocks) → AreBefore (suc (length ledger.answers)) (names_of (changed_by ledger request).blocks)
 kept_names ledger CreateBlock all =
     before_last (suc (length ledger.answers)) ledger.blocks (new_block (next_answer ledger)) (omega arith) (before_more (length ledger.answers) (suc (length ledger.answers)) (names_of ledger.blocks) (omega arith) all)
 kept_names ledger (SwitchToBlock block) all = before_more (length ledger.answers) (suc (length ledger.answers)) (names_of ledger.blocks) (omega arith) all
@@ -162,6 +162,14 @@ found_before bound block (first ∷ blocks) state all is = by (same_name first.b
         → state.block.place < bound
     by true so later = subst (λ (s : BlockState). s.block.place < bound) (ap held so) all.0
     by false so later = later so
+
+pub block_in_before : (bound : ℕ) (ledger : Ledger) (block : Name) → AreBefore bound (names_of ledger.blocks) → IsTrue (has_block ledger block) → block.place < bound
+block_in_before bound ledger block all is = by (block_state ledger block) refl is
+  where
+    by : (o : Option BlockState) → block_state ledger block ≡ o → IsTrue (is_some o) → block.place < bound
+    by None same some = let none : ⊥ = cc in absurd none
+    by (Some state) same some =
+        subst (λ (x : Name). x.place < bound) (names_equal state.block block (found_named block ledger.blocks state same)) (found_before bound block ledger.blocks state all same)
 
 -- a block that is there was made before
 pub block_before : (script : Script) (block : Name) → HasState (ledger_after script) block → block.place < length script

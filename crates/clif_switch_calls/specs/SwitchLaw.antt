@@ -7,10 +7,11 @@ use Rattle.clif_ranges.specs.declared.search.Node.{Node}
 use Rattle.clif_ranges.specs.Cases.{AreRangesFor, CaseMap}
 use Rattle.clif_ranges.specs.Search.{AreInOrder, AreTestsOf, FindsCases}
 use Rattle.clif_meaning.specs.Instruction.{Edge}
-use Rattle.clif_meaning.specs.Ledger.{has_block, ledger_after, type_of}
+use Rattle.clif_meaning.specs.Ledger.{empty_ledger, has_block, ledger_after, type_of}
 use Rattle.clif_meaning.specs.Name.{Name}
 use Rattle.clif_meaning.specs.Program.{program_of}
 use Rattle.clif_meaning.specs.Request.{Script}
+use Rattle.clif_expansion.specs.ConstantCalls.{AreAllowed}
 use Rattle.clif_expansion.specs.Switching.{IsSwitchCode}
 use Rattle.clif_switch_calls.specs.SwitchCalls.{Switched, bare_edge, nodes_calls}
 
@@ -26,13 +27,17 @@ case_edges s cases = map (λ case. bare_edge (s.named case.1)) (finite.entries c
 -- was built in blocks that aren't there yet.
 pub record MaySwitch (plain : Script) (block : Name) (s : Switched) (cases : CaseMap) : Type 0 where
   pub current : (ledger_after plain).current ≡ Some block
-  pub current_there : (program_of plain).current ≡ Some block
   pub there : IsTrue (has_block (ledger_after plain) block)
   pub int : IsTrue (is_int s.ty)
   pub value : type_of (ledger_after plain) s.value ≡ Some s.ty
   pub otherwise : IsTrue (has_block (ledger_after plain) s.otherwise)
   pub targets : All (λ case. IsTrue (has_block (ledger_after plain) (s.named case.1))) (finite.entries cases)
   pub unwritten : (later : Name) → length plain ≤ later.place → (program_of plain).items later ≡ []
+
+-- So it is behind calls that may be made.
+abbrev pub LaterBlocksAreUnwritten : Type 0
+LaterBlocksAreUnwritten =
+    (plain : Script) → AreAllowed empty_ledger plain → (later : Name) → length plain ≤ later.place → (program_of plain).items later ≡ []
 
 -- these nodes search the cases
 pub record SearchesCases (s : Switched) (cases : CaseMap) (ranges : List CaseRange) (nodes : List Node) : Type 0 where
