@@ -21,3 +21,4 @@ pub mod Counted
 pub mod Targets
 pub mod Allowed
 pub mod Law
+pub mod SwitchCallExamples
