@@ -12,7 +12,8 @@ use Rattle.clif_expansion.specs.ConstantCalls.{AreAllowed}
 use Rattle.clif_expansion.proofs.Emissions.{begun_current}
 use Rattle.clif_expansion.proofs.EmittedPrograms.{one_longer}
 use Rattle.clif_switch_calls.specs.SwitchLaw.{LaterBlocksAreUnwritten}
-use Rattle.clif_switch_calls.proofs.Emits.{other_name}
+use Rattle.clif_switch_calls.proofs.Basics.{other_name}
+use Rattle.clif_switch_calls.proofs.Built.{led_current}
 use Rattle.clif_switch_calls.proofs.Plain.{AreBefore, answered, block_in_before, kept_names, names_of}
 
 -- CURRENT BLOCKS ----------------------------------------------------------------------------------------------------------
@@ -24,10 +25,6 @@ item_current program (Some block) item = refl
 filled_current : (ledger : Ledger) (block : Option Name) → (with_filled_at ledger block).current ≡ ledger.current
 filled_current ledger None = refl
 filled_current ledger (Some block) = refl
-
-led_current : (branch : Name) (edges : List (Edge Name Name)) (ledger : Ledger) → (fold (with_predecessor branch) ledger edges).current ≡ ledger.current
-led_current branch [] ledger = refl
-led_current branch (edge ∷ edges) ledger = led_current branch edges (with_predecessor branch ledger edge)
 
 built_current : (ledger : Ledger) (instruction : Instruction Name Name) → (with_instruction ledger instruction).current ≡ ledger.current
 built_current ledger instruction =

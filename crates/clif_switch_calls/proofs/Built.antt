@@ -96,7 +96,7 @@ led_layout : (branch : Name) (edges : List (Edge Name Name)) (ledger : Ledger) �
 led_layout branch [] ledger = refl
 led_layout branch (edge ∷ edges) ledger = led_layout branch edges (with_predecessor branch ledger edge)
 
-led_current : (branch : Name) (edges : List (Edge Name Name)) (ledger : Ledger) → (fold (with_predecessor branch) ledger edges).current ≡ ledger.current
+pub led_current : (branch : Name) (edges : List (Edge Name Name)) (ledger : Ledger) → (fold (with_predecessor branch) ledger edges).current ≡ ledger.current
 led_current branch [] ledger = refl
 led_current branch (edge ∷ edges) ledger = led_current branch edges (with_predecessor branch ledger edge)
 

@@ -4,6 +4,7 @@ use Rattle.std.specs.Prelude.{◌⊎◌, ◌&&◌, ◌||◌, ◌==◌, not, nat_
 use Rattle.std.specs.List.{AllByRecursion, count_by, enumerate_from, flat_map, list_any}
 use Rattle.std.proofs.lemmas.Bool.{cases_eq, cases_lt, ne_eqb}
 use Rattle.std.proofs.lemmas.Bool.Decides.{nat_tests}
+use Rattle.std.proofs.lemmas.List.Elements.{recursion_from_All}
 use Rattle.std.proofs.lemmas.List.Folds.{list_any-append}
 use Rattle.std.proofs.lemmas.List.Recursion.{is_count_by}
 use Rattle.clif_ranges.specs.declared.ranges.CaseRange.{CaseRange}
@@ -187,15 +188,11 @@ counted_so ranges = is_count_by (counted []) is_long refl (λ range more. one (i
     one true n = omega arith
     one false n = refl
 
-pub each_of : {X : Type 0} (P : X → Type 0) (xs : List X) → ((i : ℕ) (d : X) → i < length xs → P (get_or xs i d)) → AllByRecursion P xs
-each_of P [] each = tt
-each_of P (x ∷ xs) each = (each 0 x (omega arith), each_of P xs (λ i d inside. each (suc i) d (omega (arith, inside))))
-
 -- as many tables as ranges of more than one key
 pub tables_counted : (entries : List (ℕ × ℕ)) (ranges : List CaseRange) → AreRangesOf entries ranges → table_count (keys_of entries) (keys_of entries) ≡ count_by is_long ranges
 tables_counted entries ranges are =
     ap (λ (e : List (ℕ × ℕ)). table_count (keys_of e) (keys_of e)) (sym are.cases)
-    ∙ ranges_counted (all_keys ranges) ranges 0 (separate ranges are.gaps) (each_of (λ r. 0 < length r.blocks.items) ranges are.filled) (each_of (λ r. 0 ≤ r.first - 1) ranges (λ i d inside. omega arith))
+    ∙ ranges_counted (all_keys ranges) ranges 0 (separate ranges are.gaps) (recursion_from_All (λ r. 0 < length r.blocks.items) ranges are.filled) (recursion_from_All (λ r. 0 ≤ r.first - 1) ranges (λ i d inside. omega arith))
     (λ range key here at below. one_with ranges range key here at below) (λ key at outside. none_with ranges key outside)
     ∙ counted_any (all_keys ranges) ranges ∙ counted_so ranges
   where

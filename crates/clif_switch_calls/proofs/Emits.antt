@@ -9,6 +9,7 @@ use Rattle.clif_meaning.specs.Program.{Item, Instruct, Program, result_names, wi
 use Rattle.clif_meaning.specs.Request.{Request, CreateBlock, SwitchToBlock, SealBlock, MakeEdge, MakeJumpTable, Build, GivenEntry, Script}
 use Rattle.clif_expansion.specs.Switching.{IsDeciding, IsTableFrom}
 use Rattle.clif_expansion.proofs.Names.{equal_names, names_equal}
+use Rattle.clif_switch_calls.proofs.Basics.{other_name}
 use Rattle.clif_switch_calls.proofs.Codes.{Entered, code_of}
 
 -- the instruction computes, and has no edges
@@ -67,13 +68,6 @@ Apart place names = AllByRecursion (λ x. x.place ≢ place) names
 pub fall_apart : (bound : ℕ) (names : List Name) (place : ℕ) → FallNames bound names → bound ≤ place → Apart place names
 fall_apart bound [] place fall above = tt
 fall_apart bound (x ∷ names) place fall above = (λ same. omega (arith, same, fall.0, above), fall_apart x.place names place fall.1 (omega (arith, fall.0, above)))
-
-pub other_name : (x y : Name) → x.place ≢ y.place → same_name x y ≡ false
-other_name x y other = by (same_name x y) refl
-  where
-    by : (c : Bool) → same_name x y ≡ c → same_name x y ≡ false
-    by true is = absurd (other (ap (λ (n : Name). n.place) (names_equal x y is)))
-    by false is = is
 
 -- ONE INSTRUCTION ---------------------------------------------------------------------------------------------------------
 

@@ -29,6 +29,7 @@ use Rattle.clif_expansion.specs.Emission.{building}
 use Rattle.clif_expansion.specs.Switching.{IsTableFrom}
 use Rattle.clif_expansion.proofs.Placing.{contained_first, contained_later}
 use Rattle.clif_switch_calls.specs.SwitchCalls.{Switched, answers_of, bare_edge, block_for, blocks_of, blocks_with, branching, compared, difference, difference_name, entering, first_block, i32, i8, index_calls, index_name, is_composed, is_subtracted, name_for, negated_64, node_calls, nodes_calls, number_instructions, number_name, other_of, signed_64, table_calls, table_targets, tables_of, test_calls, with_number, with_number_name}
+use Rattle.clif_switch_calls.proofs.Basics.{all_both}
 use Rattle.clif_switch_calls.proofs.Branches.{conditional}
 use Rattle.clif_switch_calls.proofs.Emits.{Branches, Computes, Creates, Emits, Ends, Enters, LeadsOn, Links, StaysHere, Stops, Tables}
 use Rattle.clif_switch_calls.proofs.Nodes.{Fall, as_many, fall_on, name_in, named_before, named_first, named_second}
@@ -37,10 +38,6 @@ use Rattle.clif_switch_calls.proofs.Nodes.{Fall, as_many, fall_on, name_in, name
 
 abbrev pub AreInLine : List (Instruction Name Name) → Type 0
 AreInLine code = AllByRecursion StaysHere code
-
-line_both : (code more : List (Instruction Name Name)) → AreInLine code → AreInLine more → AreInLine (code ++ more)
-line_both [] more line others = others
-line_both (first ∷ code) more line others = (line.0, line_both code more line.1 others)
 
 either_line : (c : Bool) (first second : List (Instruction Name Name)) → AreInLine first → AreInLine second → AreInLine (if c then first else second)
 either_line true first second line others = line
@@ -72,14 +69,14 @@ number_in_line ty number place =
     (constant_in_line ty (signed_64 number) place)
 
 pub compare_in_line : (condition : IntCC) (ty : «Type») (number place : ℕ) (x : Name) → AreInLine (with_number (Compare condition) ty number place x)
-compare_in_line condition ty number place x = line_both (number_instructions ty number place) _ (number_in_line ty number place) (in_line refl)
+compare_in_line condition ty number place x = all_both StaysHere (number_instructions ty number place) _ (number_in_line ty number place) (in_line refl)
 
 pub difference_in_line : (ty : «Type») (first place : ℕ) (x : Name) → AreInLine (difference ty first place x)
 difference_in_line ty zero place x = tt
 difference_in_line ty (suc n) place x =
     either_line (is_subtracted ty (suc n)) _ _
-    (line_both (number_instructions ty (suc n) place) _ (number_in_line ty (suc n) place) (in_line refl))
-    (line_both (constant_instructions ty (negated_64 (suc n)) place) _ (constant_in_line ty (negated_64 (suc n)) place) (in_line refl))
+    (all_both StaysHere (number_instructions ty (suc n) place) _ (number_in_line ty (suc n) place) (in_line refl))
+    (all_both StaysHere (constant_instructions ty (negated_64 (suc n)) place) _ (constant_in_line ty (negated_64 (suc n)) place) (in_line refl))
 
 
 module _ (base first_table : ℕ) (targets : List Name) where

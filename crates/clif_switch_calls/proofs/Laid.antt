@@ -21,12 +21,9 @@ use Rattle.clif_expansion.specs.Reading.{Reading}
 use Rattle.clif_expansion.specs.Walk.{IsGenerated}
 use Rattle.clif_expansion.proofs.Placing.{contained_first, contained_later}
 use Rattle.clif_switch_calls.specs.SwitchCalls.{Switched, bare_edge, difference, difference_name, is_composed, is_subtracted, negated_64, number_instructions, number_name, signed_64, with_number, with_number_name}
+use Rattle.clif_switch_calls.proofs.Basics.{last_name}
 use Rattle.clif_switch_calls.proofs.Branches.{conditional}
 use Rattle.clif_switch_calls.proofs.Lines.{built_append}
-
-pub contained_right : (xs ys : List Name) (y : Name) → Contains ys y → Contains (xs ++ ys) y
-contained_right [] ys y here = here
-contained_right (x ∷ xs) ys y here = contained_later x (xs ++ ys) y (contained_right xs ys y here)
 
 module _ (reading : Reading) (program : Program) (item : Item) where
   abbrev LaysFrom : List Name → List Item → Type 0
@@ -142,12 +139,6 @@ module _ (reading : Reading) (program : Program) (item : Item) where
       → Feeds given (built_items place (with_number arithmetic ty number place x)) (with_number_name ty number place)
   with_fed arithmetic ty number place x given gives hand =
       last_fed place (number_instructions ty number place) (number_name ty number place) given (number_fed ty number place given) arithmetic ty x gives hand
-
-  last_name : (place : ℕ) (code : List (Instruction Name Name)) (last : Instruction Name Name)
-      → answer_of (place + length code) 1 ≡ answer_of (place + (length (code ++ last ∷ []) - 1)) 1
-  last_name place code last =
-      let longer : length (code ++ last ∷ []) ≡ length code + 1 = length-append code (last ∷ []) in
-      ap (λ (n : ℕ). answer_of n 1) (omega (arith, longer))
 
   -- what a difference leaves: where there is none, the name is the one that was to hand
   pub record Differs (given : List Name) (items : List Item) (name : Name) : Type 0 where

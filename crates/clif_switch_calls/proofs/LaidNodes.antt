@@ -3,6 +3,7 @@ use Rattle.std.proofs.Common.{◌≡◌, ◌<◌, ◌≤◌, ◌+◌, ◌-◌, �
 use Rattle.std.specs.Prelude.{Contains, ◌⊎◌, ◌^◌, ◌==◌, if◌then◌else◌, nat_lt, IsTrue, slice_index_or, reverse}
 use Rattle.std.specs.List.{AllByRecursion, flat_map}
 use Rattle.std.proofs.lemmas.List.{length-map}
+use Rattle.std.proofs.lemmas.List.Elements.{Contains-append_right}
 use Rattle.clif_opcodes.specs.declared.opcodes.ConvertOpcode.TheVariants.{Ireduce, Uextend}
 use Rattle.clif_types.specs.declared.condcodes.IntCC.{IntCC}
 use Rattle.clif_types.specs.declared.condcodes.IntCC.TheVariants as cc
@@ -29,16 +30,13 @@ use Rattle.clif_expansion.specs.Laying.{Ending, Entering, HasGiven, IsToHand, Is
 use Rattle.clif_expansion.specs.Reading.{Reading}
 use Rattle.clif_expansion.specs.Walk.{IsGenerated}
 use Rattle.clif_switch_calls.specs.SwitchCalls.{Switched, answers_of, bare_edge, block_for, blocks_of, blocks_with, branching, compared, difference, difference_name, entering, first_block, i32, i8, index_calls, index_name, name_for, node_calls, nodes_calls, table_calls, table_targets, tables_of, test_calls, with_number, with_number_name}
+use Rattle.clif_switch_calls.proofs.Basics.{all_both, regrouped}
 use Rattle.clif_switch_calls.proofs.Branches.{conditional}
 use Rattle.clif_switch_calls.proofs.Codes.{Entered, IsClosed, code_building, code_edges, code_of, entered_behind, entered_building, entered_edges}
-use Rattle.clif_switch_calls.proofs.Laid.{Differs, Feeds, LaysTo, ToHand, conditional_lays, contained_right, difference_fed, enters, fed_single, still, with_fed}
-use Rattle.clif_switch_calls.proofs.Nodes.{Fall, From, as_many, fall_on, from_at, from_both, made_from, name_in, named_before, named_first, named_second}
+use Rattle.clif_switch_calls.proofs.Laid.{Differs, Feeds, LaysTo, ToHand, conditional_lays, difference_fed, enters, fed_single, still, with_fed}
+use Rattle.clif_switch_calls.proofs.Nodes.{Fall, From, as_many, fall_on, from_at, made_from, name_in, named_before, named_first, named_second}
 use Rattle.clif_switch_calls.proofs.Searched.{code_behind}
 use Rattle.clif_switch_calls.proofs.Tables.{IndexCalls, IndexName, Narrower, Same, Wider, Width, width_of}
-
-regroup : (a b c : Script) (m last : Request) (more : Script) → (a ++ m ∷ b ++ c ++ last ∷ []) ++ more ≡ a ++ (m ∷ (b ++ (c ++ (last ∷ more))))
-regroup a b c m last more =
-    append_assoc ((a ++ m ∷ b) ++ c) (last ∷ []) more ∙ append_assoc (a ++ m ∷ b) c (last ∷ more) ∙ append_assoc a (m ∷ b) (c ++ last ∷ more)
 
 abbrev jumping : Name → Instruction Name Name
 jumping target = record { operation = Jump; controlling = type.Invalid; operands = []; contexts = []; edges = bare_edge target ∷ [] }
@@ -109,8 +107,8 @@ module _ (base : ℕ) (reading : Reading) (program : Program) (item : Item) (gen
     abbrev behind_branch : Name → Script
     behind_branch index = SealBlock follow ∷ SwitchToBlock follow ∷ building (computing (Convert Ireduce) i32 (x ∷ [])) ∷ Build (ServedBy tables ∷ []) (table_branch index (map bare_edge names)) ∷ more
 
-    regrouped : (index : Name) → Whole (IndexCalls s true true q x) index ≡ CreateBlock ∷ (map building trying ++ branch ∷ behind_branch index)
-    regrouped index = ap (λ (calls : Script). CreateBlock ∷ calls) (append_assoc (map building trying) _ _)
+    rejoined : (index : Name) → Whole (IndexCalls s true true q x) index ≡ CreateBlock ∷ (map building trying ++ branch ∷ behind_branch index)
+    rejoined index = ap (λ (calls : Script). CreateBlock ∷ calls) (append_assoc (map building trying) _ _)
 
     index_there : IndexName false (IndexCalls s true true q x) q x ≡ answer_of reducing 1
     index_there =
@@ -139,15 +137,15 @@ module _ (base : ℕ) (reading : Reading) (program : Program) (item : Item) (gen
           (otherwise_lays fed.after (follow ∷ []) []
           (Entering fed.after follow [] [] (generated follow behind)
           (follow_lays (program.parameters follow ++ fed.after)
-          (still reading program item fed.after (program.parameters follow ++ fed.after) (contained_right (program.parameters follow) fed.after) x
+          (still reading program item fed.after (program.parameters follow ++ fed.after) (Contains-append_right (program.parameters follow) fed.after) x
           (still reading program item given fed.after fed.kept x hand)))
           (Ending fed.after (ended fed.after))))))
 
     wider_index : IndexLays true true false
     wider_index entered =
         let index : Name = IndexName false (IndexCalls s true true q x) q x in
-        subst (λ (script : Script). LaysFrom given (code_of q script)) (sym (regrouped index))
-        (wider_lays index index_there (subst (Entered program q) (regrouped index) entered))
+        subst (λ (script : Script). LaysFrom given (code_of q script)) (sym (rejoined index))
+        (wider_lays index index_there (subst (Entered program q) (rejoined index) entered))
 
     index_lays : Entered program q (Whole (index_calls s q x) (index_name s q x)) → LaysFrom given (code_of q (Whole (index_calls s q x) (index_name s q x)))
     index_lays = by (width_of s.ty int)
@@ -176,7 +174,7 @@ module _ (base : ℕ) (reading : Reading) (program : Program) (item : Item) (gen
       let making : Request = MakeJumpTable (answer_of place 0) (answers_of (suc place) (length range.blocks.items)) in
       let last : Request = Build (ServedBy tables ∷ []) (table_branch (index_name s index_at x) (map bare_edge (table_targets s range))) in
       let rest : Script = index_calls s index_at x ++ last ∷ more in
-      let grouped : table_calls s tables range place ++ more ≡ edges ++ (making ∷ (map building line ++ rest)) = regroup edges (map building line) (index_calls s index_at x) making last more in
+      let grouped : table_calls s tables range place ++ more ≡ edges ++ (making ∷ (map building line ++ rest)) = regrouped edges (map building line) (index_calls s index_at x) making last more in
       let at_line : suc (place + length (table_targets s range)) ≡ line_at = omega arith in
       let fed = difference_fed reading program item s.ty range.first line_at s.value given (value_hand given) in
       let entered_line : Entered program line_at (map building line ++ rest) =
@@ -313,7 +311,7 @@ module _ (base : ℕ) (reading : Reading) (program : Program) (item : Item) (gen
       let fall_later = fall_on node.test from node.number rest numbers (omega (arith, falls.0)) (omega (arith, is)) falls.2 in
       let they = nodes_lay nodes (blocks_with blocks node place) (tables + tables_of node.test) (from + length (named_by node.test)) (place + length calls)
       (reverse (named_by node.test) ++ rest) order (omega (arith, is, longer, many)) fall_later
-      (from_both base blocks (blocks_of node.test at) all (made_from node.test base at (omega (arith, behind)))) (omega (arith, behind)) leaves.1
+      (all_both (λ x. base ≤ x.place) blocks (blocks_of node.test at) all (made_from node.test base at (omega (arith, behind)))) (omega (arith, behind)) leaves.1
       (entered_behind program place calls later entered) in
       let goes = goes_on_so node.test blocks from at rest is numbers they in
       subst (AllTo blocks) (sym begin) (

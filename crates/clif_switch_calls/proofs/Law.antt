@@ -35,6 +35,7 @@ use Rattle.clif_expansion.proofs.LedgerTypes.{types_before}
 use Rattle.clif_expansion.proofs.Placing.{contained_first, contained_left, of_contained}
 use Rattle.clif_switch_calls.specs.SwitchCalls.{Switched, bare_edge, blocks_of, blocks_with, first_block, node_calls, nodes_calls, tables_of, test_calls}
 use Rattle.clif_switch_calls.specs.SwitchLaw.{MaySwitch, SearchesCases, SwitchCallsAreCode, case_edges, case_keys, switch_calls}
+use Rattle.clif_switch_calls.proofs.Basics.{fold_both}
 use Rattle.clif_switch_calls.proofs.Allowed.{same_currents}
 use Rattle.clif_switch_calls.proofs.Branches.{Walked, target_of}
 use Rattle.clif_switch_calls.proofs.Codes.{AreTyped, Entered, code_of, entered_behind, typed_behind}
@@ -52,14 +53,6 @@ use Rattle.clif_switch_calls.proofs.Searched.{Fits, test_walks}
 use Rattle.clif_switch_calls.proofs.Served.{tables_served}
 use Rattle.clif_switch_calls.proofs.Targets.{case_found, fits_of, names_from, otherwise_named, range_named, target_case, targets_so}
 use Rattle.clif_switch_calls.proofs.Typed.{nodes_fine}
-
-fold_ledger : (calls more : Script) (ledger : Ledger) → fold ledger_with ledger (calls ++ more) ≡ fold ledger_with (fold ledger_with ledger calls) more
-fold_ledger [] more ledger = refl
-fold_ledger (request ∷ calls) more ledger = fold_ledger calls more (ledger_with ledger request)
-
-fold_program : (calls more : Script) (program : Program) → fold with_call program (calls ++ more) ≡ fold with_call (fold with_call program calls) more
-fold_program [] more program = refl
-fold_program (request ∷ calls) more program = fold_program calls more (with_call program request)
 
 has_state : (ledger : Ledger) (block : Name) → IsTrue (has_block ledger block) → HasState ledger block
 has_state ledger block is = by (block_state ledger block) refl is
@@ -159,10 +152,10 @@ module _ (plain : Script) (block : Name) (s : Switched) (cases : CaseMap) (range
   final = fold with_call written more
 
   behind_is : ledger_after (plain ++ more) ≡ behind
-  behind_is = fold_ledger plain more empty_ledger
+  behind_is = fold_both ledger_with plain more empty_ledger
 
   final_is : program_of (plain ++ more) ≡ final
-  final_is = fold_program plain more empty_program
+  final_is = fold_both with_call plain more empty_program
 
   -- the first test stands here
   abbrev here : ℕ

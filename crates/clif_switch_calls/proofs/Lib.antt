@@ -1,4 +1,5 @@
 -- The plain calls of a switch are code of the switch.
+pub mod Basics
 pub mod Numbers
 pub mod Lines
 pub mod Codes

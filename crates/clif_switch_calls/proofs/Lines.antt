@@ -24,6 +24,7 @@ use Rattle.clif_expansion.specs.JoinedPrograms.{built_items}
 use Rattle.clif_expansion.specs.Walk.{Computes, Computing, IsGenerated, Surroundings, Takes, Walk}
 use Rattle.clif_expansion.proofs.Names.{equal_names, names_equal}
 use Rattle.clif_switch_calls.specs.SwitchCalls.{bare_edge, is_composed, negated_64, number_instructions, number_name, signed_64, with_number, with_number_name, difference, difference_name, is_subtracted}
+use Rattle.clif_switch_calls.proofs.Basics.{last_name, other_name}
 use Rattle.clif_switch_calls.proofs.Numbers.{difference_above, difference_by_sum, extended, of_halves, small_signed, wrapped_64, wrapped_negated, wrapped_negated_64, wrapped_small}
 
 -- Control goes through these items, whatever stands behind them.
@@ -43,14 +44,6 @@ built_append place [] more = ap (λ (p : ℕ). built_items p more) (omega arith)
 built_append place (first ∷ code) more =
     ap (λ (items : List Item). built_items place (first ∷ []) ++ items)
     (built_append (suc place) code more ∙ ap (λ (p : ℕ). built_items (suc place) code ++ built_items p more) (omega arith))
-
--- a name of another place
-other_place : (x y : Name) → x.place < y.place → same_name x y ≡ false
-other_place x y before = by (same_name x y) refl
-  where
-    by : (c : Bool) → same_name x y ≡ c → same_name x y ≡ false
-    by true is = let same = ap (λ (n : Name). n.place) (names_equal x y is) in absurd (omega (arith, same, before))
-    by false is = is
 
 module _ (base : ℕ) (around : Surroundings) (generated : (x : Name) → base ≤ x.place → IsGenerated around.reading x) where
   -- nothing is computed
@@ -74,7 +67,7 @@ module _ (base : ℕ) (around : Surroundings) (generated : (x : Name) → base �
           (record { arithmetic = arithmetic; is_arithmetic = refl; computes = does; generated = (generated (answer_of place 1) behind, tt) }) walk;
     };
     holds = ap (λ (c : Bool). if c then value else before (answer_of place 1)) (equal_names (answer_of place 1) (answer_of place 1) refl);
-    kept = λ x earlier. ap (λ (c : Bool). if c then value else before x) (other_place x (answer_of place 1) earlier);
+    kept = λ x earlier. ap (λ (c : Bool). if c then value else before x) (other_name x (answer_of place 1) (λ same. omega (arith, same, earlier)));
   }
 
   -- one thing behind another
@@ -234,13 +227,6 @@ module _ (base : ℕ) (around : Surroundings) (generated : (x : Name) → base �
   abbrev pub MakesDifference : «Type» → (first place : ℕ) → Name → (Name → Bits) → Type 0
   MakesDifference ty first place x before =
       Makes around place (built_items place (difference ty first place x)) (difference_name ty first place x) ((before x + 2 ^ bits_of ty - first) % 2 ^ bits_of ty) before
-
-  -- the name of the last of some instructions
-  last_name : (place : ℕ) (code : List (Instruction Name Name)) (last : Instruction Name Name)
-      → answer_of (place + length code) 1 ≡ answer_of (place + (length (code ++ last ∷ []) - 1)) 1
-  last_name place code last =
-      let longer : length (code ++ last ∷ []) ≡ length code + 1 = length-append code (last ∷ []) in
-      ap (λ (n : ℕ). answer_of n 1) (omega (arith, longer))
 
   abbrev DifferenceCode : «Type» → (first place : ℕ) → Name → Bool → List (Instruction Name Name)
   DifferenceCode ty first place x c =

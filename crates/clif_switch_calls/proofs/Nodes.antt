@@ -18,6 +18,7 @@ use Rattle.clif_meaning.specs.Program.{Item}
 use Rattle.clif_meaning.specs.Request.{Script}
 use Rattle.clif_expansion.specs.Walk.{IsGenerated, Surroundings}
 use Rattle.clif_switch_calls.specs.SwitchCalls.{Switched, blocks_of, blocks_with, entering, name_for, node_calls, nodes_calls, tables_of, test_calls}
+use Rattle.clif_switch_calls.proofs.Basics.{all_both}
 use Rattle.clif_switch_calls.proofs.Branches.{At, Reaches, Through, Walked, target_of}
 use Rattle.clif_switch_calls.proofs.Codes.{AreTyped, Entered, code_of, entered_behind, typed_behind}
 use Rattle.clif_switch_calls.proofs.Searched.{Fits, GoOn, Holds, IsAt, test_walks}
@@ -65,10 +66,6 @@ as_many (test.Table range) place = refl
 
 abbrev pub From : ℕ → List Name → Type 0
 From base names = AllByRecursion (λ x. base ≤ x.place) names
-
-pub from_both : (base : ℕ) (names more : List Name) → From base names → From base more → From base (names ++ more)
-from_both base [] more all others = others
-from_both base (x ∷ names) more all others = (all.0, from_both base names more all.1 others)
 
 pub made_from : (t : Test) (base place : ℕ) → base ≤ place → From base (blocks_of t place)
 made_from test.Nothing base place behind = tt
@@ -204,7 +201,7 @@ module _ (base : ℕ) (around : Surroundings) (generated : (x : Name) → base �
       let many = as_many node.test at in
       let they = nodes_walk nodes (blocks_with blocks node place) (tables + tables_of node.test) (from + length (named_by node.test)) (place + length calls)
       (reverse (named_by node.test) ++ rest) order (omega (arith, is, longer, many)) (fall_on node.test from node.number rest numbers (omega (arith, falls.0)) (omega (arith, is)) falls.2)
-      (from_both base blocks (blocks_of node.test at) all (made_from node.test base at (omega (arith, behind)))) (omega (arith, behind)) tests.1
+      (all_both (λ x. base ≤ x.place) blocks (blocks_of node.test at) all (made_from node.test base at (omega (arith, behind)))) (omega (arith, behind)) tests.1
       (entered_behind around.program place calls later entered) (typed_behind around.types place calls later typed) in
       let goes = goes_on_so node.test blocks from at nodes rest is numbers they in
       subst (AreAt blocks (node ∷ nodes)) (sym begin) (

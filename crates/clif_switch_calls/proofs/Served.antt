@@ -22,6 +22,7 @@ use Rattle.clif_meaning.specs.Request.{Request, CreateBlock, SwitchToBlock, Seal
 use Rattle.clif_opcodes.specs.declared.opcodes.ConvertOpcode.TheVariants.{Ireduce, Uextend}
 use Rattle.clif_expansion.specs.Constants.{computing}
 use Rattle.clif_expansion.specs.Emission.{building}
+use Rattle.clif_switch_calls.proofs.Basics.{all_both, fold_both}
 use Rattle.clif_switch_calls.proofs.Tables.{IndexCalls}
 use Rattle.clif_switch_calls.specs.SwitchCalls.{Switched, i8, i32, answers_of, bare_edge, block_for, blocks_with, compared, difference, difference_name, entering, first_block, branching, name_for, index_calls, index_name, node_calls, nodes_calls, table_calls, table_targets, tables_of, test_calls, with_number, with_number_name}
 
@@ -64,10 +65,6 @@ idle_kept : (script : Script) (ledger : Ledger) → Idle script → (fold ledger
 idle_kept [] ledger idle = refl
 idle_kept (request ∷ script) ledger idle = idle_kept script (ledger_with ledger request) idle.1 ∙ idle_once request ledger idle.0
 
-idle_both : (calls more : Script) → Idle calls → Idle more → Idle (calls ++ more)
-idle_both [] more idle others = others
-idle_both (request ∷ calls) more idle others = (idle.0, idle_both calls more idle.1 others)
-
 idle_line : (code : List (Instruction Name Name)) → Idle (map building code)
 idle_line [] = tt
 idle_line (first ∷ code) = (tt, idle_line code)
@@ -79,10 +76,6 @@ idle_edges (target ∷ targets) = (tt, idle_edges targets)
 idle_block : (other : Next) → Idle (block_for other)
 idle_block next.Otherwise = tt
 idle_block (next.Node n) = (tt, tt)
-
-fold_both : (calls more : Script) (ledger : Ledger) → fold ledger_with ledger (calls ++ more) ≡ fold ledger_with (fold ledger_with ledger calls) more
-fold_both [] more ledger = refl
-fold_both (request ∷ calls) more ledger = fold_both calls more (ledger_with ledger request)
 
 abbrev Held : Type 0
 Held = Option (List (Edge Name Name))
@@ -100,14 +93,14 @@ none_both n m = replicate-append-replicate n m None
 module _ (s : Switched) where
   idle_compared : (condition : IntCC) (number place : ℕ) (taken other : Name) → Idle (compared s condition number place taken other)
   idle_compared condition number place taken other =
-      idle_both (map building (with_number (Compare condition) s.ty number place s.value)) (branching i8 (with_number_name s.ty number place) taken other ∷ [])
+      all_both IsIdle (map building (with_number (Compare condition) s.ty number place s.value)) (branching i8 (with_number_name s.ty number place) taken other ∷ [])
       (idle_line (with_number (Compare condition) s.ty number place s.value)) (tt, tt)
 
   idle_index : (place : ℕ) (x : Name) → Idle (index_calls s place x)
   idle_index place x = by (nat_lt 32 (bits_of s.ty)) (nat_lt (bits_of s.ty) 32)
     where
       by : (c d : Bool) → Idle (IndexCalls s c d place x)
-      by true d = idle_both (CreateBlock ∷ map building (with_number (Compare cc.UnsignedGreaterThan) s.ty (2 ^ 32 - 1) (suc place) x)) (branching i8 (with_number_name s.ty (2 ^ 32 - 1) (suc place)) s.otherwise (answer_of place 0)
+      by true d = all_both IsIdle (CreateBlock ∷ map building (with_number (Compare cc.UnsignedGreaterThan) s.ty (2 ^ 32 - 1) (suc place) x)) (branching i8 (with_number_name s.ty (2 ^ 32 - 1) (suc place)) s.otherwise (answer_of place 0)
           ∷ SealBlock (answer_of place 0) ∷ SwitchToBlock (answer_of place 0) ∷ building (computing (Convert Ireduce) i32 (x ∷ [])) ∷ [])
           (tt, idle_line (with_number (Compare cc.UnsignedGreaterThan) s.ty (2 ^ 32 - 1) (suc place) x)) (tt, (tt, (tt, (tt, tt))))
       by false true = (tt, tt)
@@ -129,12 +122,12 @@ module _ (s : Switched) where
       let made : Ledger = ledger_with linked making in
       let before : Ledger = fold ledger_with ledger (edges ++ making ∷ map building line ++ index) in
       let there : before.jump_tables ≡ ledger.jump_tables ++ Some (edges_named linked (default ∷ entries)) ∷ [] =
-      ap (λ (l : Ledger). l.jump_tables) (fold_both (edges ++ making ∷ map building line) index ledger)
+      ap (λ (l : Ledger). l.jump_tables) (fold_both ledger_with (edges ++ making ∷ map building line) index ledger)
       ∙ idle_kept index (fold ledger_with ledger (edges ++ making ∷ map building line)) (idle_index (behind + length line) x)
-      ∙ ap (λ (l : Ledger). l.jump_tables) (fold_both edges (making ∷ map building line) ledger)
+      ∙ ap (λ (l : Ledger). l.jump_tables) (fold_both ledger_with edges (making ∷ map building line) ledger)
       ∙ idle_kept (map building line) made (idle_line line)
       ∙ ap (λ (tables : List Held). tables ++ Some (edges_named linked (default ∷ entries)) ∷ []) (idle_kept edges ledger (idle_edges (table_targets s range))) in
-      ap (λ (l : Ledger). l.jump_tables) (fold_both (edges ++ making ∷ map building line ++ index) (last ∷ []) ledger)
+      ap (λ (l : Ledger). l.jump_tables) (fold_both ledger_with (edges ++ making ∷ map building line ++ index) (last ∷ []) ledger)
       ∙ ap (λ (held : List Held). slice_set held tables None) there
       ∙ ap (λ (n : ℕ). slice_set (ledger.jump_tables ++ Some (edges_named linked (default ∷ entries)) ∷ []) n None) (sym count)
       ∙ set_last ledger.jump_tables (Some (edges_named linked (default ∷ entries)))
@@ -143,7 +136,7 @@ module _ (s : Switched) where
       → (fold ledger_with ledger (test_calls s tables t place)).jump_tables ≡ ledger.jump_tables ++ replicate (tables_of t) None
   test_served tables test.Nothing place ledger count = sym (append-nil ledger.jump_tables)
   test_served tables (test.OneKey range other) place ledger count =
-      idle_kept (test_calls s tables (test.OneKey range other) place) ledger (idle_both (block_for other) _ (idle_block other) (by (range.now.first == 0))) ∙ sym (append-nil ledger.jump_tables)
+      idle_kept (test_calls s tables (test.OneKey range other) place) ledger (all_both IsIdle (block_for other) _ (idle_block other) (by (range.now.first == 0))) ∙ sym (append-nil ledger.jump_tables)
     where
       by : (c : Bool) → Idle (if c then branching s.ty s.value (name_for s other place) (first_block s range.now) ∷ []
           else compared s cc.Equal range.now.first (place + length (block_for other)) (first_block s range.now) (name_for s other place))
@@ -151,7 +144,7 @@ module _ (s : Switched) where
       by false = idle_compared cc.Equal range.now.first (place + length (block_for other)) (first_block s range.now) (name_for s other place)
   test_served tables (test.NotBelow first above other) place ledger count =
       idle_kept (test_calls s tables (test.NotBelow first above other) place) ledger
-      (idle_both (block_for other) _ (idle_block other)
+      (all_both IsIdle (block_for other) _ (idle_block other)
       (tt, idle_compared cc.UnsignedGreaterThanOrEqual first (place + suc (length (block_for other))) (answer_of (place + length (block_for other)) 0) (name_for s other place)))
       ∙ sym (append-nil ledger.jump_tables)
   test_served tables (test.Table range) place ledger count = table_served tables place range.now ledger count
@@ -171,7 +164,7 @@ module _ (s : Switched) where
       let enter : Script = entering blocks node.number in
       let entered : Ledger = fold ledger_with ledger enter in
       let same : entered.jump_tables ≡ ledger.jump_tables = idle_kept enter ledger (idle_entering blocks node.number) in
-      ap (λ (l : Ledger). l.jump_tables) (fold_both enter (test_calls s tables node.test (place + length enter)) ledger)
+      ap (λ (l : Ledger). l.jump_tables) (fold_both ledger_with enter (test_calls s tables node.test (place + length enter)) ledger)
       ∙ test_served tables node.test (place + length enter) entered (ap length same ∙ count)
       ∙ ap (λ (held : List Held). held ++ replicate (tables_of node.test) None) same
 
@@ -185,7 +178,7 @@ module _ (s : Switched) where
       let here : between.jump_tables ≡ ledger.jump_tables ++ replicate (tables_of node.test) None = node_served blocks tables node place ledger count in
       let longer = length-append ledger.jump_tables (replicate (tables_of node.test) None) in
       let many = as_many_copies (tables_of node.test) in
-      ap (λ (l : Ledger). l.jump_tables) (fold_both calls later ledger)
+      ap (λ (l : Ledger). l.jump_tables) (fold_both ledger_with calls later ledger)
       ∙ nodes_served nodes (blocks_with blocks node place) (tables + tables_of node.test) (place + length calls) between (ap length here ∙ omega (arith, longer, many, count))
       ∙ ap (λ (held : List Held). held ++ replicate (table_total nodes) None) here
       ∙ append_assoc ledger.jump_tables (replicate (tables_of node.test) None) (replicate (table_total nodes) None)

@@ -26,6 +26,7 @@ use Rattle.clif_expansion.specs.Emission.{building}
 use Rattle.clif_expansion.specs.JoinedPrograms.{built_items}
 use Rattle.clif_expansion.specs.Walk.{IsGenerated, Surroundings}
 use Rattle.clif_switch_calls.specs.SwitchCalls.{Switched, answers_of, bare_edge, branching, difference, difference_name, i32, i8, index_calls, index_name, is_composed, is_subtracted, negated_64, number_instructions, number_name, signed_64, table_calls, table_targets, with_number, with_number_name}
+use Rattle.clif_switch_calls.proofs.Basics.{regrouped}
 use Rattle.clif_switch_calls.proofs.Branches.{Reaches, At, Through, Walked, no_entry, table_edge, table_edges, target_of, walked_on, walks_conditional, walks_table}
 use Rattle.clif_switch_calls.proofs.Codes.{AreTyped, Entered, IsClosed, code_building, code_edges, code_of, entered_building, entered_edges, typed_building, typed_edges}
 use Rattle.clif_switch_calls.proofs.Lines.{HasNarrow, Makes, compared_with, difference_made, made_one}
@@ -153,8 +154,8 @@ module _ (base : ℕ) (around : Surroundings) (generated : (x : Name) → base �
     abbrev pub behind_branch : Name → Script
     behind_branch index = SealBlock follow ∷ SwitchToBlock follow ∷ building (computing (Convert Ireduce) i32 (x ∷ [])) ∷ Build (ServedBy tables ∷ []) (table_branch index edges) ∷ more
 
-    pub regrouped : (index : Name) → Whole (IndexCalls s true true q x) index ≡ CreateBlock ∷ (map building test ++ branch ∷ behind_branch index)
-    regrouped index = ap (λ (calls : Script). CreateBlock ∷ calls) (append_assoc (map building test) _ _)
+    rejoined : (index : Name) → Whole (IndexCalls s true true q x) index ≡ CreateBlock ∷ (map building test ++ branch ∷ behind_branch index)
+    rejoined index = ap (λ (calls : Script). CreateBlock ∷ calls) (append_assoc (map building test) _ _)
 
     pub index_there : IndexName false (IndexCalls s true true q x) q x ≡ answer_of reducing 1
     index_there =
@@ -207,8 +208,8 @@ module _ (base : ℕ) (around : Surroundings) (generated : (x : Name) → base �
     wider_index : 2 ^ 32 ≤ 2 ^ bits_of s.ty → IndexWalks true true false
     wider_index fits entered typed =
         let index : Name = IndexName false (IndexCalls s true true q x) q x in
-        subst (λ (all : Script). Walked around target (code_of q all) names 1) (sym (regrouped index))
-        (wider_walks index index_there fits (subst (Entered around.program q) (regrouped index) entered) (subst (AreTyped around.types q) (regrouped index) typed))
+        subst (λ (all : Script). Walked around target (code_of q all) names 1) (sym (rejoined index))
+        (wider_walks index index_there fits (subst (Entered around.program q) (rejoined index) entered) (subst (AreTyped around.types q) (rejoined index) typed))
 
     pub index_walks : Entered around.program q (Whole (index_calls s q x) (index_name s q x)) → AreTyped around.types q (Whole (index_calls s q x) (index_name s q x))
         → Walked around target (code_of q (Whole (index_calls s q x) (index_name s q x))) names 1
@@ -228,10 +229,6 @@ module _ (base : ℕ) (around : Surroundings) (generated : (x : Name) → base �
             (subst (λ (w : Bool). IndexWalks false false w) (sym c) same_walks))
 
   -- TABLES ----------------------------------------------------------------------------------------------------------------
-
-  pub regroup : (a b c : Script) (m last : Request) (more : Script) → (a ++ m ∷ b ++ c ++ last ∷ []) ++ more ≡ a ++ (m ∷ (b ++ (c ++ (last ∷ more))))
-  regroup a b c m last more =
-      append_assoc ((a ++ m ∷ b) ++ c) (last ∷ []) more ∙ append_assoc (a ++ m ∷ b) c (last ∷ more) ∙ append_assoc a (m ∷ b) (c ++ last ∷ more)
 
   -- a difference is named before what follows
   differs_before : (ty : «Type») (first place : ℕ) (x : Name) → x.place < place → (difference_name ty first place x).place < place + length (difference ty first place x)
@@ -275,7 +272,7 @@ module _ (base : ℕ) (around : Surroundings) (generated : (x : Name) → base �
     making = MakeJumpTable (answer_of place 0) (answers_of (suc place) (length range.blocks.items))
 
     pub grouped : table_calls s tables range place ++ more ≡ map (λ target. MakeEdge (bare_edge target)) (table_targets s range) ++ (making ∷ (map building line ++ rest))
-    grouped = regroup (map (λ target. MakeEdge (bare_edge target)) (table_targets s range)) (map building line) (index_calls s index_at differed) making
+    grouped = regrouped (map (λ target. MakeEdge (bare_edge target)) (table_targets s range)) (map building line) (index_calls s index_at differed) making
         (Build (ServedBy tables ∷ []) (table_branch (index_name s index_at differed) (table_edges s range))) more
 
     at_line : suc (place + length (table_targets s range)) ≡ line_at

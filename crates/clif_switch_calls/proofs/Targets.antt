@@ -4,7 +4,7 @@ use Rattle.std.specs.Prelude.{◌⊎◌, ◌^◌, ◌==◌, All, Contains, IsTru
 use Rattle.std.specs.List.{AllByRecursion, enumerate_from, flat_map}
 use Rattle.std.proofs.lemmas.Bool.{ne_eqb}
 use Rattle.std.proofs.lemmas.Bool.Decides.{nat_tests}
-use Rattle.std.proofs.lemmas.List.Elements.{All-contains}
+use Rattle.std.proofs.lemmas.List.Elements.{All-contains, recursion_from_All}
 use Rattle.clif_types.specs.declared.types.LaneType.TheVariants as lane
 use Rattle.clif_types.specs.declared.types.«Type».{«Type»}
 use Rattle.clif_types.specs.declared.types.«Type».TheVariants as type
@@ -18,7 +18,7 @@ use Rattle.clif_expansion.specs.Switching.{targets_of}
 use Rattle.clif_expansion.proofs.Placing.{contained_first, contained_in, contained_later, none_contained}
 use Rattle.clif_switch_calls.specs.SwitchCalls.{Switched}
 use Rattle.clif_switch_calls.proofs.Branches.{target_of}
-use Rattle.clif_switch_calls.proofs.Counted.{Separate, each_of, edges_from, separate}
+use Rattle.clif_switch_calls.proofs.Counted.{Separate, edges_from, separate}
 use Rattle.clif_switch_calls.proofs.Searched.{Fits}
 
 -- NAMES -------------------------------------------------------------------------------------------------------------------
@@ -121,7 +121,7 @@ rising_found bound (first ∷ entries) case rising here =
 pub case_found : (entries : List (ℕ × ℕ)) (ranges : List CaseRange) → AreRangesOf entries ranges → (case : ℕ × ℕ) → Contains entries case → of_key case.0 entries ≡ Some case.1
 case_found entries ranges are case here =
     rising_found 0 entries case
-    (subst (Rising 0) are.cases (rising_ranges ranges 0 (separate ranges are.gaps) (each_of (λ r. 0 ≤ r.first) ranges (λ i d inside. omega arith)))) here
+    (subst (Rising 0) are.cases (rising_ranges ranges 0 (separate ranges are.gaps) (recursion_from_All (λ r. 0 ≤ r.first) ranges (λ i d inside. omega arith)))) here
 
 -- a target is that of a case, or of no case
 pub target_case : (s : Switched) (entries : List (ℕ × ℕ)) (target : Name) → Contains (names_from s entries) target
@@ -182,7 +182,7 @@ pub fits_of : (ty : «Type») (entries : List (ℕ × ℕ)) (ranges : List CaseR
 fits_of ty entries ranges int fit are tables range here =
     let some = All-contains (λ (r : CaseRange). 0 < length r.blocks.items) ranges range are.filled here in
     let all = range_all (λ case. case.0 ≤ greatest_of ty false) ranges range
-    (subst (AllByRecursion (λ case. case.0 ≤ greatest_of ty false)) (sym are.cases) (each_of (λ case. case.0 ≤ greatest_of ty false) entries fit)) here in
+    (subst (AllByRecursion (λ case. case.0 ≤ greatest_of ty false)) (sym are.cases) (recursion_from_All (λ case. case.0 ≤ greatest_of ty false) entries fit)) here in
     record {
       some = some;
       keys = subst (λ (n : ℕ). range.first + length range.blocks.items ≤ n) (greatest_so ty int) (last_below (greatest_of ty false) range.first range.blocks.items some all);

@@ -32,6 +32,7 @@ use Rattle.clif_expansion.specs.Emission.{building}
 use Rattle.clif_expansion.specs.PerformedCalls.{IsTypedInLine}
 use Rattle.clif_expansion.specs.Switching.{BuildsTyped}
 use Rattle.clif_switch_calls.specs.SwitchCalls.{Switched, answers_of, bare_edge, block_for, blocks_with, branching, compared, difference, difference_name, entering, first_block, i32, i8, index_calls, index_name, is_composed, is_subtracted, name_for, negated_64, node_calls, nodes_calls, number_instructions, number_name, signed_64, table_calls, table_targets, tables_of, test_calls, with_number, with_number_name}
+use Rattle.clif_switch_calls.proofs.Basics.{all_both, last_name, regrouped}
 use Rattle.clif_switch_calls.proofs.Branches.{conditional}
 use Rattle.clif_switch_calls.proofs.Codes.{AreTyped, typed_behind, typed_building, typed_edges}
 use Rattle.clif_switch_calls.proofs.Tables.{IndexCalls, IndexName, Narrower, Same, Wider, Width, width_of}
@@ -39,16 +40,6 @@ use Rattle.clif_switch_calls.proofs.Tables.{IndexCalls, IndexName, Narrower, Sam
 last_building : (code : List (Instruction Name Name)) (last : Instruction Name Name) (more : Script) → map building (code ++ last ∷ []) ++ more ≡ map building code ++ (building last ∷ more)
 last_building [] last more = refl
 last_building (first ∷ code) last more = ap (λ (rest : Script). building first ∷ rest) (last_building code last more)
-
-all_both : {X : Type 0} (P : X → Type 0) (xs ys : List X) → AllByRecursion P xs → AllByRecursion P ys → AllByRecursion P (xs ++ ys)
-all_both P [] ys all others = others
-all_both P (x ∷ xs) ys all others = (all.0, all_both P xs ys all.1 others)
-
-last_name : (place : ℕ) (code : List (Instruction Name Name)) (last : Instruction Name Name)
-    → answer_of (place + length code) 1 ≡ answer_of (place + (length (code ++ last ∷ []) - 1)) 1
-last_name place code last =
-    let longer : length (code ++ last ∷ []) ≡ length code + 1 = length-append code (last ∷ []) in
-    ap (λ (n : ℕ). answer_of n 1) (omega (arith, longer))
 
 module _ (types : Name → «Type») where
   abbrev Well : Instruction Name Name → Type 0
@@ -313,8 +304,7 @@ module _ (types : Name → «Type») where
         let last : Request = Build (ServedBy tables ∷ []) (table_branch (index_name s index_at x) (map bare_edge (table_targets s range))) in
         let index : Script = index_calls s index_at x in
         let grouped : (edges ++ making ∷ map building line ++ index ++ last ∷ []) ++ more ≡ edges ++ (making ∷ (map building line ++ (index ++ (last ∷ more)))) =
-        append_assoc ((edges ++ making ∷ map building line) ++ index) (last ∷ []) more ∙ append_assoc (edges ++ making ∷ map building line) index (last ∷ more)
-        ∙ append_assoc edges (making ∷ map building line) (index ++ last ∷ more) in
+        regrouped edges (map building line) index making last more in
         let at_line : suc (place + length (table_targets s range)) ≡ line_at = omega arith in
         let all : AreTyped types line_at (map building line ++ (index ++ (last ∷ more))) =
         subst (λ (p : ℕ). AreTyped types p (map building line ++ (index ++ (last ∷ more)))) at_line
