@@ -1,12 +1,12 @@
 -- What allowed calls leave: the program's current block is the ledger's, and nothing is in blocks that aren't there yet.
-use Rattle.std.proofs.Common.{◌≡◌, ◌≢◌, ◌<◌, ◌≤◌, ◌+◌, ℕ, suc, Bool, true, false, List, [], ◌∷◌, ◌++◌, length, map, refl, sym, ◌∙◌, ap, ap₂, subst, arith, Some, None, Option}
+use Rattle.std.proofs.Common.{◌≡◌, ◌<◌, ◌≤◌, ℕ, Bool, true, false, List, [], ◌∷◌, ◌++◌, length, map, refl, sym, ◌∙◌, ap, subst, arith, Some, None, Option}
 use Rattle.std.specs.Prelude.{◌&&◌, not, if◌then◌else◌, fold, IsTrue}
 use Rattle.std.proofs.lemmas.Bool.{and_parts}
 use Rattle.clif_meaning.specs.Acceptance.{allows, can_leave}
-use Rattle.clif_meaning.specs.Instruction.{Edge, Instruction}
-use Rattle.clif_meaning.specs.Ledger.{Ledger, answers_to, empty_ledger, has_block, is_filled, is_terminator, ledger_after, ledger_with, next_answer, with_begun, with_begun_at, with_filled_at, with_instruction, with_predecessor, with_terminator}
-use Rattle.clif_meaning.specs.Name.{Name, same_name}
-use Rattle.clif_meaning.specs.Program.{Assign, Instruct, Item, Program, Use, empty_program, program_of, redirected_item, result_names, with_call, with_inserted, with_item, with_item_at}
+use Rattle.clif_meaning.specs.Instruction.{Instruction}
+use Rattle.clif_meaning.specs.Ledger.{Ledger, answers_to, empty_ledger, has_block, is_filled, is_terminator, ledger_after, ledger_with, next_answer, with_begun, with_filled_at, with_instruction, with_terminator}
+use Rattle.clif_meaning.specs.Name.{Name}
+use Rattle.clif_meaning.specs.Program.{Assign, Item, Program, empty_program, program_of, redirected_item, with_call, with_inserted, with_item_at}
 use Rattle.clif_meaning.specs.Request.{Request, CreateBlock, SwitchToBlock, SealBlock, SealAllBlocks, InsertBlockAfter, SetColdBlock, EnsureInsertedBlock, AppendBlockParams, AppendFunctionParams, DeclareVar, DefVar, UseVar, MakeEntry, MakeEdge, MakeJumpTable, MakeExceptionTable, Annotate, Build, ChangeJumpDestination, Finalize, Script}
 use Rattle.clif_expansion.specs.ConstantCalls.{AreAllowed}
 use Rattle.clif_expansion.proofs.Emissions.{begun_current}

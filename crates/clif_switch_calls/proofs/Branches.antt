@@ -1,7 +1,6 @@
 -- Walks along the branches of a switch.
-use Rattle.std.proofs.Common.{◌≡◌, ◌<◌, ◌≤◌, ◌+◌, ◌-◌, ◌*◌, ℕ, zero, suc, Bool, true, false, List, [], ◌∷◌, ◌++◌, length, map, refl, sym, ◌∙◌, ap, ap₂, subst, arith, append_assoc, length-append, Some, None, Option}
-use Rattle.std.specs.Prelude.{◌^◌, ◌%◌, ◌==◌, if◌then◌else◌, nat_lt, nat_le, slice_get}
-use Rattle.std.proofs.Math.Nat.{mod-eq_of_lt}
+use Rattle.std.proofs.Common.{◌≡◌, ◌<◌, ◌≤◌, ◌+◌, ◌-◌, ℕ, zero, suc, Bool, true, false, List, [], ◌∷◌, ◌++◌, length, map, refl, sym, ◌∙◌, ap, subst, arith, Some, None, Option}
+use Rattle.std.specs.Prelude.{◌%◌, ◌==◌, if◌then◌else◌, nat_lt, slice_get}
 use Rattle.std.proofs.lemmas.Bool.Decides.{nat_tests}
 use Rattle.std.proofs.lemmas.Option.{slice_get_past}
 use Rattle.clif_types.specs.declared.types.«Type».{«Type»}
@@ -9,10 +8,9 @@ use Rattle.clif_ranges.specs.declared.ranges.CaseRange.{CaseRange}
 use Rattle.clif_ranges.specs.Search.{block_in}
 use Rattle.clif_meaning.specs.Acceptance.{table_branch}
 use Rattle.clif_meaning.specs.Bits.{Bits}
-use Rattle.clif_meaning.specs.Instruction.{Brif, BrTable, Edge, Instruction, Jump}
-use Rattle.clif_meaning.specs.Memory.{Memory}
+use Rattle.clif_meaning.specs.Instruction.{Brif, Edge, Instruction, Jump}
 use Rattle.clif_meaning.specs.Name.{Name}
-use Rattle.clif_meaning.specs.Outcome.{Goes, Outcome, edge_by, edge_in_table}
+use Rattle.clif_meaning.specs.Outcome.{edge_by, edge_in_table}
 use Rattle.clif_meaning.specs.Program.{Item, Instruct}
 use Rattle.clif_expansion.specs.Walk.{Arriving, IsGenerated, Passing, Surroundings, Takes, Walk}
 use Rattle.clif_switch_calls.specs.SwitchCalls.{Switched, bare_edge, table_targets}

@@ -1,16 +1,16 @@
 -- One instruction more in a ledger.
-use Rattle.std.proofs.Common.{◌≡◌, ◌≢◌, ℕ, suc, Bool, true, false, List, [], ◌∷◌, ◌++◌, length, map, refl, sym, ◌∙◌, ap, ap₂, subst, arith, inl, inr, Some, None, Option, cond}
+use Rattle.std.proofs.Common.{◌≡◌, Bool, true, false, List, [], ◌∷◌, ◌++◌, map, refl, sym, ◌∙◌, ap, inl, inr, Some, Option}
 use Rattle.std.specs.Prelude.{◌||◌, if◌then◌else◌, fold, find, Contains}
 use Rattle.std.specs.List.{list_any}
 use Rattle.clif_meaning.specs.Instruction.{Edge, Instruction}
-use Rattle.clif_meaning.specs.Ledger.{BlockState, Ledger, block_state, is_filled, is_inserted, is_pristine, is_terminator, leads_to, led_by, ledger_with, next_answer, state_has, with_begun, with_begun_at, with_filled_at, with_instruction, with_layout, with_predecessor, with_state, with_terminator}
-use Rattle.clif_meaning.specs.Name.{Name, answer_of, same_name}
+use Rattle.clif_meaning.specs.Ledger.{BlockState, Ledger, block_state, is_filled, is_inserted, is_pristine, is_terminator, leads_to, led_by, ledger_with, next_answer, state_has, with_begun, with_begun_at, with_filled_at, with_layout, with_predecessor}
+use Rattle.clif_meaning.specs.Name.{Name, same_name}
 use Rattle.clif_meaning.specs.Request.{Build, GivenEntry}
 use Rattle.clif_expansion.specs.Switching.{targets_of}
 use Rattle.clif_expansion.proofs.Emissions.{begun_current}
 use Rattle.clif_expansion.proofs.Names.{equal_names, names_equal}
 use Rattle.clif_expansion.proofs.Placing.{contained_in, none_contained}
-use Rattle.clif_switch_calls.proofs.Ledgers.{Grown, Grows, HasState, LedgerGrows, found_mapped, found_named, grown_both, grown_same, grows_beginning, grows_filling, grows_if, grows_led, is_led, mapped_grows}
+use Rattle.clif_switch_calls.proofs.Ledgers.{Grows, HasState, LedgerGrows, found_mapped, found_named, grown_both, grown_same, grows_beginning, grows_filling, grows_if, grows_led, is_led, mapped_grows}
 
 -- WHAT IT CHANGES ---------------------------------------------------------------------------------------------------------
 

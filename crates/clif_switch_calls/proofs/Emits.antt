@@ -1,14 +1,14 @@
 -- Calls that fill blocks one by one, and the program that they leave.
-use Rattle.std.proofs.Common.{◌≡◌, ◌≢◌, ◌<◌, ◌≤◌, ◌+◌, ℕ, suc, Bool, true, false, List, [], ◌∷◌, ◌++◌, length, refl, sym, ◌∙◌, ap, ap₂, subst, arith, append_assoc, append-nil, Some, None, Option}
+use Rattle.std.proofs.Common.{◌≡◌, ◌≢◌, ◌<◌, ◌≤◌, ℕ, suc, Bool, true, false, List, [], ◌∷◌, ◌++◌, refl, sym, ◌∙◌, ap, arith, append_assoc, append-nil, Some, Option}
 use Rattle.std.specs.Prelude.{◌⊎◌, if◌then◌else◌, fold, Contains}
 use Rattle.std.specs.List.{AllByRecursion}
 use Rattle.clif_meaning.specs.Instruction.{Arithmetic, Compute, Edge, Instruction}
 use Rattle.clif_meaning.specs.Ledger.{is_terminator}
 use Rattle.clif_meaning.specs.Name.{Name, answer_of, same_name}
 use Rattle.clif_meaning.specs.Program.{Item, Instruct, Program, result_names, with_call, with_inserted, with_item_at}
-use Rattle.clif_meaning.specs.Request.{Request, CreateBlock, SwitchToBlock, SealBlock, MakeEdge, MakeJumpTable, Build, GivenEntry, Script}
+use Rattle.clif_meaning.specs.Request.{CreateBlock, SwitchToBlock, SealBlock, MakeEdge, MakeJumpTable, Build, GivenEntry, Script}
 use Rattle.clif_expansion.specs.Switching.{IsDeciding, IsTableFrom}
-use Rattle.clif_expansion.proofs.Names.{equal_names, names_equal}
+use Rattle.clif_expansion.proofs.Names.{equal_names}
 use Rattle.clif_switch_calls.proofs.Basics.{other_name}
 use Rattle.clif_switch_calls.proofs.Codes.{Entered, code_of}
 
@@ -208,15 +208,25 @@ module _ (base tables : ℕ) (targets : List Name) where
       let before = ready.earlier in
       emits_filled waiting true current (suc place) more emits (with_call program (MakeEdge edge))
       (record {
-        is = ready.is; at = ap suc ready.at; earlier = omega (arith, before); fall = fall_names place (suc place) waiting (omega arith) ready.fall;
-        apart = ready.apart; empty = ready.empty; fresh = λ x later. ready.fresh x (omega (arith, later));
+        is = ready.is;
+        at = ap suc ready.at;
+        earlier = omega (arith, before);
+        fall = fall_names place (suc place) waiting (omega arith) ready.fall;
+        apart = ready.apart;
+        empty = ready.empty;
+        fresh = λ x later. ready.fresh x (omega (arith, later));
       })
   emits_filled _ _ _ _ _ (Tables waiting current place default entries more behind are emits) program ready =
       let before = ready.earlier in
       emits_filled waiting true current (suc place) more emits (with_call program (MakeJumpTable default entries))
       (record {
-        is = ready.is; at = ap suc ready.at; earlier = omega (arith, before); fall = fall_names place (suc place) waiting (omega arith) ready.fall;
-        apart = ready.apart; empty = ready.empty; fresh = λ x later. ready.fresh x (omega (arith, later));
+        is = ready.is;
+        at = ap suc ready.at;
+        earlier = omega (arith, before);
+        fall = fall_names place (suc place) waiting (omega arith) ready.fall;
+        apart = ready.apart;
+        empty = ready.empty;
+        fresh = λ x later. ready.fresh x (omega (arith, later));
       })
   emits_filled _ _ _ _ _ (Computes waiting current place instruction more stays emits) program ready =
       built_filled program (fold with_call (with_call program (Build [] instruction)) more) current place [] instruction more ready.is ready.at

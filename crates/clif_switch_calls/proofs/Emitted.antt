@@ -1,9 +1,8 @@
 -- The calls of a switch fill blocks one by one.
-use Rattle.std.proofs.Common.{◌≡◌, ◌<◌, ◌≤◌, ◌+◌, ◌-◌, ℕ, zero, suc, ℤ, Bool, true, false, List, [], ◌∷◌, ◌++◌, length, map, refl, sym, ◌∙◌, ap, ap₂, subst, arith, inl, inr, append_assoc, length-append, Some, None, Option}
-use Rattle.std.specs.Prelude.{Contains, ◌⊎◌, ◌^◌, ◌==◌, ◌/◌, if◌then◌else◌, nat_lt, slice_index_or, reverse}
+use Rattle.std.proofs.Common.{◌≡◌, ◌<◌, ◌≤◌, ◌+◌, ◌-◌, ℕ, zero, suc, ℤ, Bool, true, false, List, [], ◌∷◌, ◌++◌, length, map, refl, sym, ◌∙◌, ap, ap₂, subst, arith, inl, inr, append_assoc, length-append}
+use Rattle.std.specs.Prelude.{Contains, ◌⊎◌, ◌^◌, ◌==◌, if◌then◌else◌, nat_lt, slice_index_or, reverse}
 use Rattle.std.specs.List.{AllByRecursion}
 use Rattle.std.proofs.lemmas.List.{length-map}
-use Rattle.clif_opcodes.specs.declared.opcodes.BinaryOpcode.TheVariants.{Iadd, Isub}
 use Rattle.clif_opcodes.specs.declared.opcodes.ConvertOpcode.TheVariants.{Ireduce, Uextend}
 use Rattle.clif_types.specs.declared.condcodes.IntCC.{IntCC}
 use Rattle.clif_types.specs.declared.condcodes.IntCC.TheVariants as cc
@@ -19,16 +18,16 @@ use Rattle.clif_ranges.specs.declared.search.Test.{Test}
 use Rattle.clif_ranges.specs.declared.search.Test.TheVariants as test
 use Rattle.clif_ranges.specs.Search.{AreInOrder, AreNumbersFrom, named_by}
 use Rattle.clif_meaning.specs.Acceptance.{table_branch}
-use Rattle.clif_meaning.specs.Instruction.{Arithmetic, Binary, Compare, Compute, Convert, Instruction}
+use Rattle.clif_meaning.specs.Instruction.{Arithmetic, Compare, Compute, Convert, Instruction}
 use Rattle.clif_meaning.specs.Ledger.{is_terminator}
 use Rattle.clif_meaning.specs.Name.{Name, answer_of}
 use Rattle.clif_meaning.specs.Request.{Request, CreateBlock, SwitchToBlock, SealBlock, MakeEdge, MakeJumpTable, Build, GivenEntry, ServedBy, Script}
-use Rattle.clif_expansion.specs.ConstantCalls.{constant_instructions, constant_name}
+use Rattle.clif_expansion.specs.ConstantCalls.{constant_instructions}
 use Rattle.clif_expansion.specs.Constants.{computing}
 use Rattle.clif_expansion.specs.Emission.{building}
 use Rattle.clif_expansion.specs.Switching.{IsTableFrom}
 use Rattle.clif_expansion.proofs.Placing.{contained_first, contained_later}
-use Rattle.clif_switch_calls.specs.SwitchCalls.{Switched, answers_of, bare_edge, block_for, blocks_of, blocks_with, branching, compared, difference, difference_name, entering, first_block, i32, i8, index_calls, index_name, is_composed, is_subtracted, name_for, negated_64, node_calls, nodes_calls, number_instructions, number_name, other_of, signed_64, table_calls, table_targets, tables_of, test_calls, with_number, with_number_name}
+use Rattle.clif_switch_calls.specs.SwitchCalls.{Switched, answers_of, bare_edge, block_for, blocks_of, blocks_with, branching, compared, difference, difference_name, entering, first_block, i32, i8, index_calls, index_name, is_composed, is_subtracted, name_for, negated_64, node_calls, nodes_calls, number_instructions, other_of, signed_64, table_calls, table_targets, tables_of, test_calls, with_number, with_number_name}
 use Rattle.clif_switch_calls.proofs.Basics.{all_both}
 use Rattle.clif_switch_calls.proofs.Branches.{conditional}
 use Rattle.clif_switch_calls.proofs.Emits.{Branches, Computes, Creates, Emits, Ends, Enters, LeadsOn, Links, StaysHere, Stops, Tables}
@@ -77,7 +76,6 @@ difference_in_line ty (suc n) place x =
     either_line (is_subtracted ty (suc n)) _ _
     (all_both StaysHere (number_instructions ty (suc n) place) _ (number_in_line ty (suc n) place) (in_line refl))
     (all_both StaysHere (constant_instructions ty (negated_64 (suc n)) place) _ (constant_in_line ty (negated_64 (suc n)) place) (in_line refl))
-
 
 module _ (base first_table : ℕ) (targets : List Name) where
   -- PARTS -----------------------------------------------------------------------------------------------------------------
@@ -198,10 +196,13 @@ module _ (base first_table : ℕ) (targets : List Name) where
             ++ branching i8 (with_number_name s.ty (2 ^ 32 - 1) (suc place)) s.otherwise (answer_of place 0)
             ∷ SealBlock (answer_of place 0) ∷ SwitchToBlock (answer_of place 0) ∷ building (computing (Convert Ireduce) i32 (x ∷ [])) ∷ [])
             else (if nat_lt (bits_of s.ty) 32 then building (computing (Convert Uextend) i32 (x ∷ [])) ∷ [] else [])) w next
-        wide true = (answer_of place 0, passes_both w c place (CreateBlock ∷ map building (with_number (Compare cc.UnsignedGreaterThan) s.ty (2 ^ 32 - 1) (suc place) x))
-            (branching i8 (with_number_name s.ty (2 ^ 32 - 1) (suc place)) s.otherwise (answer_of place 0)
-            ∷ SealBlock (answer_of place 0) ∷ SwitchToBlock (answer_of place 0) ∷ building (computing (Convert Ireduce) i32 (x ∷ [])) ∷ [])
-            (answer_of place 0 ∷ w) w c (answer_of place 0) first (turn (place + length (CreateBlock ∷ map building (with_number (Compare cc.UnsignedGreaterThan) s.ty (2 ^ 32 - 1) (suc place) x)))))
+        wide true = (
+          answer_of place 0,
+          passes_both w c place (CreateBlock ∷ map building (with_number (Compare cc.UnsignedGreaterThan) s.ty (2 ^ 32 - 1) (suc place) x))
+              (branching i8 (with_number_name s.ty (2 ^ 32 - 1) (suc place)) s.otherwise (answer_of place 0)
+              ∷ SealBlock (answer_of place 0) ∷ SwitchToBlock (answer_of place 0) ∷ building (computing (Convert Ireduce) i32 (x ∷ [])) ∷ [])
+              (answer_of place 0 ∷ w) w c (answer_of place 0) first (turn (place + length (CreateBlock ∷ map building (with_number (Compare cc.UnsignedGreaterThan) s.ty (2 ^ 32 - 1) (suc place) x)))),
+        )
         wide false = (c, narrow (nat_lt (bits_of s.ty) 32))
 
     table_finishes : (w : List Name) (c : Name) (place tables : ℕ) (range : CaseRange) → base ≤ place → first_table ≤ tables → AllByRecursion (λ x. Contains targets x) (map s.named range.blocks.items) → Finishes w c place (table_calls s tables range place) w

@@ -1,26 +1,22 @@
 -- The code of a switch is laid.
-use Rattle.std.proofs.Common.{◌≡◌, ◌<◌, ◌≤◌, ◌+◌, ◌-◌, ℕ, ℤ, zero, suc, Bool, true, false, List, [], ◌∷◌, ◌++◌, length, map, refl, sym, ◌∙◌, ap, ap₂, subst, arith, append_assoc, length-append, inl, inr, Some, None, Option}
-use Rattle.std.specs.Prelude.{Contains, ◌⊎◌, ◌^◌, ◌==◌, ◌/◌, if◌then◌else◌, nat_lt, IsTrue, slice_index_or, reverse}
-use Rattle.std.specs.List.{AllByRecursion}
+use Rattle.std.proofs.Common.{◌≡◌, ◌+◌, ◌-◌, ℕ, ℤ, zero, suc, Bool, true, false, List, [], ◌∷◌, ◌++◌, length, refl, sym, ◌∙◌, ap, subst, append_assoc, inl, inr}
+use Rattle.std.specs.Prelude.{Contains, ◌^◌, ◌/◌, if◌then◌else◌}
 use Rattle.clif_opcodes.specs.declared.opcodes.BinaryOpcode.TheVariants.{Iadd, Isub}
-use Rattle.clif_opcodes.specs.declared.opcodes.ConvertOpcode.TheVariants.{Ireduce, Sextend, Uextend}
-use Rattle.clif_types.specs.declared.condcodes.IntCC.{IntCC}
+use Rattle.clif_opcodes.specs.declared.opcodes.ConvertOpcode.TheVariants.{Sextend}
 use Rattle.clif_types.specs.declared.types.LaneType.TheVariants as lane
 use Rattle.clif_types.specs.declared.types.«Type».{«Type»}
 use Rattle.clif_types.specs.declared.types.«Type».TheVariants as type
-use Rattle.clif_types.specs.Types.{bits_of, is_int}
-use Rattle.clif_meaning.specs.Instruction.{Arithmetic, Binary, Compare, Concat, Convert, Iconst, Edge, Instruction}
+use Rattle.clif_meaning.specs.Instruction.{Arithmetic, Binary, Concat, Convert, Iconst, Instruction}
 use Rattle.clif_meaning.specs.Name.{Name, answer_of}
 use Rattle.clif_meaning.specs.Program.{Item, Instruct, Program, result_names}
-use Rattle.clif_meaning.specs.WellPlaced.{item_passes}
 use Rattle.clif_expansion.specs.ConstantCalls.{constant_instructions, constant_name}
 use Rattle.clif_expansion.specs.Constants.{computing, i64}
 use Rattle.clif_expansion.specs.JoinedPrograms.{built_items}
-use Rattle.clif_expansion.specs.Laying.{Ending, Entering, HasGiven, IsToHand, IsToPass, Laying, Lays}
+use Rattle.clif_expansion.specs.Laying.{Ending, Entering, HasGiven, IsToHand, Laying, Lays}
 use Rattle.clif_expansion.specs.Reading.{Reading}
 use Rattle.clif_expansion.specs.Walk.{IsGenerated}
 use Rattle.clif_expansion.proofs.Placing.{contained_first, contained_later}
-use Rattle.clif_switch_calls.specs.SwitchCalls.{Switched, bare_edge, difference, difference_name, is_composed, is_subtracted, negated_64, number_instructions, number_name, signed_64, with_number, with_number_name}
+use Rattle.clif_switch_calls.specs.SwitchCalls.{difference, difference_name, is_composed, is_subtracted, negated_64, number_instructions, number_name, signed_64, with_number, with_number_name}
 use Rattle.clif_switch_calls.proofs.Basics.{last_name}
 use Rattle.clif_switch_calls.proofs.Branches.{conditional}
 use Rattle.clif_switch_calls.proofs.Lines.{built_append}

@@ -1,6 +1,6 @@
 -- The code of each node is laid.
-use Rattle.std.proofs.Common.{◌≡◌, ◌<◌, ◌≤◌, ◌+◌, ◌-◌, ℕ, zero, suc, Bool, true, false, List, [], ◌∷◌, ◌++◌, length, map, refl, sym, ◌∙◌, ap, ap₂, subst, arith, append_assoc, length-append, inl, inr, Some, None, Option}
-use Rattle.std.specs.Prelude.{Contains, ◌⊎◌, ◌^◌, ◌==◌, if◌then◌else◌, nat_lt, IsTrue, slice_index_or, reverse}
+use Rattle.std.proofs.Common.{◌≡◌, ◌<◌, ◌≤◌, ◌+◌, ◌-◌, ℕ, zero, suc, Bool, true, false, List, [], ◌∷◌, ◌++◌, length, map, refl, sym, ◌∙◌, ap, subst, arith, append_assoc, length-append, inl}
+use Rattle.std.specs.Prelude.{Contains, ◌^◌, ◌==◌, if◌then◌else◌, nat_lt, IsTrue, slice_index_or, reverse}
 use Rattle.std.specs.List.{AllByRecursion, flat_map}
 use Rattle.std.proofs.lemmas.List.{length-map}
 use Rattle.std.proofs.lemmas.List.Elements.{Contains-append_right}
@@ -11,29 +11,27 @@ use Rattle.clif_types.specs.declared.types.«Type».{«Type»}
 use Rattle.clif_types.specs.declared.types.«Type».TheVariants as type
 use Rattle.clif_types.specs.Types.{bits_of, is_int}
 use Rattle.clif_ranges.specs.declared.ranges.CaseRange.{CaseRange}
-use Rattle.clif_ranges.specs.declared.search.Next.{Next}
 use Rattle.clif_ranges.specs.declared.search.Next.TheVariants as next
 use Rattle.clif_ranges.specs.declared.search.Node.{Node}
 use Rattle.clif_ranges.specs.declared.search.Test.{Test}
 use Rattle.clif_ranges.specs.declared.search.Test.TheVariants as test
 use Rattle.clif_ranges.specs.Search.{AreInOrder, AreNumbersFrom, named_by}
 use Rattle.clif_meaning.specs.Acceptance.{table_branch}
-use Rattle.clif_meaning.specs.Instruction.{Compare, Convert, Edge, Instruction, Jump}
+use Rattle.clif_meaning.specs.Instruction.{Compare, Convert, Instruction, Jump}
 use Rattle.clif_meaning.specs.Name.{Name, answer_of}
 use Rattle.clif_meaning.specs.Program.{Item, Instruct, Program}
 use Rattle.clif_meaning.specs.Request.{Request, CreateBlock, SwitchToBlock, SealBlock, MakeEdge, MakeJumpTable, Build, ServedBy, Script}
 use Rattle.clif_meaning.specs.WellPlaced.{known_argument}
 use Rattle.clif_expansion.specs.Constants.{computing}
 use Rattle.clif_expansion.specs.Emission.{building}
-use Rattle.clif_expansion.specs.JoinedPrograms.{built_items}
-use Rattle.clif_expansion.specs.Laying.{Ending, Entering, HasGiven, IsToHand, IsToPass, Laying, Lays}
+use Rattle.clif_expansion.specs.Laying.{Ending, Entering, HasGiven, IsToPass, Laying, Lays}
 use Rattle.clif_expansion.specs.Reading.{Reading}
 use Rattle.clif_expansion.specs.Walk.{IsGenerated}
 use Rattle.clif_switch_calls.specs.SwitchCalls.{Switched, answers_of, bare_edge, block_for, blocks_of, blocks_with, branching, compared, difference, difference_name, entering, first_block, i32, i8, index_calls, index_name, name_for, node_calls, nodes_calls, table_calls, table_targets, tables_of, test_calls, with_number, with_number_name}
 use Rattle.clif_switch_calls.proofs.Basics.{all_both, regrouped}
 use Rattle.clif_switch_calls.proofs.Branches.{conditional}
 use Rattle.clif_switch_calls.proofs.Codes.{Entered, IsClosed, code_building, code_edges, code_of, entered_behind, entered_building, entered_edges}
-use Rattle.clif_switch_calls.proofs.Laid.{Differs, Feeds, LaysTo, ToHand, conditional_lays, difference_fed, enters, fed_single, still, with_fed}
+use Rattle.clif_switch_calls.proofs.Laid.{LaysTo, ToHand, conditional_lays, difference_fed, enters, fed_single, still, with_fed}
 use Rattle.clif_switch_calls.proofs.Nodes.{Fall, From, as_many, fall_on, from_at, made_from, name_in, named_before, named_first, named_second}
 use Rattle.clif_switch_calls.proofs.Searched.{code_behind}
 use Rattle.clif_switch_calls.proofs.Tables.{IndexCalls, IndexName, Narrower, Same, Wider, Width, width_of}

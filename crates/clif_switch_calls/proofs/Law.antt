@@ -1,20 +1,19 @@
 -- The plain calls of a switch are code of the switch.
-use Rattle.std.proofs.Common.{◌≡◌, ◌≢◌, ◌<◌, ◌≤◌, ◌+◌, ◌-◌, ℕ, zero, suc, Bool, true, false, List, [], ◌∷◌, ◌++◌, length, map, refl, sym, ◌∙◌, ap, ap₂, subst, arith, append_assoc, append-nil, inl, inr, Some, None, Option, cond}
-use Rattle.std.specs.Prelude.{◌⊎◌, ◌^◌, ◌==◌, if◌then◌else◌, nat_lt, All, Contains, IsTrue, IfSome, fold, is_some, slice_index_or, replicate, reverse, slice_get}
-use Rattle.std.specs.List.{AllByRecursion, count_by, flat_map}
+use Rattle.std.proofs.Common.{◌≡◌, ◌≢◌, ◌<◌, ◌≤◌, ◌+◌, ℕ, zero, suc, Bool, true, false, List, [], ◌∷◌, ◌++◌, length, map, refl, sym, ◌∙◌, ap, subst, arith, append-nil, inl, inr, Some, None, Option}
+use Rattle.std.specs.Prelude.{◌^◌, if◌then◌else◌, nat_lt, Contains, IsTrue, IfSome, fold, is_some, slice_index_or, replicate, reverse}
+use Rattle.std.specs.List.{AllByRecursion}
 use Rattle.std.specs.FinMap as finite
 use Rattle.std.proofs.lemmas.Bool.Decides.{nat_tests}
-use Rattle.std.proofs.lemmas.List.Elements.{All-contains, All-from_recursion}
+use Rattle.std.proofs.lemmas.List.Elements.{All-contains}
 use Rattle.clif_types.specs.declared.types.«Type».{«Type»}
-use Rattle.clif_types.specs.Types.{bits_of, is_int}
+use Rattle.clif_types.specs.Types.{bits_of}
 use Rattle.clif_ranges.specs.declared.ranges.CaseRange.{CaseRange}
-use Rattle.clif_ranges.specs.declared.search.Next.TheVariants as next
 use Rattle.clif_ranges.specs.declared.search.Node.{Node}
 use Rattle.clif_ranges.specs.declared.search.Test.{Test}
 use Rattle.clif_ranges.specs.declared.search.Test.TheVariants as test
 use Rattle.clif_ranges.specs.Cases.{CaseMap}
-use Rattle.clif_ranges.specs.Ranges.{cases_of, end_of}
-use Rattle.clif_ranges.specs.Search.{AreInOrder, Found, IsTestOf, block_of_key, first_of, named_by, search, tested}
+use Rattle.clif_ranges.specs.Ranges.{end_of}
+use Rattle.clif_ranges.specs.Search.{Found, IsTestOf, block_of_key, first_of, named_by, search}
 use Rattle.clif_ranges.proofs.Keys.{of_key, of_ranges}
 use Rattle.clif_ranges.proofs.Searching.{begins, none_over}
 use Rattle.clif_meaning.specs.Bits.{Bits, IsValue}
@@ -22,24 +21,23 @@ use Rattle.clif_meaning.specs.Instruction.{Edge, Instruction}
 use Rattle.clif_meaning.specs.Ledger.{BlockState, Ledger, empty_ledger, has_block, is_filled, ledger_after, ledger_with, block_state}
 use Rattle.clif_meaning.specs.Name.{Name, answer_of}
 use Rattle.clif_meaning.specs.Program.{Item, Instruct, Program, empty_program, program_of, with_call}
-use Rattle.clif_meaning.specs.Request.{Request, Script}
-use Rattle.clif_meaning.specs.WellPlaced.{item_names, item_targets}
+use Rattle.clif_meaning.specs.Request.{Script}
 use Rattle.clif_meaning.specs.World.{World}
-use Rattle.clif_expansion.specs.Laying.{IsLaid, IsToHand, Leaving, Lays}
+use Rattle.clif_expansion.specs.Laying.{IsLaid, Leaving, Lays}
 use Rattle.clif_expansion.specs.PerformedCalls.{HaveTypes}
 use Rattle.clif_expansion.specs.Reading.{Generated, IsReadAs, ScriptName}
 use Rattle.clif_expansion.specs.Switching.{GoesByKey, IsFinishedFrom, IsLedFrom, IsSpent, IsSwitchCode, LeadsToBlocks, generated_from, targets_of}
 use Rattle.clif_expansion.specs.Keys.{table_count}
 use Rattle.clif_expansion.specs.Walk.{IsGenerated, Surroundings}
 use Rattle.clif_expansion.proofs.LedgerTypes.{types_before}
-use Rattle.clif_expansion.proofs.Placing.{contained_first, contained_left, of_contained}
-use Rattle.clif_switch_calls.specs.SwitchCalls.{Switched, bare_edge, blocks_of, blocks_with, first_block, node_calls, nodes_calls, tables_of, test_calls}
+use Rattle.clif_expansion.proofs.Placing.{contained_first}
+use Rattle.clif_switch_calls.specs.SwitchCalls.{Switched, bare_edge, blocks_of, first_block, nodes_calls, tables_of, test_calls}
 use Rattle.clif_switch_calls.specs.SwitchLaw.{MaySwitch, SearchesCases, SwitchCallsAreCode, case_edges, case_keys, switch_calls}
 use Rattle.clif_switch_calls.proofs.Basics.{fold_both}
 use Rattle.clif_switch_calls.proofs.Allowed.{same_currents}
 use Rattle.clif_switch_calls.proofs.Branches.{Walked, target_of}
 use Rattle.clif_switch_calls.proofs.Codes.{AreTyped, Entered, code_of, entered_behind, typed_behind}
-use Rattle.clif_switch_calls.proofs.Counted.{edge_found, edges_from, keys_of, tables_counted}
+use Rattle.clif_switch_calls.proofs.Counted.{edge_found, edges_from, tables_counted}
 use Rattle.clif_switch_calls.proofs.Emits.{Computes, Creates, Emits, Ends, Enters, IsFilled, Links, Ready, Stops, Tables, emits_filled}
 use Rattle.clif_switch_calls.proofs.Emitted.{Aims, new_names, nodes_emit, test_finishes}
 use Rattle.clif_switch_calls.proofs.LaidNodes as laid

@@ -1,6 +1,6 @@
 -- Each target of a switch is led to.
-use Rattle.std.proofs.Common.{◌≡◌, ◌<◌, ◌≤◌, ◌+◌, ◌-◌, ℕ, zero, suc, Bool, true, false, List, [], ◌∷◌, ◌++◌, length, map, refl, sym, ◌∙◌, ap, ap₂, subst, arith, append_assoc, length-append, inl, inr, Some, None, Option}
-use Rattle.std.specs.Prelude.{Contains, ◌⊎◌, ◌==◌, if◌then◌else◌, nat_lt, slice_get, slice_index_or, reverse}
+use Rattle.std.proofs.Common.{◌≡◌, ◌<◌, ◌≤◌, ◌+◌, ◌-◌, ℕ, zero, suc, Bool, true, false, List, [], ◌∷◌, ◌++◌, length, map, refl, sym, ap, subst, arith, append_assoc, inl, inr, None}
+use Rattle.std.specs.Prelude.{Contains, ◌==◌, if◌then◌else◌, nat_lt, slice_get, reverse}
 use Rattle.std.specs.List.{AllByRecursion}
 use Rattle.std.proofs.lemmas.Bool.{ne_eqb}
 use Rattle.std.proofs.lemmas.Bool.Decides.{nat_tests}
@@ -12,16 +12,16 @@ use Rattle.clif_ranges.specs.declared.search.Next.TheVariants as next
 use Rattle.clif_ranges.specs.declared.search.Node.{Node}
 use Rattle.clif_ranges.specs.declared.search.Test.{Test}
 use Rattle.clif_ranges.specs.declared.search.Test.TheVariants as test
-use Rattle.clif_ranges.specs.Search.{AreInOrder, AreNumbersFrom, Found, IsTestOf, block_in, goes_on, named_by, search, tested}
+use Rattle.clif_ranges.specs.Search.{AreInOrder, Found, IsTestOf, block_in, goes_on, named_by, search, tested}
 use Rattle.clif_ranges.proofs.Searching.{begins}
 use Rattle.clif_meaning.specs.Acceptance.{table_branch}
-use Rattle.clif_meaning.specs.Instruction.{Compare, Edge, Instruction}
+use Rattle.clif_meaning.specs.Instruction.{Compare, Instruction}
 use Rattle.clif_meaning.specs.Name.{Name, answer_of}
 use Rattle.clif_meaning.specs.Request.{Request, CreateBlock, SwitchToBlock, SealBlock, SealAllBlocks, InsertBlockAfter, SetColdBlock, EnsureInsertedBlock, AppendBlockParams, AppendFunctionParams, DeclareVar, DefVar, UseVar, MakeEntry, MakeEdge, MakeJumpTable, MakeExceptionTable, Annotate, Build, ChangeJumpDestination, Finalize, ServedBy, Script}
 use Rattle.clif_expansion.specs.Emission.{building}
 use Rattle.clif_expansion.specs.Switching.{targets_of}
-use Rattle.clif_expansion.proofs.Placing.{contained_first, contained_later, none_contained}
-use Rattle.clif_switch_calls.specs.SwitchCalls.{Switched, answers_of, bare_edge, block_for, blocks_of, blocks_with, branching, compared, difference, difference_name, entering, first_block, i8, index_calls, index_name, name_for, node_calls, nodes_calls, table_calls, table_targets, tables_of, test_calls, with_number, with_number_name}
+use Rattle.clif_expansion.proofs.Placing.{contained_first, contained_later}
+use Rattle.clif_switch_calls.specs.SwitchCalls.{Switched, answers_of, bare_edge, block_for, blocks_with, branching, compared, difference, difference_name, entering, first_block, i8, index_calls, index_name, name_for, node_calls, nodes_calls, table_calls, table_targets, tables_of, test_calls, with_number, with_number_name}
 use Rattle.clif_switch_calls.proofs.Branches.{target_of}
 use Rattle.clif_switch_calls.proofs.Left.{BranchesTo}
 use Rattle.clif_switch_calls.proofs.Nodes.{Fall, fall_on}

@@ -1,17 +1,15 @@
 -- Calls that fill blocks one by one, and the ledger that they leave.
-use Rattle.std.proofs.Common.{◌≡◌, ◌≢◌, ◌<◌, ◌≤◌, ◌+◌, ℕ, suc, Bool, true, false, List, [], ◌∷◌, ◌++◌, length, map, refl, sym, ◌∙◌, ap, ap₂, subst, arith, inl, inr, Some, None, Option, cond}
-use Rattle.std.specs.Prelude.{◌⊎◌, ◌||◌, ◌&&◌, if◌then◌else◌, fold, find, Contains, IsTrue}
+use Rattle.std.proofs.Common.{◌≡◌, ◌≤◌, ℕ, suc, Bool, true, false, List, [], ◌∷◌, ◌++◌, map, refl, sym, ◌∙◌, ap, subst, arith, inl, inr, Some, None, Option, cond}
+use Rattle.std.specs.Prelude.{◌||◌, if◌then◌else◌, find}
 use Rattle.std.specs.List.{AllByRecursion, list_any}
-use Rattle.clif_meaning.specs.Instruction.{Arithmetic, Compute, Edge, Instruction, Operation}
-use Rattle.clif_meaning.specs.Ledger.{BlockState, Ledger, block_state, is_filled, is_inserted, is_pristine, is_terminator, leads_to, led_by, ledger_with, new_block, next_answer, sealed, state_has, with_begun, with_begun_at, with_filled_at, with_instruction, with_layout, with_predecessor, with_state, with_terminator}
+use Rattle.clif_meaning.specs.Instruction.{Edge}
+use Rattle.clif_meaning.specs.Ledger.{BlockState, Ledger, block_state, led_by, new_block, sealed}
 use Rattle.clif_meaning.specs.Name.{Name, answer_of, same_name}
-use Rattle.clif_meaning.specs.Request.{Request, CreateBlock, SwitchToBlock, SealBlock, MakeEdge, MakeJumpTable, Build, GivenEntry, Script}
-use Rattle.clif_expansion.specs.Switching.{BeginsHere, IsDeciding, IsDecidingCall, IsDecidingInstruction, IsFinishedFrom, IsLedFrom, IsSpent, IsTableFrom, LeadsInside, targets_of}
-use Rattle.clif_expansion.proofs.Emissions.{begun_current}
-use Rattle.clif_expansion.proofs.EmittedPrograms.{one_longer}
-use Rattle.clif_expansion.proofs.Names.{equal_names, names_equal}
-use Rattle.clif_expansion.proofs.Placing.{contained_first, contained_in, contained_later, of_contained}
-use Rattle.clif_switch_calls.proofs.Emits.{Branches, Computes, Creates, Emits, Ends, Enters, LeadsOn, Links, StaysHere, Stops, Tables}
+use Rattle.clif_meaning.specs.Request.{Script}
+use Rattle.clif_expansion.specs.Switching.{BeginsHere, IsDeciding, IsDecidingCall, LeadsInside}
+use Rattle.clif_expansion.proofs.Names.{equal_names}
+use Rattle.clif_expansion.proofs.Placing.{of_contained}
+use Rattle.clif_switch_calls.proofs.Emits.{Computes, Creates, Emits, Ends, Enters, LeadsOn, Links, Stops, Tables}
 
 -- CALLS -------------------------------------------------------------------------------------------------------------------
 

@@ -1,18 +1,18 @@
 -- The ledger that calls leave which fill blocks one by one.
-use Rattle.std.proofs.Common.{◌≡◌, ◌≢◌, ◌<◌, ◌≤◌, ◌+◌, ℕ, suc, Bool, true, false, List, [], ◌∷◌, ◌++◌, length, map, refl, sym, ◌∙◌, ap, ap₂, subst, arith, inl, inr, Some, None, Option}
+use Rattle.std.proofs.Common.{◌≡◌, ◌<◌, ◌≤◌, ℕ, suc, Bool, true, false, List, [], ◌∷◌, ◌++◌, length, map, refl, sym, ◌∙◌, ap, ap₂, subst, arith, inl, inr, Some, Option}
 use Rattle.std.specs.Prelude.{◌⊎◌, ◌&&◌, if◌then◌else◌, fold, find, is_some, Contains, IsTrue}
 use Rattle.std.specs.List.{AllByRecursion, list_any}
-use Rattle.clif_meaning.specs.Instruction.{Compute, Edge, Instruction, Operation}
-use Rattle.clif_meaning.specs.Ledger.{BlockState, Ledger, block_state, has_block, is_filled, is_inserted, is_pristine, is_terminator, leads_to, ledger_with, new_block, next_answer, sealed, state_has}
+use Rattle.clif_meaning.specs.Instruction.{Edge, Instruction}
+use Rattle.clif_meaning.specs.Ledger.{BlockState, Ledger, has_block, is_filled, is_terminator, ledger_with, new_block, next_answer, sealed, state_has}
 use Rattle.clif_meaning.specs.Name.{Name, answer_of, same_name}
-use Rattle.clif_meaning.specs.Request.{Request, CreateBlock, SwitchToBlock, SealBlock, MakeEdge, MakeJumpTable, Build, GivenEntry, Script}
+use Rattle.clif_meaning.specs.Request.{CreateBlock, SwitchToBlock, SealBlock, MakeEdge, MakeJumpTable, Build, GivenEntry, Script}
 use Rattle.clif_expansion.specs.Switching.{IsFinishedFrom, IsLedFrom, IsSpent, LeadsToBlocks, targets_of}
 use Rattle.clif_expansion.proofs.EmittedPrograms.{one_longer}
 use Rattle.clif_expansion.proofs.Names.{equal_names, names_equal}
 use Rattle.clif_expansion.proofs.Placing.{contained_first, contained_in, contained_later, of_contained}
 use Rattle.clif_switch_calls.proofs.Built.{built_begun, built_blocks, built_current, built_filled, built_grows, built_leads, built_there, change_filled, changes, grows_changes}
-use Rattle.clif_switch_calls.proofs.Emits.{Branches, Computes, Creates, Emits, Ends, Enters, LeadsOn, Links, Stops, Tables}
-use Rattle.clif_switch_calls.proofs.Ledgers.{Grown, Grows, HasState, LedgerGrows, found_behind, found_last, grown_same, grows_if, grows_sealed, grows_twice, mapped_grows}
+use Rattle.clif_switch_calls.proofs.Emits.{Computes, Creates, Emits, Ends, Enters, LeadsOn, Links, Stops, Tables}
+use Rattle.clif_switch_calls.proofs.Ledgers.{HasState, LedgerGrows, found_behind, found_last, grown_same, grows_if, grows_sealed, grows_twice, mapped_grows}
 
 -- the same blocks
 stays : (ledger later : Ledger) → later.blocks ≡ ledger.blocks → LedgerGrows ledger later
@@ -219,12 +219,20 @@ module _ (base tables : ℕ) (targets : List Name) where
       })
   emits_end _ _ _ _ _ (Links waiting current place edge more leads emits) ledger standing =
       emits_end waiting true current (suc place) more emits (ledger_with ledger (MakeEdge edge)) (record {
-        is = standing.is; at = one_longer ledger.answers _ ∙ ap suc standing.at; has = standing.has; wait = standing.wait; states = standing.states;
+        is = standing.is;
+        at = one_longer ledger.answers _ ∙ ap suc standing.at;
+        has = standing.has;
+        wait = standing.wait;
+        states = standing.states;
         spent = λ wrong. let none : ⊥ = cc in absurd none;
       })
   emits_end _ _ _ _ _ (Tables waiting current place default entries more first are emits) ledger standing =
       emits_end waiting true current (suc place) more emits (ledger_with ledger (MakeJumpTable default entries)) (record {
-        is = standing.is; at = one_longer ledger.answers _ ∙ ap suc standing.at; has = standing.has; wait = standing.wait; states = standing.states;
+        is = standing.is;
+        at = one_longer ledger.answers _ ∙ ap suc standing.at;
+        has = standing.has;
+        wait = standing.wait;
+        states = standing.states;
         spent = λ wrong. let none : ⊥ = cc in absurd none;
       })
   emits_end _ _ _ _ _ (Computes waiting current place instruction more here emits) ledger standing =
@@ -299,11 +307,13 @@ module _ (base tables : ℕ) (targets : List Name) where
       → ((x : Name) → Contains waiting x → IsTrue (has_block later x)) → AllByRecursion (LeadsOn targets waiting) edges
       → AllByRecursion (λ edge. base ≤ edge.target.place → IsTrue (has_block later edge.target)) edges
   edges_there later waiting [] earlier there leads = tt
-  edges_there later waiting (edge ∷ edges) earlier there leads =
-      ((λ behind. elim leads.0.there [
-        | inl waits ↦ there edge.target waits
-        | inr target ↦ (let before = earlier edge.target target in absurd (omega (arith, behind, before)))
-      ]), edges_there later waiting edges earlier there leads.1)
+  edges_there later waiting (edge ∷ edges) earlier there leads = (
+    (λ behind. elim leads.0.there [
+      | inl waits ↦ there edge.target waits
+      | inr target ↦ (let before = earlier edge.target target in absurd (omega (arith, behind, before)))
+    ]),
+    edges_there later waiting edges earlier there leads.1,
+  )
 
   -- what becomes the current block is there, and so is what is led to
   pub emits_blocks : (waiting : List Name) (runs : Bool) (current : Name) (place : ℕ) (script : Script) → Emits base tables targets waiting runs current place script

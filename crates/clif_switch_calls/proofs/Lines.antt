@@ -1,7 +1,6 @@
 -- Walks through instructions that compute, and along branches.
-use Rattle.std.proofs.Common.{◌≡◌, ◌<◌, ◌≤◌, ◌+◌, ◌-◌, ◌*◌, ℕ, zero, suc, Bool, true, false, List, [], ◌∷◌, ◌++◌, length, map, refl, sym, ◌∙◌, ap, ap₂, subst, arith, append_assoc, length-append, Some}
-use Rattle.std.specs.Prelude.{◌^◌, ◌%◌, ◌/◌, ◌==◌, ℤ, pos, if◌then◌else◌, nat_lt, nat_le, IsTrue, slice_get}
-use Rattle.std.specs.List.{AllByRecursion}
+use Rattle.std.proofs.Common.{◌≡◌, ◌<◌, ◌≤◌, ◌+◌, ◌-◌, ℕ, zero, suc, Bool, true, false, List, [], ◌∷◌, ◌++◌, length, map, refl, sym, ◌∙◌, ap, ap₂, subst, arith, append_assoc}
+use Rattle.std.specs.Prelude.{◌^◌, ◌%◌, ◌/◌, ℤ, if◌then◌else◌, nat_lt, nat_le, IsTrue}
 use Rattle.std.proofs.Math.Nat.{mod-eq_of_lt}
 use Rattle.std.proofs.lemmas.Bool.Decides.{nat_tests}
 use Rattle.clif_opcodes.specs.declared.opcodes.BinaryOpcode.TheVariants.{Iadd, Isub}
@@ -12,18 +11,17 @@ use Rattle.clif_types.specs.declared.types.«Type».{«Type»}
 use Rattle.clif_types.specs.declared.types.«Type».TheVariants as type
 use Rattle.clif_types.specs.Types.{bits_of, is_int}
 use Rattle.clif_meaning.specs.Bits.{Bits, wrapped}
-use Rattle.clif_meaning.specs.Instruction.{Arithmetic, Binary, Brif, Compare, Compute, Concat, Convert, Edge, Iconst, Instruction}
-use Rattle.clif_meaning.specs.Memory.{Memory}
+use Rattle.clif_meaning.specs.Instruction.{Arithmetic, Binary, Compare, Concat, Convert, Iconst, Instruction}
 use Rattle.clif_meaning.specs.Name.{Name, answer_of, same_name}
-use Rattle.clif_meaning.specs.Outcome.{Values, Goes, compares, computed, edge_by}
+use Rattle.clif_meaning.specs.Outcome.{Values, compares, computed}
 use Rattle.clif_meaning.specs.Program.{Item, Instruct, result_names}
 use Rattle.clif_meaning.specs.Store.{assigned}
 use Rattle.clif_expansion.specs.ConstantCalls.{constant_instructions, constant_name}
 use Rattle.clif_expansion.specs.Constants.{computing, i64}
 use Rattle.clif_expansion.specs.JoinedPrograms.{built_items}
-use Rattle.clif_expansion.specs.Walk.{Computes, Computing, IsGenerated, Surroundings, Takes, Walk}
-use Rattle.clif_expansion.proofs.Names.{equal_names, names_equal}
-use Rattle.clif_switch_calls.specs.SwitchCalls.{bare_edge, is_composed, negated_64, number_instructions, number_name, signed_64, with_number, with_number_name, difference, difference_name, is_subtracted}
+use Rattle.clif_expansion.specs.Walk.{Computing, IsGenerated, Surroundings, Walk}
+use Rattle.clif_expansion.proofs.Names.{equal_names}
+use Rattle.clif_switch_calls.specs.SwitchCalls.{negated_64, number_instructions, number_name, signed_64, with_number, with_number_name, difference, difference_name, is_subtracted}
 use Rattle.clif_switch_calls.proofs.Basics.{last_name, other_name}
 use Rattle.clif_switch_calls.proofs.Numbers.{difference_above, difference_by_sum, extended, of_halves, small_signed, wrapped_64, wrapped_negated, wrapped_negated_64, wrapped_small}
 

@@ -1,27 +1,25 @@
 -- Walks from node to node.
-use Rattle.std.proofs.Common.{◌≡◌, ◌≢◌, ◌<◌, ◌≤◌, ◌+◌, ◌-◌, ◌*◌, ℕ, zero, suc, Bool, true, false, List, [], ◌∷◌, ◌++◌, length, map, refl, sym, ◌∙◌, ap, ap₂, subst, arith, append_assoc, length-append, Some, None, Option}
-use Rattle.std.specs.Prelude.{◌^◌, ◌==◌, if◌then◌else◌, slice_index_or, IsTrue, Contains, reverse}
+use Rattle.std.proofs.Common.{◌≡◌, ◌<◌, ◌≤◌, ◌+◌, ℕ, zero, suc, Bool, List, [], ◌∷◌, ◌++◌, length, refl, sym, ◌∙◌, ap, subst, arith, length-append}
+use Rattle.std.specs.Prelude.{◌^◌, if◌then◌else◌, slice_index_or, IsTrue, Contains, reverse}
 use Rattle.std.specs.List.{AllByRecursion}
 use Rattle.std.proofs.lemmas.Bool.{ne_eqb}
 use Rattle.clif_types.specs.Types.{bits_of, is_int}
 use Rattle.clif_ranges.specs.declared.ranges.CaseRange.{CaseRange}
-use Rattle.clif_ranges.specs.declared.search.Next.{Next}
 use Rattle.clif_ranges.specs.declared.search.Next.TheVariants as next
 use Rattle.clif_ranges.specs.declared.search.Node.{Node}
 use Rattle.clif_ranges.specs.declared.search.Test.{Test}
 use Rattle.clif_ranges.specs.declared.search.Test.TheVariants as test
 use Rattle.clif_ranges.specs.Search.{AreInOrder, AreNumbersFrom, Found, IsTestOf, named_by, search, tested}
 use Rattle.clif_ranges.proofs.Searching.{begins}
-use Rattle.clif_meaning.specs.Bits.{Bits}
 use Rattle.clif_meaning.specs.Name.{Name, answer_of}
 use Rattle.clif_meaning.specs.Program.{Item}
 use Rattle.clif_meaning.specs.Request.{Script}
 use Rattle.clif_expansion.specs.Walk.{IsGenerated, Surroundings}
-use Rattle.clif_switch_calls.specs.SwitchCalls.{Switched, blocks_of, blocks_with, entering, name_for, node_calls, nodes_calls, tables_of, test_calls}
+use Rattle.clif_switch_calls.specs.SwitchCalls.{Switched, blocks_of, blocks_with, entering, node_calls, nodes_calls, tables_of, test_calls}
 use Rattle.clif_switch_calls.proofs.Basics.{all_both}
-use Rattle.clif_switch_calls.proofs.Branches.{At, Reaches, Through, Walked, target_of}
+use Rattle.clif_switch_calls.proofs.Branches.{At, Through, Walked, target_of}
 use Rattle.clif_switch_calls.proofs.Codes.{AreTyped, Entered, code_of, entered_behind, typed_behind}
-use Rattle.clif_switch_calls.proofs.Searched.{Fits, GoOn, Holds, IsAt, test_walks}
+use Rattle.clif_switch_calls.proofs.Searched.{Fits, GoOn, IsAt, test_walks}
 
 -- NUMBERS AND NAMES -------------------------------------------------------------------------------------------------------
 

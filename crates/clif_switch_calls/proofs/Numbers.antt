@@ -1,6 +1,6 @@
 -- The numbers that the plain calls of a switch make.
-use Rattle.std.proofs.Common.{◌≡◌, ◌<◌, ◌≤◌, ◌+◌, ◌-◌, ◌*◌, ℕ, suc, Bool, true, false, refl, sym, ◌∙◌, ap, ap₂, arith, ◌⊎◌, inl, inr}
-use Rattle.std.specs.Prelude.{◌^◌, ◌%◌, ◌/◌, ℤ, pos, negsuc, if◌then◌else◌, nat_lt, nat_le}
+use Rattle.std.proofs.Common.{◌≡◌, ◌<◌, ◌≤◌, ◌+◌, ◌-◌, ◌*◌, ℕ, Bool, true, false, sym, ◌∙◌, ap, ap₂, arith, inl, inr}
+use Rattle.std.specs.Prelude.{◌^◌, ◌%◌, ◌/◌, pos, negsuc, if◌then◌else◌, nat_lt, nat_le}
 use Rattle.std.proofs.Math.Nat.{add-mod_right, mod-eq_of_lt, mod-add-div}
 use Rattle.std.proofs.lemmas.Bool.{cases_lt}
 use Rattle.std.proofs.lemmas.Bool.Decides.{nat_tests}

@@ -1,13 +1,13 @@
 -- What is known of each script of plain calls: how many answers there are, and that what is named was made before.
-use Rattle.std.proofs.Common.{◌≡◌, ◌<◌, ◌≤◌, ◌+◌, ℕ, zero, suc, Bool, true, false, List, [], ◌∷◌, ◌++◌, length, map, refl, sym, ◌∙◌, ap, ap₂, subst, arith, inl, inr, Some, None, Option, cond}
-use Rattle.std.specs.Prelude.{◌⊎◌, if◌then◌else◌, find, fold, option_and_then, slice_get, is_some, IsTrue}
+use Rattle.std.proofs.Common.{◌≡◌, ◌<◌, ◌≤◌, ◌+◌, ℕ, zero, suc, Bool, true, false, List, [], ◌∷◌, ◌++◌, length, map, refl, sym, ◌∙◌, ap, ap₂, subst, arith, Some, None, Option, cond}
+use Rattle.std.specs.Prelude.{if◌then◌else◌, find, fold, option_and_then, slice_get, is_some, IsTrue}
 use Rattle.std.specs.List.{AllByRecursion, list_any}
 use Rattle.clif_types.specs.declared.types.«Type».{«Type»}
 use Rattle.clif_meaning.specs.Instruction.{Edge, Instruction}
-use Rattle.clif_meaning.specs.Ledger.{AValue, AnInstruction, Answered, BlockState, Ledger, answers_to, block_state, has_block, changed_by, empty_ledger, is_inserted, is_terminator, ledger_after, ledger_with, led_by, left_by, new_block, next_answer, redirected_state, sealed, type_of, value_answer_type, with_begun, with_begun_at, with_cold_mark, with_filled_at, with_instruction, with_layout, with_parameter_types, with_predecessor, with_state, with_terminator}
+use Rattle.clif_meaning.specs.Ledger.{AValue, AnInstruction, Answered, BlockState, Ledger, answers_to, block_state, has_block, changed_by, empty_ledger, is_inserted, is_terminator, ledger_after, ledger_with, led_by, left_by, new_block, next_answer, redirected_state, sealed, value_answer_type, with_begun, with_begun_at, with_cold_mark, with_filled_at, with_instruction, with_layout, with_parameter_types, with_predecessor, with_state, with_terminator}
 use Rattle.clif_meaning.specs.Name.{Name, answer_of, same_name}
-use Rattle.clif_meaning.specs.Program.{Program, empty_program, program_of, result_types, with_call}
-use Rattle.clif_meaning.specs.Request.{Request, CreateBlock, SwitchToBlock, SealBlock, SealAllBlocks, InsertBlockAfter, SetColdBlock, EnsureInsertedBlock, AppendBlockParams, AppendFunctionParams, DeclareVar, DefVar, UseVar, MakeEntry, MakeEdge, MakeJumpTable, MakeExceptionTable, Annotate, Build, ChangeJumpDestination, Finalize, GivenEntry, Script}
+use Rattle.clif_meaning.specs.Program.{Program, result_types, with_call}
+use Rattle.clif_meaning.specs.Request.{Request, CreateBlock, SwitchToBlock, SealBlock, SealAllBlocks, InsertBlockAfter, SetColdBlock, EnsureInsertedBlock, AppendBlockParams, AppendFunctionParams, DeclareVar, DefVar, UseVar, MakeEntry, MakeEdge, MakeJumpTable, MakeExceptionTable, Annotate, Build, ChangeJumpDestination, Finalize, Script}
 use Rattle.clif_expansion.specs.PerformedCalls.{HaveTypes}
 use Rattle.clif_expansion.proofs.EmittedPrograms.{one_longer}
 use Rattle.clif_expansion.proofs.Joins.{answers_last}

@@ -1,8 +1,6 @@
 -- Walks from node to node of the search.
-use Rattle.std.proofs.Common.{◌≡◌, ◌≢◌, ◌<◌, ◌≤◌, ◌+◌, ◌-◌, ◌*◌, ℕ, zero, suc, Bool, true, false, List, [], ◌∷◌, ◌++◌, length, map, refl, sym, ◌∙◌, ap, ap₂, subst, arith, append_assoc, length-append, Some, None, Option}
-use Rattle.std.specs.Prelude.{◌^◌, ◌==◌, if◌then◌else◌, nat_lt, nat_le, slice_get, slice_index_or, IsTrue, Contains, reverse}
-use Rattle.std.specs.List.{AllByRecursion}
-use Rattle.std.proofs.lemmas.Bool.{ne_eqb}
+use Rattle.std.proofs.Common.{◌≡◌, ◌<◌, ◌≤◌, ◌+◌, ◌-◌, ℕ, suc, Bool, true, false, List, [], ◌∷◌, ◌++◌, length, map, refl, sym, ◌∙◌, ap, subst, arith, append_assoc, None}
+use Rattle.std.specs.Prelude.{◌^◌, ◌==◌, if◌then◌else◌, nat_lt, slice_get, slice_index_or, IsTrue, Contains}
 use Rattle.std.proofs.lemmas.Bool.Decides.{nat_tests}
 use Rattle.clif_types.specs.declared.condcodes.IntCC.{IntCC}
 use Rattle.clif_types.specs.declared.condcodes.IntCC.TheVariants as cc
@@ -11,11 +9,9 @@ use Rattle.clif_types.specs.Types.{bits_of, is_int}
 use Rattle.clif_ranges.specs.declared.ranges.CaseRange.{CaseRange}
 use Rattle.clif_ranges.specs.declared.search.Next.{Next}
 use Rattle.clif_ranges.specs.declared.search.Next.TheVariants as next
-use Rattle.clif_ranges.specs.declared.search.Node.{Node}
 use Rattle.clif_ranges.specs.declared.search.Test.{Test}
 use Rattle.clif_ranges.specs.declared.search.Test.TheVariants as test
-use Rattle.clif_ranges.specs.Search.{AreInOrder, AreNumbersFrom, Found, IsTestOf, behind_a_branch, block_in, goes_on, named_by, number_of, search, tested}
-use Rattle.clif_ranges.proofs.Searching.{begins}
+use Rattle.clif_ranges.specs.Search.{Found, IsTestOf, behind_a_branch, block_in, goes_on, tested}
 use Rattle.clif_meaning.specs.Bits.{Bits}
 use Rattle.clif_meaning.specs.Instruction.{Compare, Instruction}
 use Rattle.clif_meaning.specs.Name.{Name, answer_of}
@@ -25,9 +21,9 @@ use Rattle.clif_meaning.specs.Request.{Request, CreateBlock, Script}
 use Rattle.clif_expansion.specs.Emission.{building}
 use Rattle.clif_expansion.specs.JoinedPrograms.{built_items}
 use Rattle.clif_expansion.specs.Walk.{IsGenerated, Surroundings}
-use Rattle.clif_switch_calls.specs.SwitchCalls.{Switched, block_for, blocks_of, blocks_with, branching, compared, first_block, i8, name_for, node_calls, nodes_calls, tables_of, test_calls, with_number, with_number_name}
-use Rattle.clif_switch_calls.proofs.Branches.{At, Reaches, Through, Walked, more_allowed, target_of, walked_on, walks_conditional, walks_jump}
-use Rattle.clif_switch_calls.proofs.Codes.{AreTyped, Entered, code_building, code_of, entered_behind, typed_behind}
+use Rattle.clif_switch_calls.specs.SwitchCalls.{Switched, block_for, branching, compared, first_block, i8, name_for, test_calls, with_number, with_number_name}
+use Rattle.clif_switch_calls.proofs.Branches.{At, Reaches, Walked, more_allowed, target_of, walked_on, walks_conditional, walks_jump}
+use Rattle.clif_switch_calls.proofs.Codes.{AreTyped, Entered, code_building, code_of, typed_behind}
 use Rattle.clif_switch_calls.proofs.Lines.{Makes, compared_with}
 use Rattle.clif_switch_calls.proofs.Tables.{has_narrow, table_walks, with_begins}
 

@@ -1,8 +1,7 @@
 -- The worked examples.
-use Rattle.std.proofs.Common.{Bor, ◌≡◌, ◌-◌, ◌+◌, ℕ, suc, List, [], ◌∷◌, ◌++◌, length, map, refl, sym, ◌∙◌, ap, ap₂, subst, Bool, true, false, None, Some, Option}
+use Rattle.std.proofs.Common.{◌-◌, ◌+◌, ℕ, suc, List, [], ◌∷◌, ◌++◌, length, map, refl, ap, ap₂, None}
 use Rattle.std.specs.Prelude.{◌^◌, ◌==◌, if◌then◌else◌, nat_lt, slice_get}
-use Rattle.clif_ranges.specs.declared.ranges.CaseRange.{CaseRange}
-use Rattle.clif_ranges.specs.Search.{Found, behind_a_branch, nothing_found, block_in}
+use Rattle.clif_ranges.specs.Search.{behind_a_branch, nothing_found, block_in}
 use Rattle.clif_ranges.specs.declared.search.Next.TheVariants as next
 use Rattle.clif_ranges.specs.declared.search.Test.TheVariants as test
 use Rattle.clif_meaning.specs.Acceptance.{table_branch}
@@ -11,7 +10,7 @@ use Rattle.clif_meaning.specs.Name.{Name, answer_of}
 use Rattle.clif_meaning.specs.Request.{Build, MakeEdge, MakeJumpTable, SealBlock, Script, ServedBy, SwitchToBlock}
 use Rattle.clif_expansion.specs.Emission.{building}
 use Rattle.clif_switch_calls.specs.SwitchCalls.{Switched, answers_of, bare_edge, difference, difference_name, index_calls, index_name, node_calls}
-use Rattle.clif_switch_calls.specs.SwitchCallExamples.{HasBlocks, SwitchCallExamples, far_calls, far_nodes, far_switch, four_nodes}
+use Rattle.clif_switch_calls.specs.SwitchCallExamples.{SwitchCallExamples, far_switch}
 
 -- the calls of a table, by the first key and the blocks
 abbrev table_of : Switched → (tables first : ℕ) (blocks : List ℕ) (place : ℕ) → Script

@@ -1,6 +1,6 @@
 -- Walks through the code of a table.
-use Rattle.std.proofs.Common.{◌≡◌, ◌<◌, ◌≤◌, ◌+◌, ◌-◌, ◌*◌, ℕ, zero, suc, Bool, true, false, List, [], ◌∷◌, ◌++◌, length, map, refl, sym, ◌∙◌, ap, ap₂, subst, arith, append_assoc, length-append, append-nil, Some, None, Option, mod-lt}
-use Rattle.std.specs.Prelude.{◌^◌, ◌%◌, ◌==◌, ◌&&◌, ℤ, if◌then◌else◌, nat_lt, nat_le, slice_get, IsTrue}
+use Rattle.std.proofs.Common.{◌≡◌, ◌<◌, ◌≤◌, ◌+◌, ◌-◌, ℕ, zero, suc, Bool, true, false, List, [], ◌∷◌, ◌++◌, length, map, refl, sym, ◌∙◌, ap, subst, arith, append_assoc, length-append, Some, mod-lt}
+use Rattle.std.specs.Prelude.{◌^◌, ◌%◌, ◌==◌, ℤ, if◌then◌else◌, nat_lt, slice_get, IsTrue}
 use Rattle.std.proofs.Math.Nat.{mod-eq_of_lt}
 use Rattle.std.proofs.lemmas.List.{length-map}
 use Rattle.std.proofs.lemmas.Bool.Decides.{nat_tests}
@@ -25,11 +25,11 @@ use Rattle.clif_expansion.specs.Constants.{computing, i64}
 use Rattle.clif_expansion.specs.Emission.{building}
 use Rattle.clif_expansion.specs.JoinedPrograms.{built_items}
 use Rattle.clif_expansion.specs.Walk.{IsGenerated, Surroundings}
-use Rattle.clif_switch_calls.specs.SwitchCalls.{Switched, answers_of, bare_edge, branching, difference, difference_name, i32, i8, index_calls, index_name, is_composed, is_subtracted, negated_64, number_instructions, number_name, signed_64, table_calls, table_targets, with_number, with_number_name}
+use Rattle.clif_switch_calls.specs.SwitchCalls.{Switched, answers_of, bare_edge, branching, difference, difference_name, i32, i8, index_calls, index_name, is_composed, is_subtracted, negated_64, number_instructions, signed_64, table_calls, table_targets, with_number, with_number_name}
 use Rattle.clif_switch_calls.proofs.Basics.{regrouped}
-use Rattle.clif_switch_calls.proofs.Branches.{Reaches, At, Through, Walked, no_entry, table_edge, table_edges, target_of, walked_on, walks_conditional, walks_table}
-use Rattle.clif_switch_calls.proofs.Codes.{AreTyped, Entered, IsClosed, code_building, code_edges, code_of, entered_building, entered_edges, typed_building, typed_edges}
-use Rattle.clif_switch_calls.proofs.Lines.{HasNarrow, Makes, compared_with, difference_made, made_one}
+use Rattle.clif_switch_calls.proofs.Branches.{At, Through, Walked, no_entry, table_edge, table_edges, target_of, walked_on, walks_conditional, walks_table}
+use Rattle.clif_switch_calls.proofs.Codes.{AreTyped, Entered, code_building, code_edges, code_of, entered_building, entered_edges, typed_building, typed_edges}
+use Rattle.clif_switch_calls.proofs.Lines.{Makes, compared_with, difference_made, made_one}
 
 abbrev wide : «Type»
 wide = type.Lane lane.I128

@@ -1,5 +1,5 @@
 -- The targets of a switch, and its ranges.
-use Rattle.std.proofs.Common.{◌≡◌, ◌<◌, ◌≤◌, ◌+◌, ◌-◌, ℕ, zero, suc, Bool, true, false, List, [], ◌∷◌, ◌++◌, length, map, refl, sym, ◌∙◌, ap, ap₂, subst, arith, inl, inr, Some, None, Option, cond}
+use Rattle.std.proofs.Common.{◌≡◌, ◌<◌, ◌≤◌, ◌+◌, ℕ, suc, Bool, true, false, List, [], ◌∷◌, ◌++◌, length, map, refl, sym, ◌∙◌, ap, subst, arith, inl, inr, Some, cond}
 use Rattle.std.specs.Prelude.{◌⊎◌, ◌^◌, ◌==◌, All, Contains, IsTrue}
 use Rattle.std.specs.List.{AllByRecursion, enumerate_from, flat_map}
 use Rattle.std.proofs.lemmas.Bool.{ne_eqb}
@@ -17,7 +17,6 @@ use Rattle.clif_meaning.specs.Name.{Name}
 use Rattle.clif_expansion.specs.Switching.{targets_of}
 use Rattle.clif_expansion.proofs.Placing.{contained_first, contained_in, contained_later, none_contained}
 use Rattle.clif_switch_calls.specs.SwitchCalls.{Switched}
-use Rattle.clif_switch_calls.proofs.Branches.{target_of}
 use Rattle.clif_switch_calls.proofs.Counted.{Separate, edges_from, separate}
 use Rattle.clif_switch_calls.proofs.Searched.{Fits}
 
@@ -81,9 +80,11 @@ rising_from low high (case ∷ entries) less rising = (omega (arith, less, risin
 
 rising_range : (first : ℕ) (blocks : List ℕ) (more : List (ℕ × ℕ)) → Rising (first + length blocks) more → Rising first (enumerate_from first blocks ++ more)
 rising_range first [] more rising = rising_from first (first + 0) more (omega arith) rising
-rising_range first (block ∷ blocks) more rising =
-    (omega arith, rising_from (suc first) (first + 1) (enumerate_from (first + 1) blocks ++ more) (omega arith)
-    (rising_range (first + 1) blocks more (rising_from (first + 1 + length blocks) (first + suc (length blocks)) more (omega arith) rising)))
+rising_range first (block ∷ blocks) more rising = (
+  omega arith,
+  rising_from (suc first) (first + 1) (enumerate_from (first + 1) blocks ++ more) (omega arith)
+      (rising_range (first + 1) blocks more (rising_from (first + 1 + length blocks) (first + suc (length blocks)) more (omega arith) rising)),
+)
 
 rising_ranges : (ranges : List CaseRange) (bound : ℕ) → Separate [] ranges → AllByRecursion (λ range. bound ≤ range.first) ranges → Rising bound (flat_map cases_of ranges)
 rising_ranges [] bound apart above = tt

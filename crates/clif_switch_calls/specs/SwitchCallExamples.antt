@@ -1,5 +1,5 @@
 -- Worked out: the search among four ranges, and the plain calls of a switch at 128 bits.
-use Rattle.std.specs.Prelude.{◌≡◌, ◌^◌, ◌+◌, ◌-◌, ℕ, ℤ, pos, negsuc, List, [], ◌∷◌, Some, None}
+use Rattle.std.specs.Prelude.{◌≡◌, ◌^◌, ◌+◌, ◌-◌, ℕ, pos, negsuc, List, [], ◌∷◌, Some, None}
 use Rattle.std.specs.Borrow.{Bor}
 use Rattle.clif_opcodes.specs.declared.opcodes.BinaryOpcode.TheVariants.{Iadd, Isub}
 use Rattle.clif_opcodes.specs.declared.opcodes.ConvertOpcode.TheVariants.{Ireduce, Sextend}
@@ -13,8 +13,8 @@ use Rattle.clif_ranges.specs.declared.search.Node.{Node}
 use Rattle.clif_ranges.specs.declared.search.Test.TheVariants as test
 use Rattle.clif_ranges.specs.Search.{AreInOrder, search}
 use Rattle.clif_meaning.specs.Acceptance.{table_branch}
-use Rattle.clif_meaning.specs.Instruction.{Binary, Compare, Concat, Convert, Iconst, Instruction}
-use Rattle.clif_meaning.specs.Name.{Name, answer_of}
+use Rattle.clif_meaning.specs.Instruction.{Binary, Compare, Concat, Convert, Iconst}
+use Rattle.clif_meaning.specs.Name.{answer_of}
 use Rattle.clif_meaning.specs.Request.{CreateBlock, SwitchToBlock, SealBlock, MakeEdge, MakeJumpTable, Build, ServedBy, Script}
 use Rattle.clif_expansion.specs.Constants.{computing, i64}
 use Rattle.clif_expansion.specs.Emission.{building}
