@@ -1,6 +1,7 @@
 -- Worked out: the search among four ranges, and the plain calls of a switch at 128 bits.
 use Rattle.std.specs.Prelude.{◌≡◌, ◌^◌, ◌+◌, ◌-◌, ℕ, pos, negsuc, List, [], ◌∷◌, Some, None}
 use Rattle.std.specs.Borrow.{Bor}
+use Rattle.std.specs.FinMap as finite
 use Rattle.clif_opcodes.specs.declared.opcodes.BinaryOpcode.TheVariants.{Iadd, Isub}
 use Rattle.clif_opcodes.specs.declared.opcodes.ConvertOpcode.TheVariants.{Ireduce, Sextend}
 use Rattle.clif_types.specs.declared.condcodes.IntCC.TheVariants as cc
@@ -11,13 +12,15 @@ use Rattle.clif_ranges.specs.declared.ranges.CaseRange.{CaseRange}
 use Rattle.clif_ranges.specs.declared.search.Next.TheVariants as next
 use Rattle.clif_ranges.specs.declared.search.Node.{Node}
 use Rattle.clif_ranges.specs.declared.search.Test.TheVariants as test
+use Rattle.clif_ranges.specs.Cases.{CaseMap}
 use Rattle.clif_ranges.specs.Search.{AreInOrder, search}
 use Rattle.clif_meaning.specs.Acceptance.{table_branch}
 use Rattle.clif_meaning.specs.Instruction.{Binary, Compare, Concat, Convert, Iconst}
 use Rattle.clif_meaning.specs.Name.{answer_of}
-use Rattle.clif_meaning.specs.Request.{CreateBlock, SwitchToBlock, SealBlock, MakeEdge, MakeJumpTable, Build, ServedBy, Script}
+use Rattle.clif_meaning.specs.Request.{AppendFunctionParams, CreateBlock, SwitchToBlock, SealBlock, MakeEdge, MakeJumpTable, Build, ServedBy, Script}
 use Rattle.clif_expansion.specs.Constants.{computing, i64}
 use Rattle.clif_expansion.specs.Emission.{building}
+use Rattle.clif_expansion.specs.Switching.{IsSwitchCode}
 use Rattle.clif_switch_calls.specs.SwitchCalls.{Switched, bare_edge, branching, difference, i32, i8, nodes_calls}
 
 -- the range has this first key, and the blocks of it and of the keys after it
@@ -82,6 +85,26 @@ far_calls =
     ∷ Build (ServedBy 0 ∷ []) (table_branch (answer_of 32 1) (bare_edge (answer_of 2 0) ∷ bare_edge (answer_of 3 0) ∷ bare_edge (answer_of 2 0) ∷ []))
     ∷ []
 
+-- A function of a number of 8 bits, with a block of other keys and one of a case,
+abbrev pub one_plain : Script
+one_plain = CreateBlock ∷ CreateBlock ∷ CreateBlock ∷ AppendFunctionParams (answer_of 0 0) (i8 ∷ []) ∷ SwitchToBlock (answer_of 0 0) ∷ []
+
+-- which switches on the number,
+abbrev pub one_switch : Switched
+one_switch = record { ty = i8; value = answer_of 3 0; otherwise = answer_of 1 0; named = λ block. answer_of 2 0 }
+
+-- by one key,
+abbrev pub one_node : Bor CaseRange → List Node
+one_node range = record { number = 0; test = test.OneKey range next.Otherwise } ∷ []
+
+-- which is 5.
+abbrev pub one_calls : Script
+one_calls =
+    building (computing (Iconst (pos 5)) i8 [])
+    ∷ building (computing (Compare cc.Equal) i8 (answer_of 3 0 ∷ answer_of 5 1 ∷ []))
+    ∷ branching i8 (answer_of 6 1) (answer_of 2 0) (answer_of 1 0)
+    ∷ []
+
 pub record SwitchCallExamples : Type 0 where
   -- the table of 12 stands behind two branches
   pub twelve : (zero five seven ten : Bor CaseRange) → HasBlocks ten 10 (4 ∷ 5 ∷ 6 ∷ []) → search (four_nodes zero five seven ten) 0 12 ≡ record { block = Some 6; branches = 2 }
@@ -94,3 +117,6 @@ pub record SwitchCallExamples : Type 0 where
   pub farther : difference i128 (2 ^ 63 + 1) 10 (answer_of 1 0)
       ≡ computing (Iconst (negsuc (2 ^ 63 - 2))) i64 [] ∷ computing (Iconst (pos 0)) i64 [] ∷ computing Concat i64 (answer_of 10 1 ∷ answer_of 11 1 ∷ [])
       ∷ computing (Binary Isub) i128 (answer_of 1 0 ∷ answer_of 12 1 ∷ []) ∷ []
+  -- the law's premises are met: these calls are code of the switch
+  pub one : (cases : CaseMap) (range : Bor CaseRange) → finite.entries cases ≡ (5, 0) ∷ [] → HasBlocks range 5 (0 ∷ [])
+      → IsSwitchCode one_plain one_calls (answer_of 0 0) (answer_of 3 0) i8 (5 ∷ []) (bare_edge (answer_of 2 0) ∷ bare_edge (answer_of 1 0) ∷ []) 2 1
