@@ -42,3 +42,4 @@ pub mod Parameters
 pub mod Ordered
 pub mod Framed
 pub mod StandingParameters
+pub mod Lasting

@@ -37,7 +37,7 @@ use Rattle.clif_constant_calls.specs.Stands.{BuildsLike, ConstantOperandsStand, 
 -- NAMES -------------------------------------------------------------------------------------------------------------------
 
 -- the type of a value that is there
-node_type : (f : Body) (x : ℕ) (ty : «Type») → value_type f x ≡ Some ty → ty ≡ (value_at f x).ty
+pub node_type : (f : Body) (x : ℕ) (ty : «Type») → value_type f x ≡ Some ty → ty ≡ (value_at f x).ty
 node_type f x ty is = by (slice_get f.values x) refl is
   where
     by : (o : Option ValueNode) → slice_get f.values x ≡ o → option_map (λ (node : ValueNode). node.ty) o ≡ Some ty → ty ≡ (value_at f x).ty
@@ -46,7 +46,7 @@ node_type f x ty is = by (slice_get f.values x) refl is
         sym (same_Some node.ty ty some) ∙ sym (ap (λ (n : ValueNode). n.ty) (get_or_from_slice_get f.values x node no_value found))
 
 -- a name goes on naming its value
-named_on : (calls : List AnsweredCall) (call : AnsweredCall) (name : Name) (x : ℕ) → NamesValue calls name x → NamesValue (calls ++ call ∷ []) name x
+pub named_on : (calls : List AnsweredCall) (call : AnsweredCall) (name : Name) (x : ℕ) → NamesValue calls name x → NamesValue (calls ++ call ∷ []) name x
 named_on calls call name x names = record { number = kept calls call name x names.number; is_value = value_stays calls call name names.is_value }
 
 slice_get-last : {X : Type 0} (xs : List X) (x : X) → slice_get (xs ++ x ∷ []) (length xs) ≡ Some x
@@ -60,7 +60,7 @@ plus_two : (n : ℕ) → suc (suc n) ≡ 2 + n
 plus_two n = omega arith
 
 -- the first result of an instruction that is built
-named_last : (calls : List AnsweredCall) (arithmetic : Arithmetic) (ty answer : «Type») (operands : List Name) (inst value : ℕ)
+pub named_last : (calls : List AnsweredCall) (arithmetic : Arithmetic) (ty answer : «Type») (operands : List Name) (inst value : ℕ)
     → emitted_types (computing arithmetic ty operands) ≡ answer ∷ []
     → NamesValue (calls ++ answered (building (computing arithmetic ty operands)) (inst ∷ value ∷ []) ∷ []) (answer_of (length calls) 1) value
 named_last calls arithmetic ty answer operands inst value gives =
@@ -73,7 +73,7 @@ named_last calls arithmetic ty answer operands inst value gives =
 -- STEPS -------------------------------------------------------------------------------------------------------------------
 
 -- one call
-stands_on : (signature : SignatureShape) (calls : List AnsweredCall) (old new : FunctionBuilder) (shape : InstructionData) (ty : «Type») (value : ℕ) (request : Request)
+pub stands_on : (signature : SignatureShape) (calls : List AnsweredCall) (old new : FunctionBuilder) (shape : InstructionData) (ty : «Type») (value : ℕ) (request : Request)
     → StandsFor signature calls old → BuildsValue old new shape ty (Ok value) → AsksForShape calls old.func.now request shape ty
     → StandsFor signature (calls ++ answered request (numbers_with old value) ∷ []) new
 stands_on signature calls old new shape ty value request stands builds (entries, instruction, is, has) =
@@ -89,10 +89,10 @@ record HasConstant (signature : SignatureShape) (calls : List AnsweredCall) (pla
   typed : or_invalid (type_of (ledger_of (calls ++ added)) name) ≡ ty
 
 module _ (reads : LedgerIsReadByNumber) (asks : RequestsAskForTheirShapes) where
-  asks_at : (signature : SignatureShape) (calls : List AnsweredCall) (b : FunctionBuilder) → StandsFor signature calls b → AskForTheirShapes calls b.func.now
+  pub asks_at : (signature : SignatureShape) (calls : List AnsweredCall) (b : FunctionBuilder) → StandsFor signature calls b → AskForTheirShapes calls b.func.now
   asks_at signature calls b stands = asks calls b.func.now b.ctx.now b.position stands.ledger
 
-  type_at : (signature : SignatureShape) (calls : List AnsweredCall) (b : FunctionBuilder) (name : Name) (x : ℕ) → StandsFor signature calls b → NamesValue calls name x
+  pub type_at : (signature : SignatureShape) (calls : List AnsweredCall) (b : FunctionBuilder) (name : Name) (x : ℕ) → StandsFor signature calls b → NamesValue calls name x
       → or_invalid (type_of (ledger_of calls) name) ≡ type_in b x
   type_at signature calls b name x stands names =
       let read = (reads calls b.func.now b.ctx.now b.position stands.ledger).value name x names in

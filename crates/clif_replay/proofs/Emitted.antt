@@ -35,7 +35,8 @@ use Rattle.clif_replay.specs.Emits.{BuildsEmission, IsReadyBehind, constant_in, 
 use Rattle.clif_replay.specs.Ready.{AreResults, IsAnswered, IsReady, KeepsTables, TablesAgree}
 use Rattle.clif_replay.specs.Requests.{Naming, operand_in, operand_type}
 use Rattle.clif_replay.proofs.Emissions.{operand-typed}
-use Rattle.clif_replay.proofs.Lasting.{LeavesTables, answer-stays, answers-stay, edge-stays, exceptions-kept, exceptions-stay, ledger-behind, tables-kept, tables-stay}
+use Rattle.clif_builder.proofs.Lasting.{answer-stays, answers-stay, edge-stays, ledger-behind}
+use Rattle.clif_replay.proofs.Lasting.{LeavesTables, exceptions-kept, exceptions-stay, tables-kept, tables-stay}
 use Rattle.clif_replay.proofs.Options.{get-last, get-push, if-no}
 use Rattle.clif_replay.proofs.ReadyLaws.{edge-is, value-found}
 

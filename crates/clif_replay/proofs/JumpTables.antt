@@ -41,7 +41,8 @@ use Rattle.clif_resolution.specs.Conditions.{IsEdge, can_seal, has_edge, is_open
 use Rattle.clif_replay.specs.Ready.{IsReady, IsReadyAfter, TableAgrees, TablesAgree}
 use Rattle.clif_resolution.specs.Answers.{all_passed, block_of, edge_at, passed_in, value_of}
 use Rattle.clif_replay.proofs.Conditions.{open-same, sealed-same, values-same}
-use Rattle.clif_replay.proofs.Lasting.{as-many, edge-stays, edges-stay, held-missing, held-there, ledger-more, one-table-more, table-at, table-serves, tables-stay}
+use Rattle.clif_builder.proofs.Lasting.{edge-stays, edges-stay, ledger-more}
+use Rattle.clif_replay.proofs.Lasting.{as-many, held-missing, held-there, one-table-more, table-at, table-serves, tables-stay}
 use Rattle.clif_replay.proofs.Making.{full-either}
 use Rattle.clif_replay.proofs.Options.{get-last}
 use Rattle.clif_resolution.proofs.Options.{map-some}

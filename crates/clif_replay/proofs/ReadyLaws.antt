@@ -27,7 +27,8 @@ use Rattle.clif_meaning.specs.Name as named
 use Rattle.clif_replay.specs.Requests.{Naming}
 use Rattle.clif_replay.specs.Ready.{AnswerIs, AreResults, IsAnswered, IsReady, KeepsTables, TablesAgree}
 use Rattle.clif_resolution.specs.Answers.{AnswerExists, edge_at, edge_in, block_in, block_of, inst_in, inst_of, value_in, value_of}
-use Rattle.clif_replay.proofs.Lasting.{LeavesTables, answer-stays, edge-stays, exceptions-kept, exceptions-stay, ledger-more, no-edge, tables-kept, tables-stay}
+use Rattle.clif_builder.proofs.Lasting.{answer-stays, edge-stays, ledger-more}
+use Rattle.clif_replay.proofs.Lasting.{LeavesTables, exceptions-kept, exceptions-stay, no-edge, tables-kept, tables-stay}
 use Rattle.clif_replay.proofs.Options.{get-last, get-push, some-is, if-no, name-of-some}
 use Rattle.clif_resolution.proofs.Options.{get-below, map-some}
 

@@ -51,7 +51,8 @@ use Rattle.clif_resolution.specs.Conditions.{can_seal, is_open, tries, tries_at}
 use Rattle.clif_replay.specs.Requests.{Naming, item_of, throwing_request}
 use Rattle.clif_replay.proofs.Conditions.{all-exist, all-numbered, open-same, values-same}
 use Rattle.clif_replay.proofs.JumpTables.{arguments-exist, edges-lead, leads-same}
-use Rattle.clif_replay.proofs.Lasting.{as-many, exception-stays, exceptions-stay, held-missing, held-there, ledger-more, one-table-more, table-at, table-serves}
+use Rattle.clif_builder.proofs.Lasting.{ledger-more}
+use Rattle.clif_replay.proofs.Lasting.{as-many, exception-stays, exceptions-stay, held-missing, held-there, one-table-more, table-at, table-serves}
 use Rattle.clif_resolution.proofs.Options.{map-some}
 use Rattle.clif_replay.proofs.ReadyLaws.{edge-found, edge-missing, ready-answered, tables-still, value-found, value-missing}
 

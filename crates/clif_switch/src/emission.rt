@@ -1,7 +1,16 @@
 //! How a switch is emitted: each node of its search tree in a block of its own, the first one in the current block.
 #![tactic(auto)]
 
+ghost use Rattle.std.specs.Prelude.{◌≡◌, ◌<◌, [], ◌∷◌, false, OnOk, length, map, All};
+ghost use Rattle.clif_ir.specs.Body.{value_at};
+ghost use Rattle.clif_ranges.specs.Search.{named_by};
+ghost use Rattle.clif_builder.specs.Builder.{HasCurrent};
+ghost use Rattle.clif_switch.specs.Emission.{AddsBlocks, EndsBlock, GivesValue, HasItsBlock, IsSwitchedIn, Makes, MakesBranch, MakesOf, MakesTable, MakesTest, MakesValue, MayLead, bare_to, cases_in, difference_calls, difference_named, key_calls, number_calls, number_named};
+ghost use Rattle.clif_switch_calls.specs.SwitchCalls.{compared, i32, index_calls, index_name, is_widest, signed_64, table_calls, tables_of};
+
+use clif_builder::laws::{ledger_is_read_by_number, requests_ask_for_their_shapes};
 use clif_builder::{ConstantOperands, FunctionBuilder, InstBuilder, InstBuilderBase};
+use clif_constant_calls::laws::constant_operands_stand;
 use clif_ir::JumpTableData;
 use clif_ranges::{CaseRange, Next, Node, Test};
 use clif_types::types::{I32, I64};
@@ -9,7 +18,7 @@ use clif_types::{Block, BuildError, IntCC, JumpTable, LaneType, Type, Value};
 
 /// What is switched on, and the block of all values without a case.
 #[derive(Clone, Copy)]
-pub(crate) struct Switched {
+pub struct SwitchedValue {
     pub ty: Type,
     pub val: Value,
     pub otherwise: Block,
@@ -18,17 +27,23 @@ pub(crate) struct Switched {
 // All nodes, of which the first stands in the current block.
 pub(crate) fn emit_nodes(
     bx: &mut FunctionBuilder<'_>,
-    switched: &Switched,
+    switched: SwitchedValue,
     nodes: &[Node<'_>],
 ) -> Result<(), BuildError> {
     let mut blocks = Vec::new(bx.func().allocator());
     for node in nodes {
-        if node.number > 0 {
-            let block = blocks[node.number - 1];
-            bx.seal_block(block)?;
-            bx.switch_to_block(block);
-        }
+        enter(bx, blocks.as_slice(), node.number)?;
         emit_test(bx, switched, &mut blocks, node.test)?;
+    }
+    Ok(())
+}
+
+// Makes the block of a node the current one, once the one branch to it was made.
+fn enter(bx: &mut FunctionBuilder<'_>, blocks: &[Block], number: usize) -> Result<(), BuildError> {
+    if number > 0 {
+        let block = blocks[number - 1];
+        bx.seal_block(block)?;
+        bx.switch_to_block(block);
     }
     Ok(())
 }
@@ -36,32 +51,58 @@ pub(crate) fn emit_nodes(
 // The test of a node, in the current block, and the blocks of the nodes to which control goes from there.
 fn emit_test(
     bx: &mut FunctionBuilder<'_>,
-    switched: &Switched,
+    switched: SwitchedValue,
     blocks: &mut Vec<Block>,
     test: Test<'_>,
-) -> Result<(), BuildError> {
+) -> Result<(), BuildError>
+    requires current { HasCurrent bx.old }
+    requires switched { IsSwitchedIn bx.old switched }
+    requires leads { All (MayLead bx.old) (cases_in test) }
+    requires filled { HasItsBlock test }
+    ensures ends { EndsBlock (tables_of test) bx.old bx.new result }
+    ensures blocks { OnOk result (AddsBlocks (length (named_by test)) bx.old bx.new blocks.old.items blocks.new.items) }
+    ensures made { MakesTest switched test bx.old bx.new blocks.old.items blocks.new.items result }
+{
     match test {
         Test::Nothing => {
-            bx.ins().jump(switched.otherwise, &[])?;
+            bx.jump(switched.otherwise, &[])?;
+            Ok(())
         }
         Test::OneKey { range, other } => {
             let other = block_for(bx, switched, blocks, other)?;
-            let block = range.blocks[0];
-            if range.first == 0 {
-                bx.ins().brif(switched.val, other, &[], block, &[])?;
-            } else {
-                branch_on(bx, switched, IntCC::Equal, range.first, block, other)?;
-            }
+            branch_on_key(bx, switched, range.first, range.blocks[0], other)
         }
         Test::NotBelow { first, other, .. } => {
             let other = block_for(bx, switched, blocks, other)?;
             let above = new_block(bx, blocks)?;
             let cond = IntCC::UnsignedGreaterThanOrEqual;
-            branch_on(bx, switched, cond, first, above, other)?;
+            branch_on(bx, switched, cond, first, above, other)
         }
-        Test::Table { range } => emit_table(bx, switched, range)?,
+        Test::Table { range } => emit_table(bx, switched, range),
     }
-    Ok(())
+}
+
+// A branch to the block of a key, or else to another one.
+fn branch_on_key(
+    bx: &mut FunctionBuilder<'_>,
+    switched: SwitchedValue,
+    key: u128,
+    block: Block,
+    other: Block,
+) -> Result<(), BuildError>
+    requires current { HasCurrent bx.old }
+    requires switched { IsSwitchedIn bx.old switched }
+    requires block_leads { MayLead bx.old block }
+    requires other_leads { MayLead bx.old other }
+    ensures ends { EndsBlock 0 bx.old bx.new result }
+    ensures made { MakesBranch switched block other (λ s place. key_calls s key place) bx.old bx.new result }
+{
+    if key == 0 {
+        bx.brif(switched.val, other, &[], block, &[])?;
+        Ok(())
+    } else {
+        branch_on(bx, switched, IntCC::Equal, key, block, other)
+    }
 }
 
 // A new block, for the node with the next number.
@@ -76,7 +117,7 @@ fn new_block(bx: &mut FunctionBuilder<'_>, blocks: &mut Vec<Block>) -> Result<Bl
 // Where control goes next: to `otherwise`, or to a new block.
 fn block_for(
     bx: &mut FunctionBuilder<'_>,
-    switched: &Switched,
+    switched: SwitchedValue,
     blocks: &mut Vec<Block>,
     next: Next,
 ) -> Result<Block, BuildError> {
@@ -89,50 +130,85 @@ fn block_for(
 // A comparison of the value with a number, and the branch on it.
 fn branch_on(
     bx: &mut FunctionBuilder<'_>,
-    switched: &Switched,
+    switched: SwitchedValue,
     cond: IntCC,
     number: u128,
     taken: Block,
     other: Block,
-) -> Result<(), BuildError> {
-    let constant = emit_number(bx, switched.ty, number)?;
-    let holds = bx.ins().icmp(cond, switched.val, constant)?;
-    bx.ins().brif(holds, taken, &[], other, &[])?;
+) -> Result<(), BuildError>
+    requires current { HasCurrent bx.old }
+    requires switched { IsSwitchedIn bx.old switched }
+    requires taken_leads { MayLead bx.old taken }
+    requires other_leads { MayLead bx.old other }
+    ensures ends { EndsBlock 0 bx.old bx.new result }
+    ensures made { MakesBranch switched taken other (λ s place. compared s cond number place) bx.old bx.new result }
+{
+    ledger_is_read_by_number();
+    requests_ask_for_their_shapes();
+    let value = switched.val;
+    let constant = emit_number(bx, switched, number)?;
+    let holds = bx.icmp(cond, value, constant)?;
+    bx.brif(holds, taken, &[], other, &[])?;
     Ok(())
 }
 
-// A number of an integer type. At 128 bits it has no constant where it isn't one of 64 bits with its sign repeated: then it is made of
-// its halves.
-fn emit_number(bx: &mut FunctionBuilder<'_>, ty: Type, number: u128) -> Result<Value, BuildError> {
-    if is_widest(ty) && number >= 1 << 63 {
-        let low = bx.ins().iconst(I64, signed_64(number))?;
-        let high = bx.ins().iconst(I64, signed_64(number >> 64))?;
-        bx.ins().iconcat(low, high)
+// A number of the value's type. At 128 bits it has no constant where it isn't one of 64 bits with its sign repeated: then it is made
+// of its halves.
+fn emit_number(
+    bx: &mut FunctionBuilder<'_>,
+    switched: SwitchedValue,
+    number: u128,
+) -> Result<Value, BuildError>
+    requires current { HasCurrent bx.old }
+    requires switched { IsSwitchedIn bx.old switched }
+    ensures gives { GivesValue switched.ty bx.old bx.new result }
+    ensures position { OnOk result (bx.new.position ≡ bx.old.position) }
+    ensures made { MakesValue switched (number_calls number) (number_named number) bx.old bx.new result }
+{
+    ledger_is_read_by_number();
+    requests_ask_for_their_shapes();
+    if is_widest(switched.ty) && number >= 1 << 63 {
+        let low = bx.iconst(I64, signed_64(number))?;
+        let high = bx.iconst(I64, signed_64(number >> 64))?;
+        bx.iconcat(low, high)
     } else {
-        bx.ins().integer_constant(ty, signed_64(number))
+        bx.integer_constant(switched.ty, signed_64(number))
     }
 }
 
 // The low 64 bits of a number, the highest of which is a sign.
-fn signed_64(number: u128) -> i64 {
+fn signed_64(number: u128) -> i64
+    ensures { result ≡ signed_64 number }
+{
     let low = (number & 0xffff_ffff_ffff_ffff) as u64;
     low.cast_signed()
 }
 
-fn is_widest(ty: Type) -> bool {
-    ty == Type::Lane(LaneType::I128)
+fn is_widest(ty: Type) -> bool
+    ensures { result ≡ is_widest ty }
+{
+    match ty {
+        Type::Lane(lane) => matches!(lane, LaneType::I128),
+        Type::Invalid | Type::Vector(_, _) => false,
+    }
 }
 
 // A jump table for the keys of a range, and the branch by it.
 fn emit_table(
     bx: &mut FunctionBuilder<'_>,
-    switched: &Switched,
+    switched: SwitchedValue,
     range: &CaseRange,
-) -> Result<(), BuildError> {
+) -> Result<(), BuildError>
+    requires current { HasCurrent bx.old }
+    requires switched { IsSwitchedIn bx.old switched }
+    requires leads { All (MayLead bx.old) range.now.blocks.items }
+    ensures ends { EndsBlock 1 bx.old bx.new result }
+    ensures made { Makes switched range.now.blocks.items (λ s tables place. table_calls s tables range.now place) bx.old bx.new result }
+{
     let table = jump_table(bx, switched.otherwise, range.blocks.as_slice())?;
     let place = emit_difference(bx, switched, range.first)?;
     let index = emit_index(bx, switched, place)?;
-    bx.ins().br_table(index, table)?;
+    bx.br_table(index, table)?;
     Ok(())
 }
 
@@ -141,7 +217,9 @@ fn jump_table(
     bx: &mut FunctionBuilder<'_>,
     otherwise: Block,
     blocks: &[Block],
-) -> Result<JumpTable, BuildError> {
+) -> Result<JumpTable, BuildError>
+    ensures { MakesTable (map bare_to (otherwise ∷ blocks.now)) bx.old bx.new result }
+{
     let default = bx.block_call(otherwise, &[])?;
     let mut entries = Vec::new(bx.func().allocator());
     for block in blocks {
@@ -159,38 +237,56 @@ fn jump_table(
 // The value less the first key of a range.
 fn emit_difference(
     bx: &mut FunctionBuilder<'_>,
-    switched: &Switched,
+    switched: SwitchedValue,
     first: u128,
-) -> Result<Value, BuildError> {
+) -> Result<Value, BuildError>
+    requires current { HasCurrent bx.old }
+    requires switched { IsSwitchedIn bx.old switched }
+    requires sound { bx.old.failed ≡ false }
+    ensures gives { GivesValue switched.ty bx.old bx.new result }
+    ensures position { OnOk result (bx.new.position ≡ bx.old.position) }
+    ensures made { MakesValue switched (difference_calls first) (difference_named first) bx.old bx.new result }
+{
+    ledger_is_read_by_number();
+    requests_ask_for_their_shapes();
+    constant_operands_stand();
+    let value = switched.val;
     if first == 0 {
-        return Ok(switched.val);
+        return Ok(value);
     }
     if is_widest(switched.ty) && first > 1 << 63 {
-        let first = emit_number(bx, switched.ty, first)?;
-        return bx.ins().isub(switched.val, first);
+        let first = emit_number(bx, switched, first)?;
+        return bx.isub(value, first);
     }
-    let negated = signed_64((1 << 64) - (first & 0xffff_ffff_ffff_ffff));
-    bx.ins().iadd_imm_s(switched.val, negated)
+    let negated = signed_64((1 << 64) - first % (1 << 64));
+    bx.iadd_imm_s(value, negated)
 }
 
 // The index of 32 bits: control goes to `otherwise` where the number is too great for one.
 fn emit_index(
     bx: &mut FunctionBuilder<'_>,
-    switched: &Switched,
+    switched: SwitchedValue,
     place: Value,
-) -> Result<Value, BuildError> {
+) -> Result<Value, BuildError>
+    requires current { HasCurrent bx.old }
+    requires switched { IsSwitchedIn bx.old switched }
+    requires exists { place < length bx.old.func.now.values }
+    requires typed { (value_at bx.old.func.now place).ty ≡ switched.ty }
+    requires sound { bx.old.failed ≡ false }
+    ensures gives { GivesValue i32 bx.old bx.new result }
+    ensures made { MakesOf switched place index_calls index_name bx.old bx.new result }
+{
     let bits = switched.ty.bits();
     if bits > 32 {
         let block = bx.create_block()?;
         let cond = IntCC::UnsignedGreaterThan;
-        let is_greater = bx.ins().icmp_imm_s(cond, place, 0xffff_ffff)?;
-        bx.ins()
-            .brif(is_greater, switched.otherwise, &[], block, &[])?;
+        let is_greater = bx.icmp_imm_s(cond, place, 0xffff_ffff)?;
+        bx.brif(is_greater, switched.otherwise, &[], block, &[])?;
         bx.seal_block(block)?;
         bx.switch_to_block(block);
-        bx.ins().ireduce(I32, place)
+        bx.ireduce(I32, place)
     } else if bits < 32 {
-        bx.ins().uextend(I32, place)
+        bx.uextend(I32, place)
     } else {
         Ok(place)
     }

@@ -1,7 +1,7 @@
 //! Switches on the builder: the cases of a value, and the blocks and instructions that find them.
 #![tactic(auto)]
 
-mod emission;
+pub mod emission;
 pub mod switch;
 
 pub use clif_ranges::SwitchError;

@@ -1,7 +1,7 @@
 //! Switches: control goes by a value to the block of its case.
 #![tactic(auto)]
 
-use crate::emission::{Switched, emit_nodes};
+use crate::emission::{SwitchedValue, emit_nodes};
 use clif_builder::{FunctionBuilder, InstBuilderBase};
 use clif_ranges::{Cases, SwitchError, search_tree};
 use clif_types::{Block, BuildError, Value};
@@ -62,8 +62,8 @@ impl Switch {
         let Ok(nodes) = search_tree(alloc, ranges.as_slice()) else {
             return Err(SwitchError::Build(bx.refuse()));
         };
-        let switched = Switched { ty, val, otherwise };
-        emit_nodes(bx, &switched, nodes.as_slice())?;
+        let switched = SwitchedValue { ty, val, otherwise };
+        emit_nodes(bx, switched, nodes.as_slice())?;
         Ok(())
     }
 }

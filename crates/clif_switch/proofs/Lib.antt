@@ -1,0 +1,9 @@
+-- Proofs of this crate.
+mod Steps
+mod Names
+mod Lines
+mod Values
+mod Numbers
+mod Compared
+mod Differences
+mod Counting

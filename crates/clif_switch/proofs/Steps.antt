@@ -1,0 +1,189 @@
+-- Steps one behind the other.
+use Rattle.std.proofs.Common.{◌≡◌, ◌<◌, ◌≤◌, inl, inr, ℕ, true, false, List, refl, sym, ◌∙◌, ap, subst, arith, Option, Some, None}
+use Rattle.std.specs.Prelude.{◌↔◌, ◌≢◌, IsTrue, length, Result, Ok, Err, OnOk, IfOk, is_err}
+use Rattle.clif_types.specs.declared.error.BuildError.{BuildError}
+use Rattle.clif_types.specs.declared.error.BuildError.TheVariants.{Failed}
+use Rattle.clif_types.specs.declared.types.«Type».{«Type»}
+use Rattle.clif_instructions.specs.Instruction.{is_branch, is_terminator}
+use Rattle.clif_instructions.specs.declared.instructions.InstructionData.{InstructionData}
+use Rattle.clif_ir.specs.Body.{Body, value_at}
+use Rattle.clif_records.specs.Tables.{is_yes}
+use Rattle.clif_ssa.specs.Ssa.{SsaState, sealed_of}
+use Rattle.clif_builder.specs.declared.builder.FunctionBuilder.{FunctionBuilder}
+use Rattle.clif_builder.specs.declared.context.BlockStatus.TheVariants.{Filled}
+use Rattle.clif_builder.specs.Builder.{FillsCurrent, HasCurrent, IsLeft}
+use Rattle.clif_builder.specs.Built.{Builds, BuildsValue}
+use Rattle.clif_builder.specs.Calls.{IsCall}
+use Rattle.clif_builder.specs.Context.{ContextState, FillsNone, status_of}
+use Rattle.clif_builder.specs.Growth.{Grows, GrowsBesideTables, TypesStay}
+use Rattle.clif_switch.specs.Emission.{LeavesBlocks, MayLead, Steps}
+
+-- GROWTH ------------------------------------------------------------------------------------------------------------------
+
+pub beside : (f g : Body) → Grows f g → GrowsBesideTables f g
+beside f g grows = (grows.0, grows.1, grows.2, grows.3, grows.4, grows.5, grows.7)
+
+pub grows_on : (f g h : Body) → GrowsBesideTables f g → GrowsBesideTables g h → GrowsBesideTables f h
+grows_on f g h first next =
+    (omega (arith, first.0, next.0), omega (arith, first.1, next.1), omega (arith, first.2, next.2), next.3 ∙ first.3, next.4 ∙ first.4, omega (arith, first.5, next.5), λ entry here. next.6 entry (first.6 entry here))
+
+pub types_on : (f g h : Body) → length f.values ≤ length g.values → TypesStay f g → TypesStay g h → TypesStay f h
+types_on f g h more first next v inside = next v (omega (arith, more, inside)) ∙ first v inside
+
+-- STEPS -------------------------------------------------------------------------------------------------------------------
+
+not_failed : {A : Type 0} (a : A) → Ok a ≡ Err Failed → ⊥
+not_failed a same = cc
+
+-- a builder behind a step that succeeded hasn't failed, nor had the one before it
+module _ {A B : Type 0} (old mid new : FunctionBuilder) (a : A) (answer : Result B BuildError) (first : Steps old mid (Ok a)) (next : Steps mid new answer) where
+  sound_between : IsTrue mid.failed → ⊥
+  sound_between is = let fails : mid.failed ≡ false = first.fails in let true_is : mid.failed ≡ true = is in cc
+
+  sound_before : IsTrue old.failed → ⊥
+  sound_before is = not_failed a (first.failed.1 is)
+
+  on_ok : {P : Type 0} (r : Result B BuildError) → (P) → OnOk r P
+  on_ok (Ok b) p = p
+  on_ok (Err e) p = tt
+
+  both : (P Q R : Type 0) (r : Result B BuildError) → (P → Q → R) → P → OnOk r Q → OnOk r R
+  both P Q R (Ok b) make p q = make p q
+  both P Q R (Err e) make p q = tt
+
+  pub steps_on : Steps old new answer
+  steps_on = record {
+    loans = record { func = next.loans.func ∙ first.loans.func; ctx = next.loans.ctx ∙ first.loans.ctx };
+    srcloc = next.srcloc ∙ first.srcloc;
+    failed = (λ is. absurd (sound_between (next.failed.0 is)), λ is. absurd (sound_before is));
+    unchanged = λ is. absurd (sound_before is);
+    fails = next.fails;
+    looks_once = λ once. next.looks_once (first.looks_once once);
+    variables = next.variables ∙ first.variables;
+    grows = both (GrowsBesideTables old.func.now mid.func.now) (GrowsBesideTables mid.func.now new.func.now) (GrowsBesideTables old.func.now new.func.now) answer
+        (grows_on old.func.now mid.func.now new.func.now) first.grows next.grows;
+    types = both (TypesStay old.func.now mid.func.now) (TypesStay mid.func.now new.func.now) (TypesStay old.func.now new.func.now) answer
+        (types_on old.func.now mid.func.now new.func.now first.grows.0) first.types next.types;
+    exceptions = both (mid.func.now.tables.exception_tables ≡ old.func.now.tables.exception_tables) (new.func.now.tables.exception_tables ≡ mid.func.now.tables.exception_tables)
+        (new.func.now.tables.exception_tables ≡ old.func.now.tables.exception_tables) answer (λ p q. q ∙ p) first.exceptions next.exceptions;
+  }
+
+-- another answer of the same kind
+pub steps_ok : {A B : Type 0} (old new : FunctionBuilder) (a : A) (b : B) → Steps old new (Ok a) → Steps old new (Ok b)
+steps_ok old new a b steps = record {
+  loans = steps.loans;
+  srcloc = steps.srcloc;
+  failed = (λ is. absurd (not_failed b is), λ is. absurd (not_failed a (steps.failed.1 is)));
+  unchanged = steps.unchanged;
+  fails = steps.fails;
+  looks_once = steps.looks_once;
+  variables = steps.variables;
+  grows = steps.grows;
+  types = steps.types;
+  exceptions = steps.exceptions;
+}
+
+err_is : {A : Type 0} (e : BuildError) (r : Result A BuildError) → r ≡ Err e → r ≡ Err Failed → e ≡ Failed
+err_is e r one two = let same = sym one ∙ two in cc
+
+pub steps_err : {A B : Type 0} (old new : FunctionBuilder) (e : BuildError) → Steps {A = A} old new (Err e) → Steps {A = B} old new (Err e)
+steps_err old new e steps = record {
+  loans = steps.loans;
+  srcloc = steps.srcloc;
+  failed = (λ is. steps.failed.0 (ap Err (err_is e _ refl is)), λ is. ap Err (err_is e _ refl (steps.failed.1 is)));
+  unchanged = steps.unchanged;
+  fails = steps.fails;
+  looks_once = steps.looks_once;
+  variables = steps.variables;
+  grows = tt;
+  types = tt;
+  exceptions = tt;
+}
+
+-- nothing was called
+pub steps_none : {A : Type 0} (b : FunctionBuilder) (a : A) → b.failed ≡ false → Steps b b (Ok a)
+steps_none b a sound = record {
+  loans = record { func = refl; ctx = refl };
+  srcloc = refl;
+  failed = (λ is. absurd (not_failed a is), λ is. let true_is : b.failed ≡ true = is in cc);
+  unchanged = λ is. refl;
+  fails = sound;
+  looks_once = λ once. once;
+  variables = refl;
+  grows = (omega arith, omega arith, omega arith, refl, refl, omega arith, λ entry here. here);
+  types = λ v inside. refl;
+  exceptions = refl;
+}
+
+-- ONE CALL ----------------------------------------------------------------------------------------------------------------
+
+over : {A : Type 0} (P Q : Type 0) (r : Result A BuildError) → (P → Q) → OnOk r P → OnOk r Q
+over P Q (Ok a) make p = make p
+over P Q (Err e) make p = tt
+
+pub call_steps : {A : Type 0} (old new : FunctionBuilder) (answer : Result A BuildError) → IsCall old new answer → new.ctx.now.variables ≡ old.ctx.now.variables
+    → OnOk answer (Grows old.func.now new.func.now) → Steps old new answer
+call_steps old new answer call variables grows = record {
+  loans = call.loans;
+  srcloc = call.srcloc;
+  failed = call.failed;
+  unchanged = call.unchanged;
+  fails = call.fails;
+  looks_once = call.looks_once;
+  variables = variables;
+  grows = over (Grows old.func.now new.func.now) (GrowsBesideTables old.func.now new.func.now) answer (beside old.func.now new.func.now) grows;
+  types = call.types;
+  exceptions = over (Grows old.func.now new.func.now) (new.func.now.tables.exception_tables ≡ old.func.now.tables.exception_tables) answer (λ g. g.8) grows;
+}
+
+pub builds_steps : (old new : FunctionBuilder) (shape : InstructionData) (ty : «Type») (answer : Result ℕ BuildError) → Builds old new shape ty answer → Steps old new answer
+builds_steps old new shape ty answer builds = record {
+  loans = builds.loans;
+  srcloc = builds.srcloc;
+  failed = builds.failed;
+  unchanged = builds.unchanged;
+  fails = builds.fails;
+  looks_once = builds.looks_once;
+  variables = builds.variables;
+  grows = over (Grows old.func.now new.func.now) (GrowsBesideTables old.func.now new.func.now) answer (beside old.func.now new.func.now) builds.grows;
+  types = builds.types;
+  exceptions = over (Grows old.func.now new.func.now) (new.func.now.tables.exception_tables ≡ old.func.now.tables.exception_tables) answer (λ g. g.8) builds.grows;
+}
+
+pub value_steps : (old new : FunctionBuilder) (shape : InstructionData) (ty : «Type») (answer : Result ℕ BuildError) → BuildsValue old new shape ty answer → Steps old new answer
+value_steps old new shape ty answer builds = record {
+  loans = builds.loans;
+  srcloc = builds.srcloc;
+  failed = builds.failed;
+  unchanged = builds.unchanged;
+  fails = builds.fails;
+  looks_once = builds.looks_once;
+  variables = builds.variables;
+  grows = over (Grows old.func.now new.func.now) (GrowsBesideTables old.func.now new.func.now) answer (beside old.func.now new.func.now) builds.grows;
+  types = builds.types;
+  exceptions = over (Grows old.func.now new.func.now) (new.func.now.tables.exception_tables ≡ old.func.now.tables.exception_tables) answer (λ g. g.8) builds.grows;
+}
+
+-- BLOCKS ------------------------------------------------------------------------------------------------------------------
+
+-- where seals stay and no block is filled
+pub leaves_all : (old new : FunctionBuilder) → new.ctx.now.ssa ≡ old.ctx.now.ssa → new.position ≡ old.position → FillsNone old.ctx.now new.ctx.now → LeavesBlocks old new
+leaves_all old new same here fills = record {
+  seals = λ block inside. ap (λ (s : SsaState). is_yes (sealed_of s block)) same;
+  fills = λ block inside other filled. fills block filled;
+  position = λ block inside at. sym here ∙ at;
+}
+
+pub leaves_on : (old mid new : FunctionBuilder) → length old.func.now.blocks ≤ length mid.func.now.blocks → LeavesBlocks old mid → LeavesBlocks mid new → LeavesBlocks old new
+leaves_on old mid new more first next = record {
+  seals = λ block inside. next.seals block (omega (arith, more, inside)) ∙ first.seals block inside;
+  fills = λ block inside other filled.
+      first.fills block inside other (next.fills block (omega (arith, more, inside)) (λ is. other (first.position block inside is)) filled);
+  position = λ block inside at. first.position block inside (next.position block (omega (arith, more, inside)) at);
+}
+
+pub may_lead_on : (old new : FunctionBuilder) (block : ℕ) → length old.func.now.blocks ≤ length new.func.now.blocks → LeavesBlocks old new → MayLead old block → MayLead new block
+may_lead_on old new block more leaves may = record {
+  exists = let inside = may.exists in omega (arith, more, inside);
+  unsealed = leaves.seals block may.exists ∙ may.unsealed;
+}

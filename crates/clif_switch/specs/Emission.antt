@@ -1,0 +1,216 @@
+-- What the steps of a switch make of a builder. Source: own.
+use Rattle.std.specs.Prelude.{◌≡◌, ◌≢◌, ◌↔◌, ◌<◌, ◌≤◌, ◌+◌, ◌==◌, if◌then◌else◌, ℕ, suc, false, IsTrue, List, [], ◌∷◌, ◌++◌, length, map, replicate, Contains, All, AllPairs, Option, Some, None, Result, Ok, Err, OnOk, IfOk, IfSome, is_err, slice_get}
+use Rattle.std.specs.List.{AllZip}
+use Rattle.clif_types.specs.Signature.{SignatureShape}
+use Rattle.clif_types.specs.declared.condcodes.IntCC.TheVariants.{Equal}
+use Rattle.clif_types.specs.declared.error.BuildError.{BuildError}
+use Rattle.clif_types.specs.declared.error.BuildError.TheVariants.{Failed}
+use Rattle.clif_types.specs.declared.types.«Type».{«Type»}
+use Rattle.clif_types.specs.Types.{is_int}
+use Rattle.clif_instructions.specs.declared.block_call.BlockCall.{BlockCall}
+use Rattle.clif_ir.specs.Body.{value_at}
+use Rattle.clif_ir.specs.Changes.{with_tables}
+use Rattle.clif_tables.specs.Lists.{with_jump_table}
+use Rattle.clif_ranges.specs.declared.search.Test.{Test}
+use Rattle.clif_ranges.specs.declared.search.Test.TheVariants as test
+use Rattle.clif_meaning.specs.Instruction.{Instruction}
+use Rattle.clif_meaning.specs.Ledger.{type_of}
+use Rattle.clif_meaning.specs.Name.{Name}
+use Rattle.clif_meaning.specs.Request.{AnsweredCall, Script, script_of}
+use Rattle.clif_records.specs.Tables.{is_yes}
+use Rattle.clif_ssa.specs.Ssa.{sealed_of}
+use Rattle.clif_ssa.specs.Structure.{LooksOnce}
+use Rattle.clif_builder.specs.declared.builder.FunctionBuilder.{FunctionBuilder}
+use Rattle.clif_builder.specs.declared.context.BlockStatus.TheVariants.{Filled}
+use Rattle.clif_builder.specs.Builder.{HasCurrent, IsLeft, SameLoans, is_free}
+use Rattle.clif_builder.specs.Context.{status_of}
+use Rattle.clif_builder.specs.Growth.{EntriesStay, GrowsBesideTables, TypesStay}
+use Rattle.clif_builder.specs.Ledger.{NamesBlock, NamesValue, ledger_of}
+use Rattle.clif_builder.specs.StandsFor.{StandsFor}
+use Rattle.clif_expansion.specs.Emission.{building}
+use Rattle.clif_switch_calls.specs.SwitchCalls.{Switched, blocks_of, branching, compared, difference, difference_name, number_instructions, number_name, test_calls}
+use Rattle.clif_switch.specs.declared.emission.SwitchedValue.{SwitchedValue}
+
+-- STEPS -------------------------------------------------------------------------------------------------------------------
+
+-- Calls were made one behind the other, whatever the last one answers: as of one call that may fail, but that another block may be the
+-- current one.
+pub record Steps {A : Type 0} (old new : FunctionBuilder) (answer : Result A BuildError) : Type 0 where
+  pub loans : SameLoans old new
+  pub srcloc : new.srcloc ≡ old.srcloc
+  pub failed : (answer ≡ Err Failed) ↔ IsTrue old.failed
+  pub unchanged : IsTrue old.failed → new ≡ old
+  pub fails : new.failed ≡ is_err answer
+  pub looks_once : LooksOnce old.ctx.now.ssa → LooksOnce new.ctx.now.ssa
+  pub variables : new.ctx.now.variables ≡ old.ctx.now.variables
+  pub grows : OnOk answer (GrowsBesideTables old.func.now new.func.now)
+  pub types : OnOk answer (TypesStay old.func.now new.func.now)
+  pub exceptions : OnOk answer (new.func.now.tables.exception_tables ≡ old.func.now.tables.exception_tables)
+
+-- a block exists and isn't sealed, so that a branch may lead to it
+pub record MayLead (b : FunctionBuilder) (block : ℕ) : Type 0 where
+  pub exists : block < length b.func.now.blocks
+  pub unsealed : is_yes (sealed_of b.ctx.now.ssa block) ≡ false
+
+-- the value is an integer of the builder's, and a branch may lead to `otherwise`
+pub record IsSwitchedIn (b : FunctionBuilder) (switched : SwitchedValue) : Type 0 where
+  pub exists : switched.val < length b.func.now.values
+  pub typed : (value_at b.func.now switched.val).ty ≡ switched.ty
+  pub integer : IsTrue (is_int switched.ty)
+  pub otherwise : MayLead b switched.otherwise
+
+-- No block that there was is sealed that wasn't, and none but the current one is filled that wasn't. The current block is as before, or
+-- is new.
+pub record LeavesBlocks (old new : FunctionBuilder) : Type 0 where
+  pub seals : (block : ℕ) → block < length old.func.now.blocks → is_yes (sealed_of new.ctx.now.ssa block) ≡ is_yes (sealed_of old.ctx.now.ssa block)
+  pub fills : (block : ℕ) → block < length old.func.now.blocks → old.position ≢ Some block → status_of new.ctx.now block ≡ Filled → status_of old.ctx.now block ≡ Filled
+  pub position : (block : ℕ) → block < length old.func.now.blocks → new.position ≡ Some block → old.position ≡ Some block
+
+-- there are so many jump tables more, which serve an instruction
+abbrev pub ServesMore : ℕ → FunctionBuilder → FunctionBuilder → Type 0
+ServesMore count old new = new.func.now.tables.jump_tables ≡ old.func.now.tables.jump_tables ++ replicate count None
+
+-- code was built, in the current block or into a new one, which is the current one then; the answer is a value of this type
+pub record GivesValue (ty : «Type») (old new : FunctionBuilder) (answer : Result ℕ BuildError) : Type 0 where
+  pub steps : Steps old new answer
+  pub leaves : OnOk answer (LeavesBlocks old new)
+  pub tables : OnOk answer (ServesMore 0 old new)
+  pub current : OnOk answer (HasCurrent new)
+  pub exists : IfOk answer (λ value. value < length new.func.now.values)
+  pub typed : IfOk answer (λ value. (value_at new.func.now value).ty ≡ ty)
+
+-- code was built up to a terminator, in the current block or into new ones, and served so many jump tables
+pub record EndsBlock (count : ℕ) (old new : FunctionBuilder) (answer : Result (Unit {0}) BuildError) : Type 0 where
+  pub steps : Steps old new answer
+  pub leaves : OnOk answer (LeavesBlocks old new)
+  pub tables : OnOk answer (ServesMore count old new)
+  pub left : OnOk answer (IsLeft new)
+  pub free : OnOk answer (IsTrue (is_free new))
+
+-- a jump table of these edges is created, with the answer as its number; nothing else changes
+pub record MakesTable (edges : List BlockCall) (old new : FunctionBuilder) (answer : Result ℕ BuildError) : Type 0 where
+  pub steps : Steps old new answer
+  pub context : OnOk answer (new.ctx.now ≡ old.ctx.now)
+  pub position : OnOk answer (new.position ≡ old.position)
+  pub function : OnOk answer (new.func.now ≡ with_tables old.func.now (with_jump_table old.func.now.tables edges))
+  pub number : IfOk answer (λ table. table ≡ length old.func.now.tables.jump_tables)
+
+-- a block that was made for a node: a branch may lead to it, and it hasn't its terminator
+pub record IsOpenFor (b : FunctionBuilder) (block : ℕ) : Type 0 where
+  pub leads : MayLead b block
+  pub unfilled : status_of b.ctx.now block ≢ Filled
+
+-- blocks were put behind others: they are open, and have rising numbers from that of the next block on
+pub record AddsBlocks (count : ℕ) (old new : FunctionBuilder) (before after : List ℕ) : Type 0 where
+  pub made : List ℕ
+  pub is : after ≡ before ++ made
+  pub many : length made ≡ count
+  pub are_open : All (IsOpenFor new) made
+  pub behind : All (λ block. length old.func.now.blocks ≤ block) made
+  pub rising : AllPairs (λ a b. a < b) made
+
+-- an edge that passes nothing
+abbrev pub bare_to : ℕ → BlockCall
+bare_to block = record { block = block; args = [] }
+
+-- the blocks of a test's cases
+abbrev pub cases_in : Test → List ℕ
+cases_in test.Nothing = []
+cases_in (test.OneKey range other) = range.now.blocks.items
+cases_in (test.NotBelow first above other) = []
+cases_in (test.Table range) = range.now.blocks.items
+
+-- if one key is tested, it has a block
+abbrev pub HasItsBlock : Test → Type 0
+HasItsBlock (test.OneKey range other) = 0 < length range.now.blocks.items
+HasItsBlock _ = Unit {0}
+
+-- WHAT A BUILDER STANDS FOR ------------------------------------------------------------------------------------------------
+
+-- A builder stands for these calls with some plain calls at their end, and the names of a switch lead to its value, which has its type, to
+-- the block `otherwise` and to the blocks of its cases.
+pub record StandsAt (signature : SignatureShape) (calls : List AnsweredCall) (s : Switched) (x otherwise : ℕ) (cases : List ℕ) (plain : Script) (b : FunctionBuilder) : Type 0 where
+  pub added : List AnsweredCall
+  pub asked : script_of added ≡ plain
+  pub stands : StandsFor signature (calls ++ added) b
+  pub value : NamesValue (calls ++ added) s.value x
+  pub typed : type_of (ledger_of (calls ++ added)) s.value ≡ Some s.ty
+  pub otherwise_named : NamesBlock (calls ++ added) s.otherwise otherwise
+  pub cases_named : (block : ℕ) → Contains cases block → NamesBlock (calls ++ added) (s.named block) block
+
+-- More plain calls were made, and what was named before is named as it was.
+pub record StandsOn {signature : SignatureShape} {calls : List AnsweredCall} {s : Switched} {x otherwise : ℕ} {cases : List ℕ} {plain : Script} {old : FunctionBuilder}
+    (at : StandsAt signature calls s x otherwise cases plain old) (more : Script) (new : FunctionBuilder) : Type 0 where
+  pub later : StandsAt signature calls s x otherwise cases (plain ++ more) new
+  pub blocks_stay : (name : Name) (block : ℕ) → NamesBlock (calls ++ at.added) name block → NamesBlock (calls ++ later.added) name block
+  pub values_stay : (name : Name) (value : ℕ) → NamesValue (calls ++ at.added) name value → NamesValue (calls ++ later.added) name value
+
+-- how many jump tables the calls made
+abbrev pub tables_at : {signature : SignatureShape} {calls : List AnsweredCall} {s : Switched} {x otherwise : ℕ} {cases : List ℕ} {plain : Script} {b : FunctionBuilder}
+    → StandsAt signature calls s x otherwise cases plain b → ℕ
+tables_at {calls = calls} at = length (ledger_of (calls ++ at.added)).jump_tables
+
+-- where the next call stands
+abbrev pub next_place : List AnsweredCall → Script → ℕ
+next_place calls plain = length calls + length plain
+
+-- Where a builder stood for calls, and names led to what is switched on and to the blocks of cases, of which these are some, it stands for the
+-- calls with others at their end, if the answer is no error.
+abbrev pub Makes : {A : Type 0} → SwitchedValue → (needs : List ℕ) → (Switched → (tables place : ℕ) → Script) → (old new : FunctionBuilder) → Result A BuildError → Type 0
+Makes {A} switched needs made old new answer =
+    (signature : SignatureShape) (calls : List AnsweredCall) (s : Switched) (cases : List ℕ) (plain : Script)
+    (at : StandsAt signature calls s switched.val switched.otherwise cases plain old) → All (Contains cases) needs
+    → OnOk answer (StandsOn at (made s (tables_at at) (next_place calls plain)) new)
+
+-- the same, and this names the value that is answered
+pub record NamesAnswer {signature : SignatureShape} {calls : List AnsweredCall} {s : Switched} {x otherwise : ℕ} {cases : List ℕ} {plain : Script} {old : FunctionBuilder}
+    (at : StandsAt signature calls s x otherwise cases plain old) (more : Script) (new : FunctionBuilder) (name : Name) (value : ℕ) : Type 0 where
+  pub on : StandsOn at more new
+  pub named : NamesValue (calls ++ on.later.added) name value
+
+abbrev pub MakesValue : SwitchedValue → (Switched → (place : ℕ) → Script) → (Switched → (place : ℕ) → Name) → (old new : FunctionBuilder) → Result ℕ BuildError → Type 0
+MakesValue switched made name old new answer =
+    (signature : SignatureShape) (calls : List AnsweredCall) (s : Switched) (cases : List ℕ) (plain : Script)
+    (at : StandsAt signature calls s switched.val switched.otherwise cases plain old)
+    → IfOk answer (NamesAnswer at (made s (next_place calls plain)) new (name s (next_place calls plain)))
+
+-- the same of code on a value
+abbrev pub MakesOf : SwitchedValue → (operand : ℕ) → (Switched → (place : ℕ) (x : Name) → Script) → (Switched → (place : ℕ) (x : Name) → Name) → (old new : FunctionBuilder) → Result ℕ BuildError → Type 0
+MakesOf switched operand made name old new answer =
+    (signature : SignatureShape) (calls : List AnsweredCall) (s : Switched) (cases : List ℕ) (plain : Script)
+    (at : StandsAt signature calls s switched.val switched.otherwise cases plain old) (x : Name) → NamesValue (calls ++ at.added) x operand
+    → IfOk answer (NamesAnswer at (made s (next_place calls plain) x) new (name s (next_place calls plain) x))
+
+-- the same of a branch to two blocks
+abbrev pub MakesBranch : SwitchedValue → (taken other : ℕ) → (Switched → (place : ℕ) (taken other : Name) → Script) → (old new : FunctionBuilder) → Result (Unit {0}) BuildError → Type 0
+MakesBranch switched taken other made old new answer =
+    (signature : SignatureShape) (calls : List AnsweredCall) (s : Switched) (cases : List ℕ) (plain : Script)
+    (at : StandsAt signature calls s switched.val switched.otherwise cases plain old) (t o : Name) → NamesBlock (calls ++ at.added) t taken → NamesBlock (calls ++ at.added) o other
+    → OnOk answer (StandsOn at (made s (next_place calls plain) t o) new)
+
+-- the same of a test, and names lead to the blocks that it makes for nodes
+abbrev pub MakesTest : SwitchedValue → Test → (old new : FunctionBuilder) → (before after : List ℕ) → Result (Unit {0}) BuildError → Type 0
+MakesTest switched tested old new before after answer =
+    (signature : SignatureShape) (calls : List AnsweredCall) (s : Switched) (cases : List ℕ) (plain : Script)
+    (at : StandsAt signature calls s switched.val switched.otherwise cases plain old) (names : List Name) → All (Contains cases) (cases_in tested) → AllZip (NamesBlock (calls ++ at.added)) names before
+    → OnOk answer ((on : StandsOn at (test_calls s (tables_at at) tested (next_place calls plain)) new)
+    × AllZip (NamesBlock (calls ++ on.later.added)) (names ++ blocks_of tested (next_place calls plain)) after)
+
+-- THE CALLS OF THE STEPS ---------------------------------------------------------------------------------------------------
+
+abbrev pub number_calls : (number : ℕ) → Switched → (place : ℕ) → Script
+number_calls number s place = map building (number_instructions s.ty number place)
+
+abbrev pub number_named : (number : ℕ) → Switched → (place : ℕ) → Name
+number_named number s place = number_name s.ty number place
+
+abbrev pub difference_calls : (first : ℕ) → Switched → (place : ℕ) → Script
+difference_calls first s place = map building (difference s.ty first place s.value)
+
+abbrev pub difference_named : (first : ℕ) → Switched → (place : ℕ) → Name
+difference_named first s place = difference_name s.ty first place s.value
+
+-- a branch to the block of a key, or else to another one
+abbrev pub key_calls : Switched → (key place : ℕ) (taken other : Name) → Script
+key_calls s key place taken other =
+    if key == 0 then branching s.ty s.value other taken ∷ [] else compared s Equal key place taken other
