@@ -260,7 +260,7 @@ one_key_adds range next number other old new earlier one made = record {
   few = omega arith;
   numbers = All-push (IsNumbered number next next) [] node (All-nil (IsNumbered number next next)) (inl refl);
   order = order other earlier;
-  of = record { tests = (((0, omega arith, refl), one), tt); tables = ap (λ (n : ℕ). 0 + cond (nat_lt 1 n) 1 0) (sym one) };
+  tests_of = record { tests = (((0, omega arith, refl), one), tt); tables = ap (λ (n : ℕ). 0 + cond (nat_lt 1 n) 1 0) (sym one) };
   tests = λ rest key. tests rest key;
 }
   where
@@ -301,7 +301,7 @@ table_adds range next number other old new nowhere zero_first long made = record
   order = λ waiting rest after.
       subst (λ o. AreInOrder (number_of o ++ waiting) next rest → AreInOrder (number ∷ waiting) (first_named o next) (node ∷ rest)) (sym nowhere)
       (λ is. (waiting, refl, tt, subst (λ n. AreInOrder waiting n rest) (plus_none next) is)) after;
-  of = record { tests = (((0, omega arith, refl), long), tt); tables = sym (ap (λ (c : Bool). 0 + cond c 1 0) (is_so long)) };
+  tests_of = record { tests = (((0, omega arith, refl), long), tt); tables = sym (ap (λ (c : Bool). 0 + cond c 1 0) (is_so long)) };
   tests = λ rest key. inl (
     omega (arith, zero_first),
     ap (λ (found : Found). found.block) (begins node rest key),
@@ -324,7 +324,7 @@ range_adds range next number other old mid new before earlier long first_made ma
   numbers = All-push (IsNumbered number next (next + 1)) (node ∷ []) table
       (All-push (IsNumbered number next (next + 1)) [] node (All-nil (IsNumbered number next (next + 1))) (inl refl)) (inr (omega arith, omega arith));
   order = order other earlier;
-  of = record {
+  tests_of = record {
     tests = ((range.now, (0, omega arith, refl), refl), (((0, omega arith, refl), long), tt));
     tables = sym (ap (λ (c : Bool). 0 + cond c 1 0) (is_so long));
   };
@@ -376,7 +376,7 @@ alone_adds range next number b old new adds = record {
   rises = adds.rises;
   few = omega (arith, adds.few);
   numbers = adds.numbers;
-  tests = adds.of;
+  tests = adds.tests_of;
   find = λ rest. record {
     finds = λ key. finds rest key (adds.tests rest key);
     short = λ k key fits. short rest k key (adds.tests rest key);
@@ -412,7 +412,7 @@ line_adds lower range next number b c old mid new some most ends adds lows = rec
       (All-weaker (IsNumbered number (next + 1) b) (IsNumbered number next c) (wider number (next + 1) b number next c (inl refl) (omega arith) lows.rises) adds.added adds.numbers)
       (All-weaker (IsNumbered next b c) (IsNumbered number next c)
       (wider next b c number next c (inr (omega arith, omega (arith, adds.rises, lows.rises))) (omega (arith, adds.rises)) (omega arith)) lows.added lows.numbers);
-  tests = both_tested lower (range ∷ []) lows.added adds.added lows.tests adds.of;
+  tests = both_tested lower (range ∷ []) lows.added adds.added lows.tests adds.tests_of;
   find = λ rest. record {
     finds = λ key. subst (λ nodes. (search nodes number key).block ≡ block_of_key (lower ++ range ∷ []) key) (sym (append_assoc adds.added lows.added rest))
         (finds rest key (adds.tests (lows.added ++ rest) key));

@@ -159,5 +159,5 @@ pub record AddsRange (range : CaseRange) (next number : ℕ) (other : Next) (old
   pub numbers : All (λ node. (node.number ≡ number) ⊎ ((next ≤ node.number) × (node.number < behind))) added
   pub order : (waiting : List ℕ) (rest : List Node) → AreInOrder (number_of other ++ waiting) behind rest
       → AreInOrder (number ∷ waiting) (first_named other next) (added ++ rest)
-  pub of : AreTestsOf (range ∷ []) added
+  pub tests_of : AreTestsOf (range ∷ []) added
   pub tests : (rest : List Node) (key : ℕ) → TestsRange range rest other key (search (added ++ rest) number key)

@@ -34,7 +34,7 @@ pub record MaySwitch (plain : Script) (block : Name) (s : Switched) (cases : Cas
   pub targets : All (λ case. IsTrue (has_block (ledger_after plain) (s.named case.1))) (finite.entries cases)
   pub unwritten : (later : Name) → length plain ≤ later.place → (program_of plain).items later ≡ []
 
--- So it is behind calls that may be made.
+-- Behind calls that may be made nothing was built in such blocks.
 abbrev pub LaterBlocksAreUnwritten : Type 0
 LaterBlocksAreUnwritten =
     (plain : Script) → AreAllowed empty_ledger plain → (later : Name) → length plain ≤ later.place → (program_of plain).items later ≡ []
