@@ -1,48 +1,180 @@
--- Joined calls have joined programs.
-use Rattle.std.proofs.Common.{◌≡◌, ◌<◌, ◌≤◌, ◌+◌, ◌⊎◌, inl, inr, ℕ, suc, Bool, List, [], ◌∷◌, ◌++◌, length, map, refl, sym, ◌∙◌, ap, ap₂, subst, arith, Option, Some, None}
-use Rattle.std.specs.Prelude.{fold, if◌then◌else◌}
+-- Joined calls have joined programs: calls of the builder, and code in a line.
+use Rattle.std.proofs.Common.{◌≡◌, ◌<◌, ◌≤◌, ◌+◌, ◌⊎◌, inl, inr, ℕ, suc, Bool, true, false, List, [], ◌∷◌, ◌++◌, length, map, refl, sym, ◌∙◌, ap, ap₂, subst, arith, Option, Some, None}
+use Rattle.std.specs.Prelude.{Contains, fold, if◌then◌else◌, is_some}
 use Rattle.std.specs.List.{AllByRecursion, AllZip}
+use Rattle.std.proofs.lemmas.Bool.{cases_lt}
 use Rattle.clif_types.specs.declared.types.«Type».{«Type»}
-use Rattle.clif_meaning.specs.Instruction.{Instruction}
-use Rattle.clif_meaning.specs.Ledger.{AValue, Ledger, answers_to, empty_ledger, ledger_after, ledger_with}
+use Rattle.clif_meaning.specs.Instruction.{Edge, Instruction, Operation, Switch}
+use Rattle.clif_meaning.specs.Ledger.{Ledger, answers_to, changed_by, is_terminator, ledger_with, with_begun, with_filled_at, with_instruction, with_predecessor, with_terminator}
 use Rattle.clif_meaning.specs.Name.{Name, answer_of, same_name}
-use Rattle.clif_meaning.specs.Program.{Program, Item, Instruct, Use, Assign, answers_from, empty_program, extended, program_of, redirected_item, result_names, result_types, with_call, with_inserted, with_item_at, with_parameters}
-use Rattle.clif_meaning.specs.Request.{Request, CreateBlock, SwitchToBlock, SealBlock, SealAllBlocks, InsertBlockAfter, SetColdBlock, EnsureInsertedBlock, AppendBlockParams, AppendFunctionParams, DeclareVar, DefVar, UseVar, MakeEntry, MakeEdge, MakeJumpTable, MakeExceptionTable, Annotate, Build, ChangeJumpDestination, Finalize, Script}
-use Rattle.clif_expansion.specs.Emission.{StaysInLine, building, reading_emitted}
+use Rattle.clif_meaning.specs.Program.{Program, Item, Instruct, Use, Assign, answers_from, extended, redirected_item, result_names, result_types, with_call, with_inserted, with_item_at, with_parameters}
+use Rattle.clif_meaning.specs.Request.{Request, CreateBlock, SwitchToBlock, SealBlock, SealAllBlocks, InsertBlockAfter, SetColdBlock, EnsureInsertedBlock, AppendBlockParams, AppendFunctionParams, DeclareVar, DefVar, UseVar, MakeEntry, MakeEdge, MakeJumpTable, MakeExceptionTable, Annotate, Build, ChangeJumpDestination, Finalize}
+use Rattle.clif_expansion.specs.Emission.{StaysInLine, reading_emitted}
 use Rattle.clif_expansion.specs.Expansion.{AreCut, IsCutProgram, IsReadBlock}
-use Rattle.clif_expansion.specs.JoinedCalls.{AreJoinedCalls, Asking, Emitting, Starting}
-use Rattle.clif_expansion.specs.JoinedPrograms.{IsCalled, IsEmission, JoinedCallsHaveJoinedPrograms, built_items}
-use Rattle.clif_expansion.specs.Joining.{IsJoined, IsReadRequest, answers_at, reading_after}
-use Rattle.clif_expansion.specs.Reading.{Generated, IsOneToOne, IsReadAs, IsReadInstruction, NotMade, Reading, ScriptName}
-use Rattle.clif_expansion.specs.ScriptCall.{Ask, Emit, ScriptCall, emitted_item, emitted_types, ledger_of, ledger_with_call, program_of_calls, program_with_call}
-use Rattle.clif_expansion.proofs.EmittedPrograms.{built, built_program, emitted_before, emitted_either, emitted_generated, emitted_result, none_on, one_longer, results_read}
-use Rattle.clif_expansion.proofs.JoinedCalls.{fold_on, joined_calls}
-use Rattle.clif_expansion.proofs.JoinedPrograms.{IsBareFrom, IsBefore, IsCalledSo, KeepsGenerated, LastsLater, bare_items, called_later, called_redirected, cut_each, cut_inserted, cut_items, cut_mapped, elsewhere, one_item, with_items_at}
+use Rattle.clif_expansion.specs.JoinedCalls.{HaveCurrent, uses_current}
+use Rattle.clif_expansion.specs.JoinedPrograms.{IsDecidingItem, IsEmission, built_items}
+use Rattle.clif_expansion.specs.Joining.{IsJoined, IsReadCurrent, IsReadRequest, IsUnread, answers_at, reading_after}
+use Rattle.clif_expansion.specs.Reading.{Generated, IsOneToOne, IsReadAs, IsReadInstruction, NotMade, Reading, ScriptName, StandsFor}
+use Rattle.clif_expansion.specs.ScriptCall.{Emit, emitted_item, emitted_types, program_behind, program_with_call}
+use Rattle.clif_expansion.specs.Walk.{IsGenerated}
+use Rattle.clif_expansion.proofs.Among.{other_generated}
+use Rattle.clif_expansion.proofs.Emissions.{begun_current}
+use Rattle.clif_expansion.proofs.EmittedPrograms.{built_program, emitted_before, emitted_either, emitted_result, one_longer, results_read}
+use Rattle.clif_expansion.proofs.JoinedPrograms.{IsBareFrom, IsBefore, IsCalledSo, KeepsOwn, LastsIn, LastsLater, bare_items, called_later, called_redirected, cut_each, cut_inserted, cut_items, cut_mapped, deciders_later, elsewhere, one_item, own_unchanged, switch_unchanged, with_items_at}
 use Rattle.clif_expansion.proofs.JoinedStates.{chosen, zip_joined}
 use Rattle.clif_expansion.proofs.Joins
-use Rattle.clif_expansion.proofs.Joins.{KeepsReading, block_later, edges_later, names_later, read_before, read_either, read_there}
+use Rattle.clif_expansion.proofs.Joins.{GoesOn, KeepsGenerated, block_later, edges_later, names_later, read_either, read_there}
 use Rattle.clif_expansion.proofs.Names.{same_read, same_script}
+use Rattle.clif_expansion.proofs.Placing.{contained_first, contained_in, contained_later, contained_left, none_contained}
 
--- Of each emission's code this is known, and stays true in a later reading.
-module _ (Known : Reading → List Item → Item → Type 0) (lasts : LastsLater Known) where
+-- so a program, which a call of the builder changes, and a ledger have the same current block
+abbrev pub current_behind : Request → Option Name → Option Name
+current_behind (SwitchToBlock block) current = Some block
+current_behind _ current = current
+
+added_current : (p : Program) (c : Option Name) (item : Item) → (with_item_at p c item).current ≡ p.current
+added_current p None item = refl
+added_current p (Some block) item = refl
+
+pub extended_current : (program : Program) (request : Request) → (extended program request).current ≡ current_behind request program.current
+extended_current program (SwitchToBlock block) = refl
+extended_current program (DefVar variable value) = added_current program program.current (Assign variable value)
+extended_current program (UseVar variable) = added_current (with_inserted program) program.current (Use variable (answer_of program.place 0))
+extended_current program (Build entries instruction) =
+    added_current (with_inserted program) program.current (Instruct program.place instruction (result_names program.place instruction))
+extended_current program CreateBlock = refl
+extended_current program (SealBlock block) = refl
+extended_current program SealAllBlocks = refl
+extended_current program (InsertBlockAfter block after) = refl
+extended_current program (SetColdBlock block) = refl
+extended_current program EnsureInsertedBlock = refl
+extended_current program (AppendBlockParams block types) = refl
+extended_current program (AppendFunctionParams block types) = refl
+extended_current program (DeclareVar ty) = refl
+extended_current program (MakeEntry entry) = refl
+extended_current program (MakeEdge edge) = refl
+extended_current program (MakeJumpTable default entries) = refl
+extended_current program (MakeExceptionTable signature normal items) = refl
+extended_current program (Annotate values) = refl
+extended_current program (ChangeJumpDestination branch from to) = refl
+extended_current program Finalize = refl
+
+ended_current : (ledger : Ledger) (operation : Operation) → (with_terminator ledger operation).current ≡ ledger.current
+ended_current ledger operation = by (is_terminator operation) ledger.current refl
+  where
+    by : (c : Bool) (current : Option Name) → current ≡ ledger.current → (if c then with_filled_at ledger current else ledger).current ≡ ledger.current
+    by true None same = refl
+    by true (Some block) same = refl
+    by false current same = refl
+
+led_current : (branch : Name) (ledger : Ledger) (edges : List (Edge Name Name)) → (fold (with_predecessor branch) ledger edges).current ≡ ledger.current
+led_current branch ledger [] = refl
+led_current branch ledger (edge ∷ edges) = led_current branch (with_predecessor branch ledger edge) edges
+
+pub instruction_current : (ledger : Ledger) (instruction : Instruction Name Name) → (with_instruction ledger instruction).current ≡ ledger.current
+instruction_current ledger instruction =
+    led_current (answer_of (length ledger.answers) 0) (with_terminator (with_begun ledger) instruction.operation) instruction.edges
+    ∙ ended_current (with_begun ledger) instruction.operation ∙ begun_current ledger ledger.current
+
+pub asked_current : (ledger : Ledger) (request : Request) → (changed_by ledger request).current ≡ current_behind request ledger.current
+asked_current ledger (SwitchToBlock block) = refl
+asked_current ledger EnsureInsertedBlock = begun_current ledger ledger.current
+asked_current ledger (UseVar variable) = begun_current ledger ledger.current
+asked_current ledger (Build entries instruction) = instruction_current ledger instruction
+asked_current ledger CreateBlock = refl
+asked_current ledger (SealBlock block) = refl
+asked_current ledger SealAllBlocks = refl
+asked_current ledger (InsertBlockAfter block after) = refl
+asked_current ledger (SetColdBlock block) = refl
+asked_current ledger (AppendBlockParams block types) = refl
+asked_current ledger (AppendFunctionParams block types) = refl
+asked_current ledger (DeclareVar ty) = refl
+asked_current ledger (DefVar variable value) = refl
+asked_current ledger (MakeEntry entry) = refl
+asked_current ledger (MakeEdge edge) = refl
+asked_current ledger (MakeJumpTable default entries) = refl
+asked_current ledger (MakeExceptionTable signature normal items) = refl
+asked_current ledger (Annotate values) = refl
+asked_current ledger (ChangeJumpDestination branch from to) = refl
+asked_current ledger Finalize = refl
+
+-- where both have a current block or neither has, it is read
+pub both_read : (reading : Reading) (plain : Ledger) (current' current : Option Name) → IsReadCurrent reading plain current' current → is_some current' ≡ is_some current → IsReadBlock reading current' current
+both_read reading plain None None is both = tt
+both_read reading plain (Some x) (Some block) is both = is
+both_read reading plain (Some x) None is both = let no_way : true ≡ false = both in cc
+both_read reading plain None (Some block) is both = absurd is
+
+pub contained_mapped : {X : Type 0} (f : X → X) (xs : List X) (x : X) → Contains xs x → f x ≡ x → Contains (map f xs) x
+contained_mapped f [] x there same = absurd (none_contained x there)
+contained_mapped f (y ∷ xs) x there same = by (contained_in y xs x there) (contained_mapped f xs x)
+  where
+    by : (y ≡ x) ⊎ Contains xs x → (Contains xs x → f x ≡ x → Contains (map f xs) x) → Contains (f y ∷ map f xs) x
+    by (inl first) rest = subst (λ z. Contains (f y ∷ map f xs) z) (ap f first ∙ same) (contained_first (f y) (map f xs))
+    by (inr further) rest = contained_later (f y) (map f xs) x (rest further same)
+
+-- behind an instruction that ends no block the current one stays
+program_line : (operation : Operation) (program : Program) → is_terminator operation ≡ false → program_behind operation program ≡ program
+program_line (Switch keys) program goes_on = let no_way : true ≡ false = goes_on in cc
+program_line _ program goes_on = refl
+
+-- Of each emission's code this is known, and stays true in a later reading; of each switch's code that, and in a later program; and of
+-- each item that was generated this.
+module _ (Known : Reading → List Item → Item → Type 0) (lasts : LastsLater Known)
+    (Decided : Reading → Program → List Item → Item → Type 0) (lasts_in : LastsIn Decided) (KnownItem : Item → Type 0) where
+  -- The items of a generated block decide for a switch that was emitted.
+  pub record OwnItems (reading : Reading) (made : ℕ) (plain program : Program) (x : Name) : Type 0 where
+    pub block : Name
+    pub item : Item
+    pub there : Contains (program.items block) item
+    pub other : ℕ
+    pub keys : List ℕ
+    pub switch : Instruction Name Name
+    pub is_switch : switch.operation ≡ Switch keys
+    pub nothing : AllByRecursion (λ edge. edge.arguments ≡ []) switch.edges
+    pub emitted : item ≡ emitted_item other switch
+    pub unread : IsUnread reading made (answer_of other 0)
+    pub decides : AllByRecursion (IsDecidingItem reading item) (plain.items x)
+    pub known : AllByRecursion KnownItem (plain.items x)
+
+  abbrev pub IsOwnBlock : Reading → ℕ → (plain program : Program) → Name → Type 0
+  IsOwnBlock reading made plain program x = (plain.parameters x ≡ []) × ((plain.items x ≡ []) ⊎ OwnItems reading made plain program x)
+
   -- Programs that go with joined ledgers: their places are those of the calls, and nothing is in blocks that aren't made.
   pub record GoesWith (reading : Reading) (ledger' ledger : Ledger) (plain program : Program) : Type 0 where
     pub place' : plain.place ≡ length ledger'.answers
     pub place : program.place ≡ length ledger.answers
-    pub current : IsReadBlock reading plain.current program.current
-    pub generated : (x : Name) → reading x ≡ Generated → x.place < length ledger'.answers
-    pub cut : IsCutProgram reading (IsCalledSo Known reading) plain program
+    pub same' : plain.current ≡ ledger'.current
+    pub same : program.current ≡ ledger.current
+    pub cut : IsCutProgram reading (IsCalledSo Known Decided reading (length ledger.answers) plain) plain program
+    pub own : (x : Name) → IsGenerated reading x → IsOwnBlock reading (length ledger.answers) plain program x
     pub bare' : IsBareFrom (length ledger'.answers) plain
     pub bare : IsBareFrom (length ledger.answers) program
 
+  -- the code stays known where generated blocks stay as they are
+  cut_on : (reading : Reading) (made : ℕ) (plain after plain_cut program : Program) → KeepsOwn reading plain after
+      → IsCutProgram reading (IsCalledSo Known Decided reading made plain) plain_cut program → IsCutProgram reading (IsCalledSo Known Decided reading made after) plain_cut program
+  cut_on reading made plain after plain_cut program own cut = record {
+    entry = cut.entry;
+    parameters = cut.parameters;
+    items = λ x block is.
+        cut_each (IsCalledSo Known Decided reading made plain) (IsCalledSo Known Decided reading made after)
+        (called_later reading reading (λ y name read. read) Known Decided lasts lasts_in (λ y generated. generated) made made (λ name unread. unread) plain after own)
+        (plain_cut.items x) (program.items block) (cut.items x block is);
+  }
+
   -- A later reading, in which a name is read that was read before, or one in whose block nothing is.
-  module _ (reading later : Reading) (keeps : KeepsReading reading later) (generated : KeepsGenerated reading later) (plain program : Program) (cut : IsCutProgram reading (IsCalledSo Known reading) plain program) where
+  module _ (reading later : Reading) (made further : ℕ) (on : GoesOn reading later made further) (plain program : Program)
+      (cut : IsCutProgram reading (IsCalledSo Known Decided reading made plain) plain program) where
     abbrev IsOldOrBare : Name → Name → Type 0
     IsOldOrBare x block = ((plain.items x ≡ []) × (plain.parameters x ≡ []) × (program.items block ≡ []) × (program.parameters block ≡ [])) ⊎ IsReadAs reading x block
 
-    cut_later : ((x block : Name) → IsReadAs later x block → IsOldOrBare x block) → IsCutProgram later (IsCalledSo Known later) plain program
+    abbrev Later : List Item → Item → Type 0
+    Later = IsCalledSo Known Decided later further plain
+
+    cut_later : ((x block : Name) → IsReadAs later x block → IsOldOrBare x block) → IsCutProgram later Later plain program
     cut_later either = record {
-      entry = block_later reading later keeps plain.entry program.entry cut.entry;
+      entry = block_later reading later on.keeps plain.entry program.entry cut.entry;
       parameters = λ x block is. parameters x block (either x block is);
       items = λ x block is. items x block (either x block is);
     }
@@ -51,40 +183,77 @@ module _ (Known : Reading → List Item → Item → Type 0) (lasts : LastsLater
         parameters x block (inl bare) =
             subst (λ (names : List Name). AllZip (IsReadAs later) names (program.parameters block)) (sym bare.1)
             (subst (λ (names : List Name). AllZip (IsReadAs later) [] names) (sym bare.3) tt)
-        parameters x block (inr before) = names_later reading later keeps (plain.parameters x) (program.parameters block) (cut.parameters x block before)
+        parameters x block (inr before) = names_later reading later on.keeps (plain.parameters x) (program.parameters block) (cut.parameters x block before)
 
-        items : (x block : Name) → IsOldOrBare x block → AreCut (IsCalledSo Known later) (plain.items x) (program.items block)
-        items x block (inl bare) = subst (λ (list : List Item). AreCut (IsCalledSo Known later) (plain.items x) list) (sym bare.2) bare.0
+        items : (x block : Name) → IsOldOrBare x block → AreCut Later (plain.items x) (program.items block)
+        items x block (inl bare) = subst (λ (list : List Item). AreCut Later (plain.items x) list) (sym bare.2) bare.0
         items x block (inr before) =
-            cut_each (IsCalledSo Known reading) (IsCalledSo Known later) (called_later reading later keeps Known lasts generated) (plain.items x) (program.items block) (cut.items x block before)
+            cut_each (IsCalledSo Known Decided reading made plain) Later
+            (called_later reading later on.keeps Known Decided lasts lasts_in on.generated made further on.unread plain plain (λ y generated. (refl, refl))) (plain.items x) (program.items block) (cut.items x block before)
+
+    -- and in a program in which generated blocks stay as they are
+    pub cut_in : (after : Program) → KeepsOwn reading plain after → ((x block : Name) → IsReadAs later x block → IsReadAs reading x block)
+        → IsCutProgram later (IsCalledSo Known Decided later further after) plain program
+    cut_in after own before = record {
+      entry = block_later reading later on.keeps plain.entry program.entry cut.entry;
+      parameters = λ x block is. names_later reading later on.keeps (plain.parameters x) (program.parameters block) (cut.parameters x block (before x block is));
+      items = λ x block is.
+          cut_each (IsCalledSo Known Decided reading made plain) (IsCalledSo Known Decided later further after)
+          (called_later reading later on.keeps Known Decided lasts lasts_in on.generated made further on.unread plain after own) (plain.items x) (program.items block) (cut.items x block (before x block is));
+    }
+
+    -- generated blocks stay so where they stay as they are, and the script's switches stay
+    pub own_later : (after script : Program) (x : Name) → (after.items x ≡ plain.items x) × (after.parameters x ≡ plain.parameters x)
+        → ((block : Name) (item : Item) (other : ℕ) (switch : Instruction Name Name) → item ≡ emitted_item other switch → IsUnread reading made (answer_of other 0)
+        → Contains (program.items block) item → Contains (script.items block) item)
+        → IsOwnBlock reading made plain program x → IsOwnBlock later further after script x
+    own_later after script x same kept (parameters, side) = (same.1 ∙ parameters, by side)
+      where
+        by : (plain.items x ≡ []) ⊎ OwnItems reading made plain program x → (after.items x ≡ []) ⊎ OwnItems later further after script x
+        by (inl none) = inl (same.0 ∙ none)
+        by (inr own) = inr (record {
+          block = own.block;
+          item = own.item;
+          there = kept own.block own.item own.other own.switch own.emitted own.unread own.there;
+          other = own.other;
+          keys = own.keys;
+          switch = own.switch;
+          is_switch = own.is_switch;
+          nothing = own.nothing;
+          emitted = own.emitted;
+          unread = on.unread (answer_of own.other 0) own.unread;
+          decides = subst (AllByRecursion (IsDecidingItem later own.item)) (sym same.0) (deciders_later reading later on.keeps on.generated own.item (plain.items x) own.decides);
+          known = subst (AllByRecursion KnownItem) (sym same.0) own.known;
+        })
 
   module _ (reading : Reading) (ledger' ledger : Ledger) (joined : IsJoined reading ledger' ledger) (plain program : Program) (goes : GoesWith reading ledger' ledger plain program) where
     abbrev later : Reading
     later = reading_after reading ledger' ledger
 
+    abbrev made : ℕ
+    made = length ledger.answers
+
+    on : GoesOn reading later made (suc made)
+    on = Joins.goes_on reading ledger' ledger joined
+
     keeps : (x name : Name) → IsReadAs reading x name → IsReadAs later x name
     keeps = Joins.keeps reading ledger' ledger joined
-
-    kept_generated : KeepsGenerated reading later
-    kept_generated x is = read_before reading (length ledger'.answers) (answers_at (length ledger.answers)) x (goes.generated x is) ∙ is
-
-    -- what is generated is an answer of a call so far
-    generated_then : (x : Name) → later x ≡ Generated → x.place < suc (length ledger'.answers)
-    generated_then x is = by (read_either reading (length ledger'.answers) (answers_at (length ledger.answers)) x Generated is)
-      where
-        by : ((x.place ≡ length ledger'.answers) × (ScriptName (answer_of (length ledger.answers) x.index) ≡ Generated)) ⊎ (reading x ≡ Generated) → x.place < suc (length ledger'.answers)
-        by (inl new) = let place = new.0 in omega (arith, place)
-        by (inr old) = let below = goes.generated x old in omega (arith, below)
 
     one_to_one : IsOneToOne later
     one_to_one = Joins.one_to_one reading ledger' ledger joined
 
-    current : IsReadBlock later plain.current program.current
-    current = block_later reading later keeps plain.current program.current goes.current
+    -- the current block, where there is one on both sides or on neither
+    read_before_call : HaveCurrent ledger' ledger → IsReadBlock reading plain.current program.current
+    read_before_call both =
+        subst (λ (c : Option Name). IsReadBlock reading c program.current) (sym goes.same')
+        (subst (λ (c : Option Name). IsReadBlock reading ledger'.current c) (sym goes.same) (both_read reading ledger' ledger'.current ledger.current joined.ledgers.states.current both))
+
+    current : HaveCurrent ledger' ledger → IsReadBlock later plain.current program.current
+    current both = block_later reading later keeps plain.current program.current (read_before_call both)
 
     -- a name that is read was read before, or is made now, and then nothing is in its block
     abbrev Either : Name → Name → Type 0
-    Either x block = IsOldOrBare reading later keeps kept_generated plain program goes.cut x block
+    Either x block = IsOldOrBare reading later made (suc made) on plain program goes.cut x block
 
     either : (x block : Name) → IsReadAs later x block → Either x block
     either x block is = by (read_either reading (length ledger'.answers) (answers_at (length ledger.answers)) x (ScriptName block) is)
@@ -98,8 +267,11 @@ module _ (Known : Reading → List Item → Item → Type 0) (lasts : LastsLater
             inl (plain_bare.0, plain_bare.1, script_bare.0, script_bare.1)
         by (inr before) = inr before
 
-    cut : IsCutProgram later (IsCalledSo Known later) plain program
-    cut = cut_later reading later keeps kept_generated plain program goes.cut either
+    abbrev Stands : List Item → Item → Type 0
+    Stands = IsCalledSo Known Decided later (suc made) plain
+
+    cut : IsCutProgram later Stands plain program
+    cut = cut_later reading later made (suc made) on plain program goes.cut either
 
     -- an answer to the call
     answer_read : (index : ℕ) → IsReadAs later (answer_of plain.place index) (answer_of program.place index)
@@ -111,49 +283,34 @@ module _ (Known : Reading → List Item → Item → Type 0) (lasts : LastsLater
     answers_read index [] = tt
     answers_read index (ty ∷ types) = (answer_read index, answers_read (suc index) types)
 
-    -- changes of both
-    record Both (a b : Program) : Type 0 where
-      current : IsReadBlock later a.current b.current
-      cut : IsCutProgram later (IsCalledSo Known later) a b
+    abbrev Both : Program → Program → Type 0
+    Both a b = IsCutProgram later Stands a b
 
-    same : Both plain program
-    same = record { current = current; cut = cut }
+    inserted : HaveCurrent ledger' ledger → Both (with_inserted plain) (with_inserted program)
+    inserted both = cut_inserted Stands later one_to_one plain program cut (current both)
 
-    inserted : Both (with_inserted plain) (with_inserted program)
-    inserted = record { current = current; cut = cut_inserted (IsCalledSo Known later) later one_to_one plain program cut current }
-
-    added_current : (p : Program) (c : Option Name) (item : Item) → (with_item_at p c item).current ≡ p.current
-    added_current p None item = refl
-    added_current p (Some block) item = refl
-
-    added : (a b : Program) (item' item : Item) → Both a b → IsCalledSo Known later (item' ∷ []) item → Both (with_item_at a a.current item') (with_item_at b b.current item)
-    added a b item' item both called = record {
-      current = subst (λ (c : Option Name). IsReadBlock later c (with_item_at b b.current item).current) (sym (added_current a a.current item'))
-          (subst (λ (c : Option Name). IsReadBlock later a.current c) (sym (added_current b b.current item)) both.current);
-      cut = subst (λ (p : Program). IsCutProgram later (IsCalledSo Known later) p (with_item_at b b.current item)) (sym (one_item a a.current item'))
-          (subst (λ (p : Program). IsCutProgram later (IsCalledSo Known later) (with_items_at a a.current (item' ∷ [])) p) (sym (one_item b b.current item))
-          (cut_items (IsCalledSo Known later) later one_to_one a b a.current b.current (item' ∷ []) item both.cut both.current called));
-    }
+    added : (a b : Program) (current' current : Option Name) (item' item : Item) → IsReadBlock later current' current → Both a b → Stands (item' ∷ []) item → Both (with_item_at a current' item') (with_item_at b current item)
+    added a b current' current item' item read both called =
+        subst (λ (p : Program). IsCutProgram later Stands p (with_item_at b current item)) (sym (one_item a current' item'))
+        (subst (λ (p : Program). IsCutProgram later Stands (with_items_at a current' (item' ∷ [])) p) (sym (one_item b current item))
+        (cut_items Stands later one_to_one a b current' current (item' ∷ []) item both read called))
 
     taking : (x block : Name) (types' types : List «Type») → IsReadAs reading x block → types' ≡ types
         → Both (with_parameters plain x (answers_from plain.place 0 types')) (with_parameters program block (answers_from program.place 0 types))
     taking x block types' types is are = record {
-      current = current;
-      cut = record {
-        entry = cut.entry;
-        parameters = λ y other read.
-            chosen (AllZip (IsReadAs later)) (same_name y x) (same_name other block) (plain.parameters y ++ answers_from plain.place 0 types') (plain.parameters y)
-            (program.parameters other ++ answers_from program.place 0 types) (program.parameters other)
-            (same_read later one_to_one y x other block read (keeps x block is))
-            (zip_joined (IsReadAs later) (plain.parameters y) (answers_from plain.place 0 types') (program.parameters other) (answers_from program.place 0 types) (cut.parameters y other read)
-            (subst (λ (ts : List «Type»). AllZip (IsReadAs later) (answers_from plain.place 0 ts) (answers_from program.place 0 types)) (sym are) (answers_read 0 types)))
-            (cut.parameters y other read);
-        items = cut.items;
-      };
+      entry = cut.entry;
+      parameters = λ y other read.
+          chosen (AllZip (IsReadAs later)) (same_name y x) (same_name other block) (plain.parameters y ++ answers_from plain.place 0 types') (plain.parameters y)
+          (program.parameters other ++ answers_from program.place 0 types) (program.parameters other)
+          (same_read later one_to_one y x other block read (keeps x block is))
+          (zip_joined (IsReadAs later) (plain.parameters y) (answers_from plain.place 0 types') (program.parameters other) (answers_from program.place 0 types) (cut.parameters y other read)
+          (subst (λ (ts : List «Type»). AllZip (IsReadAs later) (answers_from plain.place 0 ts) (answers_from program.place 0 types)) (sym are) (answers_read 0 types)))
+          (cut.parameters y other read);
+      items = cut.items;
     }
 
     instruction_called : (instruction' instruction : Instruction Name Name) → IsReadInstruction reading instruction' instruction
-        → IsCalledSo Known later (Instruct plain.place instruction' (result_names plain.place instruction') ∷ []) (Instruct program.place instruction (result_names program.place instruction))
+        → Stands (Instruct plain.place instruction' (result_names plain.place instruction') ∷ []) (Instruct program.place instruction (result_names program.place instruction))
     instruction_called instruction' instruction is =
         inl (
           (
@@ -170,40 +327,120 @@ module _ (Known : Reading → List Item → Item → Type 0) (lasts : LastsLater
           answer_read 0,
         )
 
-    asked : (ask request : Request) → IsReadRequest reading ask request → Both (extended plain ask) (extended program request)
-    asked CreateBlock CreateBlock is = same
-    asked (SwitchToBlock x) (SwitchToBlock block) is = record { current = keeps x block is; cut = record { entry = cut.entry; parameters = cut.parameters; items = cut.items } }
-    asked (SealBlock x) (SealBlock block) is = same
-    asked SealAllBlocks SealAllBlocks is = same
-    asked (InsertBlockAfter x behind) (InsertBlockAfter block after) is = same
-    asked (SetColdBlock x) (SetColdBlock block) is = same
-    asked EnsureInsertedBlock EnsureInsertedBlock is = inserted
-    asked (AppendBlockParams x types') (AppendBlockParams block types) is = taking x block types' types is.0 is.1
-    asked (AppendFunctionParams x types') (AppendFunctionParams block types) is = taking x block types' types is.0 is.1
-    asked (DeclareVar ty') (DeclareVar ty) is = same
-    asked (DefVar number x) (DefVar variable value) is = added plain program (Assign number x) (Assign variable value) same (inl ((is.0, keeps x value is.1), tt))
-    asked (UseVar number) (UseVar variable) is =
-        added (with_inserted plain) (with_inserted program) (Use number (answer_of plain.place 0)) (Use variable (answer_of program.place 0)) inserted (inl ((is, answer_read 0), tt))
-    asked (MakeEntry entry') (MakeEntry entry) is = same
-    asked (MakeEdge edge') (MakeEdge edge) is = same
-    asked (MakeJumpTable first names) (MakeJumpTable default entries) is = same
-    asked (MakeExceptionTable number first listed) (MakeExceptionTable signature normal items) is = same
-    asked (Annotate names) (Annotate values) is = same
-    asked (Build entries' instruction') (Build entries instruction) is =
-        added (with_inserted plain) (with_inserted program) (Instruct plain.place instruction' (result_names plain.place instruction'))
-        (Instruct program.place instruction (result_names program.place instruction)) inserted (instruction_called instruction' instruction is.1)
-    asked (ChangeJumpDestination jump at there) (ChangeJumpDestination branch from to) is = record {
-      current = current;
-      cut = record {
-        entry = cut.entry;
-        parameters = cut.parameters;
-        items = λ x block read.
-            cut_mapped (IsCalledSo Known later) _ _ (called_redirected later one_to_one jump branch at from there to (keeps jump branch is.0) (keeps at from is.1) (keeps there to is.2) Known)
-            (plain.items x) (program.items block) (cut.items x block read);
-      };
+    asked : (ask request : Request) → IsReadRequest reading ask request → (uses_current request ≡ true → HaveCurrent ledger' ledger) → Both (extended plain ask) (extended program request)
+    asked CreateBlock CreateBlock is placed = cut
+    asked (SwitchToBlock x) (SwitchToBlock block) is placed = record { entry = cut.entry; parameters = cut.parameters; items = cut.items }
+    asked (SealBlock x) (SealBlock block) is placed = cut
+    asked SealAllBlocks SealAllBlocks is placed = cut
+    asked (InsertBlockAfter x behind) (InsertBlockAfter block after) is placed = cut
+    asked (SetColdBlock x) (SetColdBlock block) is placed = cut
+    asked EnsureInsertedBlock EnsureInsertedBlock is placed = inserted (placed refl)
+    asked (AppendBlockParams x types') (AppendBlockParams block types) is placed = taking x block types' types is.0 is.1
+    asked (AppendFunctionParams x types') (AppendFunctionParams block types) is placed = taking x block types' types is.0 is.1
+    asked (DeclareVar ty') (DeclareVar ty) is placed = cut
+    asked (DefVar number x) (DefVar variable value) is placed =
+        added plain program plain.current program.current (Assign number x) (Assign variable value) (current (placed refl)) cut (inl ((is.0, keeps x value is.1), tt))
+    asked (UseVar number) (UseVar variable) is placed =
+        added (with_inserted plain) (with_inserted program) plain.current program.current (Use number (answer_of plain.place 0)) (Use variable (answer_of program.place 0))
+        (current (placed refl)) (inserted (placed refl)) (inl ((is, answer_read 0), tt))
+    asked (MakeEntry entry') (MakeEntry entry) is placed = cut
+    asked (MakeEdge edge') (MakeEdge edge) is placed = cut
+    asked (MakeJumpTable first names) (MakeJumpTable default entries) is placed = cut
+    asked (MakeExceptionTable number first listed) (MakeExceptionTable signature normal items) is placed = cut
+    asked (Annotate names) (Annotate values) is placed = cut
+    asked (Build entries' instruction') (Build entries instruction) is placed =
+        added (with_inserted plain) (with_inserted program) plain.current program.current (Instruct plain.place instruction' (result_names plain.place instruction'))
+        (Instruct program.place instruction (result_names program.place instruction)) (current (placed refl)) (inserted (placed refl)) (instruction_called instruction' instruction is.1)
+    asked (ChangeJumpDestination jump at there) (ChangeJumpDestination branch from to) is placed = record {
+      entry = cut.entry;
+      parameters = cut.parameters;
+      items = λ x block read.
+          cut_mapped Stands _ _ (called_redirected later one_to_one jump branch at from there to (keeps jump branch is.0) (keeps at from is.1) (keeps there to is.2) Known Decided (suc made) plain)
+          (plain.items x) (program.items block) (cut.items x block read);
     }
-    asked Finalize Finalize is = same
-    asked _ _ is = absurd is
+    asked Finalize Finalize is placed = cut
+    asked _ _ is placed = absurd is
+
+    -- GENERATED BLOCKS ----------------------------------------------------------------------------------------------------
+
+    abbrev SameAt : Program → Name → Type 0
+    SameAt after x = (after.items x ≡ plain.items x) × (after.parameters x ≡ plain.parameters x)
+
+    own_added : (p : Program) (current' current : Option Name) (item : Item) → IsReadBlock reading current' current → (x : Name) → IsGenerated reading x → SameAt p x → SameAt (with_item_at p current' item) x
+    own_added p None None item read x own same = same
+    own_added p (Some y) (Some block) item read x own same =
+        (ap (λ (c : Bool). if c then p.items x ++ item ∷ [] else p.items x) (other_generated reading y x block read own) ∙ same.0, same.1)
+    own_added p None (Some block) item read x own same = absurd read
+    own_added p (Some y) None item read x own same = absurd read
+
+    own_taking : (y block : Name) (names : List Name) → IsReadAs reading y block → (x : Name) → IsGenerated reading x → SameAt (with_parameters plain y names) x
+    own_taking y block names read x own =
+        (refl, ap (λ (c : Bool). if c then plain.parameters x ++ names else plain.parameters x) (other_generated reading y x block read own))
+
+    own_asked : (ask request : Request) → IsReadRequest reading ask request → (uses_current request ≡ true → HaveCurrent ledger' ledger) → (x : Name) → IsGenerated reading x → SameAt (extended plain ask) x
+    own_asked CreateBlock CreateBlock is placed x own = (refl, refl)
+    own_asked (SwitchToBlock y) (SwitchToBlock block) is placed x own = (refl, refl)
+    own_asked (SealBlock y) (SealBlock block) is placed x own = (refl, refl)
+    own_asked SealAllBlocks SealAllBlocks is placed x own = (refl, refl)
+    own_asked (InsertBlockAfter y behind) (InsertBlockAfter block after) is placed x own = (refl, refl)
+    own_asked (SetColdBlock y) (SetColdBlock block) is placed x own = (refl, refl)
+    own_asked EnsureInsertedBlock EnsureInsertedBlock is placed x own = (refl, refl)
+    own_asked (AppendBlockParams y types') (AppendBlockParams block types) is placed x own = own_taking y block (answers_from plain.place 0 types') is.0 x own
+    own_asked (AppendFunctionParams y types') (AppendFunctionParams block types) is placed x own = own_taking y block (answers_from plain.place 0 types') is.0 x own
+    own_asked (DeclareVar ty') (DeclareVar ty) is placed x own = (refl, refl)
+    own_asked (DefVar number y) (DefVar variable value) is placed x own = own_added plain plain.current program.current (Assign number y) (read_before_call (placed refl)) x own (refl, refl)
+    own_asked (UseVar number) (UseVar variable) is placed x own =
+        own_added (with_inserted plain) plain.current program.current (Use number (answer_of plain.place 0)) (read_before_call (placed refl)) x own (refl, refl)
+    own_asked (MakeEntry entry') (MakeEntry entry) is placed x own = (refl, refl)
+    own_asked (MakeEdge edge') (MakeEdge edge) is placed x own = (refl, refl)
+    own_asked (MakeJumpTable first names) (MakeJumpTable default entries) is placed x own = (refl, refl)
+    own_asked (MakeExceptionTable number first listed) (MakeExceptionTable signature normal items) is placed x own = (refl, refl)
+    own_asked (Annotate names) (Annotate values) is placed x own = (refl, refl)
+    own_asked (Build entries' instruction') (Build entries instruction) is placed x own =
+        own_added (with_inserted plain) plain.current program.current (Instruct plain.place instruction' (result_names plain.place instruction')) (read_before_call (placed refl)) x own (refl, refl)
+    own_asked (ChangeJumpDestination jump at there) (ChangeJumpDestination branch from to) is placed x own = (by (goes.own x own).1, refl)
+      where
+        by : (plain.items x ≡ []) ⊎ OwnItems reading made plain program x → map (redirected_item jump at there) (plain.items x) ≡ plain.items x
+        by (inl none) = ap (map (redirected_item jump at there)) none ∙ sym none
+        by (inr items) = own_unchanged reading jump branch at there is.0 items.item (plain.items x) items.decides
+    own_asked Finalize Finalize is placed x own = (refl, refl)
+    own_asked _ _ is placed x own = absurd is
+
+    -- a switch that was emitted stays in its block
+    stays_added : (p : Program) (current : Option Name) (item other : Item) (block : Name) → Contains (p.items block) item → Contains ((with_item_at p current other).items block) item
+    stays_added p None item other block there = there
+    stays_added p (Some c) item other block there = by (same_name block c)
+      where
+        by : (c' : Bool) → Contains (if c' then p.items block ++ other ∷ [] else p.items block) item
+        by true = contained_left (p.items block) (other ∷ []) item there
+        by false = there
+
+    stays_asked : (ask request : Request) → IsReadRequest reading ask request → (block : Name) (item : Item) (other : ℕ) (switch : Instruction Name Name) → item ≡ emitted_item other switch
+        → IsUnread reading made (answer_of other 0) → Contains (program.items block) item → Contains ((extended program request).items block) item
+    stays_asked (DefVar number y) (DefVar variable value) is block item other switch emitted unread there = stays_added program program.current item (Assign variable value) block there
+    stays_asked (UseVar number) (UseVar variable) is block item other switch emitted unread there = stays_added (with_inserted program) program.current item (Use variable (answer_of program.place 0)) block there
+    stays_asked (Build entries' instruction') (Build entries instruction) is block item other switch emitted unread there =
+        stays_added (with_inserted program) program.current item (Instruct program.place instruction (result_names program.place instruction)) block there
+    stays_asked (ChangeJumpDestination jump at where_to) (ChangeJumpDestination branch from to) is block item other switch emitted unread there =
+        contained_mapped (redirected_item branch from to) (program.items block) item there
+        (ap (redirected_item branch from to) emitted ∙ switch_unchanged reading jump branch from to is.0 other switch unread.unread ∙ sym emitted)
+    stays_asked CreateBlock CreateBlock is block item other switch emitted unread there = there
+    stays_asked (SwitchToBlock y) (SwitchToBlock b) is block item other switch emitted unread there = there
+    stays_asked (SealBlock y) (SealBlock b) is block item other switch emitted unread there = there
+    stays_asked SealAllBlocks SealAllBlocks is block item other switch emitted unread there = there
+    stays_asked (InsertBlockAfter y behind) (InsertBlockAfter b after) is block item other switch emitted unread there = there
+    stays_asked (SetColdBlock y) (SetColdBlock b) is block item other switch emitted unread there = there
+    stays_asked EnsureInsertedBlock EnsureInsertedBlock is block item other switch emitted unread there = there
+    stays_asked (AppendBlockParams y types') (AppendBlockParams b types) is block item other switch emitted unread there = there
+    stays_asked (AppendFunctionParams y types') (AppendFunctionParams b types) is block item other switch emitted unread there = there
+    stays_asked (DeclareVar ty') (DeclareVar ty) is block item other switch emitted unread there = there
+    stays_asked (MakeEntry entry') (MakeEntry entry) is block item other switch emitted unread there = there
+    stays_asked (MakeEdge edge') (MakeEdge edge) is block item other switch emitted unread there = there
+    stays_asked (MakeJumpTable first names) (MakeJumpTable default entries) is block item other switch emitted unread there = there
+    stays_asked (MakeExceptionTable number first listed) (MakeExceptionTable signature normal items) is block item other switch emitted unread there = there
+    stays_asked (Annotate names) (Annotate values) is block item other switch emitted unread there = there
+    stays_asked Finalize Finalize is block item other switch emitted unread there = there
+    stays_asked _ _ is block item other switch emitted unread there = absurd is
 
   -- BARE --------------------------------------------------------------------------------------------------------------------
 
@@ -248,17 +485,22 @@ module _ (Known : Reading → List Item → Item → Type 0) (lasts : LastsLater
   bare_extended place program Finalize before takes bare = bare
 
   module _ (reading : Reading) (ledger' ledger : Ledger) (joined : IsJoined reading ledger' ledger) where
-    pub before' : (current' current : Option Name) → IsReadBlock reading current' current → IsBefore (length ledger'.answers) current'
+    pub before' : (current' current : Option Name) → IsReadCurrent reading ledger' current' current → IsBefore (length ledger'.answers) current'
     before' None None is = tt
     before' (Some x) (Some block) is = (joined.made x block is).0
     before' None (Some block) is = absurd is
-    before' (Some x) None is = absurd is
+    before' (Some x) None is = by (reading x) refl
+      where
+        by : (stands : StandsFor) → reading x ≡ stands → x.place < length ledger'.answers
+        by NotMade was = absurd (is.0 was)
+        by Generated was = joined.generated x was
+        by (ScriptName name) was = (joined.made x name was).0
 
-    pub before : (current' current : Option Name) → IsReadBlock reading current' current → IsBefore (length ledger.answers) current
+    pub before : (current' current : Option Name) → IsReadCurrent reading ledger' current' current → IsBefore (length ledger.answers) current
     before None None is = tt
     before (Some x) (Some block) is = (joined.made x block is).1
     before None (Some block) is = absurd is
-    before (Some x) None is = absurd is
+    before (Some x) None is = tt
 
     takes' : (ask request : Request) → IsReadRequest reading ask request → TakesBefore (length ledger'.answers) ask × TakesBefore (length ledger.answers) request
     takes' (AppendBlockParams x types') (AppendBlockParams block types) is = joined.made x block is.0
@@ -286,31 +528,52 @@ module _ (Known : Reading → List Item → Item → Type 0) (lasts : LastsLater
   pub bare_later : (place further : ℕ) (program : Program) → place ≤ further → IsBareFrom place program → IsBareFrom further program
   bare_later place further program below bare x behind = bare x (omega (arith, below, behind))
 
+  module _ (reading : Reading) (ledger' ledger : Ledger) (joined : IsJoined reading ledger' ledger) (plain program : Program) (goes : GoesWith reading ledger' ledger plain program) where
+    pub plain_before : IsBefore (length ledger'.answers) plain.current
+    plain_before = subst (IsBefore (length ledger'.answers)) (sym goes.same') (before' reading ledger' ledger joined ledger'.current ledger.current joined.ledgers.states.current)
+
+    pub script_before : IsBefore (length ledger.answers) program.current
+    script_before = subst (IsBefore (length ledger.answers)) (sym goes.same) (before reading ledger' ledger joined ledger'.current ledger.current joined.ledgers.states.current)
+
   -- a call of the builder on both sides
   pub asked_goes : (reading : Reading) (ledger' ledger : Ledger) (joined : IsJoined reading ledger' ledger) (plain program : Program) → GoesWith reading ledger' ledger plain program
-      → (ask request : Request) → IsReadRequest reading ask request
+      → (ask request : Request) → IsReadRequest reading ask request → (uses_current request ≡ true → HaveCurrent ledger' ledger)
       → GoesWith (reading_after reading ledger' ledger) (ledger_with ledger' ask) (ledger_with ledger request) (with_call plain ask) (with_call program request)
-  asked_goes reading ledger' ledger joined plain program goes ask request is =
-      let both = asked reading ledger' ledger joined plain program goes ask request is in
+  asked_goes reading ledger' ledger joined plain program goes ask request is placed =
+      let made : ℕ = length ledger.answers in
+      let later : Reading = reading_after reading ledger' ledger in
       let longer' : length (ledger_with ledger' ask).answers ≡ suc (length ledger'.answers) = one_longer ledger'.answers (answers_to ledger' ask) in
       let longer : length (ledger_with ledger request).answers ≡ suc (length ledger.answers) = one_longer ledger.answers (answers_to ledger request) in
       let takes = takes' reading ledger' ledger joined ask request is in
+      let both = asked reading ledger' ledger joined plain program goes ask request is placed in
+      let kept : KeepsOwn later plain (extended plain ask) =
+      λ x own. own_asked reading ledger' ledger joined plain program goes ask request is placed x (Joins.generated_before reading ledger' ledger joined x own) in
+      let cut = cut_on later (suc made) plain (extended plain ask) (extended plain ask) (extended program request) kept both in
+      let cut_end = cut_on later (suc made) (extended plain ask) (with_call plain ask) (extended plain ask) (extended program request) (λ x own. (refl, refl)) cut in
       record {
         place' = ap suc goes.place' ∙ sym longer';
         place = ap suc goes.place ∙ sym longer;
-        current = both.current;
-        generated = λ x stands. let below = generated_then reading ledger' ledger joined plain program goes x stands in omega (arith, below, longer');
-        cut = record { entry = both.cut.entry; parameters = both.cut.parameters; items = both.cut.items };
+        same' = extended_current plain ask ∙ ap (current_behind ask) goes.same' ∙ sym (asked_current ledger' ask);
+        same = extended_current program request ∙ ap (current_behind request) goes.same ∙ sym (asked_current ledger request);
+        cut = subst (λ (n : ℕ). IsCutProgram later (IsCalledSo Known Decided later n (with_call plain ask)) (with_call plain ask) (with_call program request)) (sym longer)
+            (record { entry = cut_end.entry; parameters = cut_end.parameters; items = cut_end.items });
+        own = λ x own.
+            let before_own = Joins.generated_before reading ledger' ledger joined x own in
+            let same_at = own_asked reading ledger' ledger joined plain program goes ask request is placed x before_own in
+            subst (λ (n : ℕ). IsOwnBlock later n (with_call plain ask) (with_call program request) x) (sym longer)
+            (own_later reading later made (suc made) (Joins.goes_on reading ledger' ledger joined) plain program goes.cut (with_call plain ask) (with_call program request) x same_at
+            (λ block item other switch emitted unread there. stays_asked reading ledger' ledger joined plain program goes ask request is block item other switch emitted unread there)
+            (goes.own x before_own));
         bare' = bare_later (length ledger'.answers) (length (ledger_with ledger' ask).answers) (with_call plain ask) (omega (arith, longer'))
-            (bare_extended (length ledger'.answers) plain ask (before' reading ledger' ledger joined plain.current program.current goes.current) takes.0 goes.bare');
+            (bare_extended (length ledger'.answers) plain ask (plain_before reading ledger' ledger joined plain program goes) takes.0 goes.bare');
         bare = bare_later (length ledger.answers) (length (ledger_with ledger request).answers) (with_call program request) (omega (arith, longer))
-            (bare_extended (length ledger.answers) program request (before reading ledger' ledger joined plain.current program.current goes.current) takes.1 goes.bare);
+            (bare_extended (length ledger.answers) program request (script_before reading ledger' ledger joined plain program goes) takes.1 goes.bare);
       }
 
   -- an emission and its code
   module _ (reading : Reading) (ledger' ledger : Ledger) (joined : IsJoined reading ledger' ledger) (plain program : Program) (goes : GoesWith reading ledger' ledger plain program)
       (code : List (Instruction Name Name)) (last whole : Instruction Name Name) (line : AllByRecursion StaysInLine code) (stays : StaysInLine last) (whole_stays : StaysInLine whole)
-      (types : emitted_types last ≡ emitted_types whole)
+      (types : emitted_types last ≡ emitted_types whole) (both : HaveCurrent ledger' ledger)
       (known : Known (reading_emitted reading ledger' ledger code) (built_items plain.place (code ++ last ∷ [])) (emitted_item program.place whole)) where
     abbrev emitted : Reading
     emitted = reading_emitted reading ledger' ledger code
@@ -319,10 +582,27 @@ module _ (Known : Reading → List Item → Item → Type 0) (lasts : LastsLater
     emission_keeps x name is = emitted_before reading ledger' ledger code x (joined.made x name is).0 ∙ is
 
     emission_generates : KeepsGenerated reading emitted
-    emission_generates x is = emitted_before reading ledger' ledger code x (goes.generated x is) ∙ is
+    emission_generates x is = emitted_before reading ledger' ledger code x (joined.generated x is) ∙ is
+
+    abbrev made_before : ℕ
+    made_before = length ledger.answers
+
+    emission_on : GoesOn reading emitted made_before (suc made_before)
+    emission_on = record {
+      keeps = emission_keeps;
+      generated = emission_generates;
+      unread = λ name unread. record {
+        unread = λ x read. by name unread x (emitted_either reading ledger' ledger code x name read);
+        before = let below = unread.before in omega (arith, below);
+      };
+    }
+      where
+        by : (name : Name) → IsUnread reading made_before name → (x : Name) → ((length ledger'.answers ≤ x.place) × (name.place ≡ length ledger.answers)) ⊎ IsReadAs reading x name → ⊥
+        by name unread x (inl new) = let place = new.1 in let below = unread.before in absurd (omega (arith, place, below))
+        by name unread x (inr old) = unread.unread x old
 
     abbrev EitherThen : Name → Name → Type 0
-    EitherThen x block = IsOldOrBare reading emitted emission_keeps emission_generates plain program goes.cut x block
+    EitherThen x block = IsOldOrBare reading emitted made_before (suc made_before) emission_on plain program goes.cut x block
 
     either_then : (x block : Name) → IsReadAs emitted x block → EitherThen x block
     either_then x block is = by (emitted_either reading ledger' ledger code x block is)
@@ -335,8 +615,11 @@ module _ (Known : Reading → List Item → Item → Type 0) (lasts : LastsLater
             inl (plain_bare.0, plain_bare.1, script_bare.0, script_bare.1)
         by (inr old) = inr old
 
-    cut_then : IsCutProgram emitted (IsCalledSo Known emitted) plain program
-    cut_then = cut_later reading emitted emission_keeps emission_generates plain program goes.cut either_then
+    abbrev StandsThen : List Item → Item → Type 0
+    StandsThen = IsCalledSo Known Decided emitted (suc made_before) plain
+
+    cut_then : IsCutProgram emitted StandsThen plain program
+    cut_then = cut_later reading emitted made_before (suc made_before) emission_on plain program goes.cut either_then
 
     line_on : (instructions : List (Instruction Name Name)) → AllByRecursion StaysInLine instructions → AllByRecursion StaysInLine (instructions ++ last ∷ [])
     line_on [] all = (stays, tt)
@@ -358,130 +641,94 @@ module _ (Known : Reading → List Item → Item → Type 0) (lasts : LastsLater
           (λ k. emitted_result reading ledger' ledger code (plain.place + length code) k (ap (λ (n : ℕ). n + length code) goes.place') ∙ ap (λ (n : ℕ). ScriptName (answer_of n k)) (sym goes.place)));
     }
 
-    whole_called : IsCalledSo Known emitted (built_items plain.place (code ++ last ∷ [])) (emitted_item program.place whole)
-    whole_called = inr (emission, known)
+    whole_called : StandsThen (built_items plain.place (code ++ last ∷ [])) (emitted_item program.place whole)
+    whole_called = inr (inl (emission, known))
 
     current_then : IsReadBlock emitted plain.current program.current
-    current_then = block_later reading emitted emission_keeps plain.current program.current goes.current
+    current_then = block_later reading emitted emission_keeps plain.current program.current (read_before_call reading ledger' ledger joined plain program goes both)
 
     module _ (apart : IsOneToOne emitted) where
       abbrev script_program : Program
       script_program = record (with_items_at (with_inserted program) program.current (emitted_item program.place whole ∷ [])) { place = suc program.place }
 
-      script_is : program_with_call program (Emit whole) ≡ script_program
-      script_is = ap (λ (p : Program). record p { place = suc program.place }) (one_item (with_inserted program) program.current (emitted_item program.place whole))
+      pub script_is : program_with_call program (Emit whole) ≡ script_program
+      script_is =
+          ap (λ (p : Program). record p { place = suc program.place })
+          (program_line whole.operation (with_item_at (with_inserted program) program.current (emitted_item program.place whole)) whole_stays.goes_on
+          ∙ one_item (with_inserted program) program.current (emitted_item program.place whole))
 
-      cut_end : IsCutProgram emitted (IsCalledSo Known emitted) (with_items_at (with_inserted plain) plain.current (built_items plain.place (code ++ last ∷ []))) (with_items_at (with_inserted program) program.current (emitted_item program.place whole ∷ []))
+      cut_end : IsCutProgram emitted StandsThen (with_items_at (with_inserted plain) plain.current (built_items plain.place (code ++ last ∷ []))) (with_items_at (with_inserted program) program.current (emitted_item program.place whole ∷ []))
       cut_end =
-          cut_items (IsCalledSo Known emitted) emitted apart (with_inserted plain) (with_inserted program) plain.current program.current (built_items plain.place (code ++ last ∷ [])) (emitted_item program.place whole)
-          (cut_inserted (IsCalledSo Known emitted) emitted apart plain program cut_then current_then) current_then whole_called
+          cut_items StandsThen emitted apart (with_inserted plain) (with_inserted program) plain.current program.current (built_items plain.place (code ++ last ∷ [])) (emitted_item program.place whole)
+          (cut_inserted StandsThen emitted apart plain program cut_then current_then) current_then whole_called
 
       kept_current : (p : Program) (c : Option Name) (items : List Item) → (with_items_at p c items).current ≡ p.current
       kept_current p None items = refl
       kept_current p (Some block) items = refl
 
+      -- generated blocks stay as they are
+      own_at : (current' current : Option Name) (items : List Item) → IsReadBlock reading current' current → (x : Name) → IsGenerated reading x
+          → ((with_items_at (with_inserted plain) current' items).items x ≡ plain.items x) × ((with_items_at (with_inserted plain) current' items).parameters x ≡ plain.parameters x)
+      own_at None None items read x own = (refl, refl)
+      own_at (Some y) (Some block) items read x own = (ap (λ (c : Bool). if c then plain.items x ++ items else plain.items x) (other_generated reading y x block read own), refl)
+      own_at None (Some block) items read x own = absurd read
+      own_at (Some y) None items read x own = absurd read
+
+      stays_at : (current : Option Name) (items : List Item) (block : Name) (item : Item) → Contains (program.items block) item → Contains ((with_items_at (with_inserted program) current items).items block) item
+      stays_at None items block item there = there
+      stays_at (Some c) items block item there = by (same_name block c)
+        where
+          by : (d : Bool) → Contains (if d then program.items block ++ items else program.items block) item
+          by true = contained_left (program.items block) items item there
+          by false = there
+
+      -- what is generated was so before, or is an answer to this code's calls, in whose blocks nothing is
+      generated_either : (x : Name) → IsGenerated emitted x → IsGenerated reading x ⊎ (length ledger'.answers ≤ x.place)
+      generated_either x own = by (cases_lt x.place (length ledger'.answers))
+        where
+          by : (x.place < length ledger'.answers) ⊎ (length ledger'.answers ≤ x.place) → IsGenerated reading x ⊎ (length ledger'.answers ≤ x.place)
+          by (inl below) = inl (sym (emitted_before reading ledger' ledger code x below) ∙ own)
+          by (inr behind) = inr behind
+
+      abbrev plain_end : Program
+      plain_end = built_program plain code last
+
+      bare_end : IsBareFrom (length ledger'.answers) plain_end
+      bare_end =
+          bare_items (length ledger'.answers) (with_inserted plain) plain.current (built_items plain.place (code ++ last ∷ []))
+          (plain_before reading ledger' ledger joined plain program goes) goes.bare'
+
+      own_end : (x : Name) → IsGenerated emitted x → IsOwnBlock emitted (suc made_before) plain_end script_program x
+      own_end x own = by (generated_either x own)
+        where
+          by : IsGenerated reading x ⊎ (length ledger'.answers ≤ x.place) → IsOwnBlock emitted (suc made_before) plain_end script_program x
+          by (inl old) =
+              own_later reading emitted made_before (suc made_before) emission_on plain program goes.cut plain_end script_program x
+              (own_at plain.current program.current (built_items plain.place (code ++ last ∷ [])) (read_before_call reading ledger' ledger joined plain program goes both) x old)
+              (λ block item other switch is unread there. stays_at program.current (emitted_item program.place whole ∷ []) block item there) (goes.own x old)
+          by (inr behind) = ((bare_end x behind).1, inl (bare_end x behind).0)
+
+      kept_end : KeepsOwn emitted plain plain_end
+      kept_end x own = by (generated_either x own)
+        where
+          by : IsGenerated reading x ⊎ (length ledger'.answers ≤ x.place) → (plain_end.items x ≡ plain.items x) × (plain_end.parameters x ≡ plain.parameters x)
+          by (inl old) = own_at plain.current program.current (built_items plain.place (code ++ last ∷ [])) (read_before_call reading ledger' ledger joined plain program goes both) x old
+          by (inr behind) = ((bare_end x behind).0 ∙ sym (goes.bare' x behind).0, (bare_end x behind).1 ∙ sym (goes.bare' x behind).1)
+
       pub emitted_goes : (end' end : Ledger) → length end'.answers ≡ length code + suc (length ledger'.answers) → length end.answers ≡ suc (length ledger.answers)
+          → end'.current ≡ ledger'.current → end.current ≡ ledger.current
           → GoesWith emitted end' end (built_program plain code last) script_program
-      emitted_goes end' end many' many = record {
-        place' = ap (λ (n : ℕ). length code + suc n) goes.place' ∙ sym many';
-        place = ap suc goes.place ∙ sym many;
-        current = subst (λ (c : Option Name). IsReadBlock emitted c (with_items_at (with_inserted program) program.current (emitted_item program.place whole ∷ [])).current)
-            (sym (kept_current (with_inserted plain) plain.current (built_items plain.place (code ++ last ∷ []))))
-            (subst (λ (c : Option Name). IsReadBlock emitted plain.current c) (sym (kept_current (with_inserted program) program.current (emitted_item program.place whole ∷ []))) current_then);
-        generated = λ x is. let below = emitted_generated reading ledger' ledger code goes.generated x is in omega (arith, below, many');
-        cut = record { entry = cut_end.entry; parameters = cut_end.parameters; items = cut_end.items };
-        bare' = bare_later (length ledger'.answers) (length end'.answers) (built_program plain code last) (omega (arith, many'))
-            (bare_items (length ledger'.answers) (with_inserted plain) plain.current (built_items plain.place (code ++ last ∷ []))
-            (before' reading ledger' ledger joined plain.current program.current goes.current) goes.bare');
-        bare = bare_later (length ledger.answers) (length end.answers) script_program (omega (arith, many))
-            (bare_items (length ledger.answers) (with_inserted program) program.current (emitted_item program.place whole ∷ [])
-            (before reading ledger' ledger joined plain.current program.current goes.current) goes.bare);
-      }
-
-  -- ALL CALLS ---------------------------------------------------------------------------------------------------------------
-
-  -- how many calls there are behind a list of them
-  how_many : (ledger : Ledger) (code : List (Instruction Name Name)) (last : Instruction Name Name)
-      → length (fold ledger_with ledger (map building code ++ building last ∷ [])).answers ≡ length code + suc (length ledger.answers)
-  how_many ledger [] last = one_longer ledger.answers (answers_to ledger (building last)) ∙ none_on (suc (length ledger.answers))
-  how_many ledger (first ∷ code) last =
-      let more : length (ledger_with ledger (building first)).answers ≡ suc (length ledger.answers) = one_longer ledger.answers (answers_to ledger (building first)) in
-      let rest = how_many (ledger_with ledger (building first)) code last in
-      omega (arith, more, rest)
-
-  abbrev GoesSo : Reading → Script → List ScriptCall → Type 0
-  GoesSo reading plain calls = GoesWith reading (ledger_after plain) (ledger_of calls) (program_of plain) (program_of_calls calls)
-
-  on_from : (reading : Reading) (plain more : Script) (calls further : List ScriptCall)
-      → GoesWith reading (fold ledger_with (ledger_after plain) more) (fold ledger_with_call (ledger_of calls) further) (fold with_call (program_of plain) more) (fold program_with_call (program_of_calls calls) further)
-      → GoesSo reading (plain ++ more) (calls ++ further)
-  on_from reading plain more calls further goes =
-      subst (λ (l : Ledger). GoesWith reading l (ledger_of (calls ++ further)) (program_of (plain ++ more)) (program_of_calls (calls ++ further))) (sym (fold_on ledger_with empty_ledger plain more))
-      (subst (λ (l : Ledger). GoesWith reading (fold ledger_with (ledger_after plain) more) l (program_of (plain ++ more)) (program_of_calls (calls ++ further))) (sym (fold_on ledger_with_call empty_ledger calls further))
-      (subst (λ (p : Program). GoesWith reading (fold ledger_with (ledger_after plain) more) (fold ledger_with_call (ledger_of calls) further) p (program_of_calls (calls ++ further))) (sym (fold_on with_call empty_program plain more))
-      (subst (λ (p : Program). GoesWith reading (fold ledger_with (ledger_after plain) more) (fold ledger_with_call (ledger_of calls) further) (fold with_call (program_of plain) more) p) (sym (fold_on program_with_call empty_program calls further)) goes)))
-
-  -- it is known of each emission
-  abbrev pub EachKnown : (reading : Reading) (plain : Script) (calls : List ScriptCall) → AreJoinedCalls reading plain calls → Type 0
-  EachKnown reading plain calls Starting = Unit {0}
-  EachKnown reading plain calls (Asking old script earlier ask request are is) = EachKnown old script earlier are
-  EachKnown reading plain calls (Emitting old script earlier code last whole are line stays whole_stays types) =
-      EachKnown old script earlier are
-      × Known (reading_emitted old (ledger_after script) (ledger_of earlier) code) (built_items (length (ledger_after script).answers) (code ++ last ∷ []))
-      (emitted_item (length (ledger_of earlier).answers) whole)
-
-  pub go : (reading : Reading) (plain : Script) (calls : List ScriptCall) (are : AreJoinedCalls reading plain calls) → EachKnown reading plain calls are → GoesSo reading plain calls
-  go reading plain calls Starting known = record {
-    place' = refl;
-    place = refl;
-    current = tt;
-    generated = λ x is. let apart : NotMade ≡ Generated = is in cc;
-    cut = record { entry = tt; parameters = λ x block is. cc; items = λ x block is. cc };
-    bare' = λ x behind. (refl, refl);
-    bare = λ x behind. (refl, refl);
-  }
-  go reading plain calls (Asking old script earlier ask request are is) known =
-      on_from (reading_after old (ledger_after script) (ledger_of earlier)) script (ask ∷ []) earlier (Ask request ∷ [])
-      (asked_goes old (ledger_after script) (ledger_of earlier) (joined_calls old script earlier are) (program_of script) (program_of_calls earlier) (go old script earlier are known) ask request is)
-  go reading plain calls (Emitting old script earlier code last whole are line stays whole_stays types) known =
-      let joined = joined_calls old script earlier are in
-      let goes = go old script earlier are known.0 in
-      let here : Known (reading_emitted old (ledger_after script) (ledger_of earlier) code) (built_items (program_of script).place (code ++ last ∷ [])) (emitted_item (program_of_calls earlier).place whole) =
-      subst (λ (n : ℕ). Known (reading_emitted old (ledger_after script) (ledger_of earlier) code) (built_items n (code ++ last ∷ [])) (emitted_item (program_of_calls earlier).place whole)) (sym goes.place')
-      (subst (λ (n : ℕ). Known (reading_emitted old (ledger_after script) (ledger_of earlier) code) (built_items (length (ledger_after script).answers) (code ++ last ∷ [])) (emitted_item n whole)) (sym goes.place) known.1) in
-      let after = joined_calls reading plain calls (Emitting old script earlier code last whole are line stays whole_stays types) in
-      let end' : Ledger = fold ledger_with (ledger_after script) (map building code ++ building last ∷ []) in
-      let end : Ledger = ledger_with_call (ledger_of earlier) (Emit whole) in
-      on_from (reading_emitted old (ledger_after script) (ledger_of earlier) code) script (map building code ++ building last ∷ []) earlier (Emit whole ∷ [])
-      (subst (λ (p : Program). GoesWith (reading_emitted old (ledger_after script) (ledger_of earlier) code) end' end p (program_with_call (program_of_calls earlier) (Emit whole))) (sym (built (program_of script) code last))
-      (subst (λ (p : Program). GoesWith (reading_emitted old (ledger_after script) (ledger_of earlier) code) end' end (built_program (program_of script) code last) p)
-      (sym (script_is old (ledger_after script) (ledger_of earlier) joined (program_of script) (program_of_calls earlier) goes code last whole line stays whole_stays types here after.one_to_one))
-      (emitted_goes old (ledger_after script) (ledger_of earlier) joined (program_of script) (program_of_calls earlier) goes code last whole line stays whole_stays types here after.one_to_one
-      end' end (how_many (ledger_after script) code last) (one_longer (ledger_of earlier).answers (map AValue (emitted_types whole))))))
-
--- nothing is known
-abbrev nothing : Reading → List Item → Item → Type 0
-nothing reading code item = Unit {0}
-
-none_known : (reading : Reading) (plain : Script) (calls : List ScriptCall) (are : AreJoinedCalls reading plain calls) → EachKnown nothing (λ a b c d e f g. tt) reading plain calls are
-none_known reading plain calls Starting = tt
-none_known reading plain calls (Asking old script earlier ask request are is) = none_known old script earlier are
-none_known reading plain calls (Emitting old script earlier code last whole are line stays whole_stays types) = (none_known old script earlier are, tt)
-
-called : (reading : Reading) (code : List Item) (item : Item) → IsCalledSo nothing reading code item → IsCalled reading code item
-called reading code item (inl asked) = inl asked
-called reading code item (inr (is, known)) = inr is
-
--- the current blocks are read
-pub joined_currents : (reading : Reading) (plain : Script) (calls : List ScriptCall) → AreJoinedCalls reading plain calls
-    → IsReadBlock reading (program_of plain).current (program_of_calls calls).current
-joined_currents reading plain calls are = (go nothing (λ a b c d e f g. tt) reading plain calls are (none_known reading plain calls are)).current
-
-pub joined_programs : JoinedCallsHaveJoinedPrograms
-joined_programs reading plain calls are =
-    let cut = (go nothing (λ a b c d e f g. tt) reading plain calls are (none_known reading plain calls are)).cut in
-    record {
-      entry = cut.entry;
-      parameters = cut.parameters;
-      items = λ x block is. cut_each (IsCalledSo nothing reading) (IsCalled reading) (called reading) ((program_of plain).items x) ((program_of_calls calls).items block) (cut.items x block is);
-    }
+      emitted_goes end' end many' many at' at =
+          let cut = cut_on emitted (suc made_before) plain plain_end plain_end script_program kept_end (record { entry = cut_end.entry; parameters = cut_end.parameters; items = cut_end.items }) in
+          record {
+            place' = ap (λ (n : ℕ). length code + suc n) goes.place' ∙ sym many';
+            place = ap suc goes.place ∙ sym many;
+            same' = kept_current (with_inserted plain) plain.current (built_items plain.place (code ++ last ∷ [])) ∙ goes.same' ∙ sym at';
+            same = kept_current (with_inserted program) program.current (emitted_item program.place whole ∷ []) ∙ goes.same ∙ sym at;
+            cut = subst (λ (n : ℕ). IsCutProgram emitted (IsCalledSo Known Decided emitted n plain_end) plain_end script_program) (sym many) cut;
+            own = λ x own. subst (λ (n : ℕ). IsOwnBlock emitted n plain_end script_program x) (sym many) (own_end x own);
+            bare' = bare_later (length ledger'.answers) (length end'.answers) (built_program plain code last) (omega (arith, many')) bare_end;
+            bare = bare_later (length ledger.answers) (length end.answers) script_program (omega (arith, many))
+                (bare_items (length ledger.answers) (with_inserted program) program.current (emitted_item program.place whole ∷ [])
+                (script_before reading ledger' ledger joined plain program goes) goes.bare);
+          }

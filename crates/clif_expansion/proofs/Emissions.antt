@@ -4,15 +4,15 @@ use Rattle.std.specs.Prelude.{◌||◌, fold, if◌then◌else◌, slice_get}
 use Rattle.std.specs.List.{AllByRecursion, list_any}
 use Rattle.std.proofs.lemmas.List.{length-append}
 use Rattle.clif_types.specs.declared.types.«Type».{«Type»}
-use Rattle.clif_meaning.specs.Instruction.{Edge, Instruction}
-use Rattle.clif_meaning.specs.Ledger.{AValue, AnInstruction, Answered, BlockState, ExceptionTable, Ledger, answer_at, changed_by, is_inserted, ledger_with, with_begun, with_begun_at, with_filled_at, with_instruction, with_layout, with_predecessor, with_state, with_terminator}
+use Rattle.clif_meaning.specs.Instruction.{Edge, Instruction, Operation, Switch}
+use Rattle.clif_meaning.specs.Ledger.{AValue, AnInstruction, Answered, BlockState, ExceptionTable, Ledger, answer_at, changed_by, is_inserted, is_terminator, ledger_with, with_begun, with_begun_at, with_filled_at, with_instruction, with_layout, with_predecessor, with_state, with_terminator}
 use Rattle.clif_meaning.specs.Name.{Name, answer_of, same_name}
 use Rattle.clif_expansion.specs.Emission.{EmittingKeepsJoins, StaysInLine, building, reading_emitted, reading_generated}
-use Rattle.clif_expansion.specs.Joining.{AreJoinedStates, IsJoined, IsReadAnswer, reading_with, results_at}
+use Rattle.clif_expansion.specs.Joining.{AreJoinedStates, IsJoined, IsReadAnswer, IsUnread, reading_with, results_at}
 use Rattle.clif_expansion.specs.Reading.{Generated, IsOneToOne, IsReadAs, Reading, ScriptName, StandsFor}
-use Rattle.clif_expansion.specs.ScriptCall.{Emit, emitted_types, ledger_with_call}
+use Rattle.clif_expansion.specs.ScriptCall.{Emit, emitted_types, ledger_behind, ledger_with_call}
 use Rattle.clif_expansion.proofs.JoinedStates.{begun_read}
-use Rattle.clif_expansion.proofs.Joins.{KeepsReading, answer_later, answers_before, answers_last, at_read, read_before, read_either, states_later, values_read}
+use Rattle.clif_expansion.proofs.Joins.{GoesOn, KeepsGenerated, KeepsReading, answer_later, answers_before, answers_last, at_read, read_before, read_either, states_later, values_read}
 use Rattle.clif_expansion.proofs.Names.{equal_names, same_script}
 
 -- BEGUN TWICE -------------------------------------------------------------------------------------------------------------
@@ -98,7 +98,12 @@ begun_exceptions ledger (Some block) = by (is_inserted ledger block)
 
 -- the states behind an instruction in a line are those of a block that is begun
 abbrev Begins : Reading → Ledger → Ledger → Type 0
-Begins reading plain ledger = AreJoinedStates reading (with_begun plain) (with_begun ledger)
+Begins reading plain ledger = AreJoinedStates reading (length ledger.answers) (with_begun plain) (with_begun ledger)
+
+-- behind an instruction that ends no block the current one stays
+pub behind_line : (operation : Operation) (ledger : Ledger) → is_terminator operation ≡ false → ledger_behind operation ledger ≡ ledger
+behind_line (Switch keys) ledger goes_on = let no_way : true ≡ false = goes_on in cc
+behind_line _ ledger goes_on = refl
 
 pub built_changes : (plain : Ledger) (instruction : Instruction Name Name) → StaysInLine instruction → changed_by plain (building instruction) ≡ with_begun plain
 built_changes plain instruction stays =
@@ -107,9 +112,9 @@ built_changes plain instruction stays =
     (sym (begun_tables plain plain.current)) (sym (begun_exceptions plain plain.current))
 
 -- answers aside, states are joined
-other_answers : (reading : Reading) (plain ledger : Ledger) (answers' answers : List (List Answered)) → AreJoinedStates reading plain ledger
-    → AreJoinedStates reading (record plain { answers = answers' }) (record ledger { answers = answers })
-other_answers reading plain ledger answers' answers are = record {
+other_answers : (reading : Reading) (made : ℕ) (plain ledger : Ledger) (answers' answers : List (List Answered)) → AreJoinedStates reading made plain ledger
+    → AreJoinedStates reading made (record plain { answers = answers' }) (record ledger { answers = answers })
+other_answers reading made plain ledger answers' answers are = record {
   blocks = are.blocks;
   current = are.current;
   layout = are.layout;
@@ -125,6 +130,7 @@ record InMidst (reading : Reading) (plain ledger : Ledger) : Type 0 where
   answers : (x name : Name) → IsReadAs reading x name → IsReadAnswer reading (answer_at plain x) (answer_at ledger name)
   one_to_one : IsOneToOne reading
   made : (x name : Name) → IsReadAs reading x name → (x.place < length plain.answers) × (name.place < length ledger.answers)
+  own : (x : Name) → reading x ≡ Generated → x.place < length plain.answers
 
 one_longer : (answers : List (List Answered)) (more : List Answered) → length (answers ++ more ∷ []) ≡ length answers + 1
 one_longer answers more = length-append answers (more ∷ [])
@@ -136,6 +142,17 @@ module _ (reading : Reading) (plain ledger : Ledger) (midst : InMidst reading pl
   keeps : (answers : ℕ → StandsFor) → KeepsReading reading (reading_with reading here' answers)
   keeps answers x name is = read_before reading here' answers x (midst.made x name is).0 ∙ is
 
+  keeps_generated : (answers : ℕ → StandsFor) → KeepsGenerated reading (reading_with reading here' answers)
+  keeps_generated answers x is = read_before reading here' answers x (midst.own x is) ∙ is
+
+  -- what is generated is an answer that is, or was generated before
+  generated_either : (answers : ℕ → StandsFor) (further : ℕ) → further ≡ here' + 1 → (x : Name) → reading_with reading here' answers x ≡ Generated → x.place < further
+  generated_either answers further more x is = by (read_either reading here' answers x Generated is)
+    where
+      by : ((x.place ≡ here') × (answers x.index ≡ Generated)) ⊎ (reading x ≡ Generated) → x.place < further
+      by (inl new) = let place = new.0 in omega (arith, place, more)
+      by (inr old) = let below = midst.own x old in omega (arith, below, more)
+
   -- an instruction more
   module _ (instruction : Instruction Name Name) (stays : StaysInLine instruction) where
     abbrev after : Ledger
@@ -145,16 +162,18 @@ module _ (reading : Reading) (plain ledger : Ledger) (midst : InMidst reading pl
     longer = one_longer plain.answers (AnInstruction ∷ map AValue (emitted_types instruction))
 
     -- a block that is begun again
-    begins_on : (answers : ℕ → StandsFor) → AreJoinedStates (reading_with reading here' answers) (record (with_begun plain) { answers = after.answers }) (with_begun ledger)
-    begins_on answers =
-        other_answers (reading_with reading here' answers) (with_begun plain) (with_begun ledger) after.answers (with_begun ledger).answers
-        (states_later reading (reading_with reading here' answers) (keeps answers) (with_begun plain) (with_begun ledger) midst.begins)
+    begins_on : (answers : ℕ → StandsFor) (further : ℕ) → GoesOn reading (reading_with reading here' answers) (length ledger.answers) further
+        → AreJoinedStates (reading_with reading here' answers) further (record (with_begun plain) { answers = after.answers }) (with_begun ledger)
+    begins_on answers further on =
+        other_answers (reading_with reading here' answers) further (with_begun plain) (with_begun ledger) after.answers (with_begun ledger).answers
+        (states_later reading (reading_with reading here' answers) (length ledger.answers) further on (with_begun plain) (with_begun ledger) midst.begins)
 
     after_is : after ≡ record (with_begun plain) { answers = after.answers }
     after_is = ap (λ (l : Ledger). record l { answers = after.answers }) (built_changes plain instruction stays)
 
-    states_on : (answers : ℕ → StandsFor) → AreJoinedStates (reading_with reading here' answers) after (with_begun ledger)
-    states_on answers = subst (λ (l : Ledger). AreJoinedStates (reading_with reading here' answers) l (with_begun ledger)) (sym after_is) (begins_on answers)
+    states_on : (answers : ℕ → StandsFor) (further : ℕ) → GoesOn reading (reading_with reading here' answers) (length ledger.answers) further
+        → AreJoinedStates (reading_with reading here' answers) further after (with_begun ledger)
+    states_on answers further on = subst (λ (l : Ledger). AreJoinedStates (reading_with reading here' answers) further l (with_begun ledger)) (sym after_is) (begins_on answers further on)
 
     -- what was answered before
     answer_before : (answers : ℕ → StandsFor) (x name : Name) → IsReadAs reading x name → IsReadAnswer (reading_with reading here' answers) (answer_at after x) (answer_at ledger name)
@@ -176,10 +195,18 @@ module _ (reading : Reading) (plain ledger : Ledger) (midst : InMidst reading pl
         by (inl new) = let apart = new.1 in cc
         by (inr before) = before
 
+    on : GoesOn reading generated (length ledger.answers) (length ledger.answers)
+    on = record {
+      keeps = keeps (λ index. Generated);
+      generated = keeps_generated (λ index. Generated);
+      unread = λ name is. record { unread = λ x read. is.unread x (old x name read); before = is.before };
+    }
+
     goes_on : (one_to_one : IsOneToOne generated) → InMidst generated after ledger
     goes_on one_to_one = record {
-      begins = subst (λ (l : Ledger). AreJoinedStates generated (with_begun after) l) (begun_twice ledger)
-          (begun_read generated one_to_one after (with_begun ledger) (states_on (λ index. Generated)));
+      begins = subst (λ (l : Ledger). AreJoinedStates generated (length ledger.answers) (with_begun after) l) (begun_twice ledger)
+          (begun_read generated (length ledger.answers) one_to_one after (with_begun ledger) (states_on (λ index. Generated) (length ledger.answers) on));
+      own = generated_either (λ index. Generated) (length after.answers) longer;
       answers = λ x name is. answer_before (λ index. Generated) x name (old x name is);
       one_to_one = one_to_one;
       made = λ x name is.
@@ -283,13 +310,33 @@ module _ (reading : Reading) (plain ledger : Ledger) (midst : InMidst reading pl
               let below : name.place < here = (midst.made x name before).1 in
               (omega (arith, below', longer), omega (arith, below, longer_end))
 
-      states_end : AreJoinedStates emitted after end
+      on_end : GoesOn reading emitted here (length end.answers)
+      on_end = record {
+        keeps = keeps (results_at here);
+        generated = keeps_generated (results_at here);
+        unread = λ name is. record { unread = λ x read. unread_end x name is (either x name read); before = let below = is.before in omega (arith, below, longer_end) };
+      }
+        where
+          unread_end : (x name : Name) → IsUnread reading here name → Either x name → ⊥
+          unread_end x name is (inl new) =
+              let place = result_place x.index name new.1 in
+              let below = is.before in
+              absurd (omega (arith, place, below))
+          unread_end x name is (inr before) = is.unread x before
+
+      states_end : AreJoinedStates emitted (length end.answers) after end
       states_end =
-          subst (λ (l : Ledger). AreJoinedStates emitted after (record l { answers = end.answers })) (sym (in_line ledger whole whole_stays))
-          (other_answers emitted after (with_begun ledger) after.answers end.answers (states_on (results_at here)))
+          subst (λ (l : Ledger). AreJoinedStates emitted (length end.answers) after (record l { answers = end.answers }))
+          (sym (behind_line whole.operation (with_instruction ledger whole) whole_stays.goes_on ∙ in_line ledger whole whole_stays))
+          (other_answers emitted (length end.answers) after (with_begun ledger) after.answers end.answers (states_on (results_at here) (length end.answers) on_end))
 
       ends : IsJoined emitted after end
-      ends = record { ledgers = record { states = states_end; answers = answers_end }; one_to_one = emitted_apart; made = made_end }
+      ends = record {
+        ledgers = record { states = states_end; answers = answers_end };
+        one_to_one = emitted_apart;
+        made = made_end;
+        generated = generated_either (results_at here) (length after.answers) longer;
+      }
 
 emitting : (reading : Reading) (plain ledger : Ledger) (code : List (Instruction Name Name)) (last whole : Instruction Name Name)
     → InMidst reading plain ledger → AllByRecursion StaysInLine code → StaysInLine last → StaysInLine whole → emitted_types last ≡ emitted_types whole
@@ -303,9 +350,10 @@ pub emitting_keeps_joins : EmittingKeepsJoins
 emitting_keeps_joins reading plain ledger code last whole joined line stays whole_stays types =
     emitting reading plain ledger code last whole
     (record {
-      begins = begun_read reading joined.one_to_one plain ledger joined.ledgers.states;
+      begins = begun_read reading (length ledger.answers) joined.one_to_one plain ledger joined.ledgers.states;
       answers = joined.ledgers.answers;
       one_to_one = joined.one_to_one;
       made = joined.made;
+      own = joined.generated;
     })
     line stays whole_stays types

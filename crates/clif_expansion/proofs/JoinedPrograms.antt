@@ -1,19 +1,23 @@
 -- Changes of a program with names read keep it cut.
 use Rattle.std.proofs.Common.{◌≡◌, ◌<◌, ◌≤◌, ◌⊎◌, inl, inr, ℕ, suc, Bool, true, false, List, [], ◌∷◌, ◌++◌, map, refl, sym, ◌∙◌, ap, ap₂, arith, subst, Option, Some, None, append_assoc}
-use Rattle.std.specs.Prelude.{if◌then◌else◌}
+use Rattle.std.specs.Prelude.{◌≢◌, Contains, if◌then◌else◌}
 use Rattle.std.specs.List.{AllByRecursion}
 use Rattle.std.proofs.Math.Path.{fun_ext}
 use Rattle.std.proofs.lemmas.List.{map-append}
 use Rattle.clif_meaning.specs.Instruction.{Edge, Instruction}
 use Rattle.clif_meaning.specs.Name.{Name, answer_of, same_name}
-use Rattle.clif_meaning.specs.Program.{Program, Item, Instruct, Use, Assign, first_block, redirected_edge, redirected_instruction, redirected_item, result_names, with_inserted, with_item_at}
+use Rattle.clif_meaning.specs.Program.{Program, Item, Instruct, Use, Assign, answers_from, first_block, redirected_edge, redirected_instruction, redirected_item, result_names, with_inserted, with_item_at}
+use Rattle.clif_meaning.specs.WellPlaced.{item_targets}
 use Rattle.clif_expansion.specs.Emission.{StaysInLine}
 use Rattle.clif_expansion.specs.Expansion.{AreCut, IsCutProgram, IsReadBlock}
-use Rattle.clif_expansion.specs.JoinedPrograms.{IsAsked, IsEmission, IsReadPlace, built_items}
-use Rattle.clif_expansion.specs.Reading.{Generated, IsOneToOne, IsReadAs, IsReadEdge, IsReadInstruction, IsReadItem, Reading}
-use Rattle.clif_expansion.specs.ScriptCall.{emitted_item}
+use Rattle.clif_expansion.specs.JoinedPrograms.{DecidesAlong, IsAsked, IsDecidingItem, IsEmission, IsReadPlace, IsSwitched, built_items}
+use Rattle.clif_expansion.specs.Joining.{IsUnread}
+use Rattle.clif_expansion.specs.Reading.{IsOneToOne, IsReadAs, IsReadEdge, IsReadInstruction, IsReadItem, Reading, ScriptName}
+use Rattle.clif_expansion.specs.ScriptCall.{emitted_item, emitted_types}
+use Rattle.clif_expansion.specs.Walk.{IsGenerated}
+use Rattle.clif_expansion.proofs.Among.{other_generated}
 use Rattle.clif_expansion.proofs.JoinedStates.{chosen, zip_mapped}
-use Rattle.clif_expansion.proofs.Joins.{KeepsReading, edges_later, names_later}
+use Rattle.clif_expansion.proofs.Joins.{KeepsGenerated, KeepsReading, edges_later, names_later}
 use Rattle.clif_expansion.proofs.Names.{names_equal, same_read}
 
 -- CUTS --------------------------------------------------------------------------------------------------------------------
@@ -43,20 +47,33 @@ cut_mapped P f g each plain [] cut = ap (map f) cut
 cut_mapped P f g each plain (item ∷ items) (code, rest, split, is, more) =
     (map f code, map f rest, ap (map f) split ∙ map-append f code rest, each code item is, cut_mapped P f g each rest items more)
 
--- KNOWN EMISSIONS ---------------------------------------------------------------------------------------------------------
+-- KNOWN CODE --------------------------------------------------------------------------------------------------------------
 
--- what was generated stays so
-abbrev pub KeepsGenerated : Reading → Reading → Type 0
-KeepsGenerated reading later = (x : Name) → reading x ≡ Generated → later x ≡ Generated
+-- in what was generated nothing is changed
+abbrev pub KeepsOwn : Reading → (before after : Program) → Type 0
+KeepsOwn reading before after = (x : Name) → IsGenerated reading x → (after.items x ≡ before.items x) × (after.parameters x ≡ before.parameters x)
 
 -- what is known of an emission's code stays true in a later reading
 abbrev pub LastsLater : (Reading → List Item → Item → Type 0) → Type 0
 LastsLater Known =
     (reading later : Reading) → KeepsReading reading later → KeepsGenerated reading later → (code : List Item) (item : Item) → Known reading code item → Known later code item
 
+-- and what is known of a switch's code, in a later program
+abbrev pub LastsIn : (Reading → Program → List Item → Item → Type 0) → Type 0
+LastsIn Decided =
+    (reading later : Reading) (before after : Program) → KeepsReading reading later → KeepsGenerated reading later → KeepsOwn reading before after
+    → (code : List Item) (item : Item) → Decided reading before code item → Decided later after code item
+
+-- The code of a switch that was emitted among so many calls, and what is known of it.
+pub record IsSwitchedSo (Decided : Reading → Program → List Item → Item → Type 0) (reading : Reading) (made : ℕ) (plain : Program) (code : List Item) (item : Item) : Type 0 where
+  pub switched : IsSwitched reading code item
+  pub before : switched.other < made
+  pub decided : Decided reading plain code item
+
 -- the code was called, and if it is an emission's this is known of it
-abbrev pub IsCalledSo : (Reading → List Item → Item → Type 0) → Reading → List Item → Item → Type 0
-IsCalledSo Known reading code item = IsAsked reading code item ⊎ (IsEmission reading code item × Known reading code item)
+abbrev pub IsCalledSo : (Reading → List Item → Item → Type 0) → (Reading → Program → List Item → Item → Type 0) → Reading → ℕ → Program → List Item → Item → Type 0
+IsCalledSo Known Decided reading made plain code item =
+    IsAsked reading code item ⊎ (IsEmission reading code item × Known reading code item) ⊎ IsSwitchedSo Decided reading made plain code item
 
 -- A LATER READING ---------------------------------------------------------------------------------------------------------
 
@@ -82,12 +99,53 @@ module _ (reading later : Reading) (keeps : KeepsReading reading later) where
   place_later (Assign number x) (Assign variable name) read is = tt
   place_later _ _ read is = absurd read
 
-  pub called_later : (Known : Reading → List Item → Item → Type 0) → LastsLater Known → KeepsGenerated reading later
-      → (code : List Item) (item : Item) → IsCalledSo Known reading code item → IsCalledSo Known later code item
-  called_later Known lasts generated (plain ∷ []) item (inl asked) = inl (item_later plain item asked.0, place_later plain item asked.0 asked.1)
-  called_later Known lasts generated [] item (inl asked) = absurd asked
-  called_later Known lasts generated (plain ∷ second ∷ code) item (inl asked) = absurd asked
-  called_later Known lasts generated code item (inr (is, known)) = inr (
+  along_later : KeepsGenerated reading later → (item : Item) (edges : List (Edge Name Name)) → AllByRecursion (DecidesAlong reading item) edges → AllByRecursion (DecidesAlong later item) edges
+  along_later generated item [] all = tt
+  along_later generated item (edge ∷ edges) all = (record { nothing = all.0.nothing; leads = by all.0.leads }, along_later generated item edges all.1)
+    where
+      by : IsGenerated reading edge.target ⊎ ((name : Name) × IsReadAs reading edge.target name × Contains (item_targets (Some item)) name)
+          → IsGenerated later edge.target ⊎ ((name : Name) × IsReadAs later edge.target name × Contains (item_targets (Some item)) name)
+      by (inl own) = inl (generated edge.target own)
+      by (inr (name, read, there)) = inr (name, keeps edge.target name read, there)
+
+  decider_later : KeepsGenerated reading later → (item plain : Item) → IsDecidingItem reading item plain → IsDecidingItem later item plain
+  decider_later generated item (Instruct place instruction results) is = record {
+    own = generated (answer_of place 0) is.own;
+    deciding = is.deciding;
+    contexts = is.contexts;
+    edges = along_later generated item instruction.edges is.edges;
+  }
+  decider_later generated item (Use variable name) is = absurd is
+  decider_later generated item (Assign variable name) is = absurd is
+
+  pub deciders_later : KeepsGenerated reading later → (item : Item) (code : List Item) → AllByRecursion (IsDecidingItem reading item) code → AllByRecursion (IsDecidingItem later item) code
+  deciders_later generated item [] all = tt
+  deciders_later generated item (plain ∷ code) all = (decider_later generated item plain all.0, deciders_later generated item code all.1)
+
+  pub called_later : (Known : Reading → List Item → Item → Type 0) (Decided : Reading → Program → List Item → Item → Type 0) → LastsLater Known → LastsIn Decided
+      → KeepsGenerated reading later → (made further : ℕ) → ((name : Name) → IsUnread reading made name → IsUnread later further name)
+      → (before after : Program) → KeepsOwn reading before after
+      → (code : List Item) (item : Item) → IsCalledSo Known Decided reading made before code item → IsCalledSo Known Decided later further after code item
+  called_later Known Decided lasts lasts_in generated made further unread before after own (plain ∷ []) item (inl asked) = inl (item_later plain item asked.0, place_later plain item asked.0 asked.1)
+  called_later Known Decided lasts lasts_in generated made further unread before after own [] item (inl asked) = absurd asked
+  called_later Known Decided lasts lasts_in generated made further unread before after own (plain ∷ second ∷ code) item (inl asked) = absurd asked
+  called_later Known Decided lasts lasts_in generated made further unread before after own code item (inr (inr is)) =
+      let still = unread (answer_of is.switched.other 0) (record { unread = is.switched.unread; before = is.before }) in
+      inr (inr (record {
+        switched = record {
+          other = is.switched.other;
+          keys = is.switched.keys;
+          switch = is.switched.switch;
+          is_switch = is.switched.is_switch;
+          nothing = is.switched.nothing;
+          emitted = is.switched.emitted;
+          unread = still.unread;
+          decides = deciders_later generated item code is.switched.decides;
+        };
+        before = still.before;
+        decided = lasts_in reading later before after keeps generated own code item is.decided;
+      }))
+  called_later Known Decided lasts lasts_in generated made further unread before after own code item (inr (inl (is, known))) = inr (inl (
     record {
       place = is.place;
       instructions = is.instructions;
@@ -101,7 +159,7 @@ module _ (reading later : Reading) (keeps : KeepsReading reading later) where
       results = names_later reading later keeps _ _ is.results;
     },
     lasts reading later keeps generated code item known,
-  )
+  ))
 
 -- CHANGED EDGES -----------------------------------------------------------------------------------------------------------
 
@@ -123,6 +181,28 @@ unchanged_line branch from to place [] line = refl
 unchanged_line branch from to place (instruction ∷ code) line =
     ap₂ (λ (first : Item) (rest : List Item). first ∷ rest) (unchanged branch from to place instruction (result_names place instruction) line.0)
     (unchanged_line branch from to (suc place) code line.1)
+
+-- what was generated has no edge that changes, where the branch is one that is read
+pub own_unchanged : (reading : Reading) (jump branch at there : Name) → IsReadAs reading jump branch → (item : Item) (code : List Item) → AllByRecursion (IsDecidingItem reading item) code
+    → map (redirected_item jump at there) code ≡ code
+own_unchanged reading jump branch at there read item [] all = refl
+own_unchanged reading jump branch at there read item (Instruct place instruction results ∷ code) all =
+    ap₂ (λ (first : Item) (rest : List Item). first ∷ rest)
+    (ap (λ (c : Bool). Instruct place (if c then redirected_instruction at there instruction else instruction) results) (other_generated reading jump (answer_of place 0) branch read all.0.own))
+    (own_unchanged reading jump branch at there read item code all.1)
+own_unchanged reading jump branch at there read item (Use variable name ∷ code) all = absurd all.0
+own_unchanged reading jump branch at there read item (Assign variable name ∷ code) all = absurd all.0
+
+-- and neither has a switch that was emitted
+pub switch_unchanged : (reading : Reading) (jump branch from to : Name) → IsReadAs reading jump branch → (other : ℕ) (switch : Instruction Name Name)
+    → ((x : Name) → reading x ≢ ScriptName (answer_of other 0)) → redirected_item branch from to (emitted_item other switch) ≡ emitted_item other switch
+switch_unchanged reading jump branch from to read other switch unread =
+    ap (λ (c : Bool). Instruct other (if c then redirected_instruction from to switch else switch) (answers_from other 0 (emitted_types switch)))
+    (by (same_name (answer_of other 0) branch) refl)
+  where
+    by : (c : Bool) → same_name (answer_of other 0) branch ≡ c → c ≡ false
+    by true same = absurd (unread jump (read ∙ ap ScriptName (sym (names_equal (answer_of other 0) branch same))))
+    by false same = refl
 
 module _ (reading : Reading) (one_to_one : IsOneToOne reading) (jump branch at from there to : Name)
     (is_jump : IsReadAs reading jump branch) (is_at : IsReadAs reading at from) (is_there : IsReadAs reading there to) where
@@ -158,16 +238,23 @@ module _ (reading : Reading) (one_to_one : IsOneToOne reading) (jump branch at f
   item_redirected (Assign number x) (Assign variable name) is = is
   item_redirected _ _ is = absurd is.0
 
-  pub called_redirected : (Known : Reading → List Item → Item → Type 0) (code : List Item) (item : Item) → IsCalledSo Known reading code item
-      → IsCalledSo Known reading (map (redirected_item jump at there) code) (redirected_item branch from to item)
-  called_redirected Known (plain ∷ []) item (inl asked) = inl (item_redirected plain item asked)
-  called_redirected Known [] item (inl asked) = absurd asked
-  called_redirected Known (plain ∷ second ∷ code) item (inl asked) = absurd asked
-  called_redirected Known code item (inr (is, known)) =
+  pub called_redirected : (Known : Reading → List Item → Item → Type 0) (Decided : Reading → Program → List Item → Item → Type 0) (made : ℕ) (plain : Program)
+      (code : List Item) (item : Item) → IsCalledSo Known Decided reading made plain code item
+      → IsCalledSo Known Decided reading made plain (map (redirected_item jump at there) code) (redirected_item branch from to item)
+  called_redirected Known Decided made program (plain ∷ []) item (inl asked) = inl (item_redirected plain item asked)
+  called_redirected Known Decided made program [] item (inl asked) = absurd asked
+  called_redirected Known Decided made program (plain ∷ second ∷ code) item (inl asked) = absurd asked
+  called_redirected Known Decided made program code item (inr (inr is)) =
+      let same_code : map (redirected_item jump at there) code ≡ code = own_unchanged reading jump branch at there is_jump item code is.switched.decides in
+      let same_item : redirected_item branch from to item ≡ item =
+      ap (redirected_item branch from to) is.switched.emitted ∙ switch_unchanged reading jump branch from to is_jump is.switched.other is.switched.switch is.switched.unread ∙ sym is.switched.emitted in
+      subst (λ (xs : List Item). IsCalledSo Known Decided reading made program xs (redirected_item branch from to item)) (sym same_code)
+      (subst (λ (i : Item). IsCalledSo Known Decided reading made program code i) (sym same_item) (inr (inr is)))
+  called_redirected Known Decided made program code item (inr (inl (is, known))) =
       let same_code : map (redirected_item jump at there) code ≡ built_items is.place (is.instructions ++ is.last ∷ []) =
       ap (map (redirected_item jump at there)) is.built ∙ unchanged_line jump at there is.place (is.instructions ++ is.last ∷ []) is.line in
       let same_item : redirected_item branch from to item ≡ emitted_item is.other is.whole = ap (redirected_item branch from to) is.emitted ∙ unchanged branch from to is.other is.whole _ is.stays in
-      inr (
+      inr (inl (
         record {
           place = is.place;
           instructions = is.instructions;
@@ -182,7 +269,7 @@ module _ (reading : Reading) (one_to_one : IsOneToOne reading) (jump branch at f
         },
         subst (λ (xs : List Item). Known reading xs (redirected_item branch from to item)) (is.built ∙ sym same_code)
             (subst (λ (x : Item). Known reading code x) (is.emitted ∙ sym same_item) known),
-      )
+      ))
 
 -- PROGRAMS ----------------------------------------------------------------------------------------------------------------
 

@@ -160,7 +160,7 @@ pub examples : (world : World) → JoinedRunExamples world
 examples world = record {
   performed = (
     _,
-    (constant_calls_are_performed.adds (pos 7)).joined ScriptCalls.begun.0 begun_script begun_calls i32 (answer_of 2 1) (answer_of 2 1) ScriptCalls.begun.1,
+    (constant_calls_are_performed.adds (pos 7)).joined ScriptCalls.begun.0 begun_script begun_calls i32 (answer_of 2 1) (answer_of 2 1) ScriptCalls.begun.1 refl,
     (constant_calls_are_performed.adds (pos 7)).performed world.pointer_width ScriptCalls.begun.0 begun_script begun_calls i32 (answer_of 2 1) (answer_of 2 1) ScriptCalls.begun.1 tt refl refl,
   );
   sound_calls = sound_calls world;

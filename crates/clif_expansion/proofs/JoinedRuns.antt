@@ -1,39 +1,43 @@
 -- Joined calls whose emissions are performed have a run that the plain calls' run expands.
-use Rattle.std.proofs.Common.{◌≡◌, ◌+◌, inl, inr, ℕ, suc, Bool, List, [], ◌∷◌, ◌++◌, length, map, refl, sym, ◌∙◌, ap, subst, arith, append_assoc}
+use Rattle.std.proofs.Common.{◌≡◌, ◌<◌, ◌+◌, inl, inr, ℕ, suc, Bool, List, [], ◌∷◌, ◌++◌, length, map, refl, sym, ◌∙◌, ap, subst, arith, append_assoc}
 use Rattle.std.specs.Prelude.{fold, slice_get}
-use Rattle.std.specs.List.{AllZip}
+use Rattle.std.specs.List.{AllByRecursion, AllZip}
 use Rattle.clif_meaning.specs.FunctionView.{FunctionView}
 use Rattle.clif_meaning.specs.Headline.{in_spill_slot, script_run}
 use Rattle.clif_meaning.specs.Instruction.{Instruction}
 use Rattle.clif_meaning.specs.Ledger.{Ledger, VariableState, answers_to, empty_ledger, is_marked, ledger_after, ledger_with, marked, or_invalid, type_of}
 use Rattle.clif_meaning.specs.Name.{Name, answer_of}
-use Rattle.clif_meaning.specs.Program.{Program, Item, program_of}
+use Rattle.clif_meaning.specs.Program.{Program, Item, empty_program, program_of, with_call}
 use Rattle.clif_meaning.specs.Request.{Request, CreateBlock, SwitchToBlock, SealBlock, SealAllBlocks, InsertBlockAfter, SetColdBlock, EnsureInsertedBlock, AppendBlockParams, AppendFunctionParams, DeclareVar, DefVar, UseVar, MakeEntry, MakeEdge, MakeJumpTable, MakeExceptionTable, Annotate, Build, ChangeJumpDestination, Finalize, Script}
 use Rattle.clif_meaning.specs.Tracked.{tracked_by, tracked_from}
 use Rattle.clif_meaning.specs.World.{World}
-use Rattle.clif_expansion.specs.Code.{Does, NameTypes, PerformsItem}
-use Rattle.clif_expansion.specs.Emission.{building, reading_emitted}
+use Rattle.clif_expansion.specs.Code.{DecidesItem, Does, NameTypes, PerformsItem}
+use Rattle.clif_expansion.specs.Emission.{building, reading_across, reading_emitted}
 use Rattle.clif_expansion.specs.Expansion.{IsCutProgram, IsExpandedRun, types_in}
-use Rattle.clif_expansion.specs.JoinedCalls.{AreJoinedCalls, Asking, Emitting, Starting}
+use Rattle.clif_expansion.specs.JoinedCalls.{AreJoinedCalls, Asking, Emitting, Starting, Switching}
 use Rattle.clif_expansion.specs.JoinedRuns.{JoinedCallsMeanTheSame, calls_run, tracked_by_call, tracked_by_calls}
 use Rattle.clif_expansion.specs.Joining.{IsJoined, IsReadRequest, answers_at, reading_after}
 use Rattle.clif_expansion.specs.Laying.{IsLaid, IsLaidProgram}
 use Rattle.clif_expansion.specs.PerformedCalls.{ArePerformed, HaveTypes}
 use Rattle.clif_expansion.specs.Reading.{IsReadAs, Reading}
 use Rattle.clif_expansion.specs.ScriptCall.{Ask, Emit, ScriptCall, call_answers, ledger_of, ledger_with_call, program_of_calls}
-use Rattle.clif_expansion.proofs.CalledPrograms.{EachKnown, go}
+use Rattle.clif_expansion.specs.Switching.{IsDecidingCall, targets_of}
+use Rattle.clif_expansion.proofs.Across.{across_before}
+use Rattle.clif_expansion.proofs.DecidingPrograms.{AllBuilt}
 use Rattle.clif_expansion.proofs.EmittedPrograms.{emitted_before, one_longer}
-use Rattle.clif_expansion.proofs.JoinedCalls.{fold_on, joined_calls}
-use Rattle.clif_expansion.proofs.JoinedPrograms.{IsCalledSo, LastsLater, cut_each}
+use Rattle.clif_expansion.proofs.JoinedCalls.{calls_made, current_read, fold_on, joined_calls}
+use Rattle.clif_expansion.proofs.JoinedPrograms.{IsCalledSo, LastsIn, LastsLater, cut_each}
 use Rattle.clif_expansion.proofs.JoinedStates.{any_read, chosen, zip_joined}
 use Rattle.clif_expansion.proofs.Joins
 use Rattle.clif_expansion.proofs.Joins.{KeepsReading, names_later, read_there}
 use Rattle.clif_expansion.proofs.LaidCodes
 use Rattle.clif_expansion.proofs.LaidPaths
-use Rattle.clif_expansion.proofs.LaterCodes.{item_performed_later, laid_later}
+use Rattle.clif_expansion.proofs.LaterCodes.{item_decides_later, item_performed_later, laid_later}
 use Rattle.clif_expansion.proofs.LedgerTypes.{call_types_before, types_before}
+use Rattle.clif_expansion.proofs.ProgramsOfCalls.{EachKnown, currents_same, go, joined_bare, script_place}
 use Rattle.clif_expansion.proofs.ReadConditions
 use Rattle.clif_expansion.proofs.Same
+use Rattle.clif_expansion.proofs.SwitchCodes
 
 -- PERFORMED ---------------------------------------------------------------------------------------------------------------
 
@@ -45,19 +49,40 @@ module _ (pointer_width : ℕ) (types : NameTypes) where
   lasts : LastsLater IsDone
   lasts reading later keeps generated code item is = (
     item_performed_later reading later keeps generated pointer_width types code item is.0,
-    λ program. laid_later reading later keeps generated program code item (is.1 program),
+    λ program. laid_later reading later keeps generated program program (λ x own. (refl, refl)) code item (is.1 program),
   )
+
+  -- and of each switch's
+  abbrev IsDecided : Reading → Program → List Item → Item → Type 0
+  IsDecided reading program code item = DecidesItem pointer_width reading types program code item × IsLaid reading program code item
+
+  lasts_in : LastsIn IsDecided
+  lasts_in reading later before after keeps generated own code item is = (
+    item_decides_later reading later keeps generated before after own pointer_width types code item is.0,
+    laid_later reading later keeps generated before after own code item is.1,
+  )
+
+  abbrev anything : Item → Type 0
+  anything item = Unit {0}
+
+  all_anything : (place : ℕ) (more : Script) → AllBuilt anything place more
+  all_anything place [] = tt
+  all_anything place (Build entries instruction ∷ more) = (tt, all_anything (suc place) more)
+  all_anything place (_ ∷ more) = all_anything (suc place) more
+
+  abbrev IsCalledHere : Reading → ℕ → Program → List Item → Item → Type 0
+  IsCalledHere reading made program code item = IsCalledSo IsDone IsDecided reading made program code item
 
   each_done : (reading : Reading) (plain : Script) (calls : List ScriptCall) (are : AreJoinedCalls reading plain calls)
       → HaveTypes (ledger_after plain) types.plain → HaveTypes (ledger_of calls) types.script → ArePerformed pointer_width reading plain calls are
-      → EachKnown IsDone lasts reading plain calls are
+      → EachKnown IsDone lasts IsDecided lasts_in anything reading plain calls are
   each_done reading plain calls Starting have' have are = tt
-  each_done reading plain calls (Asking old script earlier ask request are is) have' have done =
+  each_done reading plain calls (Asking old script earlier ask request are is placed) have' have done =
       each_done old script earlier are
       (types_before (ledger_after script) (ask ∷ []) types.plain (subst (λ (l : Ledger). HaveTypes l types.plain) (fold_on ledger_with empty_ledger script (ask ∷ [])) have'))
       (call_types_before (ledger_of earlier) (Ask request) types.script (subst (λ (l : Ledger). HaveTypes l types.script) (fold_on ledger_with_call empty_ledger earlier (Ask request ∷ [])) have))
       done
-  each_done reading plain calls (Emitting old script earlier code last whole are line stays whole_stays same) have' have done =
+  each_done reading plain calls (Emitting old script earlier code last whole are placed line stays whole_stays same) have' have done =
       let behind' : HaveTypes (fold ledger_with (ledger_after script) (map building code ++ building last ∷ [])) types.plain =
       subst (λ (l : Ledger). HaveTypes l types.plain) (fold_on ledger_with empty_ledger script (map building code ++ building last ∷ [])) have' in
       let after : HaveTypes (ledger_with_call (ledger_of earlier) (Emit whole)) types.script =
@@ -67,25 +92,46 @@ module _ (pointer_width : ℕ) (types : NameTypes) where
             (call_types_before (ledger_of earlier) (Emit whole) types.script after) done.0,
         (done.1.performs types behind' after, done.1.laid),
       )
+  each_done reading plain calls (Switching old script more earlier block value ty keys edges switch branches tables are at placed is code) have' have done =
+      let joined = joined_calls old script earlier are in
+      let here = current_read old (ledger_after script) (ledger_of earlier) (ledger_after script).current (ledger_of earlier).current block joined.ledgers.states.current at placed in
+      let after : HaveTypes (ledger_with_call (ledger_of earlier) (Emit switch)) types.script =
+      subst (λ (l : Ledger). HaveTypes l types.script) (fold_on ledger_with_call empty_ledger earlier (Emit switch ∷ [])) have in
+      let before : HaveTypes (ledger_of earlier) types.script = call_types_before (ledger_of earlier) (Emit switch) types.script after in
+      let before' : HaveTypes (ledger_after script) types.plain =
+      types_before (ledger_after script) more types.plain (subst (λ (l : Ledger). HaveTypes l types.plain) (fold_on ledger_with empty_ledger script more) have') in (
+        each_done old script earlier are before' before done,
+        (
+          SwitchCodes.item_decides old script more (ledger_of earlier) joined block here.0 value ty keys edges switch branches tables at here.1 here.2 is code (calls_made script)
+              (fold_on ledger_with empty_ledger script more) (currents_same script) (script_place script ∙ calls_made script) (fold_on with_call empty_program script more) (joined_bare old script earlier are)
+              pointer_width types have' before,
+          SwitchCodes.laid old script more (ledger_of earlier) joined block here.0 value ty keys edges switch branches tables at here.1 here.2 is code (calls_made script)
+              (fold_on ledger_with empty_ledger script more) (currents_same script) (script_place script ∙ calls_made script) (fold_on with_call empty_program script more) (joined_bare old script earlier are),
+        ),
+        all_anything (length script) more,
+      )
 
-  does : (reading : Reading) (program : Program) (code : List Item) (item : Item) → IsCalledSo IsDone reading code item → Does pointer_width reading types program code item
-  does reading program (plain ∷ []) item (inl asked) = inl asked.0
-  does reading program [] item (inl asked) = absurd asked
-  does reading program (plain ∷ second ∷ code) item (inl asked) = absurd asked
-  does reading program code item (inr (is, known)) = inr (inl known.0)
+  does : (reading : Reading) (made : ℕ) (program : Program) (code : List Item) (item : Item) → IsCalledHere reading made program code item → Does pointer_width reading types program code item
+  does reading made program (plain ∷ []) item (inl asked) = inl asked.0
+  does reading made program [] item (inl asked) = absurd asked
+  does reading made program (plain ∷ second ∷ code) item (inl asked) = absurd asked
+  does reading made program code item (inr (inl (is, known))) = inr (inl known.0)
+  does reading made program code item (inr (inr is)) = inr (inr is.decided.0)
 
-  laid : (reading : Reading) (program : Program) (code : List Item) (item : Item) → IsCalledSo IsDone reading code item → IsLaid reading program code item
-  laid reading program (plain ∷ []) item (inl asked) = LaidCodes.itself reading program (plain ∷ []) item asked.0
-  laid reading program [] item (inl asked) = absurd asked
-  laid reading program (plain ∷ second ∷ code) item (inl asked) = absurd asked
-  laid reading program code item (inr (is, known)) = known.1 program
+  laid : (reading : Reading) (made : ℕ) (program : Program) (code : List Item) (item : Item) → IsCalledHere reading made program code item → IsLaid reading program code item
+  laid reading made program (plain ∷ []) item (inl asked) = LaidCodes.itself reading program (plain ∷ []) item asked.0
+  laid reading made program [] item (inl asked) = absurd asked
+  laid reading made program (plain ∷ second ∷ code) item (inl asked) = absurd asked
+  laid reading made program code item (inr (inl (is, known))) = known.1 program
+  laid reading made program code item (inr (inr is)) = is.decided.1
 
-  recut : (reading : Reading) (Stands : List Item → Item → Type 0) → ((code : List Item) (item : Item) → IsCalledSo IsDone reading code item → Stands code item)
-      → (plain program : Program) → IsCutProgram reading (IsCalledSo IsDone reading) plain program → IsCutProgram reading Stands plain program
-  recut reading Stands each plain program cut = record {
+  recut : (reading : Reading) (made : ℕ) (plain program : Program) (Stands : List Item → Item → Type 0)
+      → ((code : List Item) (item : Item) → IsCalledHere reading made plain code item → Stands code item)
+      → IsCutProgram reading (IsCalledHere reading made plain) plain program → IsCutProgram reading Stands plain program
+  recut reading made plain program Stands each cut = record {
     entry = cut.entry;
     parameters = cut.parameters;
-    items = λ x block is. cut_each (IsCalledSo IsDone reading) Stands each (plain.items x) (program.items block) (cut.items x block is);
+    items = λ x block is. cut_each (IsCalledHere reading made plain) Stands each (plain.items x) (program.items block) (cut.items x block is);
   }
 
 -- TRACKED NAMES -----------------------------------------------------------------------------------------------------------
@@ -180,10 +226,21 @@ module _ (marks' marks : Ledger) (same : (v : ℕ) → is_marked marks' v ≡ is
       (subst (λ (xs : List Name). AllZip (IsReadAs reading) (tracked_from marks' 0 script ++ tracked_from marks' (length script) more) xs) (sym (calls_tracked_last marks earlier further))
       (zip_joined (IsReadAs reading) (tracked_from marks' 0 script) (tracked_from marks' (length script) more) (tracked_by_calls marks 0 earlier) (tracked_by_calls marks (length earlier) further) before last))
 
+  -- what decides tracks nothing
+  none_tracked : (base tables : ℕ) (targets : List Name) (place : ℕ) (more : Script) → AllByRecursion (IsDecidingCall base tables targets) more → tracked_from marks' place more ≡ []
+  none_tracked base tables targets place [] deciding = refl
+  none_tracked base tables targets place (CreateBlock ∷ more) deciding = none_tracked base tables targets (suc place) more deciding.1
+  none_tracked base tables targets place (SwitchToBlock x ∷ more) deciding = none_tracked base tables targets (suc place) more deciding.1
+  none_tracked base tables targets place (SealBlock x ∷ more) deciding = none_tracked base tables targets (suc place) more deciding.1
+  none_tracked base tables targets place (MakeEdge edge ∷ more) deciding = none_tracked base tables targets (suc place) more deciding.1
+  none_tracked base tables targets place (MakeJumpTable default entries ∷ more) deciding = none_tracked base tables targets (suc place) more deciding.1
+  none_tracked base tables targets place (Build entries instruction ∷ more) deciding = none_tracked base tables targets (suc place) more deciding.1
+  none_tracked base tables targets place (_ ∷ more) deciding = absurd deciding.0
+
   pub tracked : (reading : Reading) (plain : Script) (calls : List ScriptCall) → AreJoinedCalls reading plain calls
       → AllZip (IsReadAs reading) (tracked_from marks' 0 plain) (tracked_by_calls marks 0 calls)
   tracked reading plain calls Starting = tt
-  tracked reading plain calls (Asking old script earlier ask request are is) =
+  tracked reading plain calls (Asking old script earlier ask request are is placed) =
       let joined = joined_calls old script earlier are in
       let places' : length (ledger_after script).answers ≡ length script = calls_behind script empty_ledger ∙ from_zero (length script) in
       let places : length (ledger_of earlier).answers ≡ length earlier = calls_behind_calls earlier empty_ledger ∙ from_zero (length earlier) in
@@ -193,13 +250,23 @@ module _ (marks' marks : Ledger) (same : (v : ℕ) → is_marked marks' v ≡ is
       (subst (λ (n : ℕ). AllZip (IsReadAs (reading_after old (ledger_after script) (ledger_of earlier))) (tracked_by marks' n ask) (tracked_by marks (length earlier) request)) places'
       (subst (λ (n : ℕ). AllZip (IsReadAs (reading_after old (ledger_after script) (ledger_of earlier))) (tracked_by marks' (length (ledger_after script).answers) ask) (tracked_by marks n request)) places
       (call_tracks old (ledger_after script) (ledger_of earlier) joined ask request is))) tt)
-  tracked reading plain calls (Emitting old script earlier code last whole are line stays whole_stays types) =
+  tracked reading plain calls (Emitting old script earlier code last whole are placed line stays whole_stays types) =
       let joined = joined_calls old script earlier are in
       let keeps : KeepsReading old (reading_emitted old (ledger_after script) (ledger_of earlier) code) =
       λ x name is. emitted_before old (ledger_after script) (ledger_of earlier) code x (joined.made x name is).0 ∙ is in
       behind (reading_emitted old (ledger_after script) (ledger_of earlier) code) script (map building code ++ building last ∷ []) earlier (Emit whole ∷ [])
       (names_later old (reading_emitted old (ledger_after script) (ledger_of earlier) code) keeps _ _ (tracked old script earlier are))
       (subst (λ (xs : List Name). AllZip (IsReadAs (reading_emitted old (ledger_after script) (ledger_of earlier) code)) xs []) (sym (built_track marks' (length script) code last)) tt)
+  tracked reading plain calls (Switching old script more earlier block value ty keys edges switch branches tables are at placed is code) =
+      let joined = joined_calls old script earlier are in
+      let across : Reading = reading_across old (length script) (length more) in
+      let made = calls_made script in
+      let keeps : KeepsReading old across =
+      λ x name is. let below : x.place < length (ledger_after script).answers = (joined.made x name is).0 in
+      across_before old (length script) (length more) x (omega (arith, below, made)) ∙ is in
+      behind across script more earlier (Emit switch ∷ [])
+      (names_later old across keeps _ _ (tracked old script earlier are))
+      (subst (λ (xs : List Name). AllZip (IsReadAs across) xs []) (sym (none_tracked (length script) (length (ledger_after script).jump_tables) (targets_of edges) (length script) more code.calls)) tt)
 
 -- RUNS --------------------------------------------------------------------------------------------------------------------
 
@@ -220,9 +287,9 @@ module _ (reading : Reading) (plain : Script) (calls : List ScriptCall) (are : A
   run : IsExpandedRun reading (script_run plain function world) (calls_run calls hidden world)
   run = record {
     one_to_one = joined.one_to_one;
-    program = recut world.pointer_width types reading (Does world.pointer_width reading types (program_of plain)) (does world.pointer_width types reading (program_of plain))
-        (program_of plain) (program_of_calls calls)
-        (go (IsDone world.pointer_width types) (lasts world.pointer_width types) reading plain calls are
+    program = recut world.pointer_width types reading (length (ledger_of calls).answers) (program_of plain) (program_of_calls calls) (Does world.pointer_width reading types (program_of plain))
+        (does world.pointer_width types reading (length (ledger_of calls).answers) (program_of plain))
+        (go (IsDone world.pointer_width types) (lasts world.pointer_width types) (IsDecided world.pointer_width types) (lasts_in world.pointer_width types) (anything world.pointer_width types) reading plain calls are
         (each_done world.pointer_width types reading plain calls are (λ x ty is. ap or_invalid is) (λ x ty is. ap or_invalid is) done)).cut;
     variable_type = λ v. ap or_invalid (ReadConditions.variable_same reading (ledger_after plain) (ledger_of calls) joined.ledgers joined.one_to_one v v refl);
     name_type = λ x name is. ap or_invalid (ReadConditions.type_same reading (ledger_after plain) (ledger_of calls) joined.ledgers joined.one_to_one x name is);
@@ -240,9 +307,9 @@ module _ (pointer_width : ℕ) (reading : Reading) (plain : Script) (calls : Lis
 
   laid_program : IsLaidProgram reading (program_of plain) (program_of_calls calls)
   laid_program =
-      recut pointer_width ledger_types reading (IsLaid reading (program_of plain)) (laid pointer_width ledger_types reading (program_of plain))
-      (program_of plain) (program_of_calls calls)
-      (go (IsDone pointer_width ledger_types) (lasts pointer_width ledger_types) reading plain calls are
+      recut pointer_width ledger_types reading (length (ledger_of calls).answers) (program_of plain) (program_of_calls calls) (IsLaid reading (program_of plain))
+      (laid pointer_width ledger_types reading (length (ledger_of calls).answers) (program_of plain))
+      (go (IsDone pointer_width ledger_types) (lasts pointer_width ledger_types) (IsDecided pointer_width ledger_types) (lasts_in pointer_width ledger_types) (anything pointer_width ledger_types) reading plain calls are
       (each_done pointer_width ledger_types reading plain calls are (λ x ty is. ap or_invalid is) (λ x ty is. ap or_invalid is) done)).cut
 
 pub joined_mean : JoinedCallsMeanTheSame

@@ -13,9 +13,11 @@ use Rattle.clif_meaning.specs.Name.{Name, answer_of}
 use Rattle.clif_meaning.specs.Program.{result_types}
 use Rattle.clif_meaning.specs.Request.{Request, CreateBlock, SwitchToBlock, SealBlock, SealAllBlocks, InsertBlockAfter, SetColdBlock, EnsureInsertedBlock, AppendBlockParams, AppendFunctionParams, DeclareVar, DefVar, UseVar, MakeEntry, MakeEdge, MakeJumpTable, MakeExceptionTable, Annotate, GivenEntry, TableItem, TagTo, DefaultTo, InContext, Build, ChangeJumpDestination, Finalize}
 use Rattle.clif_expansion.specs.Expansion.{IsReadBlock}
-use Rattle.clif_expansion.specs.Joining.{AreJoinedStates, AskingKeepsJoins, IsJoined, IsReadAnswer, IsReadException, IsReadExceptionTable, IsReadRequest, IsReadState, IsReadTable, IsReadTableItem, answers_at, reading_after, reading_with}
-use Rattle.clif_expansion.specs.Reading.{IsOneToOne, IsReadArgument, IsReadAs, IsReadEdge, IsReadInstruction, NotMade, Reading, ScriptName, StandsFor}
-use Rattle.clif_expansion.proofs.JoinedStates.{begun_read, built_read, changed_read, maps_same, put_read, redirected_read, served_read, tried_read, zip_each, zip_flattened, zip_joined, zip_mapped}
+use Rattle.clif_expansion.specs.Joining.{AreJoinedStates, AskingKeepsJoins, Both, IsJoined, IsOwnState, IsReadAnswer, IsReadCurrent, IsReadException, IsReadExceptionTable, IsReadLayout, IsReadRequest, IsReadState, IsReadTable, IsReadTableItem, IsUnread, NoMore, NoneLeads, answers_at, reading_after, reading_with}
+use Rattle.clif_expansion.specs.Reading.{Generated, IsOneToOne, IsReadArgument, IsReadAs, IsReadEdge, IsReadInstruction, NotMade, Reading, ScriptName, StandsFor}
+use Rattle.clif_expansion.specs.Walk.{IsGenerated}
+use Rattle.clif_expansion.proofs.Among.{among_each, among_joined, ended_joined, keeps_cold, keeps_redirecting, keeps_sealing, keeps_taking, leading_later}
+use Rattle.clif_expansion.proofs.JoinedStates.{all_changed, begun_read, built_read, changed_read, maps_same, put_read, redirected_read, served_read, tried_read, zip_each, zip_flattened, zip_joined}
 use Rattle.clif_expansion.proofs.Names.{same_script}
 
 -- A LATER READING ---------------------------------------------------------------------------------------------------------
@@ -23,6 +25,10 @@ use Rattle.clif_expansion.proofs.Names.{same_script}
 -- what is read later is read as before
 abbrev pub KeepsReading : Reading → Reading → Type 0
 KeepsReading reading later = (x name : Name) → IsReadAs reading x name → IsReadAs later x name
+
+-- what was generated stays so
+abbrev pub KeepsGenerated : Reading → Reading → Type 0
+KeepsGenerated reading later = (x : Name) → reading x ≡ Generated → later x ≡ Generated
 
 module _ (reading later : Reading) (keeps : KeepsReading reading later) where
   argument_later : (argument' argument : Argument Name) → IsReadArgument reading argument' argument → IsReadArgument later argument' argument
@@ -65,33 +71,11 @@ module _ (reading later : Reading) (keeps : KeepsReading reading later) where
   exception_later None (Some table) is = absurd is
   exception_later (Some table') None is = absurd is
 
-  state_later : (state' state : BlockState) → IsReadState reading state' state → IsReadState later state' state
-  state_later state' state is = record {
-    block = keeps state'.block state.block is.block;
-    parameters = is.parameters;
-    is_pristine = is.is_pristine;
-    is_filled = is.is_filled;
-    is_sealed = is.is_sealed;
-    is_cold = is.is_cold;
-    predecessors = names_later state'.predecessors state.predecessors is.predecessors;
-  }
-
   pub block_later : (block' block : Option Name) → IsReadBlock reading block' block → IsReadBlock later block' block
   block_later None None is = tt
   block_later (Some x) (Some block) is = keeps x block is
   block_later None (Some block) is = absurd is
   block_later (Some x) None is = absurd is
-
-  pub states_later : (plain ledger : Ledger) → AreJoinedStates reading plain ledger → AreJoinedStates later plain ledger
-  states_later plain ledger are = record {
-    blocks = zip_each (IsReadState reading) (IsReadState later) state_later plain.blocks ledger.blocks are.blocks;
-    current = block_later plain.current ledger.current are.current;
-    layout = names_later plain.layout ledger.layout are.layout;
-    variables = are.variables;
-    jump_tables = zip_each (IsReadTable reading) (IsReadTable later) table_later plain.jump_tables ledger.jump_tables are.jump_tables;
-    exception_tables = zip_each (IsReadException reading) (IsReadException later) exception_later plain.exception_tables ledger.exception_tables are.exception_tables;
-    tables = are.tables;
-  }
 
   pub answer_later : (answer' answer : Option Answered) → IsReadAnswer reading answer' answer → IsReadAnswer later answer' answer
   answer_later None None is = tt
@@ -104,6 +88,56 @@ module _ (reading later : Reading) (keeps : KeepsReading reading later) where
   answer_later (Some (AJumpTable n')) (Some (AJumpTable n)) is = is
   answer_later (Some (AnExceptionTable n')) (Some (AnExceptionTable n)) is = is
   answer_later _ _ is = absurd is
+
+-- So it is, what was generated stays so, and what no name is read as, of so many calls, no name is read as.
+pub record GoesOn (reading later : Reading) (made further : ℕ) : Type 0 where
+  pub keeps : KeepsReading reading later
+  pub generated : KeepsGenerated reading later
+  pub unread : (name : Name) → IsUnread reading made name → IsUnread later further name
+
+module _ (reading later : Reading) (made further : ℕ) (on : GoesOn reading later made further) where
+  state_later : (state' state : BlockState) → IsReadState reading made state' state → IsReadState later further state' state
+  state_later state' state is = record {
+    block = on.keeps state'.block state.block is.block;
+    parameters = is.parameters;
+    is_pristine = is.is_pristine;
+    is_filled = is.is_filled;
+    is_sealed = is.is_sealed;
+    is_cold = is.is_cold;
+    predecessors = leading_later reading later made further on.keeps on.generated on.unread state'.predecessors state.predecessors is.predecessors;
+  }
+
+  own_later : (state : BlockState) → IsOwnState reading state → IsOwnState later state
+  own_later state own = record { block = on.generated state.block own.block; is_filled = own.is_filled; is_sealed = own.is_sealed }
+
+  pub current_later : (plain : Ledger) (current' current : Option Name) → IsReadCurrent reading plain current' current → IsReadCurrent later plain current' current
+  current_later plain None None is = tt
+  current_later plain (Some x) (Some block) is = on.keeps x block is
+  current_later plain (Some x) None is = (λ none. made_later (reading x) refl none, is.1)
+    where
+      made_later : (stands : StandsFor) → reading x ≡ stands → later x ≡ NotMade → ⊥
+      made_later NotMade was none = is.0 was
+      made_later Generated was none = let apart : Generated ≡ NotMade = sym (on.generated x was) ∙ none in cc
+      made_later (ScriptName name) was none = let apart : ScriptName name ≡ NotMade = sym (on.keeps x name was) ∙ none in cc
+  current_later plain None (Some block) is = absurd is
+
+  layout_later : (layout' layout : List Name) → IsReadLayout reading layout' layout → IsReadLayout later layout' layout
+  layout_later [] [] are = tt
+  layout_later (x ∷ layout') (block ∷ layout) are =
+      (on.keeps x block are.0, among_each (IsReadAs reading) (IsGenerated reading) (IsReadAs later) (IsGenerated later) on.keeps on.generated layout' layout are.1)
+  layout_later [] (block ∷ layout) are = absurd are
+  layout_later (x ∷ layout') [] are = absurd are
+
+  pub states_later : (plain ledger : Ledger) → AreJoinedStates reading made plain ledger → AreJoinedStates later further plain ledger
+  states_later plain ledger are = record {
+    blocks = among_each (IsReadState reading made) (IsOwnState reading) (IsReadState later further) (IsOwnState later) state_later own_later plain.blocks ledger.blocks are.blocks;
+    current = current_later plain plain.current ledger.current are.current;
+    layout = layout_later plain.layout ledger.layout are.layout;
+    variables = are.variables;
+    jump_tables = zip_each (IsReadTable reading) (IsReadTable later) (table_later reading later on.keeps) plain.jump_tables ledger.jump_tables are.jump_tables;
+    exception_tables = zip_each (IsReadException reading) (IsReadException later) (exception_later reading later on.keeps) plain.exception_tables ledger.exception_tables are.exception_tables;
+    tables = are.tables;
+  }
 
 -- THE NEXT READING --------------------------------------------------------------------------------------------------------
 
@@ -251,20 +285,50 @@ module _ (reading : Reading) (plain ledger : Ledger) (joined : IsJoined reading 
       by (inr old) (inl new) = absurd (apart y x new.1 old)
       by (inr old) (inr other) = joined.one_to_one x y name old other
 
-  states : AreJoinedStates later plain ledger
-  states = states_later reading later keeps plain ledger joined.ledgers.states
+  pub keeps_generated : KeepsGenerated reading later
+  keeps_generated x is = read_before reading here' (answers_at here) x (joined.generated x is) ∙ is
+
+  keeps_unread : (name : Name) → IsUnread reading here name → IsUnread later (suc here) name
+  keeps_unread name is = record {
+    unread = λ x read. by x (read_either reading here' (answers_at here) x (ScriptName name) read);
+    before = let below = is.before in omega (arith, below);
+  }
+    where
+      by : (x : Name) → ((x.place ≡ here') × (ScriptName (answer_of here x.index) ≡ ScriptName name)) ⊎ IsReadAs reading x name → ⊥
+      by x (inl new) =
+          let place : here ≡ name.place = ap (λ (n : Name). n.place) (same_script (answer_of here x.index) name new.1) in
+          let below = is.before in
+          absurd (omega (arith, place, below))
+      by x (inr old) = is.unread x old
+
+  pub goes_on : GoesOn reading later here (suc here)
+  goes_on = record { keeps = keeps; generated = keeps_generated; unread = keeps_unread }
+
+  -- what is generated behind the call was so before
+  pub generated_before : (x : Name) → IsGenerated later x → IsGenerated reading x
+  generated_before x is = by (read_either reading here' (answers_at here) x Generated is)
+    where
+      by : ((x.place ≡ here') × (ScriptName (answer_of here x.index) ≡ Generated)) ⊎ IsGenerated reading x → IsGenerated reading x
+      by (inl new) = let apart = new.1 in cc
+      by (inr old) = old
+
+  states : AreJoinedStates later (suc here) plain ledger
+  states = states_later reading later here (suc here) goes_on plain ledger joined.ledgers.states
 
   next_read : IsReadAs later (next_answer plain) (next_answer ledger)
   next_read = read_there reading here' 0 (answers_at here)
 
-  sealed_read : (state' state : BlockState) → IsReadState later state' state → IsReadState later (sealed state') (sealed state)
+  abbrev State : BlockState → BlockState → Type 0
+  State state' state = IsReadState later (suc here) state' state
+
+  sealed_read : (state' state : BlockState) → State state' state → State (sealed state') (sealed state)
   sealed_read state' state read = record { block = read.block; parameters = read.parameters; is_pristine = read.is_pristine; is_filled = read.is_filled; is_sealed = refl; is_cold = read.is_cold; predecessors = read.predecessors }
 
-  cold_read : (state' state : BlockState) → IsReadState later state' state → IsReadState later (with_cold_mark state') (with_cold_mark state)
+  cold_read : (state' state : BlockState) → State state' state → State (with_cold_mark state') (with_cold_mark state)
   cold_read state' state read = record { block = read.block; parameters = read.parameters; is_pristine = read.is_pristine; is_filled = read.is_filled; is_sealed = read.is_sealed; is_cold = refl; predecessors = read.predecessors }
 
-  taking_read : (types' types : List «Type») → types' ≡ types → (state' state : BlockState) → IsReadState later state' state
-      → IsReadState later (with_parameter_types types' state') (with_parameter_types types state)
+  taking_read : (types' types : List «Type») → types' ≡ types → (state' state : BlockState) → State state' state
+      → State (with_parameter_types types' state') (with_parameter_types types state)
   taking_read types' types same state' state read = record {
     block = read.block;
     parameters = ap₂ (λ (a b : List «Type»). a ++ b) read.parameters same;
@@ -276,18 +340,7 @@ module _ (reading : Reading) (plain ledger : Ledger) (joined : IsJoined reading 
   }
 
   abbrev Joined : Ledger → Ledger → Type 0
-  Joined a b = AreJoinedStates later a b
-
-  with_blocks : (blocks' blocks : List BlockState) → AllZip (IsReadState later) blocks' blocks → Joined (record plain { blocks = blocks' }) (record ledger { blocks = blocks })
-  with_blocks blocks' blocks are = record {
-    blocks = are;
-    current = states.current;
-    layout = states.layout;
-    variables = states.variables;
-    jump_tables = states.jump_tables;
-    exception_tables = states.exception_tables;
-    tables = states.tables;
-  }
+  Joined a b = AreJoinedStates later (suc here) a b
 
   with_variables : (a b : Ledger) (variables' variables : List VariableState) → Joined a b → variables' ≡ variables
       → Joined (record a { variables = variables' }) (record b { variables = variables })
@@ -345,17 +398,43 @@ module _ (reading : Reading) (plain ledger : Ledger) (joined : IsJoined reading 
       (with_tried plain.exception_tables entries') (with_tried ledger.exception_tables entries)
       (with_tables (with_instruction plain instruction') (with_instruction ledger instruction) (with_served plain.jump_tables entries') (with_served ledger.jump_tables entries)
       (subst (λ (operation : Operation). Joined (with_instruction plain (record instruction' { operation = operation })) (with_instruction ledger instruction)) (sym is.operation)
-      (built_read later one_to_one plain ledger (next_answer plain) (next_answer ledger) instruction.operation instruction'.edges instruction.edges states next_read
+      (built_read later (suc here) one_to_one plain ledger (next_answer plain) (next_answer ledger) instruction.operation instruction'.edges instruction.edges states next_read
       (edges_later reading later keeps instruction'.edges instruction.edges is.edges)))
       (subst (λ (es : List GivenEntry). AllZip (IsReadTable later) (with_served plain.jump_tables es) (with_served ledger.jump_tables entries)) (sym same)
-      (served_read later one_to_one entries plain.jump_tables ledger.jump_tables states.jump_tables)))
+      (served_read later entries plain.jump_tables ledger.jump_tables states.jump_tables)))
       (subst (λ (es : List GivenEntry). AllZip (IsReadException later) (with_tried plain.exception_tables es) (with_tried ledger.exception_tables entries)) (sym same)
-      (tried_read later one_to_one entries plain.exception_tables ledger.exception_tables states.exception_tables))
+      (tried_read later entries plain.exception_tables ledger.exception_tables states.exception_tables))
 
   changed : (asked request : Request) → IsReadRequest reading asked request → Joined (changed_by plain asked) (changed_by ledger request)
   changed CreateBlock CreateBlock is =
-      with_blocks _ _ (zip_joined (IsReadState later) plain.blocks (new_block (next_answer plain) ∷ []) ledger.blocks (new_block (next_answer ledger) ∷ []) states.blocks
-      (record { block = next_read; parameters = refl; is_pristine = refl; is_filled = refl; is_sealed = refl; is_cold = refl; predecessors = tt }, tt))
+      record {
+        blocks = among_joined State (IsOwnState later) plain.blocks (new_block (next_answer plain) ∷ []) ledger.blocks (new_block (next_answer ledger) ∷ []) states.blocks
+            (Both _ _ [] [] (record { block = next_read; parameters = refl; is_pristine = refl; is_filled = refl; is_sealed = refl; is_cold = refl; predecessors = NoneLeads }) NoMore);
+        current = created plain.current ledger.current joined.ledgers.states.current states.current;
+        layout = states.layout;
+        variables = states.variables;
+        jump_tables = states.jump_tables;
+        exception_tables = states.exception_tables;
+        tables = states.tables;
+      }
+    where
+      other : (x : Name) → (reading x ≡ NotMade → ⊥) → (stands : StandsFor) → reading x ≡ stands → next_answer plain ≡ x → ⊥
+      other x some NotMade was same = some was
+      other x some Generated was same =
+          let below = joined.generated x was in
+          let place : here' ≡ x.place = ap (λ (n : Name). n.place) same in
+          absurd (omega (arith, below, place))
+      other x some (ScriptName name) was same =
+          let below = (joined.made x name was).0 in
+          let place : here' ≡ x.place = ap (λ (n : Name). n.place) same in
+          absurd (omega (arith, below, place))
+
+      created : (current' current : Option Name) → IsReadCurrent reading plain current' current → IsReadCurrent later plain current' current
+          → IsReadCurrent later (record plain { blocks = plain.blocks ++ new_block (next_answer plain) ∷ [] }) current' current
+      created None None was is = tt
+      created (Some x) (Some block) was is = is
+      created (Some x) None was is = (is.0, ended_joined x plain.blocks (new_block (next_answer plain) ∷ []) plain.layout (λ same. absurd (other x was.0 (reading x) refl same), tt) is.1)
+      created None (Some block) was is = absurd is
   changed (SwitchToBlock x) (SwitchToBlock block) is = record {
     blocks = states.blocks;
     current = keeps x block is;
@@ -365,30 +444,25 @@ module _ (reading : Reading) (plain ledger : Ledger) (joined : IsJoined reading 
     exception_tables = states.exception_tables;
     tables = states.tables;
   }
-  changed (SealBlock x) (SealBlock block) is = changed_read later one_to_one plain ledger x block sealed sealed states (keeps x block is) sealed_read
+  changed (SealBlock x) (SealBlock block) is = changed_read later (suc here) one_to_one plain ledger x block sealed sealed states (keeps x block is) keeps_sealing sealed_read
   changed SealAllBlocks SealAllBlocks is =
-      with_blocks _ _ (zip_mapped (IsReadState later) (IsReadState later) sealed sealed sealed_read plain.blocks ledger.blocks states.blocks)
-  changed (InsertBlockAfter x behind) (InsertBlockAfter block after) is = record {
-    blocks = states.blocks;
-    current = states.current;
-    layout = put_read later one_to_one x block behind after plain.layout ledger.layout (keeps x block is.0) (keeps behind after is.1) states.layout;
-    variables = states.variables;
-    jump_tables = states.jump_tables;
-    exception_tables = states.exception_tables;
-    tables = states.tables;
-  }
-  changed (SetColdBlock x) (SetColdBlock block) is = changed_read later one_to_one plain ledger x block with_cold_mark with_cold_mark states (keeps x block is) cold_read
-  changed EnsureInsertedBlock EnsureInsertedBlock is = begun_read later one_to_one plain ledger states
+      all_changed later (suc here) one_to_one plain ledger sealed sealed states keeps_sealing sealed_read
+  changed (InsertBlockAfter x behind) (InsertBlockAfter block after) is =
+      put_read later (suc here) one_to_one plain ledger x block behind after states (keeps x block is.0) (keeps behind after is.1)
+  changed (SetColdBlock x) (SetColdBlock block) is = changed_read later (suc here) one_to_one plain ledger x block with_cold_mark with_cold_mark states (keeps x block is) keeps_cold cold_read
+  changed EnsureInsertedBlock EnsureInsertedBlock is = begun_read later (suc here) one_to_one plain ledger states
   changed (AppendBlockParams x types') (AppendBlockParams block types) is =
-      changed_read later one_to_one plain ledger x block (with_parameter_types types') (with_parameter_types types) states (keeps x block is.0) (taking_read types' types is.1)
+      changed_read later (suc here) one_to_one plain ledger x block (with_parameter_types types') (with_parameter_types types) states (keeps x block is.0) (keeps_taking types')
+      (taking_read types' types is.1)
   changed (AppendFunctionParams x types') (AppendFunctionParams block types) is =
-      changed_read later one_to_one plain ledger x block (with_parameter_types types') (with_parameter_types types) states (keeps x block is.0) (taking_read types' types is.1)
+      changed_read later (suc here) one_to_one plain ledger x block (with_parameter_types types') (with_parameter_types types) states (keeps x block is.0) (keeps_taking types')
+      (taking_read types' types is.1)
   changed (DeclareVar ty') (DeclareVar ty) is =
       with_variables plain ledger _ _ states (ap₂ (λ (variables : List VariableState) (ty : «Type»). variables ++ new_variable ty ∷ []) states.variables is)
   changed (DefVar number x) (DefVar variable value) is =
       with_variables plain ledger _ _ states (ap₂ touched_at is.0 states.variables)
   changed (UseVar number) (UseVar variable) is =
-      let begun = begun_read later one_to_one plain ledger states in
+      let begun = begun_read later (suc here) one_to_one plain ledger states in
       with_variables (with_begun plain) (with_begun ledger) _ _ begun (ap₂ touched_at is begun.variables)
   changed (MakeEntry entry') (MakeEntry entry) is = record {
     blocks = states.blocks;
@@ -410,8 +484,8 @@ module _ (reading : Reading) (plain ledger : Ledger) (joined : IsJoined reading 
   changed (Annotate names) (Annotate values) is = states
   changed (Build entries' instruction') (Build entries instruction) is = built entries' entries instruction' instruction is.0 is.1
   changed (ChangeJumpDestination jump at there) (ChangeJumpDestination branch from to) is =
-      with_blocks _ _ (zip_mapped (IsReadState later) (IsReadState later) (redirected_state jump at there) (redirected_state branch from to)
-      (redirected_read later one_to_one jump branch at from there to (keeps jump branch is.0) (keeps at from is.1) (keeps there to is.2)) plain.blocks ledger.blocks states.blocks)
+      all_changed later (suc here) one_to_one plain ledger (redirected_state jump at there) (redirected_state branch from to) states (keeps_redirecting jump at there)
+      (redirected_read later (suc here) one_to_one jump branch at from there to (keeps jump branch is.0) (keeps at from is.1) (keeps there to is.2))
   changed Finalize Finalize is = states
   changed _ _ is = absurd is
 
@@ -448,6 +522,10 @@ module _ (reading : Reading) (plain ledger : Ledger) (joined : IsJoined reading 
 
   one_longer : (answers : List (List Answered)) (more : List Answered) → length (answers ++ more ∷ []) ≡ length answers + 1
   one_longer answers more = length-append answers (more ∷ [])
+
+  longer_by_one : (answers : List (List Answered)) (more : List Answered) → length (answers ++ more ∷ []) ≡ suc (length answers)
+  longer_by_one [] more = refl
+  longer_by_one (given ∷ answers) more = ap suc (longer_by_one answers more)
 
   module _ (asked request : Request) (is : IsReadRequest reading asked request) where
     abbrev after' : Ledger
@@ -498,18 +576,23 @@ module _ (reading : Reading) (plain ledger : Ledger) (joined : IsJoined reading 
         let s = changed asked request is in
         record {
           ledgers = record {
-            states = record { blocks = s.blocks; current = s.current; layout = s.layout; variables = s.variables; jump_tables = s.jump_tables; exception_tables = s.exception_tables; tables = s.tables };
+            states = subst (λ (n : ℕ). AreJoinedStates later n after' after) (sym (longer_by_one ledger.answers (answers_to ledger request))) (record { blocks = s.blocks; current = s.current; layout = s.layout; variables = s.variables; jump_tables = s.jump_tables; exception_tables = s.exception_tables; tables = s.tables });
             answers = answers_read;
           };
           one_to_one = one_to_one;
           made = made;
+          generated = λ x own.
+              let below : x.place < here' = joined.generated x (generated_before x own) in
+              let longer' : length after'.answers ≡ here' + 1 = one_longer plain.answers (answers_to plain asked) in
+              omega (arith, below, longer');
         }
 
 starts : IsJoined (λ x. NotMade) empty_ledger empty_ledger
 starts = record {
-  ledgers = record { states = record { blocks = tt; current = tt; layout = tt; variables = refl; jump_tables = tt; exception_tables = tt; tables = refl }; answers = λ x name is. cc };
+  ledgers = record { states = record { blocks = NoMore; current = tt; layout = tt; variables = refl; jump_tables = tt; exception_tables = tt; tables = refl }; answers = λ x name is. cc };
   one_to_one = λ x y name first second. cc;
   made = λ x name is. cc;
+  generated = λ x is. let apart : NotMade ≡ Generated = is in cc;
 }
 
 pub asking_keeps_joins : AskingKeepsJoins

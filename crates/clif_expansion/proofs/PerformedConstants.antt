@@ -34,7 +34,7 @@ use Rattle.clif_expansion.specs.ScriptCall.{can_emit, emitted_item, emitted_type
 use Rattle.clif_expansion.proofs.ConstantCalls.{all_in_line}
 use Rattle.clif_expansion.proofs.Constants.{constants_are_performed}
 use Rattle.clif_expansion.proofs.EmittedPrograms.{emitted_before, emitted_inner, emitted_result, one_longer}
-use Rattle.clif_expansion.proofs.JoinedCalls.{joined_calls}
+use Rattle.clif_expansion.proofs.JoinedCalls.{emission_placed, joined_calls}
 use Rattle.clif_expansion.proofs.Joins.{answers_last}
 use Rattle.clif_expansion.proofs.LaidCodes
 use Rattle.clif_expansion.proofs.LedgerTypes.{types_before}
@@ -255,9 +255,10 @@ module _ (arithmetic whole : Arithmetic) (number : ℤ) (emits : (ty : «Type»)
   module _ (can : (ty : «Type») → can_operate (Compute arithmetic) ty ≡ true) where
     stands : IsPerformedByConstant arithmetic whole number
     stands = record {
-      joined = λ reading plain calls ty x name are.
+      joined = λ reading plain calls ty x name are may.
           Emitting reading plain calls (constant_instructions ty number (length (ledger_after plain).answers)) (constant_last arithmetic ty (length (ledger_after plain).answers) x)
-          (computing whole ty (name ∷ [])) are (all_in_line arithmetic number can ty (length (ledger_after plain).answers))
+          (computing whole ty (name ∷ [])) are
+          (emission_placed reading (ledger_after plain) (ledger_of calls) (joined_calls reading plain calls are) (computing whole ty (name ∷ [])) may) (all_in_line arithmetic number can ty (length (ledger_after plain).answers))
           (stays ty (x ∷ constant_name ty (length (ledger_after plain).answers) ∷ [])) (whole_stays ty (name ∷ []))
           (gives ty (x ∷ constant_name ty (length (ledger_after plain).answers) ∷ []) ∙ sym (whole_gives ty (name ∷ [])));
       performed = λ pointer_width reading plain calls ty x name are done_before is may.

@@ -1,5 +1,5 @@
 -- The conditions on calls are the same in joined ledgers.
-use Rattle.std.proofs.Common.{◌≡◌, ℕ, zero, suc, Bool, true, false, cond, not, ◌&&◌, ◌||◌, List, [], ◌∷◌, refl, ◌∙◌, ap, ap₂, Option, Some, None}
+use Rattle.std.proofs.Common.{◌≡◌, ℕ, zero, suc, Bool, true, false, cond, not, ◌&&◌, ◌||◌, List, [], ◌∷◌, length, refl, sym, ◌∙◌, ap, ap₂, subst, Option, Some, None}
 use Rattle.std.specs.Prelude.{find, if◌then◌else◌, is_some, option_and_then, option_map, slice_get}
 use Rattle.std.specs.List.{AllZip, list_all, list_any}
 use Rattle.clif_tables.specs.Lists.{TableLists}
@@ -10,10 +10,10 @@ use Rattle.clif_meaning.specs.Instruction.{Argument, Known, CallResult, CallPayl
 use Rattle.clif_meaning.specs.Ledger.{ABlock, AVariable, AValue, AnInstruction, AnEntry, AnEdge, AJumpTable, AnExceptionTable, Answered, BlockState, ExceptionTable, Ledger, VariableState, answer_at, answered_edge, begins_with, block_state, edge_named, has_block, has_predecessors, has_value, is_empty, is_filled, is_inserted, is_instruction_answer, is_pristine, is_sealed, is_unreachable, leads_to, state_has, type_of, value_answer_type, variable_type}
 use Rattle.clif_meaning.specs.Name.{Name, same_name}
 use Rattle.clif_meaning.specs.Request.{Request, CreateBlock, SwitchToBlock, SealBlock, SealAllBlocks, InsertBlockAfter, SetColdBlock, EnsureInsertedBlock, AppendBlockParams, AppendFunctionParams, DeclareVar, DefVar, UseVar, MakeEntry, MakeEdge, MakeJumpTable, MakeExceptionTable, Annotate, GivenEntry, ServedBy, TriedBy, Imported, TableItem, TagTo, DefaultTo, InContext, Build, ChangeJumpDestination, Finalize}
-use Rattle.clif_expansion.specs.Expansion.{IsReadBlock}
-use Rattle.clif_expansion.specs.Joining.{AreJoinedLedgers, ConditionsAreRead, IsReadAnswer, IsReadException, IsReadRefusal, IsReadRequest, IsReadState, IsReadTable, IsReadTableItem}
+use Rattle.clif_expansion.specs.Joining.{AreJoinedLedgers, Both, ConditionsAreRead, IsOwnState, IsReadAnswer, IsReadCurrent, IsReadException, IsReadLayout, NoMore, Own, StandAmong, IsReadRefusal, IsReadRequest, IsReadState, IsReadTable, IsReadTableItem}
 use Rattle.clif_expansion.specs.Reading.{IsOneToOne, IsReadArgument, IsReadAs, IsReadEdge, IsReadInstruction, Reading}
-use Rattle.clif_expansion.proofs.JoinedStates.{any_read, inserted_read}
+use Rattle.clif_expansion.proofs.Among.{any_leading, leading_empty, other_generated}
+use Rattle.clif_expansion.proofs.JoinedStates.{inserted_read}
 use Rattle.clif_expansion.proofs.Names.{same_read}
 
 -- LISTS -------------------------------------------------------------------------------------------------------------------
@@ -25,45 +25,42 @@ all_same R f g each [] (y ∷ ys) are = absurd are
 all_same R f g each (x ∷ xs) [] are = absurd are
 all_same R f g each (x ∷ xs) (y ∷ ys) are = ap₂ (λ (a b : Bool). a && b) (each x y are.0) (all_same R f g each xs ys are.1)
 
-both_empty : {X Y : Type 0} (R : X → Y → Type 0) (xs : List X) (ys : List Y) → AllZip R xs ys → is_empty xs ≡ is_empty ys
-both_empty R [] [] are = refl
-both_empty R [] (y ∷ ys) are = absurd are
-both_empty R (x ∷ xs) [] are = absurd are
-both_empty R (x ∷ xs) (y ∷ ys) are = refl
-
 -- the state of a block that is read, or none in either
-abbrev IsReadSomeState : Reading → Option BlockState → Option BlockState → Type 0
-IsReadSomeState reading None None = Unit {0}
-IsReadSomeState reading (Some state') (Some state) = IsReadState reading state' state
-IsReadSomeState reading _ _ = ⊥
+abbrev IsReadSomeState : Reading → ℕ → Option BlockState → Option BlockState → Type 0
+IsReadSomeState reading made None None = Unit {0}
+IsReadSomeState reading made (Some state') (Some state) = IsReadState reading made state' state
+IsReadSomeState reading made _ _ = ⊥
 
-found : (reading : Reading) (f g : BlockState → Bool) → ((state' state : BlockState) → IsReadState reading state' state → f state' ≡ g state)
-    → (states' states : List BlockState) → AllZip (IsReadState reading) states' states → IsReadSomeState reading (find f states') (find g states)
-found reading f g each [] [] are = tt
-found reading f g each [] (state ∷ states) are = absurd are
-found reading f g each (state' ∷ states') [] are = absurd are
-found reading f g each (state' ∷ states') (state ∷ states) are = by (f state') (g state) (each state' state are.0) (found reading f g each states' states are.1)
+found : (reading : Reading) (made : ℕ) (f g : BlockState → Bool) → ((state' state : BlockState) → IsReadState reading made state' state → f state' ≡ g state)
+    → ((state : BlockState) → IsOwnState reading state → f state ≡ false)
+    → (states' states : List BlockState) → StandAmong (IsReadState reading made) (IsOwnState reading) states' states → IsReadSomeState reading made (find f states') (find g states)
+found reading made f g each own [] [] NoMore = tt
+found reading made f g each own [] (state ∷ states) are = elim are [ ]
+found reading made f g each own (state' ∷ states') (state ∷ states) (Both a b zs ws is are) =
+    by (f state') (g state) (each state' state is) (found reading made f g each own states' states are)
   where
-    by : (c' c : Bool) → c' ≡ c → IsReadSomeState reading (find f states') (find g states)
-        → IsReadSomeState reading (cond c' (Some state') (find f states')) (cond c (Some state) (find g states))
-    by true true same rest = are.0
+    by : (c' c : Bool) → c' ≡ c → IsReadSomeState reading made (find f states') (find g states)
+        → IsReadSomeState reading made (cond c' (Some state') (find f states')) (cond c (Some state) (find g states))
+    by true true same rest = is
     by true false same rest = cc
     by false true same rest = cc
     by false false same rest = rest
+found reading made f g each own (state' ∷ states') states (Own a zs ws is are) =
+    subst (λ (c : Bool). IsReadSomeState reading made (cond c (Some state') (find f states')) (find g states)) (sym (own state' is)) (found reading made f g each own states' states are)
 
 -- a test of states answers the same
-has_same : (reading : Reading) (f g : BlockState → Bool) → ((state' state : BlockState) → IsReadState reading state' state → f state' ≡ g state)
-    → (state' state : Option BlockState) → IsReadSomeState reading state' state → state_has f state' ≡ state_has g state
-has_same reading f g each None None is = refl
-has_same reading f g each (Some state') (Some state) is = each state' state is
-has_same reading f g each None (Some state) is = absurd is
-has_same reading f g each (Some state') None is = absurd is
+has_same : (reading : Reading) (made : ℕ) (f g : BlockState → Bool) → ((state' state : BlockState) → IsReadState reading made state' state → f state' ≡ g state)
+    → (state' state : Option BlockState) → IsReadSomeState reading made state' state → state_has f state' ≡ state_has g state
+has_same reading made f g each None None is = refl
+has_same reading made f g each (Some state') (Some state) is = each state' state is
+has_same reading made f g each None (Some state) is = absurd is
+has_same reading made f g each (Some state') None is = absurd is
 
-some_same : (reading : Reading) (state' state : Option BlockState) → IsReadSomeState reading state' state → is_some state' ≡ is_some state
-some_same reading None None is = refl
-some_same reading (Some state') (Some state) is = refl
-some_same reading None (Some state) is = absurd is
-some_same reading (Some state') None is = absurd is
+some_same : (reading : Reading) (made : ℕ) (state' state : Option BlockState) → IsReadSomeState reading made state' state → is_some state' ≡ is_some state
+some_same reading made None None is = refl
+some_same reading made (Some state') (Some state) is = refl
+some_same reading made None (Some state) is = absurd is
+some_same reading made (Some state') None is = absurd is
 
 -- ANSWERS -----------------------------------------------------------------------------------------------------------------
 
@@ -130,18 +127,22 @@ exception_same reading (table' ∷ tables') (table ∷ tables) (suc k) are = exc
 -- CONDITIONS --------------------------------------------------------------------------------------------------------------
 
 module _ (reading : Reading) (plain ledger : Ledger) (ledgers : AreJoinedLedgers reading plain ledger) (one_to_one : IsOneToOne reading) where
-  state_read : (x block : Name) → IsReadAs reading x block → IsReadSomeState reading (block_state plain x) (block_state ledger block)
+  abbrev made : ℕ
+  made = length ledger.answers
+
+  state_read : (x block : Name) → IsReadAs reading x block → IsReadSomeState reading made (block_state plain x) (block_state ledger block)
   state_read x block is =
-      found reading (λ state. same_name state.block x) (λ state. same_name state.block block)
+      found reading made (λ state. same_name state.block x) (λ state. same_name state.block block)
       (λ state' state read. same_read reading one_to_one state'.block x state.block block read.block is)
+      (λ state own. other_generated reading x state.block block is own.block)
       plain.blocks ledger.blocks ledgers.states.blocks
 
-  tested : (f g : BlockState → Bool) → ((state' state : BlockState) → IsReadState reading state' state → f state' ≡ g state) → (x block : Name) → IsReadAs reading x block
+  tested : (f g : BlockState → Bool) → ((state' state : BlockState) → IsReadState reading made state' state → f state' ≡ g state) → (x block : Name) → IsReadAs reading x block
       → state_has f (block_state plain x) ≡ state_has g (block_state ledger block)
-  tested f g each x block is = has_same reading f g each (block_state plain x) (block_state ledger block) (state_read x block is)
+  tested f g each x block is = has_same reading made f g each (block_state plain x) (block_state ledger block) (state_read x block is)
 
   block_same : (x block : Name) → IsReadAs reading x block → has_block plain x ≡ has_block ledger block
-  block_same x block is = some_same reading (block_state plain x) (block_state ledger block) (state_read x block is)
+  block_same x block is = some_same reading made (block_state plain x) (block_state ledger block) (state_read x block is)
 
   pub filled_same : (x block : Name) → IsReadAs reading x block → is_filled plain x ≡ is_filled ledger block
   filled_same x block is = tested (λ state. state.is_filled) (λ state. state.is_filled) (λ state' state read. read.is_filled) x block is
@@ -155,39 +156,50 @@ module _ (reading : Reading) (plain ledger : Ledger) (ledgers : AreJoinedLedgers
   led_same : (x block : Name) → IsReadAs reading x block → has_predecessors plain x ≡ has_predecessors ledger block
   led_same x block is =
       tested (λ state. not (is_empty state.predecessors)) (λ state. not (is_empty state.predecessors))
-      (λ state' state read. ap not (both_empty (IsReadAs reading) state'.predecessors state.predecessors read.predecessors)) x block is
+      (λ state' state read. ap not (leading_empty reading made state'.predecessors state.predecessors read.predecessors)) x block is
 
   leads_same : (jump branch x block : Name) → IsReadAs reading jump branch → IsReadAs reading x block → leads_to plain jump x ≡ leads_to ledger branch block
   leads_same jump branch x block by is =
       tested (λ state. list_any (same_name jump) state.predecessors) (λ state. list_any (same_name branch) state.predecessors)
-      (λ state' state read. any_read reading one_to_one jump branch state'.predecessors state.predecessors by read.predecessors) x block is
+      (λ state' state read. any_leading reading made one_to_one jump branch state'.predecessors state.predecessors by read.predecessors) x block is
 
   is_inserted_same : (x block : Name) → IsReadAs reading x block → is_inserted plain x ≡ is_inserted ledger block
-  is_inserted_same x block is = inserted_read reading one_to_one plain ledger x block ledgers.states is
+  is_inserted_same x block is = inserted_read reading made one_to_one plain ledger x block ledgers.states is
 
-  begins_same : (x block : Name) (layout' layout : List Name) → IsReadAs reading x block → AllZip (IsReadAs reading) layout' layout → begins_with layout' x ≡ begins_with layout block
+  begins_same : (x block : Name) (layout' layout : List Name) → IsReadAs reading x block → IsReadLayout reading layout' layout → begins_with layout' x ≡ begins_with layout block
   begins_same x block [] [] is are = refl
   begins_same x block [] (entry ∷ layout) is are = absurd are
   begins_same x block (entry' ∷ layout') [] is are = absurd are
   begins_same x block (entry' ∷ layout') (entry ∷ layout) is are = same_read reading one_to_one entry' x entry block are.0 is
 
+  layout_empty : (layout' layout : List Name) → IsReadLayout reading layout' layout → is_empty layout' ≡ is_empty layout
+  layout_empty [] [] are = refl
+  layout_empty [] (entry ∷ layout) are = absurd are
+  layout_empty (entry' ∷ layout') [] are = absurd are
+  layout_empty (entry' ∷ layout') (entry ∷ layout) are = refl
+
   unreachable_same : (x block : Name) → IsReadAs reading x block → is_unreachable plain x ≡ is_unreachable ledger block
   unreachable_same x block is =
       let layout = ledgers.states.layout in
-      λ i. not (both_empty (IsReadAs reading) plain.layout ledger.layout layout i) && not (begins_same x block plain.layout ledger.layout is layout i)
+      λ i. not (layout_empty plain.layout ledger.layout layout i) && not (begins_same x block plain.layout ledger.layout is layout i)
       && sealed_same x block is i && not (led_same x block is i)
 
-  open_same : (current' current : Option Name) → IsReadBlock reading current' current → is_open plain current' ≡ is_open ledger current
+  open_same : (current' current : Option Name) → IsReadCurrent reading plain current' current → is_open plain current' ≡ is_open ledger current
   open_same None None is = refl
   open_same (Some x) (Some block) is = ap not (filled_same x block is)
   open_same None (Some block) is = absurd is
-  open_same (Some x) None is = absurd is
+  open_same (Some x) None is = ap not is.1.filled
 
-  leave_same : (current' current : Option Name) → IsReadBlock reading current' current → can_leave plain current' ≡ can_leave ledger current
+  leave_same : (current' current : Option Name) → IsReadCurrent reading plain current' current → can_leave plain current' ≡ can_leave ledger current
   leave_same None None is = refl
   leave_same (Some x) (Some block) is = λ i. unreachable_same x block is i || pristine_same x block is i || filled_same x block is i
   leave_same None (Some block) is = absurd is
-  leave_same (Some x) None is = absurd is
+  leave_same (Some x) None is = ap (λ (c : Bool). is_unreachable plain x || is_pristine plain x || c) is.1.filled ∙ always (is_unreachable plain x) (is_pristine plain x)
+    where
+      always : (c d : Bool) → (c || d || true) ≡ true
+      always true d = refl
+      always false true = refl
+      always false false = refl
 
   pub opened : is_open plain plain.current ≡ is_open ledger ledger.current
   opened = open_same plain.current ledger.current ledgers.states.current
@@ -309,7 +321,7 @@ module _ (reading : Reading) (plain ledger : Ledger) (ledgers : AreJoinedLedgers
   blamed Finalize Finalize is = refl
   blamed _ _ is = absurd is
 
-  unfinished_read : (state' state : Option BlockState) → IsReadSomeState reading state' state → IsReadRefusal reading (unfinished state') (unfinished state)
+  unfinished_read : (state' state : Option BlockState) → IsReadSomeState reading made state' state → IsReadRefusal reading (unfinished state') (unfinished state)
   unfinished_read None None is = tt
   unfinished_read (Some state') (Some state) is = by state'.is_sealed state.is_sealed is.is_sealed
     where
@@ -321,13 +333,21 @@ module _ (reading : Reading) (plain ledger : Ledger) (ledgers : AreJoinedLedgers
   unfinished_read None (Some state) is = absurd is
   unfinished_read (Some state') None is = absurd is
 
-  finished_same : (state' state : BlockState) → IsReadState reading state' state → is_unfinished state' ≡ is_unfinished state
+  finished_same : (state' state : BlockState) → IsReadState reading made state' state → is_unfinished state' ≡ is_unfinished state
   finished_same state' state read = λ i. not (read.is_pristine i) && not (read.is_sealed i && read.is_filled i)
+
+  own_finished : (state : BlockState) → IsOwnState reading state → is_unfinished state ≡ false
+  own_finished state own =
+      (λ i. not state.is_pristine && not (own.is_sealed i && own.is_filled i)) ∙ never state.is_pristine
+    where
+      never : (c : Bool) → (not c && false) ≡ false
+      never true = refl
+      never false = refl
 
   refused : (asked request : Request) → IsReadRequest reading asked request → IsReadRefusal reading (refusal_of plain asked) (refusal_of ledger request)
   refused Finalize Finalize is =
       unfinished_read (find is_unfinished plain.blocks) (find is_unfinished ledger.blocks)
-      (found reading is_unfinished is_unfinished finished_same plain.blocks ledger.blocks ledgers.states.blocks)
+      (found reading made is_unfinished is_unfinished finished_same own_finished plain.blocks ledger.blocks ledgers.states.blocks)
   refused CreateBlock CreateBlock is = tt
   refused (SwitchToBlock x) (SwitchToBlock block) is = tt
   refused (SealBlock x) (SealBlock block) is = tt

@@ -1,17 +1,17 @@
 -- Without emissions all is as it is for the builder's calls; and the worked examples.
-use Rattle.std.proofs.Common.{◌≡◌, [], ◌∷◌, ◌++◌, ap, map, refl, pos}
+use Rattle.std.proofs.Common.{◌≡◌, true, false, List, [], ◌∷◌, ◌++◌, ap, map, refl, subst, pos}
 use Rattle.std.specs.Prelude.{fold}
 use Rattle.clif_meaning.specs.Acceptance.{iconst}
 use Rattle.clif_meaning.specs.BranchExamples.{block}
 use Rattle.clif_meaning.specs.Examples.{i32}
 use Rattle.clif_meaning.specs.Instruction.{Iconst}
-use Rattle.clif_meaning.specs.Ledger.{Ledger, empty_ledger, ledger_after, ledger_with}
+use Rattle.clif_meaning.specs.Ledger.{BlockState, Ledger, empty_ledger, ledger_after, ledger_with}
 use Rattle.clif_meaning.specs.Name.{Name, answer_of}
 use Rattle.clif_meaning.specs.Program.{Program, empty_program, with_call}
 use Rattle.clif_meaning.specs.Request.{CreateBlock, SwitchToBlock, SealBlock, Script}
 use Rattle.clif_expansion.specs.Constants.{computing}
 use Rattle.clif_expansion.specs.JoinedCalls.{AreJoinedCalls, Asking, Emitting, Starting}
-use Rattle.clif_expansion.specs.Joining.{AreJoinedStates}
+use Rattle.clif_expansion.specs.Joining.{AreJoinedStates, Both, IsOwnState, IsReadState, NoMore, NoneLeads, Own, StandAmong}
 use Rattle.clif_expansion.specs.Reading.{NotMade, Reading}
 use Rattle.clif_expansion.specs.ScriptCall.{Ask, AskingStays, ledger_of, ledger_with_call, program_with_call}
 use Rattle.clif_expansion.specs.ScriptCallExamples.{ScriptCallExamples, begun_calls, begun_script, leading, seven_more, sum, summing_calls, summing_script, throwing, throwing_calls, throwing_script}
@@ -28,8 +28,17 @@ program_asked program (request ∷ script) = program_asked (with_call program re
 pub asking_stays : AskingStays
 asking_stays = record { ledger = λ script. ledger_asked empty_ledger script; program = λ script. program_asked empty_program script }
 
-apart : (reading : Reading) → AreJoinedStates reading (ledger_after (summing_script ++ SealBlock (block 0) ∷ [])) (ledger_of summing_calls) → ⊥
-apart reading are = let sealed = are.blocks.0.is_sealed in cc
+apart : (reading : Reading) → AreJoinedStates reading 4 (ledger_after (summing_script ++ SealBlock (block 0) ∷ [])) (ledger_of summing_calls) → ⊥
+apart reading are = by _ _ are.blocks refl refl
+  where
+    by : (states' states : List BlockState) → StandAmong (IsReadState reading 4) (IsOwnState reading) states' states
+        → states' ≡ (ledger_after (summing_script ++ SealBlock (block 0) ∷ [])).blocks → states ≡ (ledger_of summing_calls).blocks → ⊥
+    by states' states among is' is = one_state (subst (λ xs. StandAmong (IsReadState reading 4) (IsOwnState reading) xs (ledger_of summing_calls).blocks) is'
+        (subst (λ xs. StandAmong (IsReadState reading 4) (IsOwnState reading) states' xs) is among))
+      where
+        one_state : StandAmong (IsReadState reading 4) (IsOwnState reading) (ledger_after (summing_script ++ SealBlock (block 0) ∷ [])).blocks (ledger_of summing_calls).blocks → ⊥
+        one_state (Both a b as' bs read rest) = let sealed : true ≡ false = read.is_sealed in cc
+        one_state (Own a as' bs own rest) = elim rest [ ]
 
 one_more : (reading : Reading) → AreJoinedCalls reading (summing_script ++ SealBlock (block 0) ∷ []) summing_calls → ⊥
 one_more reading are = apart reading (joined_calls reading (summing_script ++ SealBlock (block 0) ∷ []) summing_calls are).ledgers.states
@@ -37,26 +46,26 @@ one_more reading are = apart reading (joined_calls reading (summing_script ++ Se
 -- the calls before the emission
 abbrev pub begun : (reading : Reading) × AreJoinedCalls reading begun_script begun_calls
 begun =
-    let created = Asking (λ x. NotMade) [] [] CreateBlock CreateBlock Starting tt in
-    let switched = Asking _ (CreateBlock ∷ []) (Ask CreateBlock ∷ []) (SwitchToBlock (block 0)) (SwitchToBlock (block 0)) created refl in (
+    let created = Asking (λ x. NotMade) [] [] CreateBlock CreateBlock Starting tt (λ uses. refl) in
+    let switched = Asking _ (CreateBlock ∷ []) (Ask CreateBlock ∷ []) (SwitchToBlock (block 0)) (SwitchToBlock (block 0)) created refl (λ uses. refl) in (
       _,
       Asking _ (CreateBlock ∷ SwitchToBlock (block 0) ∷ []) (Ask CreateBlock ∷ Ask (SwitchToBlock (block 0)) ∷ []) (iconst i32 (pos 5)) (iconst i32 (pos 5)) switched
-          (refl, record { operation = refl; controlling = refl; operands = tt; contexts = tt; edges = tt }),
+          (refl, record { operation = refl; controlling = refl; operands = tt; contexts = tt; edges = tt }) (λ uses. refl),
     )
 
 abbrev stands : (reading : Reading) × AreJoinedCalls reading summing_script summing_calls
 stands = (
   _,
-  Emitting _ begun_script begun_calls (computing (Iconst (pos 7)) i32 [] ∷ []) sum (seven_more (answer_of 2 1)) begun.1
+  Emitting _ begun_script begun_calls (computing (Iconst (pos 7)) i32 [] ∷ []) sum (seven_more (answer_of 2 1)) begun.1 refl
       (record { no_edges = refl; goes_on = refl }, tt) (record { no_edges = refl; goes_on = refl }) (record { no_edges = refl; goes_on = refl }) refl,
 )
 
 throws : (reading : Reading) × AreJoinedCalls reading (throwing_script 7 (answer_of 4 1)) throwing_calls
 throws =
-    let led = Asking stands.0 summing_script summing_calls (leading (answer_of 4 1)) (leading (answer_of 3 0)) stands.1 (record { target = refl; arguments = (refl, (refl, tt)) }) in (
+    let led = Asking stands.0 summing_script summing_calls (leading (answer_of 4 1)) (leading (answer_of 3 0)) stands.1 (record { target = refl; arguments = (refl, (refl, tt)) }) (λ uses. refl) in (
       _,
       Asking _ (summing_script ++ leading (answer_of 4 1) ∷ []) (summing_calls ++ Ask (leading (answer_of 3 0)) ∷ [])
-          (throwing 7 (answer_of 5 0) (answer_of 4 1)) (throwing 7 (answer_of 4 0) (answer_of 3 0)) led (refl, refl, (refl, ((refl, refl), (refl, tt)))),
+          (throwing 7 (answer_of 5 0) (answer_of 4 1)) (throwing 7 (answer_of 4 0) (answer_of 3 0)) led (refl, refl, (refl, ((refl, refl), (refl, tt)))) (λ uses. refl),
     )
 
 other_tag : (reading : Reading) → AreJoinedCalls reading (throwing_script 8 (answer_of 4 1)) throwing_calls → ⊥
@@ -81,9 +90,9 @@ examples = record {
   result = refl;
   items = refl;
   joined = record {
-    blocks = (record { block = refl; parameters = refl; is_pristine = refl; is_filled = refl; is_sealed = refl; is_cold = refl; predecessors = tt }, tt);
+    blocks = Both _ _ [] [] (record { block = refl; parameters = refl; is_pristine = refl; is_filled = refl; is_sealed = refl; is_cold = refl; predecessors = NoneLeads }) NoMore;
     current = refl;
-    layout = (refl, tt);
+    layout = (refl, NoMore);
     variables = refl;
     jump_tables = tt;
     exception_tables = tt;

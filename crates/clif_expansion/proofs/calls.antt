@@ -1,5 +1,6 @@
 -- The theorem on calls of a script: how it follows from the one on their plain calls.
 pub mod Blocks
+pub mod Deciders
 pub mod Premises
 pub mod Types
 pub mod Given

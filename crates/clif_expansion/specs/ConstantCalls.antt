@@ -59,14 +59,15 @@ pub record StandsForEmission (arithmetic whole : Arithmetic) (number : ℤ) : Ty
 -- performed so far, each is: the name is a value, and the constant has 64 bits.
 pub record IsPerformedByConstant (arithmetic whole : Arithmetic) (number : ℤ) : Type 0 where
   pub joined : (reading : Reading) (plain : Script) (calls : List ScriptCall) (ty : «Type») (x name : Name) → AreJoinedCalls reading plain calls
+      → IsTrue (call_allowed (ledger_of calls) (Emit (computing whole ty (name ∷ []))))
       → AreJoinedCalls (reading_emitted reading (ledger_after plain) (ledger_of calls) (constant_instructions ty number (length (ledger_after plain).answers)))
       (plain ++ constant_calls arithmetic ty number (length (ledger_after plain).answers) x) (calls ++ Emit (computing whole ty (name ∷ [])) ∷ [])
   pub performed : (pointer_width : ℕ) (reading : Reading) (plain : Script) (calls : List ScriptCall) (ty : «Type») (x name : Name) (are : AreJoinedCalls reading plain calls)
       → ArePerformed pointer_width reading plain calls are → IsReadAs reading x name
-      → IsTrue (call_allowed (ledger_of calls) (Emit (computing whole ty (name ∷ []))))
+      → (may : IsTrue (call_allowed (ledger_of calls) (Emit (computing whole ty (name ∷ [])))))
       → ArePerformed pointer_width (reading_emitted reading (ledger_after plain) (ledger_of calls) (constant_instructions ty number (length (ledger_after plain).answers)))
       (plain ++ constant_calls arithmetic ty number (length (ledger_after plain).answers) x) (calls ++ Emit (computing whole ty (name ∷ [])) ∷ [])
-      (joined reading plain calls ty x name are)
+      (joined reading plain calls ty x name are may)
 
 -- So it is with the plain sum and the plain comparison.
 pub record ConstantCallsArePerformed : Type 0 where

@@ -1,6 +1,6 @@
 -- Emissions and their code in a line: the plain calls build instructions that stay in line, and the last one's results are those of
 -- the instruction that is emitted. Own.
-use Rattle.std.specs.Prelude.{◌≡◌, false, List, [], ◌∷◌, ◌++◌, fold, length, map}
+use Rattle.std.specs.Prelude.{◌≡◌, ◌+◌, ℕ, nat_lt, if◌then◌else◌, false, List, [], ◌∷◌, ◌++◌, fold, length, map}
 use Rattle.std.specs.List.{AllByRecursion}
 use Rattle.clif_meaning.specs.Instruction.{Instruction}
 use Rattle.clif_meaning.specs.Ledger.{Ledger, is_terminator, ledger_with}
@@ -27,6 +27,10 @@ reading_generated reading plain = reading_with reading (length plain.answers) (�
 abbrev pub reading_emitted : Reading → (plain ledger : Ledger) → List (Instruction Name Name) → Reading
 reading_emitted reading plain ledger [] = reading_with reading (length plain.answers) (results_at (length ledger.answers))
 reading_emitted reading plain ledger (first ∷ code) = reading_emitted (reading_generated reading plain) (ledger_with plain (building first)) ledger code
+
+-- the reading, in which the answers to so many calls from this place on were generated
+abbrev pub reading_across : Reading → (place count : ℕ) → Reading
+reading_across reading place count x = if nat_lt x.place place then reading x else (if nat_lt x.place (place + count) then Generated else reading x)
 
 -- Code in a line, of instructions and a last one, keeps the join with an instruction that is emitted and has results of the same
 -- types.

@@ -1,14 +1,15 @@
 -- The plain calls of a script's calls: each call that asks the builder stands for that call with its names read, and one that
--- emits stands for the calls that build its code, in a line. Which name is read as which follows from where calls stand. Own.
-use Rattle.std.specs.Prelude.{◌≡◌, ◌<◌, ◌==◌, ℕ, zero, suc, if◌then◌else◌, List, length, Option, Some, None}
-use Rattle.std.specs.List.{AllZip}
+-- emits stands for the calls that build its code, in a line or in blocks that were generated. Which name is read as which follows
+-- from where calls stand. Own.
+use Rattle.std.specs.Prelude.{◌≡◌, ◌≢◌, ◌<◌, ◌==◌, ℕ, zero, suc, if◌then◌else◌, IsTrue, true, false, List, [], ◌∷◌, length, find, Option, Some, None}
+use Rattle.std.specs.List.{AllByRecursion, AllZip, list_any}
 use Rattle.clif_meaning.specs.Acceptance.{Refusal, Unfilled, Unsealed, allows, blames_variable, refusal_of}
 use Rattle.clif_meaning.specs.Instruction.{Edge}
-use Rattle.clif_meaning.specs.Ledger.{ABlock, AVariable, AValue, AnInstruction, AnEntry, AnEdge, AJumpTable, AnExceptionTable, Answered, BlockState, ExceptionTable, Ledger, answer_at, empty_ledger, ledger_with}
-use Rattle.clif_meaning.specs.Name.{Name, answer_of}
+use Rattle.clif_meaning.specs.Ledger.{ABlock, AVariable, AValue, AnInstruction, AnEntry, AnEdge, AJumpTable, AnExceptionTable, Answered, BlockState, ExceptionTable, Ledger, answer_at, empty_ledger, ledger_with, state_has}
+use Rattle.clif_meaning.specs.Name.{Name, answer_of, same_name}
 use Rattle.clif_meaning.specs.Request.{Request, CreateBlock, SwitchToBlock, SealBlock, SealAllBlocks, InsertBlockAfter, SetColdBlock, EnsureInsertedBlock, AppendBlockParams, AppendFunctionParams, DeclareVar, DefVar, UseVar, MakeEntry, MakeEdge, MakeJumpTable, MakeExceptionTable, Annotate, TableItem, TagTo, DefaultTo, InContext, Build, ChangeJumpDestination, Finalize}
-use Rattle.clif_expansion.specs.Expansion.{IsReadBlock}
 use Rattle.clif_expansion.specs.Reading.{Generated, IsOneToOne, IsReadAs, IsReadEdge, IsReadInstruction, NotMade, Reading, ScriptName, StandsFor}
+use Rattle.clif_expansion.specs.Walk.{IsGenerated}
 
 -- REQUESTS ----------------------------------------------------------------------------------------------------------------
 
@@ -75,15 +76,64 @@ IsReadAnswer reading (Some (AJumpTable plain)) (Some (AJumpTable number)) = plai
 IsReadAnswer reading (Some (AnExceptionTable plain)) (Some (AnExceptionTable number)) = plain ≡ number
 IsReadAnswer reading _ _ = ⊥
 
+-- The elements of the second list stand among those of the first one, in order, and the others are its own.
+pub data StandAmong {X Y : Type 0} (Stands : X → Y → Type 0) (IsOwn : X → Type 0) : List X → List Y → Type 0 where
+  NoMore : StandAmong Stands IsOwn [] []
+  Both : (x : X) (y : Y) (xs : List X) (ys : List Y) → Stands x y → StandAmong Stands IsOwn xs ys → StandAmong Stands IsOwn (x ∷ xs) (y ∷ ys)
+  Own : (x : X) (xs : List X) (ys : List Y) → IsOwn x → StandAmong Stands IsOwn xs ys → StandAmong Stands IsOwn (x ∷ xs) ys
+
+-- no name is read as this one, which comes before this place
+pub record IsUnread (reading : Reading) (made : ℕ) (name : Name) : Type 0 where
+  pub unread : (x : Name) → reading x ≢ ScriptName name
+  pub before : name.place < made
+
+-- The branches that lead to a block, where so many calls of the script were made: a branch is read, and for one that was emitted one
+-- or more were generated.
+pub data AreLeading (reading : Reading) (made : ℕ) : (plain branches : List Name) → Type 0 where
+  NoneLeads : AreLeading reading made [] []
+  IsRead : (x branch : Name) (xs branches : List Name) → IsReadAs reading x branch → AreLeading reading made xs branches
+      → AreLeading reading made (x ∷ xs) (branch ∷ branches)
+  IsEmitted : (x branch : Name) (xs branches : List Name) → IsGenerated reading x → IsUnread reading made branch → AreLeading reading made xs branches
+      → AreLeading reading made (x ∷ xs) (branch ∷ branches)
+  -- another one in front of one that was generated
+  IsAnother : (x next : Name) (xs branches : List Name) → IsGenerated reading x → IsGenerated reading next → AreLeading reading made (next ∷ xs) branches
+      → AreLeading reading made (x ∷ next ∷ xs) branches
+
 -- The state of a block, with its name and its predecessors read.
-pub record IsReadState (reading : Reading) (plain state : BlockState) : Type 0 where
+pub record IsReadState (reading : Reading) (made : ℕ) (plain state : BlockState) : Type 0 where
   pub block : IsReadAs reading plain.block state.block
   pub parameters : plain.parameters ≡ state.parameters
   pub is_pristine : plain.is_pristine ≡ state.is_pristine
   pub is_filled : plain.is_filled ≡ state.is_filled
   pub is_sealed : plain.is_sealed ≡ state.is_sealed
   pub is_cold : plain.is_cold ≡ state.is_cold
-  pub predecessors : AllZip (IsReadAs reading) plain.predecessors state.predecessors
+  pub predecessors : AreLeading reading made plain.predecessors state.predecessors
+
+-- a block that was generated, to which nothing more comes
+pub record IsOwnState (reading : Reading) (state : BlockState) : Type 0 where
+  pub block : IsGenerated reading state.block
+  pub is_filled : state.is_filled ≡ true
+  pub is_sealed : state.is_sealed ≡ true
+
+-- The block is there, was begun and has its terminator, and is in the layout.
+pub record IsEnded (blocks : List BlockState) (layout : List Name) (block : Name) : Type 0 where
+  pub filled : IsTrue (state_has (λ state. state.is_filled) (find (λ state. same_name state.block block) blocks))
+  pub inserted : IsTrue (list_any (same_name block) layout)
+  pub each : AllByRecursion (λ state. state.block ≡ block → (state.is_filled ≡ true) × (state.is_pristine ≡ false)) blocks
+
+-- The current blocks are read, or there is none; behind code in generated blocks the script has none, and the plain calls have one that
+-- has ended.
+abbrev pub IsReadCurrent : Reading → (plain : Ledger) (current block : Option Name) → Type 0
+IsReadCurrent reading plain None None = Unit {0}
+IsReadCurrent reading plain (Some x) (Some block) = IsReadAs reading x block
+IsReadCurrent reading plain (Some x) None = (reading x ≢ NotMade) × IsEnded plain.blocks plain.layout x
+IsReadCurrent reading plain None (Some block) = ⊥
+
+-- the layout with its names read, beside blocks that were generated, none of which is the entry
+abbrev pub IsReadLayout : Reading → (plain layout : List Name) → Type 0
+IsReadLayout reading [] [] = Unit {0}
+IsReadLayout reading (x ∷ plain) (block ∷ layout) = IsReadAs reading x block × StandAmong (IsReadAs reading) (IsGenerated reading) plain layout
+IsReadLayout reading _ _ = ⊥
 
 -- the edges of a jump table that serves no instruction so far
 abbrev pub IsReadTable : Reading → (plain table : Option (List (Edge Name Name))) → Type 0
@@ -104,25 +154,27 @@ IsReadException reading None None = Unit {0}
 IsReadException reading (Some plain) (Some table) = IsReadExceptionTable reading plain table
 IsReadException reading _ _ = ⊥
 
--- Beside the answers, the ledgers are joined: the script's blocks in the same order and states, and layout, variables and tables.
-pub record AreJoinedStates (reading : Reading) (plain ledger : Ledger) : Type 0 where
-  pub blocks : AllZip (IsReadState reading) plain.blocks ledger.blocks
-  pub current : IsReadBlock reading plain.current ledger.current
-  pub layout : AllZip (IsReadAs reading) plain.layout ledger.layout
+-- Beside the answers, the ledgers are joined, where so many calls of the script were made: the script's blocks are in the same order and
+-- states, and so are layout, variables and tables.
+pub record AreJoinedStates (reading : Reading) (made : ℕ) (plain ledger : Ledger) : Type 0 where
+  pub blocks : StandAmong (IsReadState reading made) (IsOwnState reading) plain.blocks ledger.blocks
+  pub current : IsReadCurrent reading plain plain.current ledger.current
+  pub layout : IsReadLayout reading plain.layout ledger.layout
   pub variables : plain.variables ≡ ledger.variables
   pub jump_tables : AllZip (IsReadTable reading) plain.jump_tables ledger.jump_tables
   pub exception_tables : AllZip (IsReadException reading) plain.exception_tables ledger.exception_tables
   pub tables : plain.tables ≡ ledger.tables
 
 pub record AreJoinedLedgers (reading : Reading) (plain ledger : Ledger) : Type 0 where
-  pub states : AreJoinedStates reading plain ledger
+  pub states : AreJoinedStates reading (length ledger.answers) plain ledger
   pub answers : (x name : Name) → IsReadAs reading x name → IsReadAnswer reading (answer_at plain x) (answer_at ledger name)
 
--- So they are, no two plain names are read as one, and what is read was made.
+-- So they are, no two plain names are read as one, and what is read or was generated was made.
 pub record IsJoined (reading : Reading) (plain ledger : Ledger) : Type 0 where
   pub ledgers : AreJoinedLedgers reading plain ledger
   pub one_to_one : IsOneToOne reading
   pub made : (x name : Name) → IsReadAs reading x name → (x.place < length plain.answers) × (name.place < length ledger.answers)
+  pub generated : (x : Name) → IsGenerated reading x → x.place < length plain.answers
 
 -- the reading behind one call more on both sides
 abbrev pub reading_after : Reading → (plain ledger : Ledger) → Reading

@@ -11,10 +11,14 @@ pub mod WalkLaws
 pub mod ScriptsAlone
 pub mod Laying
 pub mod LayingExamples
+pub mod Keys
 pub mod ScriptCall
 pub mod Joining
 pub mod ScriptCallExamples
+pub mod SwitchExamples
 pub mod Emission
+pub mod LedgerTypes
+pub mod Switching
 pub mod JoinedCalls
 pub mod ConstantCalls
 pub mod JoinedPrograms
@@ -25,4 +29,3 @@ pub mod CallsVerdict
 pub mod CallsHeadline
 pub mod HeadlineLaws
 pub mod HeadlineExamples
-pub mod Switching

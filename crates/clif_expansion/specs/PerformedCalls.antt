@@ -1,32 +1,24 @@
 -- Emissions that are performed: behind its last call the code of each emission performs the instruction that is emitted, is laid, and
 -- is well typed where that instruction is. Names have the types that ledgers give them. Own.
-use Rattle.std.specs.Prelude.{◌≡◌, ℕ, List, [], ◌∷◌, ◌++◌, fold, length, map, Some}
+use Rattle.std.specs.Prelude.{ℕ, List, [], ◌∷◌, ◌++◌, fold, length, map}
 use Rattle.std.specs.List.{AllByRecursion}
 use Rattle.clif_types.specs.declared.types.«Type».{«Type»}
 use Rattle.clif_meaning.specs.Access.{library_call}
 use Rattle.clif_meaning.specs.Instruction.{Instruction}
-use Rattle.clif_meaning.specs.Ledger.{Ledger, ledger_after, ledger_with, type_of}
+use Rattle.clif_meaning.specs.Ledger.{Ledger, ledger_after, ledger_with}
 use Rattle.clif_meaning.specs.Library.{pointer_of}
 use Rattle.clif_meaning.specs.Name.{Name}
 use Rattle.clif_meaning.specs.Premises.{IfLibraryCall}
 use Rattle.clif_meaning.specs.Program.{Program}
 use Rattle.clif_meaning.specs.Request.{Script}
-use Rattle.clif_meaning.specs.Typing.{IsWellTyped}
 use Rattle.clif_expansion.specs.Code.{NameTypes, PerformsItem}
 use Rattle.clif_expansion.specs.Emission.{building, reading_emitted}
-use Rattle.clif_expansion.specs.JoinedCalls.{AreJoinedCalls, Asking, Emitting, Starting}
+use Rattle.clif_expansion.specs.JoinedCalls.{AreJoinedCalls, Asking, Emitting, Starting, Switching}
 use Rattle.clif_expansion.specs.JoinedPrograms.{built_items}
 use Rattle.clif_expansion.specs.Laying.{IsLaid}
+pub use Rattle.clif_expansion.specs.LedgerTypes.{HaveTypes, IsTypedInLine}
 use Rattle.clif_expansion.specs.Reading.{Agree, Reading}
 use Rattle.clif_expansion.specs.ScriptCall.{Emit, ScriptCall, emitted_item, ledger_of, ledger_with_call}
-
--- a value has the type that the ledger gives it, and what isn't one so far may have any type
-abbrev pub HaveTypes : Ledger → (Name → «Type») → Type 0
-HaveTypes ledger types = (x : Name) (ty : «Type») → type_of ledger x ≡ Some ty → types x ≡ ty
-
--- an instruction without edges is well typed: no block has parameters that would matter
-abbrev pub IsTypedInLine : (Name → «Type») → List «Type» → Instruction Name Name → Type 0
-IsTypedInLine types returns instruction = IsWellTyped types (λ block. []) returns instruction
 
 -- Code that is built behind these ledgers, of instructions and a last one, does what the instruction does that is emitted: it
 -- performs it, whatever types later names have, is laid, is well typed where the instruction is, and calls functions of the C
@@ -49,6 +41,9 @@ pub record IsPerformed (pointer_width : ℕ) (reading : Reading) (plain_ledger l
 -- each emission of joined calls is performed, where pointers have this width
 abbrev pub ArePerformed : (pointer_width : ℕ) (reading : Reading) (plain : Script) (calls : List ScriptCall) → AreJoinedCalls reading plain calls → Type 0
 ArePerformed pointer_width reading plain calls Starting = Unit {0}
-ArePerformed pointer_width reading plain calls (Asking before script earlier asked request are is) = ArePerformed pointer_width before script earlier are
-ArePerformed pointer_width reading plain calls (Emitting before script earlier code last instruction are line stays whole types) =
+ArePerformed pointer_width reading plain calls (Asking before script earlier asked request are is placed) = ArePerformed pointer_width before script earlier are
+ArePerformed pointer_width reading plain calls (Emitting before script earlier code last instruction are placed line stays whole types) =
     ArePerformed pointer_width before script earlier are × IsPerformed pointer_width before (ledger_after script) (ledger_of earlier) code last instruction
+-- of a switch this is said where it is joined
+ArePerformed pointer_width reading plain calls (Switching before script more earlier block value ty keys edges switch branches tables are at placed is code) =
+    ArePerformed pointer_width before script earlier are

@@ -2,16 +2,17 @@
 -- answers are the instruction's results alone, and its change of the ledger and of the program is that of an instruction that is
 -- built. Without one, all is as it is for the builder's own calls. What may be emitted is from the documentation of Cranelift's
 -- `InstBuilder`; the rest is own.
-use Rattle.std.specs.Prelude.{◌≡◌, ℕ, suc, ◌&&◌, ◌^◌, Bool, false, List, [], ◌∷◌, ◌++◌, map, fold, Option, None, nat_lt, ℤ, pos, negsuc}
+use Rattle.std.specs.Prelude.{◌≡◌, ℕ, suc, ◌&&◌, ◌^◌, Bool, false, List, [], ◌∷◌, ◌++◌, map, fold, replicate, Option, None, option_map, nat_lt, ℤ, pos, negsuc}
 use Rattle.std.specs.List.{list_all}
 use Rattle.clif_types.specs.declared.types.«Type».{«Type»}
 use Rattle.clif_types.specs.Types.{is_int}
 use Rattle.clif_meaning.specs.Acceptance.{Refusal, allows, can_lead, is_open, refusal_of}
-use Rattle.clif_meaning.specs.Instruction.{AddConstant, CompareConstant, Compute, Instruction, Operation}
+use Rattle.clif_meaning.specs.Instruction.{AddConstant, CompareConstant, Compute, Instruction, Operation, Switch}
 use Rattle.clif_meaning.specs.Ledger.{AValue, Answered, Ledger, answers_to, changed_by, empty_ledger, has_value, ledger_after, with_instruction}
 use Rattle.clif_meaning.specs.Name.{Name}
 use Rattle.clif_meaning.specs.Program.{Item, Instruct, Program, answers_from, empty_program, program_of, result_types, with_call, with_inserted, with_item}
 use Rattle.clif_meaning.specs.Request.{Request, Script}
+use Rattle.clif_expansion.specs.Keys.{SwitchRefusal, keys_refusal, table_count}
 
 pub data ScriptCall : Type 0 where
   -- what the builder is asked
@@ -29,10 +30,16 @@ abbrev pub call_answers : Ledger → ScriptCall → List Answered
 call_answers ledger (Ask request) = answers_to ledger request
 call_answers ledger (Emit instruction) = map AValue (emitted_types instruction)
 
+-- Behind a switch there is no current block: the builder's own is one that the script can't name. The switch has made jump tables,
+-- which serve it.
+abbrev pub ledger_behind : Operation → Ledger → Ledger
+ledger_behind (Switch keys) ledger = record ledger { current = None; jump_tables = ledger.jump_tables ++ replicate (table_count keys keys) None }
+ledger_behind _ ledger = ledger
+
 -- what a call changes, its answers aside
 abbrev pub call_changes : Ledger → ScriptCall → Ledger
 call_changes ledger (Ask request) = changed_by ledger request
-call_changes ledger (Emit instruction) = with_instruction ledger instruction
+call_changes ledger (Emit instruction) = ledger_behind instruction.operation (with_instruction ledger instruction)
 
 abbrev pub ledger_with_call : Ledger → ScriptCall → Ledger
 ledger_with_call ledger call = record (call_changes ledger call) { answers = ledger.answers ++ call_answers ledger call ∷ [] }
@@ -47,10 +54,14 @@ ledger_of calls = fold ledger_with_call empty_ledger calls
 abbrev pub emitted_item : ℕ → Instruction Name Name → Item
 emitted_item place instruction = Instruct place instruction (answers_from place 0 (emitted_types instruction))
 
+abbrev pub program_behind : Operation → Program → Program
+program_behind (Switch keys) program = record program { current = None }
+program_behind _ program = program
+
 abbrev pub program_with_call : Program → ScriptCall → Program
 program_with_call program (Ask request) = with_call program request
 program_with_call program (Emit instruction) =
-    record (with_item (with_inserted program) (emitted_item program.place instruction)) { place = suc program.place }
+    record (program_behind instruction.operation (with_item (with_inserted program) (emitted_item program.place instruction))) { place = suc program.place }
 
 -- the variable program of these calls
 abbrev pub program_of_calls : List ScriptCall → Program
@@ -67,6 +78,7 @@ has_64_bits (negsuc n) = nat_lt n (2 ^ 63)
 abbrev pub can_emit : Operation → «Type» → Bool
 can_emit (Compute (AddConstant number)) ty = is_int ty && has_64_bits number
 can_emit (Compute (CompareConstant condition number)) ty = is_int ty && has_64_bits number
+can_emit (Switch keys) ty = is_int ty
 can_emit _ ty = false
 
 -- the condition of each kind of call
@@ -77,10 +89,19 @@ call_allowed ledger (Emit instruction) =
     && is_open ledger ledger.current && list_all (has_value ledger) instruction.operands && list_all (can_lead ledger) instruction.edges
     && can_emit instruction.operation instruction.controlling
 
+-- why a call is refused that may be made: the builder's reason, or that of a switch
+pub data CallRefusal : Type 0 where
+  OfCall : Refusal → CallRefusal
+  OfSwitch : SwitchRefusal → CallRefusal
+
+abbrev pub emission_refusal : Operation → «Type» → Option SwitchRefusal
+emission_refusal (Switch keys) ty = keys_refusal ty keys
+emission_refusal _ ty = None
+
 -- what it is refused for
-abbrev pub call_refusal : Ledger → ScriptCall → Option Refusal
-call_refusal ledger (Ask request) = refusal_of ledger request
-call_refusal ledger (Emit instruction) = None
+abbrev pub call_refusal : Ledger → ScriptCall → Option CallRefusal
+call_refusal ledger (Ask request) = option_map OfCall (refusal_of ledger request)
+call_refusal ledger (Emit instruction) = option_map OfSwitch (emission_refusal instruction.operation instruction.controlling)
 
 -- Without an emission the ledger and the program are those of the builder's calls.
 pub record AskingStays : Type 0 where

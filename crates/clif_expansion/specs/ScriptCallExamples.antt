@@ -83,7 +83,7 @@ pub record ScriptCallExamples : Type 0 where
   pub items : (program_of_calls summing_calls).items (block 0)
       ≡ Instruct 2 (computing (Iconst (pos 5)) i32 []) (answer_of 2 1 ∷ []) ∷ Instruct 3 (seven_more (answer_of 2 1)) (answer_of 3 0 ∷ []) ∷ []
   -- the ledgers are joined
-  pub joined : AreJoinedStates summing_reading (ledger_after summing_script) (ledger_of summing_calls)
+  pub joined : AreJoinedStates summing_reading 4 (ledger_after summing_script) (ledger_of summing_calls)
   -- the plain calls are those of a sum with a constant, and stand for the script's
   pub plain : constant_calls (Binary Iadd) i32 (pos 7) 3 (answer_of 2 1) ≡ iconst i32 (pos 7) ∷ Build [] sum ∷ []
   pub stands : (reading : Reading) × AreJoinedCalls reading summing_script summing_calls
@@ -95,4 +95,4 @@ pub record ScriptCallExamples : Type 0 where
   -- with one call more on one side alone they don't
   pub one_more : (reading : Reading) → AreJoinedCalls reading (summing_script ++ SealBlock (block 0) ∷ []) summing_calls → ⊥
   -- and the ledgers aren't joined then
-  pub apart : (reading : Reading) → AreJoinedStates reading (ledger_after (summing_script ++ SealBlock (block 0) ∷ [])) (ledger_of summing_calls) → ⊥
+  pub apart : (reading : Reading) → AreJoinedStates reading 4 (ledger_after (summing_script ++ SealBlock (block 0) ∷ [])) (ledger_of summing_calls) → ⊥

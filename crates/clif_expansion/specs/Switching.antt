@@ -1,42 +1,31 @@
 -- The plain calls of a switch: they make blocks that are generated, and decide in them where control goes. What the calls do is said
 -- by what control does, not by the calls. Names are those of the plain script, and all answers to these calls are generated. Own.
-use Rattle.std.specs.Prelude.{◌≡◌, ◌⊎◌, ◌≤◌, ◌&&◌, ℕ, zero, suc, not, nat_lt, if◌then◌else◌, Bool, true, false, IsTrue, List, [], ◌∷◌, ◌++◌, length, map, replicate, slice_get, Some, Option, None, Contains, IfSome}
-use Rattle.std.specs.List.{AllByRecursion, list_any}
+use Rattle.std.specs.Prelude.{◌≡◌, ◌⊎◌, ◌≤◌, ◌&&◌, ℕ, nat_lt, if◌then◌else◌, false, IsTrue, List, [], ◌∷◌, ◌++◌, length, map, replicate, slice_get, Some, None, Contains, IfSome}
+use Rattle.std.specs.List.{AllByRecursion}
 use Rattle.clif_types.specs.declared.types.«Type».{«Type»}
 use Rattle.clif_meaning.specs.Bits.{Bits, IsValue}
 use Rattle.clif_meaning.specs.Instruction.{Compute, Jump, Brif, BrTable, Switch, Operation, Edge, Instruction}
-use Rattle.clif_meaning.specs.Ledger.{BlockState, Ledger, is_filled, is_inserted, is_pristine, leads_to, ledger_after}
+use Rattle.clif_meaning.specs.Ledger.{BlockState, Ledger, is_filled, has_block, is_inserted, is_pristine, leads_to, ledger_after, type_of}
 use Rattle.clif_meaning.specs.Name.{Name}
-use Rattle.clif_meaning.specs.Program.{Item, Instruct, Program, program_of}
+use Rattle.clif_meaning.specs.Program.{Item, Instruct, program_of}
 use Rattle.clif_meaning.specs.Request.{Request, CreateBlock, SwitchToBlock, SealBlock, MakeEdge, MakeJumpTable, Build, GivenEntry, ServedBy, Script}
-use Rattle.clif_meaning.specs.Switch.{edge_of_key}
-use Rattle.clif_meaning.specs.WellPlaced.{edge_targets}
+use Rattle.clif_meaning.specs.Switch.{edge_of_key, switch_target}
 use Rattle.clif_meaning.specs.World.{World}
+use Rattle.clif_expansion.specs.Keys.{table_count}
 use Rattle.clif_expansion.specs.Laying.{IsLaid}
-use Rattle.clif_expansion.specs.PerformedCalls.{HaveTypes, IsTypedInLine}
+use Rattle.clif_expansion.specs.LedgerTypes.{HaveTypes, IsTypedInLine}
 use Rattle.clif_expansion.specs.Reading.{Generated, Reading, ScriptName}
 use Rattle.clif_expansion.specs.Walk.{Surroundings, Walk}
-
--- KEYS --------------------------------------------------------------------------------------------------------------------
-
-abbrev pub is_key : List ℕ → ℕ → Bool
-is_key keys key = list_any (λ other. nat_lt key (suc other) && nat_lt other (suc key)) keys
-
--- the key follows right behind another one
-abbrev pub follows : List ℕ → ℕ → Bool
-follows keys zero = false
-follows keys (suc key) = is_key keys key
-
--- how many jump tables a switch of these keys makes: one for each range of consecutive keys that has more than one
-abbrev pub table_count : List ℕ → List ℕ → ℕ
-table_count keys [] = 0
-table_count keys (key ∷ rest) = if not (follows keys key) && is_key keys (suc key) then suc (table_count keys rest) else table_count keys rest
 
 -- CALLS -------------------------------------------------------------------------------------------------------------------
 
 -- where edges lead
 abbrev pub targets_of : List (Edge Name Name) → List Name
 targets_of edges = map (λ edge. edge.target) edges
+
+-- the switch of a value by these keys
+abbrev pub switching : List ℕ → «Type» → (value : Name) → List (Edge Name Name) → Instruction Name Name
+switching keys ty value edges = record { operation = Switch keys; controlling = ty; operands = value ∷ []; contexts = []; edges = edges }
 
 -- names that were made before this place stand for themselves, and later ones were generated
 abbrev pub generated_from : (base : ℕ) → Reading
@@ -94,6 +83,13 @@ BeginsHere [] = ⊥
 BeginsHere (Build entries instruction ∷ more) = Unit {0}
 BeginsHere (request ∷ more) = IsMaking request × BeginsHere more
 
+-- a block that becomes the current one is there, and so are generated blocks to which a branch leads that is built
+abbrev pub LeadsToBlocks : (base : ℕ) → Ledger → Request → Type 0
+LeadsToBlocks base ledger (SwitchToBlock block) = IsTrue (has_block ledger block)
+LeadsToBlocks base ledger (Build entries instruction) =
+    AllByRecursion (λ edge. base ≤ edge.target.place → IsTrue (has_block ledger edge.target)) instruction.edges
+LeadsToBlocks base ledger _ = Unit {0}
+
 -- THE LEDGER BEHIND THEM ---------------------------------------------------------------------------------------------------
 
 -- a block that was generated has its terminator and is sealed
@@ -129,11 +125,16 @@ pub record GoesByKey (around : Surroundings) (code : List Item) (edges : List (E
 -- The calls `more`, behind a script's plain calls with this block as the current one, are code of the switch of a value by these keys,
 -- whose edges pass nothing.
 pub record IsSwitchCode (plain more : Script) (block value : Name) (ty : «Type») (keys : List ℕ) (edges : List (Edge Name Name)) (branches tables : ℕ) : Type 0 where
+  pub nothing : AllByRecursion (λ edge. edge.arguments ≡ []) edges
+  pub value_type : type_of (ledger_after plain) value ≡ Some ty
   pub calls : AllByRecursion (IsDecidingCall (length plain) (length (ledger_after plain).jump_tables) (targets_of edges)) more
   pub typed : (types : Name → «Type») → HaveTypes (ledger_after (plain ++ more)) types → AllByRecursion (BuildsTyped types) more
   -- the first instruction stands in that block: before it blocks, edges and tables are made alone
   pub begins : BeginsHere more
+  pub blocks : AllByRecursion (LeadsToBlocks (length plain) (ledger_after (plain ++ more))) more
   pub finished : AllByRecursion (IsFinishedFrom (length plain)) (ledger_after (plain ++ more)).blocks
+  -- the block in which the switch stands has its terminator, and so has the one that is current at the end
+  pub filled : IsTrue (is_filled (ledger_after (plain ++ more)) block)
   pub left : IfSome (ledger_after (plain ++ more)).current (IsSpent (ledger_after (plain ++ more)))
   pub led : (target : Name) → Contains (targets_of edges) target → IsLedFrom (length plain) (ledger_after (plain ++ more)) target
   pub jump_tables : (ledger_after (plain ++ more)).jump_tables ≡ (ledger_after plain).jump_tables ++ replicate (table_count keys keys) None
@@ -145,3 +146,13 @@ pub record IsSwitchCode (plain more : Script) (block value : Name) (ty : «Type�
   pub goes : (world : World) (types : Name → «Type») (names : Name → Bits) → HaveTypes (ledger_after (plain ++ more)) types → IsValue ty (names value)
       → GoesByKey (record { world = world; reading = generated_from (length plain); types = types; program = program_of (plain ++ more) })
       code edges keys names (names value) branches tables
+
+-- LAWS --------------------------------------------------------------------------------------------------------------------
+
+-- The edge of a key leads where the finite map has the key, where edges lead to the blocks of the entries, in order, and then to the
+-- default.
+abbrev pub KeysFindTheirBlocks : Type 0
+KeysFindTheirBlocks =
+    (entries : List (ℕ × Name)) (otherwise : Name) (edge_to : Name → Edge Name Name) (key : ℕ)
+    → slice_get (map (λ entry. edge_to entry.1) entries ++ edge_to otherwise ∷ []) (edge_of_key (map (λ entry. entry.0) entries) key)
+    ≡ Some (edge_to (switch_target entries otherwise key))

@@ -6,6 +6,7 @@ ghost use Rattle.clif_expansion.specs.HeadlineExamples.{HeadlineExamples};
 ghost use Rattle.clif_expansion.specs.JoinedRunExamples.{JoinedRunExamples};
 ghost use Rattle.clif_expansion.specs.LayingExamples.{LayingExamples};
 ghost use Rattle.clif_expansion.specs.ScriptCallExamples.{ScriptCallExamples};
+ghost use Rattle.clif_expansion.specs.SwitchExamples.{SwitchExamples};
 ghost use Rattle.clif_expansion.specs.WalkExamples.{WalkExamples};
 ghost use Rattle.clif_meaning.specs.World.{World};
 
@@ -49,4 +50,11 @@ pub fn joined_run_examples()
 /// comparison.
 pub fn headline_examples()
     ensures { HeadlineExamples }
+{}
+
+/// A switch of one key fills its block and leads to both blocks, and behind it there is no current one; a key that is
+/// set twice is refused, and one that is no number of the type. A comparison and a branch are its code and are joined
+/// with it; the branch with its edges turned round isn't.
+pub fn switch_examples()
+    ensures { SwitchExamples }
 {}

@@ -13,6 +13,7 @@ ghost use Rattle.clif_expansion.specs.Laying.{CodesAreLaid, LayingKeepsPlaces};
 ghost use Rattle.clif_expansion.specs.Laws.{ExpandingKeepsPremises, ExpandingMeansTheSame, ValuesAreTaken};
 ghost use Rattle.clif_expansion.specs.ScriptCall.{AskingStays};
 ghost use Rattle.clif_expansion.specs.ScriptsAlone.{ScriptsAlone};
+ghost use Rattle.clif_expansion.specs.Switching.{KeysFindTheirBlocks};
 ghost use Rattle.clif_expansion.specs.WalkLaws.{WalksGoOn};
 
 /// Where each item of a script's program is expanded to code that does what the item does, the plain program means the
@@ -45,6 +46,11 @@ pub fn values_are_taken()
 /// A walk to a generated block goes on through its code, and code that grows keeps its walks.
 pub fn walks_go_on()
     ensures { WalksGoOn }
+{}
+
+/// The edge along which a switch goes for a key leads to the block that the finite map of its entries has for the key.
+pub fn keys_find_their_blocks()
+    ensures { KeysFindTheirBlocks }
 {}
 
 /// No function has an instruction that only scripts have, and no call builds one.
@@ -98,7 +104,7 @@ pub fn constants_are_emitted()
 {}
 
 /// And the items of the plain program are cut into the script's items with their names read, and into the code of each
-/// emission.
+/// emission; what a switch is made into beside decides in blocks that are generated.
 pub fn joined_calls_have_joined_programs()
     ensures { JoinedCallsHaveJoinedPrograms }
 {}

@@ -1,5 +1,5 @@
 -- The ranges of some cases have the blocks of their keys.
-use Rattle.std.proofs.Common.{◌≡◌, ℕ, ◌+◌, ◌-◌, ◌<◌, ◌≤◌, suc, List, [], ◌∷◌, ◌++◌, length, Some, None, Option, true, false, cond, refl, ap, sym, ◌∙◌, arith, inl, inr}
+use Rattle.std.proofs.Common.{◌≡◌, ℕ, ◌+◌, ◌-◌, ◌<◌, ◌≤◌, suc, List, [], ◌∷◌, ◌++◌, Some, None, Option, true, false, cond, refl, ap, sym, ◌∙◌, arith, inl, inr}
 use Rattle.std.specs.Prelude.{◌==◌, nat_lt, if◌then◌else◌, slice_get}
 use Rattle.std.specs.List.{enumerate_from, flat_map}
 use Rattle.std.specs.Map.{lookup}
@@ -14,7 +14,7 @@ use Rattle.clif_ranges.specs.Search.{block_in, block_of_key, first_of}
 use Rattle.clif_ranges.proofs.CaseMaps.{lookup_found}
 
 -- the value of a key among entries
-abbrev of_key : ℕ → List (ℕ × ℕ) → Option ℕ
+abbrev pub of_key : ℕ → List (ℕ × ℕ) → Option ℕ
 of_key key entries = lookup (λ k. key == k) entries
 
 of_append : (key : ℕ) (xs ys : List (ℕ × ℕ)) → of_key key (xs ++ ys) ≡ first_of (of_key key xs) (of_key key ys)
@@ -61,7 +61,7 @@ of_range key range =
           of_from key range.first range.blocks.items over ∙ sym (ap (λ t. if t then None else slice_get range.blocks.items (key - range.first)) no)
     ]
 
-of_ranges : (key : ℕ) (ranges : List CaseRange) → of_key key (flat_map cases_of ranges) ≡ block_of_key ranges key
+pub of_ranges : (key : ℕ) (ranges : List CaseRange) → of_key key (flat_map cases_of ranges) ≡ block_of_key ranges key
 of_ranges key [] = refl
 of_ranges key (range ∷ ranges) =
     of_append key (cases_of range) (flat_map cases_of ranges)

@@ -1,17 +1,20 @@
 -- The search in nodes that were put together.
 use Rattle.std.proofs.Common.{Bor, ◌≡◌, ◌≢◌, ℕ, ◌+◌, ◌-◌, ◌*◌, ◌^◌, ◌<◌, ◌≤◌, zero, suc, List, [], ◌∷◌, ◌++◌, length, refl, sym, ap, ap₂, subst, ◌∙◌, arith, append_assoc, append-nil, length-append, ◌⊎◌, inl, inr}
-use Rattle.std.specs.Prelude.{All, nat_lt, ◌==◌, if◌then◌else◌, Bool, true, false, Option, Some, None, slice_get}
+use Rattle.std.specs.List.{AllByRecursion, count_by}
+use Rattle.std.proofs.lemmas.List.Sums.{sum_by-append}
+use Rattle.std.specs.Prelude.{Contains, cond, All, nat_lt, ◌==◌, if◌then◌else◌, Bool, true, false, Option, Some, None, slice_get}
 use Rattle.std.proofs.lemmas.Bool.{cases_lt, cases_eq, ne_eqb}
 use Rattle.std.proofs.lemmas.Bool.Decides.{nat_tests}
 use Rattle.std.proofs.lemmas.Option.{slice_get_past}
-use Rattle.std.proofs.lemmas.List.Elements.{All-append, All-weaker, All-head, All-tail, All-nil, All-push}
+use Rattle.std.proofs.lemmas.List.Elements.{Contains-append_left, Contains-append_right, All-append, All-weaker, All-head, All-tail, All-nil, All-push}
 use Rattle.clif_ranges.specs.declared.ranges.CaseRange.{CaseRange}
 use Rattle.clif_ranges.specs.declared.search.Next.{Next}
 use Rattle.clif_ranges.specs.declared.search.Next.TheVariants as goes
 use Rattle.clif_ranges.specs.declared.search.Node.{Node}
+use Rattle.clif_ranges.specs.declared.search.Test.{Test}
 use Rattle.clif_ranges.specs.declared.search.Test.TheVariants as test
 use Rattle.clif_ranges.specs.Ranges.{end_of}
-use Rattle.clif_ranges.specs.Search.{AddsNodes, AddsRange, AreInOrder, ComesBefore, FindsCases, TestsRange, Found, behind_a_branch, block_in, block_of_key, first_named, first_of, goes_on, number_of, search, tested}
+use Rattle.clif_ranges.specs.Search.{AddsNodes, AddsRange, AreInOrder, ComesBefore, FindsCases, TestsRange, Found, behind_a_branch, block_in, block_of_key, first_named, first_of, goes_on, number_of, search, tested, AreTestsOf, IsTestOf, is_long, is_table}
 
 same_number : (n : ℕ) → (n == n) ≡ true
 same_number n = grind (arith, nat_tests)
@@ -97,6 +100,39 @@ one_more n = omega arith
 behind_two : (n next : ℕ) → n + 1 ≡ next → next + 1 ≡ n + 2 + 0
 behind_two n next is = omega (arith, is)
 
+-- TESTS OF RANGES ---------------------------------------------------------------------------------------------------------
+
+-- a test of some ranges is one of more
+test_of_more : (ranges more : List CaseRange) → ((range : CaseRange) → Contains ranges range → Contains more range) → (t : Test) → IsTestOf ranges t → IsTestOf more t
+test_of_more ranges more holds test.Nothing is = tt
+test_of_more ranges more holds (test.OneKey range other) is = (holds range.now is.0, is.1)
+test_of_more ranges more holds (test.NotBelow first above other) is = (is.0, holds is.0 is.1, is.2)
+test_of_more ranges more holds (test.Table range) is = (holds range.now is.0, is.1)
+
+tests_of_more : (ranges more : List CaseRange) → ((range : CaseRange) → Contains ranges range → Contains more range) → (nodes others : List Node)
+    → AllByRecursion (λ node. IsTestOf ranges node.test) nodes → AllByRecursion (λ node. IsTestOf more node.test) others
+    → AllByRecursion (λ node. IsTestOf more node.test) (nodes ++ others)
+tests_of_more ranges more holds [] others all also = also
+tests_of_more ranges more holds (node ∷ nodes) others all also = (test_of_more ranges more holds node.test all.0, tests_of_more ranges more holds nodes others all.1 also)
+
+-- the higher ranges' tests, and then the lower ones'
+both_tested : (low high : List CaseRange) (lows highs : List Node) → AreTestsOf low lows → AreTestsOf high highs → AreTestsOf (low ++ high) (highs ++ lows)
+both_tested low high lows highs of_low of_high = record {
+  tests = tests_of_more high (low ++ high) (λ range is. Contains-append_right low high range is) highs lows of_high.tests
+      (subst (AllByRecursion (λ (node : Node). IsTestOf (low ++ high) node.test)) (append-nil lows)
+      (tests_of_more low (low ++ high) (λ range is. Contains-append_left low high range is) lows [] of_low.tests tt));
+  tables = sum_by-append (λ n. cond (is_table n) 1 0) highs lows ∙ ap₂ (λ (a b : ℕ). a + b) of_high.tables of_low.tables
+      ∙ swapped (count_by is_long high) (count_by is_long low) ∙ sym (sum_by-append (λ r. cond (is_long r) 1 0) low high);
+}
+  where
+    swapped : (a b : ℕ) → a + b ≡ b + a
+    swapped a b = omega arith
+
+-- a branch at a range's first key before them
+behind_test : (ranges : List CaseRange) (number first above : ℕ) (other : Next) (nodes : List Node) → (range : CaseRange) × Contains ranges range × (range.first ≡ first)
+    → AreTestsOf ranges nodes → AreTestsOf ranges (record { number = number; test = test.NotBelow first above other } ∷ nodes)
+behind_test ranges number first above other nodes begins_one are = record { tests = (begins_one, are.tests); tables = are.tables }
+
 -- TWO PARTS ---------------------------------------------------------------------------------------------------------------
 
 abbrev pub split_nodes : (first next number : ℕ) (high_nodes low_nodes : List Node) → List Node
@@ -170,15 +206,18 @@ one_fits n k twice = omega (arith, twice)
 pub split_adds : (low high : List CaseRange) (first next number b c : ℕ) (old mid nodes new : List Node) → number < next
     → All (λ range. end_of range ≤ first) low → All (λ range. first ≤ range.first) high
     → 3 < length low + length high → 2 * length low ≤ length low + length high → 2 * length high ≤ length low + length high + 1
+    → (range : CaseRange) × Contains high range × (range.first ≡ first)
     → mid ≡ old ++ record { number = number; test = test.NotBelow first (next + 1) (goes.Node next) } ∷ []
     → AddsNodes high (next + 2) (next + 1) mid nodes b → AddsNodes low b next nodes new c
     → AddsNodes (low ++ high) next number old new c
-split_adds low high first next number b c old mid nodes new before ends begins_at some half_low half_high made highs lows = record {
+split_adds low high first next number b c old mid nodes new before ends begins_at some half_low half_high begins_one made highs lows = record {
   added = both low high first next number b c highs.added lows.added before highs.rises lows.rises ends begins_at highs.numbers lows_numbered highs.find lows.find;
   is = lows.is ∙ ap (λ xs. xs ++ lows.added) (highs.is ∙ ap (λ xs. xs ++ highs.added) made) ∙ ap (λ xs. xs ++ lows.added) (append_assoc old _ highs.added) ∙ append_assoc old _ lows.added;
   rises = omega (arith, highs.rises, lows.rises);
   few = omega (arith, highs.few, lows.few, length-append low high);
   numbers = both_numbers low high first next number b c highs.added lows.added before highs.rises lows.rises ends begins_at highs.numbers lows_numbered highs.find lows.find;
+  tests = behind_test (low ++ high) number first (next + 1) (goes.Node next) (highs.added ++ lows.added)
+      (begins_one.0, Contains-append_right low high begins_one.0 begins_one.1, begins_one.2) (both_tested low high lows.added highs.added lows.tests highs.tests);
   find = λ rest. record {
     finds = both_find low high first next number b c highs.added lows.added before highs.rises lows.rises ends begins_at highs.numbers lows_numbered highs.find lows.find rest;
     short = short rest;
@@ -221,6 +260,7 @@ one_key_adds range next number other old new earlier one made = record {
   few = omega arith;
   numbers = All-push (IsNumbered number next next) [] node (All-nil (IsNumbered number next next)) (inl refl);
   order = order other earlier;
+  tests_of = record { tests = (((0, omega arith, refl), one), tt); tables = ap (λ (n : ℕ). 0 + cond (nat_lt 1 n) 1 0) (sym one) };
   tests = λ rest key. tests rest key;
 }
   where
@@ -246,10 +286,13 @@ one_key_adds range next number other old new earlier one made = record {
               inr (only_key range.now key one apart, begins node rest key ∙ ap (comes rest key) (ne_eqb key range.now.first apart))
         ]
 
+is_so : {n : ℕ} → 1 < n → nat_lt 1 n ≡ true
+is_so more = grind (arith, nat_tests)
+
 -- a range of several keys from 0 on: its table
-pub table_adds : (range : Bor CaseRange) (next number : ℕ) (other : Next) (old new : List Node) → other ≡ goes.Otherwise → range.now.first ≡ 0
+pub table_adds : (range : Bor CaseRange) (next number : ℕ) (other : Next) (old new : List Node) → other ≡ goes.Otherwise → range.now.first ≡ 0 → 1 < length range.now.blocks.items
     → new ≡ old ++ record { number = number; test = test.Table range } ∷ [] → AddsRange range.now next number other old new next
-table_adds range next number other old new nowhere zero_first made = record {
+table_adds range next number other old new nowhere zero_first long made = record {
   added = node ∷ [];
   is = made;
   rises = omega arith;
@@ -258,6 +301,7 @@ table_adds range next number other old new nowhere zero_first made = record {
   order = λ waiting rest after.
       subst (λ o. AreInOrder (number_of o ++ waiting) next rest → AreInOrder (number ∷ waiting) (first_named o next) (node ∷ rest)) (sym nowhere)
       (λ is. (waiting, refl, tt, subst (λ n. AreInOrder waiting n rest) (plus_none next) is)) after;
+  tests_of = record { tests = (((0, omega arith, refl), long), tt); tables = sym (ap (λ (c : Bool). 0 + cond c 1 0) (is_so long)) };
   tests = λ rest key. inl (
     omega (arith, zero_first),
     ap (λ (found : Found). found.block) (begins node rest key),
@@ -269,10 +313,10 @@ table_adds range next number other old new nowhere zero_first made = record {
     node = record { number = number; test = test.Table range }
 
 -- a range of several keys that doesn't begin at 0: a test whether the key is below it, and its table
-pub range_adds : (range : Bor CaseRange) (next number : ℕ) (other : Next) (old mid new : List Node) → number < next → ComesBefore other next
+pub range_adds : (range : Bor CaseRange) (next number : ℕ) (other : Next) (old mid new : List Node) → number < next → ComesBefore other next → 1 < length range.now.blocks.items
     → mid ≡ old ++ record { number = number; test = test.NotBelow range.now.first next other } ∷ []
     → new ≡ mid ++ record { number = next; test = test.Table range } ∷ [] → AddsRange range.now next number other old new (next + 1)
-range_adds range next number other old mid new before earlier first_made made = record {
+range_adds range next number other old mid new before earlier long first_made made = record {
   added = node ∷ (table ∷ []);
   is = made ∙ ap (λ xs. xs ++ table ∷ []) first_made ∙ append_assoc old (node ∷ []) (table ∷ []);
   rises = omega arith;
@@ -280,6 +324,10 @@ range_adds range next number other old mid new before earlier first_made made = 
   numbers = All-push (IsNumbered number next (next + 1)) (node ∷ []) table
       (All-push (IsNumbered number next (next + 1)) [] node (All-nil (IsNumbered number next (next + 1))) (inl refl)) (inr (omega arith, omega arith));
   order = order other earlier;
+  tests_of = record {
+    tests = ((range.now, (0, omega arith, refl), refl), (((0, omega arith, refl), long), tt));
+    tables = sym (ap (λ (c : Bool). 0 + cond c 1 0) (is_so long));
+  };
   tests = λ rest key. tests rest key;
 }
   where
@@ -328,6 +376,7 @@ alone_adds range next number b old new adds = record {
   rises = adds.rises;
   few = omega (arith, adds.few);
   numbers = adds.numbers;
+  tests = adds.tests_of;
   find = λ rest. record {
     finds = λ key. finds rest key (adds.tests rest key);
     short = λ k key fits. short rest k key (adds.tests rest key);
@@ -363,6 +412,7 @@ line_adds lower range next number b c old mid new some most ends adds lows = rec
       (All-weaker (IsNumbered number (next + 1) b) (IsNumbered number next c) (wider number (next + 1) b number next c (inl refl) (omega arith) lows.rises) adds.added adds.numbers)
       (All-weaker (IsNumbered next b c) (IsNumbered number next c)
       (wider next b c number next c (inr (omega arith, omega (arith, adds.rises, lows.rises))) (omega (arith, adds.rises)) (omega arith)) lows.added lows.numbers);
+  tests = both_tested lower (range ∷ []) lows.added adds.added lows.tests adds.tests_of;
   find = λ rest. record {
     finds = λ key. subst (λ nodes. (search nodes number key).block ≡ block_of_key (lower ++ range ∷ []) key) (sym (append_assoc adds.added lows.added rest))
         (finds rest key (adds.tests (lows.added ++ rest) key));
@@ -395,6 +445,10 @@ line_adds lower range next number b c old mid new some most ends adds lows = rec
         omega (arith, here, (lows.find rest).short fits.0 key fits.2, fits.1)
 
 -- THE WHOLE ---------------------------------------------------------------------------------------------------------------
+
+pub nothing_tested : (ranges : List CaseRange) (nodes : List Node) → length ranges ≡ 0 → nodes ≡ record { number = 0; test = test.Nothing } ∷ [] → AreTestsOf ranges nodes
+nothing_tested [] nodes none are = subst (AreTestsOf []) (sym are) (record { tests = (tt, tt); tables = refl })
+nothing_tested (range ∷ ranges) nodes none are = absurd (omega (arith, none))
 
 -- no case
 pub nothing_to_find : (ranges : List CaseRange) (nodes : List Node) → length ranges ≡ 0 → nodes ≡ record { number = 0; test = test.Nothing } ∷ [] → FindsCases ranges nodes 0

@@ -1,6 +1,7 @@
 -- The search tree of a switch: which tests find the case of a key. Source: the module `switch` of cranelift-frontend, whose blocks
 -- these are; own, that they stand in a list in which control goes forward.
-use Rattle.std.specs.Prelude.{◌≡◌, ℕ, suc, ◌+◌, ◌-◌, ◌^◌, ◌≤◌, ◌<◌, ◌*◌, ◌⊎◌, ◌==◌, nat_lt, if◌then◌else◌, List, [], ◌∷◌, ◌++◌, length, reverse, slice_get, Option, Some, None, All, AllPairs}
+use Rattle.std.specs.Prelude.{◌≡◌, ℕ, suc, ◌+◌, ◌-◌, ◌^◌, ◌≤◌, ◌<◌, ◌*◌, ◌⊎◌, ◌==◌, nat_lt, if◌then◌else◌, Bool, true, false, List, [], ◌∷◌, ◌++◌, length, reverse, slice_get, Option, Some, None, All, AllPairs, Contains}
+use Rattle.std.specs.List.{AllByRecursion, count_by}
 use Rattle.clif_ranges.specs.declared.ranges.CaseRange.{CaseRange}
 use Rattle.clif_ranges.specs.declared.search.Next.{Next}
 use Rattle.clif_ranges.specs.declared.search.Next.TheVariants as next
@@ -97,6 +98,29 @@ abbrev pub FindsEachKey : List CaseRange → List Node → Type 0
 FindsEachKey ranges nodes =
     (cases : CaseMap) → AreRangesOf (map.entries cases) ranges → (key : ℕ) → (search nodes 0 key).block ≡ map.get cases key
 
+-- a range of more than one key, which has a table
+abbrev pub is_long : CaseRange → Bool
+is_long range = nat_lt 1 (length range.blocks.items)
+
+abbrev pub makes_table : Test → Bool
+makes_table (test.Table range) = true
+makes_table _ = false
+
+abbrev pub is_table : Node → Bool
+is_table node = makes_table node.test
+
+-- The test is one of these ranges: of its key, if it has one alone, and else of its first one or of all of them.
+abbrev pub IsTestOf : List CaseRange → Test → Type 0
+IsTestOf ranges test.Nothing = Unit {0}
+IsTestOf ranges (test.OneKey range other) = Contains ranges range.now × (length range.now.blocks.items ≡ 1)
+IsTestOf ranges (test.NotBelow first above other) = (range : CaseRange) × Contains ranges range × (range.first ≡ first)
+IsTestOf ranges (test.Table range) = Contains ranges range.now × (1 < length range.now.blocks.items)
+
+-- The nodes test these ranges, and there are as many tables as ranges of more than one key.
+pub record AreTestsOf (ranges : List CaseRange) (nodes : List Node) : Type 0 where
+  pub tests : AllByRecursion (λ node. IsTestOf ranges node.test) nodes
+  pub tables : count_by is_table nodes ≡ count_by is_long ranges
+
 -- Nodes were added that find the cases, whatever stands behind them. Their numbers are this one and those from `next` on, below
 -- `behind`.
 pub record AddsNodes (ranges : List CaseRange) (next number : ℕ) (old new : List Node) (behind : ℕ) : Type 0 where
@@ -105,6 +129,7 @@ pub record AddsNodes (ranges : List CaseRange) (next number : ℕ) (old new : Li
   pub rises : next ≤ behind
   pub few : behind + 2 ≤ next + 3 * length ranges
   pub numbers : All (λ node. (node.number ≡ number) ⊎ ((next ≤ node.number) × (node.number < behind))) added
+  pub tests : AreTestsOf ranges added
   pub find : (rest : List Node) → FindsCases ranges (added ++ rest) number
   pub order : (waiting : List ℕ) (rest : List Node) → AreInOrder waiting behind rest → AreInOrder (number ∷ waiting) next (added ++ rest)
 
@@ -134,4 +159,5 @@ pub record AddsRange (range : CaseRange) (next number : ℕ) (other : Next) (old
   pub numbers : All (λ node. (node.number ≡ number) ⊎ ((next ≤ node.number) × (node.number < behind))) added
   pub order : (waiting : List ℕ) (rest : List Node) → AreInOrder (number_of other ++ waiting) behind rest
       → AreInOrder (number ∷ waiting) (first_named other next) (added ++ rest)
+  pub tests_of : AreTestsOf (range ∷ []) added
   pub tests : (rest : List Node) (key : ℕ) → TestsRange range rest other key (search (added ++ rest) number key)

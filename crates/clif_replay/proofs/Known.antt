@@ -19,7 +19,7 @@ use Rattle.clif_expansion.specs.Joining.{IsJoined, IsReadRequest, answers_at, re
 use Rattle.clif_expansion.specs.Reading.{IsReadAs, Reading, ScriptName}
 use Rattle.clif_expansion.specs.ScriptCall.{Ask, Emit, ScriptCall, call_allowed, can_emit, ledger_of}
 use Rattle.clif_expansion.proofs.EmittedPrograms.{emitted_before, emitted_result, one_longer}
-use Rattle.clif_expansion.proofs.JoinedCalls.{joined_calls}
+use Rattle.clif_expansion.proofs.JoinedCalls.{asked_placed, joined_calls}
 use Rattle.clif_expansion.proofs.Joins.{keeps, read_there}
 use Rattle.clif_expansion.proofs.PerformedConstants.{constant_calls_are_performed}
 use Rattle.clif_expansion.proofs.ReadConditions.{conditions_are_read, has_value_same, opened}
@@ -101,7 +101,8 @@ module _ (naming : Naming) (count : ℕ) (plain : Script) (script : List ScriptC
     known-asked may = record {
       calls = record {
         reading = reading_after reading plain_ledger ledger;
-        joined = Asking reading plain script asked request known.calls.joined (narrowed all reading plain_ledger ledger joined narrow asked request is-read may);
+        joined = Asking reading plain script asked request known.calls.joined (narrowed all reading plain_ledger ledger joined narrow asked request is-read may)
+            (asked_placed reading plain_ledger ledger joined request (sym allowed-same ∙ may));
         performed = λ pointer_width. known.calls.performed pointer_width;
       };
       reads = λ name below. by name (cases_lt name.place count) below;
@@ -191,7 +192,7 @@ module _ (naming : Naming) (count : ℕ) (plain : Script) (script : List ScriptC
       known-emitted = subst (λ (calls : Script). AreKnown extended (count + 1) (plain ++ calls) (script ++ Emit emission ∷ [])) same-calls (record {
         calls = record {
           reading = reading_emitted reading plain_ledger ledger code;
-          joined = (performed-by called).joined reading plain script ty x name known.calls.joined;
+          joined = (performed-by called).joined reading plain script ty x name known.calls.joined may;
           performed = λ pointer_width.
               (performed-by called).performed pointer_width reading plain script ty x name known.calls.joined (known.calls.performed pointer_width) (operand-read may) may;
         };

@@ -1,5 +1,5 @@
 -- A call that may be made names what was made: so it is read as it is under any reading that agrees on names that were made.
-use Rattle.std.proofs.Common.{◌≡◌, ◌<◌, ℕ, List, [], ◌∷◌, length, refl, ap, sym, ◌∙◌}
+use Rattle.std.proofs.Common.{◌≡◌, ◌<◌, ◌⊎◌, inl, inr, ℕ, List, [], ◌∷◌, length, refl, ap, sym, ◌∙◌}
 use Rattle.std.specs.Prelude.{◌&&◌, ◌||◌, Bool, true, false, Option, Some, None, find, if◌then◌else◌, is_some, not, slice_get}
 use Rattle.std.specs.List.{AllZip, list_all, list_any}
 use Rattle.std.proofs.lemmas.Bool.{and_parts, false≢true}
@@ -10,8 +10,9 @@ use Rattle.clif_meaning.specs.Instruction.{Argument, Known, CallResult, CallPayl
 use Rattle.clif_meaning.specs.Ledger.{Answered, BlockState, Ledger, answer_at, answered_edge, block_state, edge_named, has_block, has_instruction, has_value, is_inserted, is_instruction_answer, is_sealed, leads_to, state_has, type_of, value_answer_type, variable_type}
 use Rattle.clif_meaning.specs.Name.{Name, same_name}
 use Rattle.clif_meaning.specs.Request.{Request, CreateBlock, SwitchToBlock, SealBlock, SealAllBlocks, InsertBlockAfter, SetColdBlock, EnsureInsertedBlock, AppendBlockParams, AppendFunctionParams, DeclareVar, DefVar, UseVar, MakeEntry, MakeEdge, MakeExceptionTable, MakeJumpTable, Annotate, Build, ChangeJumpDestination, Finalize, TableItem, TagTo, DefaultTo, InContext}
-use Rattle.clif_expansion.specs.Joining.{IsJoined, IsReadRequest, IsReadState, IsReadTableItem}
+use Rattle.clif_expansion.specs.Joining.{Both, IsJoined, IsOwnState, IsReadLayout, IsReadRequest, IsReadState, IsReadTableItem, Own, StandAmong}
 use Rattle.clif_expansion.specs.Reading.{IsReadArgument, IsReadAs, IsReadEdge, IsReadInstruction, Reading}
+use Rattle.clif_expansion.specs.Walk.{IsGenerated}
 use Rattle.clif_expansion.proofs.Names.{names_equal}
 use Rattle.clif_builder.proofs.LedgerLists.{and-then-some}
 
@@ -30,29 +31,46 @@ assigned-some None (Some other) is = absurd (false≢true is)
 assigned-some (Some ty) None is = absurd (false≢true is)
 assigned-some (Some ty) (Some other) is = refl
 
-module _ (reading : Reading) where
-  -- a block that is found is read
-  found-read : (states' states : List BlockState) (x : Name) → AllZip (IsReadState reading) states' states
-      → is_some (find (λ (state : BlockState). same_name state.block x) states') ≡ true → (name : Name) × IsReadAs reading x name
-  found-read [] states x are found = absurd (false≢true found)
-  found-read (state' ∷ states') [] x are found = absurd are
-  found-read (state' ∷ states') (state ∷ states) x are found = by (same_name state'.block x) refl found (found-read states' states x are.1)
+module _ (reading : Reading) (made : ℕ) where
+  -- a name is read, or was generated
+  abbrev IsThere : Name → Type 0
+  IsThere x = ((name : Name) × IsReadAs reading x name) ⊎ IsGenerated reading x
+
+  -- so is a block that is found
+  found-there : (states' states : List BlockState) (x : Name) → StandAmong (IsReadState reading made) (IsOwnState reading) states' states
+      → is_some (find (λ (state : BlockState). same_name state.block x) states') ≡ true → IsThere x
+  found-there [] states x are found = absurd (false≢true found)
+  found-there (state' ∷ states') (state ∷ states) x (Both a b zs ws is are) found = by (same_name state'.block x) refl found (found-there states' states x are)
     where
       by : (here : Bool) → same_name state'.block x ≡ here → is_some (if here then Some state' else find (λ (s : BlockState). same_name s.block x) states') ≡ true
-          → (is_some (find (λ (s : BlockState). same_name s.block x) states') ≡ true → (name : Name) × IsReadAs reading x name) → (name : Name) × IsReadAs reading x name
-      by true is found later = (state.block, ap reading (sym (names_equal state'.block x is)) ∙ are.0.block)
-      by false is found later = later found
-
-  -- so is one of the layout
-  inserted-read : (xs names : List Name) (x : Name) → AllZip (IsReadAs reading) xs names → list_any (same_name x) xs ≡ true → (name : Name) × IsReadAs reading x name
-  inserted-read [] names x are found = absurd (false≢true found)
-  inserted-read (y ∷ xs) [] x are found = absurd are
-  inserted-read (y ∷ xs) (name ∷ names) x are found = by (same_name x y) refl found (inserted-read xs names x are.1)
+          → (is_some (find (λ (s : BlockState). same_name s.block x) states') ≡ true → IsThere x) → IsThere x
+      by true same found later = inl (state.block, ap reading (sym (names_equal state'.block x same)) ∙ is.block)
+      by false same found later = later found
+  found-there (state' ∷ states') states x (Own a zs ws is are) found = by (same_name state'.block x) refl found (found-there states' states x are)
     where
-      by : (here : Bool) → same_name x y ≡ here → (here || list_any (same_name x) xs) ≡ true → (list_any (same_name x) xs ≡ true → (other : Name) × IsReadAs reading x other)
-          → (other : Name) × IsReadAs reading x other
-      by true is found later = (name, ap reading (names_equal x y is) ∙ are.0)
-      by false is found later = later found
+      by : (here : Bool) → same_name state'.block x ≡ here → is_some (if here then Some state' else find (λ (s : BlockState). same_name s.block x) states') ≡ true
+          → (is_some (find (λ (s : BlockState). same_name s.block x) states') ≡ true → IsThere x) → IsThere x
+      by true same found later = inr (ap reading (sym (names_equal state'.block x same)) ∙ is.block)
+      by false same found later = later found
+
+  -- and one of the layout
+  among-there : (xs names : List Name) (x : Name) → StandAmong (IsReadAs reading) (IsGenerated reading) xs names → list_any (same_name x) xs ≡ true → IsThere x
+  among-there [] names x are found = absurd (false≢true found)
+  among-there (y ∷ xs) (name ∷ names) x (Both a b zs ws is are) found = by (same_name x y) refl found (among-there xs names x are)
+    where
+      by : (here : Bool) → same_name x y ≡ here → (here || list_any (same_name x) xs) ≡ true → (list_any (same_name x) xs ≡ true → IsThere x) → IsThere x
+      by true same found later = inl (name, ap reading (names_equal x y same) ∙ is)
+      by false same found later = later found
+  among-there (y ∷ xs) names x (Own a zs ws is are) found = by (same_name x y) refl found (among-there xs names x are)
+    where
+      by : (here : Bool) → same_name x y ≡ here → (here || list_any (same_name x) xs) ≡ true → (list_any (same_name x) xs ≡ true → IsThere x) → IsThere x
+      by true same found later = inr (ap reading (names_equal x y same) ∙ is)
+      by false same found later = later found
+
+  inserted-there : (xs names : List Name) (x : Name) → IsReadLayout reading xs names → list_any (same_name x) xs ≡ true → IsThere x
+  inserted-there [] names x are found = absurd (false≢true found)
+  inserted-there (y ∷ xs) [] x are found = absurd are
+  inserted-there (y ∷ xs) (name ∷ names) x are found = among-there (y ∷ xs) (name ∷ names) x (Both y name xs names are.0 are.1) found
 
 module _ (whole reading : Reading) (plain ledger : Ledger) (joined : IsJoined reading plain ledger)
     (narrow : (x name : Name) → IsReadAs whole x name → x.place < length plain.answers → IsReadAs reading x name) where
@@ -68,18 +86,19 @@ module _ (whole reading : Reading) (plain ledger : Ledger) (joined : IsJoined re
   edge_name : (x name : Name) → IsReadAs whole x name → is_some (edge_named plain x) ≡ true → IsReadAs reading x name
   edge_name x name is may = narrow x name is (answered (λ o. is_some (answered_edge o)) refl x may)
 
+  -- what is read or was generated was made
+  was-made : (x : Name) → ((name : Name) × IsReadAs reading x name) ⊎ IsGenerated reading x → x.place < length plain.answers
+  was-made x (inl (name, read)) = (joined.made x name read).0
+  was-made x (inr own) = joined.generated x own
+
   block : (x name : Name) → IsReadAs whole x name → has_block plain x ≡ true → IsReadAs reading x name
-  block x name is may =
-      let found = found-read reading plain.blocks ledger.blocks x joined.ledgers.states.blocks may in
-      narrow x name is (joined.made x found.0 found.1).0
+  block x name is may = narrow x name is (was-made x (found-there reading (length ledger.answers) plain.blocks ledger.blocks x joined.ledgers.states.blocks may))
 
   state : (test : BlockState → Bool) (x name : Name) → IsReadAs whole x name → state_has test (block_state plain x) ≡ true → IsReadAs reading x name
   state test x name is may = block x name is (has-state test (block_state plain x) may)
 
   placed : (x name : Name) → IsReadAs whole x name → is_inserted plain x ≡ true → IsReadAs reading x name
-  placed x name is may =
-      let found = inserted-read reading plain.layout ledger.layout x joined.ledgers.states.layout may in
-      narrow x name is (joined.made x found.0 found.1).0
+  placed x name is may = narrow x name is (was-made x (inserted-there reading (length ledger.answers) plain.layout ledger.layout x joined.ledgers.states.layout may))
 
   -- lists
   each : {X Y : Type 0} (R S : X → Y → Type 0) (f : X → Bool) → ((x : X) (y : Y) → R x y → f x ≡ true → S x y) → (xs : List X) (ys : List Y) → AllZip R xs ys

@@ -1,10 +1,10 @@
 -- One step of a replay: a call of the list is made, and the builder that stood for the plain calls of the script's calls stands for
 -- those of one call more.
 use Rattle.std.proofs.Common.{◌≡◌, ◌≢◌, ◌<◌, ◌⊎◌, inl, inr, ℕ, suc, ◌+◌, List, [], ◌∷◌, ◌++◌, length, ap, arith, refl, sym, ◌∙◌, subst}
-use Rattle.std.specs.Prelude.{◌&&◌, Bool, true, false, None, is_some, map, fold, Result, Ok, Err, OnOk, IfOk}
+use Rattle.std.specs.Prelude.{◌&&◌, Bool, true, false, Option, None, is_some, option_map, map, fold, Result, Ok, Err, OnOk, IfOk}
 use Rattle.std.proofs.lemmas.List.{map_push, map-append, length-append, length-map}
 use Rattle.clif_types.specs.Signature.{SignatureShape}
-use Rattle.clif_meaning.specs.Acceptance.{allows, blames_variable, refusal_of}
+use Rattle.clif_meaning.specs.Acceptance.{Refusal, allows, blames_variable, refusal_of}
 use Rattle.clif_meaning.specs.Ledger.{Ledger, empty_ledger, ledger_after}
 use Rattle.clif_meaning.specs.Name.{answer_of}
 use Rattle.clif_meaning.specs.Request.{AnsweredCall, Request, Script, script_of}
@@ -12,7 +12,7 @@ use Rattle.clif_simulation.proofs.LedgerValues.{as_many}
 use Rattle.clif_builder.specs.declared.builder.FunctionBuilder.{FunctionBuilder}
 use Rattle.clif_builder.specs.Builder.{SameLoans}
 use Rattle.clif_expansion.specs.CallsVerdict.{AreCallsTaken, call_blames_variable}
-use Rattle.clif_expansion.specs.ScriptCall.{Ask, Emit, ScriptCall, call_allowed, call_answers, call_refusal, ledger_of, ledger_with_call}
+use Rattle.clif_expansion.specs.ScriptCall.{Ask, Emit, OfCall, ScriptCall, call_allowed, call_answers, call_refusal, ledger_of, ledger_with_call}
 use Rattle.clif_expansion.proofs.EmittedPrograms.{one_longer}
 use Rattle.clif_expansion.proofs.JoinedCalls.{fold_on}
 use Rattle.clif_expansion.proofs.calls.Verdicts.{one_more}
@@ -115,7 +115,8 @@ module _ (c : Call) (asks : Asks c) (old new : FunctionBuilder) (answers : List 
             subst (λ (n : ℕ). AreKnown s.naming n (script_of (s.made ++ more ∷ [])) (script ++ Ask request ∷ [])) (one-on answers answer)
             (subst (λ (plain : Script). AreKnown s.naming (length answers + 1) plain (script ++ Ask request ∷ [])) (sym (map_push (λ (a : AnsweredCall). a.request) s.made more))
             (known-asked s.naming (length answers) (script_of s.made) script s.known s.counts later declared c judged));
-        taken = one_more empty_ledger script (Ask request) s.taken may (ap is_some (asks.refused_never declared (ledger_of script)));
+        taken = one_more empty_ledger script (Ask request) s.taken may
+            (ap (λ (refusal : Option Refusal). is_some (option_map OfCall refusal)) (asks.refused_never declared (ledger_of script)));
         counts = one-answer-more script (Ask request) answers answer s.counts;
       })
 

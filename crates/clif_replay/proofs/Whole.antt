@@ -6,8 +6,9 @@ use Rattle.std.proofs.lemmas.Bool.{cases_lt}
 use Rattle.std.proofs.lemmas.Option.{slice_get_past}
 use Rattle.clif_meaning.specs.Ledger.{Answered, Ledger, answer_at}
 use Rattle.clif_meaning.specs.Name.{Name, answer_of}
-use Rattle.clif_expansion.specs.Joining.{AreJoinedLedgers, IsJoined, IsReadAnswer}
+use Rattle.clif_expansion.specs.Joining.{AreJoinedLedgers, IsJoined, IsReadAnswer, IsUnread}
 use Rattle.clif_expansion.specs.Reading.{IsOneToOne, IsReadAs, Reading, ScriptName, StandsFor}
+use Rattle.clif_expansion.specs.Walk.{IsGenerated}
 use Rattle.clif_expansion.proofs.Joins.{KeepsReading, answer_later, states_later}
 use Rattle.clif_expansion.proofs.Names.{same_script}
 
@@ -80,10 +81,21 @@ module _ (reading : Reading) (plain ledger : Ledger) where
             let indices : x.index ≡ y.index = index ∙ sym index' in
             λ i. answer_of (places i) (indices i)
 
+    whole-generated : (x : Name) → IsGenerated reading x → IsGenerated whole x
+    whole-generated x is = whole-made x (joined.generated x is) ∙ is
+
+    whole-unread : (name : Name) → IsUnread reading (length ledger.answers) name → IsUnread whole (length ledger.answers) name
+    whole-unread name is = record { unread = λ x read. by x (either x name (cases_lt x.place (length plain.answers)) read); before = is.before }
+      where
+        by : (x : Name) → IsReadAs reading x name ⊎ ((length plain.answers ≤ x.place) × (length ledger.answers + (x.place - length plain.answers) ≡ name.place) × (x.index ≡ name.index)) → ⊥
+        by x (inl old) = is.unread x old
+        by x (inr (past, place, index)) = let below = is.before in absurd (omega (arith, below, place))
+
     -- the ledgers are joined under it
     pub whole-joined : AreJoinedLedgers whole plain ledger
     whole-joined = record {
-      states = states_later reading whole whole-keeps plain ledger joined.ledgers.states;
+      states = states_later reading whole (length ledger.answers) (length ledger.answers)
+          (record { keeps = whole-keeps; generated = whole-generated; unread = whole-unread }) plain ledger joined.ledgers.states;
       answers = λ x name is. by x name (either x name (cases_lt x.place (length plain.answers)) is);
     }
       where

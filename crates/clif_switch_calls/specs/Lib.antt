@@ -1,2 +1,4 @@
 -- What the laws of this crate cite.
 pub mod SwitchCalls
+pub mod SwitchLaw
+pub mod SwitchCallExamples

@@ -1,1 +1,14 @@
 //! The laws.
+
+ghost use Rattle.clif_switch_calls.specs.SwitchLaw.{LaterBlocksAreUnwritten, SwitchCallsAreCode};
+
+/// The plain calls of a switch, node by node of a search among its cases, are code of the switch: from before it control walks to
+/// the block of each key's case.
+pub fn switch_calls_are_code()
+    ensures { SwitchCallsAreCode }
+{}
+
+/// Behind calls that may be made nothing was built in blocks that aren't there yet.
+pub fn later_blocks_are_unwritten()
+    ensures { LaterBlocksAreUnwritten }
+{}

@@ -2,4 +2,5 @@
 //! bodies, and their contracts are the laws.
 #![tactic(auto)]
 
+pub mod examples;
 pub mod laws;

@@ -10,7 +10,7 @@ use Rattle.clif_types.specs.Signature.{SignatureShape}
 use Rattle.clif_tables.specs.Callees.{types_of}
 use Rattle.clif_meaning.specs.Acceptance.{allows, is_open}
 use Rattle.clif_meaning.specs.Bits.{AreValues}
-use Rattle.clif_meaning.specs.Instruction.{Edge, Instruction, Operation}
+use Rattle.clif_meaning.specs.Instruction.{Edge, Instruction, Operation, Switch}
 use Rattle.clif_meaning.specs.Ledger.{AValue, Ledger, VariableState, answers_to, changed_by, empty_ledger, is_inserted, is_terminator, new_variable, or_invalid, touched_at, type_of, value_answer_type, variable_type, with_begun, with_begun_at, with_filled_at, with_instruction, with_predecessor, with_terminator}
 use Rattle.clif_meaning.specs.Name.{Name, answer_of, same_name}
 use Rattle.clif_meaning.specs.Premises.{EachItem, EntryTakes, IsItemWellTyped, WellTyped}
@@ -23,7 +23,7 @@ use Rattle.clif_expansion.specs.CallsVerdict.{AreCallsAllowed}
 use Rattle.clif_expansion.specs.HeadlineLaws.{CallsNameValues}
 use Rattle.clif_expansion.specs.JoinedRuns.{calls_run}
 use Rattle.clif_expansion.specs.PerformedCalls.{HaveTypes}
-use Rattle.clif_expansion.specs.ScriptCall.{Ask, Emit, ScriptCall, call_allowed, call_answers, emitted_item, emitted_types, ledger_of, ledger_with_call, program_of_calls, program_with_call}
+use Rattle.clif_expansion.specs.ScriptCall.{Ask, Emit, ScriptCall, call_allowed, call_answers, emitted_item, emitted_types, ledger_behind, ledger_of, ledger_with_call, program_behind, program_of_calls, program_with_call}
 use Rattle.clif_expansion.proofs.EmittedPrograms.{one_longer}
 use Rattle.clif_expansion.proofs.Joins.{answers_last}
 use Rattle.clif_expansion.proofs.LedgerTypes.{call_types_before}
@@ -69,6 +69,11 @@ led_variables : (branch : Name) (ledger : Ledger) (edges : List (Edge Name Name)
 led_variables branch ledger [] = refl
 led_variables branch ledger (edge ∷ edges) = led_variables branch (with_predecessor branch ledger edge) edges
 
+-- and so does a switch
+behind_variables : (operation : Operation) (ledger : Ledger) → (ledger_behind operation ledger).variables ≡ ledger.variables
+behind_variables (Switch keys) ledger = refl
+behind_variables _ ledger = refl
+
 -- a variable keeps its type behind a call more
 module _ (ledger : Ledger) (v : ℕ) (ty : «Type») (is : variable_type ledger v ≡ Some ty) where
   same_variables : (states : List VariableState) → states ≡ ledger.variables → option_map (λ state. state.ty) (slice_get states v) ≡ Some ty
@@ -107,7 +112,13 @@ module _ (ledger : Ledger) (v : ℕ) (ty : «Type») (is : variable_type ledger 
 
   call_on : (call : ScriptCall) → variable_type (ledger_with_call ledger call) v ≡ Some ty
   call_on (Ask request) = asked_on request
-  call_on (Emit instruction) = instruction_on instruction
+  call_on (Emit instruction) =
+      same_variables_at (with_instruction ledger instruction).variables (instruction_on instruction)
+      (ledger_with_call ledger (Emit instruction)).variables (behind_variables instruction.operation (with_instruction ledger instruction))
+    where
+      same_variables_at : (states : List VariableState) → option_map (λ state. state.ty) (slice_get states v) ≡ Some ty → (others : List VariableState) → others ≡ states
+          → option_map (λ state. state.ty) (slice_get others v) ≡ Some ty
+      same_variables_at states found others same = ap (λ (list : List VariableState). option_map (λ state. state.ty) (slice_get list v)) same ∙ found
 
 -- a declared variable has the type that the ledger gives it
 abbrev HaveVariables : Ledger → (ℕ → «Type») → Type 0
@@ -142,6 +153,10 @@ module _ (types : Name → «Type») (variables : ℕ → «Type») where
       by : (here : Bool) → AllByRecursion HasGiven (if here then program.items block ++ item ∷ [] else program.items block)
       by true = all_append HasGiven (program.items block) (item ∷ []) (all block) (one, tt)
       by false = all block
+
+  behind_given : (operation : Operation) (program : Program) → EachItem HasGiven program → EachItem HasGiven (program_behind operation program)
+  behind_given (Switch keys) program all = all
+  behind_given _ program all = all
 
   redirected_given : (branch from to : Name) (item : Item) → HasGiven item → HasGiven (redirected_item branch from to item)
   redirected_given branch from to (Instruct place instruction results) given = by (same_name (answer_of place 0) branch)
@@ -217,7 +232,8 @@ module _ (types : Name → «Type») (variables : ℕ → «Type») where
         → EachItem HasGiven (program_with_call program call)
     call_given (Ask request) allowed have declared = asked_given request allowed have declared
     call_given (Emit instruction) allowed have declared =
-        with_one (with_inserted program) program.current (emitted_item program.place instruction) all (emitted_given instruction have)
+        behind_given instruction.operation (with_item_at (with_inserted program) program.current (emitted_item program.place instruction))
+        (with_one (with_inserted program) program.current (emitted_item program.place instruction) all (emitted_given instruction have))
 
   place_on : (program : Program) (call : ScriptCall) → (program_with_call program call).place ≡ suc program.place
   place_on program (Ask request) = refl

@@ -138,20 +138,20 @@ met width hidden world = record {
 -- THE PLAIN CALLS ---------------------------------------------------------------------------------------------------------
 
 abbrev summed : (reading : Reading) × AreJoinedCalls reading summing_script summing_calls
-summed = (_, (constant_calls_are_performed.adds (pos 7)).joined ScriptCalls.begun.0 begun_script begun_calls i32 (answer_of 2 1) (answer_of 2 1) ScriptCalls.begun.1)
+summed = (_, (constant_calls_are_performed.adds (pos 7)).joined ScriptCalls.begun.0 begun_script begun_calls i32 (answer_of 2 1) (answer_of 2 1) ScriptCalls.begun.1 refl)
 
 abbrev returned : (reading : Reading) × AreJoinedCalls reading (summing_script ++ return_ (answer_of 4 1 ∷ []) ∷ []) (summing_calls ++ Ask (return_ (answer_of 3 0 ∷ [])) ∷ [])
 returned = (
   _,
   Asking summed.0 summing_script summing_calls (return_ (answer_of 4 1 ∷ [])) (return_ (answer_of 3 0 ∷ [])) summed.1
-      (refl, record { operation = refl; controlling = refl; operands = (refl, tt); contexts = tt; edges = tt }),
+      (refl, record { operation = refl; controlling = refl; operands = (refl, tt); contexts = tt; edges = tt }) (λ uses. refl),
 )
 
 abbrev joined : (reading : Reading) × AreJoinedCalls reading returning_script returning_calls
 joined = (
   _,
   Asking returned.0 (summing_script ++ return_ (answer_of 4 1 ∷ []) ∷ []) (summing_calls ++ Ask (return_ (answer_of 3 0 ∷ [])) ∷ [])
-      (SealBlock (block 0)) (SealBlock (block 0)) returned.1 refl,
+      (SealBlock (block 0)) (SealBlock (block 0)) returned.1 refl (λ uses. refl),
 )
 
 means : (width : PointerWidth) (function : FunctionView) → MeansTheSame returning_script first_signature width function → CallsMeanTheSame returning_calls first_signature width function
@@ -203,7 +203,7 @@ untyped : (pointer_width : ℕ) (reading : Reading) → AreJoinedCalls reading b
     → IsPerformed pointer_width reading (ledger_after begun_script) (ledger_of begun_calls) (computing (Iconst (pos 7)) i64 [] ∷ []) is_wide_seven is_seven → ⊥
 untyped pointer_width reading are is =
     let joined =
-    Emitting reading begun_script begun_calls (computing (Iconst (pos 7)) i64 [] ∷ []) is_wide_seven is_seven are
+    Emitting reading begun_script begun_calls (computing (Iconst (pos 7)) i64 [] ∷ []) is_wide_seven is_seven are refl
     (record { no_edges = refl; goes_on = refl }, tt) (record { no_edges = refl; goes_on = refl }) (record { no_edges = refl; goes_on = refl }) refl in
     let script : Script = begun_script ++ iconst i64 (pos 7) ∷ Build [] is_wide_seven ∷ [] in
     let calls : List ScriptCall = begun_calls ++ Emit is_seven ∷ [] in

@@ -1,33 +1,40 @@
 -- What the premises ask of branches, tracked names and edges goes from a script's calls to their plain calls.
-use Rattle.std.proofs.Common.{◌≡◌, inl, inr, ℕ, suc, List, [], ◌∷◌, map, sym, ◌∙◌, ap, subst, Option, Some, None}
-use Rattle.std.specs.Prelude.{slice_get}
+use Rattle.std.proofs.Common.{◌≡◌, ◌⊎◌, inl, inr, ℕ, suc, true, List, [], ◌∷◌, length, map, refl, sym, ◌∙◌, ap, subst, Option, Some, None}
+use Rattle.std.specs.Prelude.{Contains, IsTrue, slice_get}
 use Rattle.std.specs.List.{AllByRecursion, AllZip}
 use Rattle.clif_types.specs.declared.types.«Type».{«Type»}
 use Rattle.clif_meaning.specs.Event.{CallShape, payload_types}
-use Rattle.clif_meaning.specs.Instruction.{Argument, Known, CallResult, CallPayload, Edge, Instruction}
-use Rattle.clif_meaning.specs.Ledger.{Ledger, VariableState, is_marked, ledger_after, marked, or_invalid, type_of}
+use Rattle.clif_meaning.specs.Instruction.{Argument, Known, CallResult, CallPayload, Edge, Instruction, Operation, Switch}
+use Rattle.clif_meaning.specs.Ledger.{Ledger, VariableState, has_block, is_filled, is_marked, ledger_after, marked, or_invalid, type_of}
 use Rattle.clif_meaning.specs.Name.{Name}
 use Rattle.clif_meaning.specs.Premises.{EachItem, HasGoodTargets, IsGoodTarget, ItemEdgesMatch, KeepsTrackedApart, parameter_types}
 use Rattle.clif_meaning.specs.Program.{Program, Item, Instruct, Use, Assign, program_of, result_names}
 use Rattle.clif_meaning.specs.Request.{Script}
 use Rattle.clif_meaning.specs.Tracked.{is_tracked, tracked_from}
 use Rattle.clif_meaning.specs.Typing.{EachEdgeMatches, EdgeMatches, argument_type, call_shape}
+use Rattle.clif_meaning.specs.WellPlaced.{item_targets}
 use Rattle.clif_tables.specs.Callees.{types_of}
 use Rattle.clif_expansion.specs.Emission.{StaysInLine}
 use Rattle.clif_expansion.specs.Expansion.{IsReadBlock}
 use Rattle.clif_expansion.specs.JoinedCalls.{AreJoinedCalls}
-use Rattle.clif_expansion.specs.JoinedPrograms.{IsCalled, built_items}
+use Rattle.clif_expansion.specs.JoinedPrograms.{DecidesAlong, IsDecider, IsDecidingItem, built_items}
 use Rattle.clif_expansion.specs.JoinedRuns.{calls_track, tracked_by_calls}
 use Rattle.clif_expansion.specs.Joining.{IsJoined}
 use Rattle.clif_expansion.specs.Reading.{Agree, IsReadArgument, IsReadAs, IsReadEdge, IsReadItem, Reading}
-use Rattle.clif_expansion.specs.ScriptCall.{ScriptCall, ledger_of, program_of_calls}
-use Rattle.clif_expansion.proofs.CalledPrograms.{joined_programs}
+use Rattle.clif_expansion.specs.ScriptCall.{ScriptCall, emitted_item, ledger_of, program_of_calls}
+use Rattle.clif_expansion.specs.Switching.{targets_of}
+use Rattle.clif_expansion.specs.Walk.{IsGenerated}
+use Rattle.clif_expansion.proofs.CalledPrograms.{OwnItems}
 use Rattle.clif_expansion.proofs.JoinedCalls.{joined_calls}
+use Rattle.clif_expansion.proofs.JoinedPrograms.{IsCalledSo}
 use Rattle.clif_expansion.proofs.JoinedRuns
 use Rattle.clif_expansion.proofs.JoinedStates.{any_read, maps_same}
-use Rattle.clif_expansion.proofs.Names.{each_read, same_script}
+use Rattle.clif_expansion.proofs.Names.{each_read, not_generated, same_script}
+use Rattle.clif_expansion.proofs.Placing.{contained_in, none_contained, of_contained}
+use Rattle.clif_expansion.proofs.ProgramsOfCalls.{GoesSo, go, joined_programs, none_known, nothing}
 use Rattle.clif_expansion.proofs.ReadConditions
 use Rattle.clif_expansion.proofs.calls.Blocks.{all_read, each_item}
+use Rattle.clif_expansion.proofs.calls.Deciders.{IsKnownCode, IsKnownItem, each_decided, known_lasts, no_call, own_filled}
 
 -- LINES -------------------------------------------------------------------------------------------------------------------
 
@@ -107,18 +114,68 @@ module _ (reading : Reading) (plain : Script) (calls : List ScriptCall) (are : A
   pub marks : (v : ℕ) → is_marked ledger' v ≡ is_marked ledger v
   marks v = ap (λ (variables : List VariableState). marked (slice_get variables v)) joined.ledgers.states.variables
 
-  -- what is asked of an item, and is asked of no code in a line, goes along
+  -- the programs, with what is known of code that decides
+  abbrev Goes : Type 0
+  Goes = GoesSo nothing (λ a b c d e f g. tt) (IsKnownCode ledger' types') (known_lasts ledger' types') (IsKnownItem ledger' types') reading plain calls
+
+  goes : Goes
+  goes =
+      go nothing (λ a b c d e f g. tt) (IsKnownCode ledger' types') (known_lasts ledger' types') (IsKnownItem ledger' types') reading plain calls are
+      (each_decided ledger' types' nothing (λ a b c d e f g. tt) reading plain calls are (λ x ty is. ap or_invalid is) (λ x there. there) (none_known reading plain calls are))
+
+  abbrev Stands : List Item → Item → Type 0
+  Stands = IsCalledSo nothing (IsKnownCode ledger' types') reading (length ledger.answers) program'
+
+  -- what is asked of an item, and is asked of no code in a line, goes along, if it does so to what decides for a switch
   carried : (P Q : Item → Type 0) → ((plain item : Item) → IsReadItem reading plain item → P item → Q plain)
       → ((place : ℕ) (instruction : Instruction Name Name) → StaysInLine instruction → Q (Instruct place instruction (result_names place instruction)))
+      → ((item : Item) (other : ℕ) (keys : List ℕ) (switch : Instruction Name Name) → switch.operation ≡ Switch keys → AllByRecursion (λ edge. edge.arguments ≡ []) switch.edges
+      → item ≡ emitted_item other switch → P item → (place : ℕ) (instruction : Instruction Name Name) (results : List Name) → IsDecider reading item place instruction
+      → IsKnownItem ledger' types' (Instruct place instruction results) → Q (Instruct place instruction results))
       → EachItem P program → EachItem Q program'
-  carried P Q asked in_line all =
-      each_item (IsCalled reading) P Q each reading program' program (joined_programs reading plain calls are) (all_read reading plain calls are) all
+  carried P Q asked in_line deciding all =
+      each_item Stands P Q each reading program' program goes.cut (all_read reading plain calls are) own all
     where
-      each : (code : List Item) (item : Item) → IsCalled reading code item → P item → AllByRecursion Q code
+      decided : (code : List Item) (item : Item) (other : ℕ) (keys : List ℕ) (switch : Instruction Name Name) → switch.operation ≡ Switch keys → AllByRecursion (λ edge. edge.arguments ≡ []) switch.edges
+          → item ≡ emitted_item other switch → P item → AllByRecursion (IsDecidingItem reading item) code → AllByRecursion (IsKnownItem ledger' types') code → AllByRecursion Q code
+      decided [] item other keys switch is_switch bare emitted holds decides known = tt
+      decided (Instruct place instruction results ∷ code) item other keys switch is_switch bare emitted holds decides known =
+          (deciding item other keys switch is_switch bare emitted holds place instruction results decides.0 known.0, decided code item other keys switch is_switch bare emitted holds decides.1 known.1)
+      decided (Use variable name ∷ code) item other keys switch is_switch bare emitted holds decides known = absurd decides.0
+      decided (Assign variable name ∷ code) item other keys switch is_switch bare emitted holds decides known = absurd decides.0
+
+      each : (code : List Item) (item : Item) → Stands code item → P item → AllByRecursion Q code
       each (plain ∷ []) item (inl is) holds = (asked plain item is.0 holds, tt)
       each [] item (inl is) holds = absurd is
       each (plain ∷ second ∷ code) item (inl is) holds = absurd is
-      each code item (inr is) holds = subst (AllByRecursion Q) (sym is.built) (all_in_line Q in_line is.place _ is.line)
+      each code item (inr (inl (is, known))) holds = subst (AllByRecursion Q) (sym is.built) (all_in_line Q in_line is.place _ is.line)
+      each code item (inr (inr is)) holds =
+          decided code item is.switched.other is.switched.keys is.switched.switch is.switched.is_switch is.switched.nothing is.switched.emitted holds is.switched.decides is.decided
+
+      own : (x : Name) → IsGenerated reading x → AllByRecursion Q (program'.items x)
+      own x generated = by (goes.own x generated).1
+        where
+          by : (program'.items x ≡ []) ⊎ OwnItems nothing (λ a b c d e f g. tt) (IsKnownCode ledger' types') (known_lasts ledger' types') (IsKnownItem ledger' types') reading (length ledger.answers) program' program x
+              → AllByRecursion Q (program'.items x)
+          by (inl none) = subst (AllByRecursion Q) (sym none) tt
+          by (inr items) =
+              decided (program'.items x) items.item items.other items.keys items.switch items.is_switch items.nothing items.emitted (of_contained P (program.items items.block) items.item (all items.block) items.there)
+              items.decides items.known
+
+  -- among the edges of the switch there is one to the block
+  edge_there : (P : Edge Name Name → Type 0) (edges : List (Edge Name Name)) (name : Name) → AllByRecursion P edges → Contains (targets_of edges) name
+      → (edge : Edge Name Name) × (edge.target ≡ name) × P edge
+  edge_there P [] name all there = absurd (none_contained name there)
+  edge_there P (edge ∷ edges) name all there = by (contained_in edge.target (targets_of edges) name there) (edge_there P edges name all.1)
+    where
+      by : (edge.target ≡ name) ⊎ Contains (targets_of edges) name → (Contains (targets_of edges) name → (e : Edge Name Name) × (e.target ≡ name) × P e) → (e : Edge Name Name) × (e.target ≡ name) × P e
+      by (inl same) rest = (edge, same, all.0)
+      by (inr further) rest = rest further
+
+  item_edge : (P : Edge Name Name → Type 0) (item : Item) (other : ℕ) (switch : Instruction Name Name) → item ≡ emitted_item other switch → (name : Name)
+      → AllByRecursion P switch.edges → Contains (item_targets (Some item)) name → (edge : Edge Name Name) × (edge.target ≡ name) × P edge
+  item_edge P item other switch emitted name all there =
+      edge_there P switch.edges name all (subst (λ (i : Item). Contains (item_targets (Some i)) name) emitted there)
 
   -- targets
   leads_there : (entry' entry : Option Name) (x block : Name) → IsReadBlock reading entry' entry → IsReadAs reading x block → entry' ≡ Some x → entry ≡ Some block
@@ -150,10 +207,39 @@ module _ (reading : Reading) (plain : Script) (calls : List ScriptCall) (are : A
   targets_read (Assign number x) (Assign variable name) is good = tt
   targets_read _ _ is good = absurd is
 
+  -- the entry isn't generated
+  own_no_entry : (entry' entry : Option Name) (x : Name) → IsReadBlock reading entry' entry → IsGenerated reading x → entry' ≡ Some x → ⊥
+  own_no_entry None None x read own same = let no_way : ⊥ = cc in no_way
+  own_no_entry None (Some b) x read own same = read
+  own_no_entry (Some y) None x read own same = read
+  own_no_entry (Some y) (Some b) x read own same = not_generated reading y b read (ap (λ (o : Option Name). reading (name_in o)) same ∙ own)
+    where
+      name_in : Option Name → Name
+      name_in None = y
+      name_in (Some n) = n
+
+  edges_good : (item : Item) (other : ℕ) (switch : Instruction Name Name) → item ≡ emitted_item other switch → HasGoodTargets ledger program item → (edges : List (Edge Name Name))
+      → AllByRecursion (DecidesAlong reading item) edges → AllByRecursion (λ edge. IsTrue (has_block ledger' edge.target)) edges → AllByRecursion (IsGoodTarget ledger' program') edges
+  edges_good item other switch emitted good [] decides there = tt
+  edges_good item other switch emitted good (edge ∷ edges) decides there = (by decides.0.leads, edges_good item other switch emitted good edges decides.1 there.1)
+    where
+      by : IsGenerated reading edge.target ⊎ ((name : Name) × IsReadAs reading edge.target name × Contains (item_targets (Some item)) name) → IsGoodTarget ledger' program' edge
+      by (inl own) = record {
+        filled = own_filled reading ledger' ledger joined.ledgers edge.target own there.0;
+        no_entry = λ same. own_no_entry program'.entry program.entry edge.target (joined_programs reading plain calls are).entry own same;
+      }
+      by (inr (name, read, among)) =
+          let found = item_edge (IsGoodTarget ledger program) item other switch emitted name (subst (HasGoodTargets ledger program) emitted good) among in
+          record {
+            filled = ReadConditions.filled_same reading ledger' ledger joined.ledgers joined.one_to_one edge.target name read ∙ subst (λ (x : Name). is_filled ledger x ≡ true) found.1 found.2.filled;
+            no_entry = λ same. found.2.no_entry (leads_there program'.entry program.entry edge.target name (joined_programs reading plain calls are).entry read same ∙ ap (λ (n : Name). Some n) (sym found.1));
+          }
+
   pub targets_filled : EachItem (HasGoodTargets ledger program) program → EachItem (HasGoodTargets ledger' program') program'
   targets_filled all =
       carried (HasGoodTargets ledger program) (HasGoodTargets ledger' program') targets_read
-      (λ place instruction stays. subst (AllByRecursion (IsGoodTarget ledger' program')) (sym stays.no_edges) tt) all
+      (λ place instruction stays. subst (AllByRecursion (IsGoodTarget ledger' program')) (sym stays.no_edges) tt)
+      (λ item other keys switch is_switch bare emitted good place instruction results decides known. edges_good item other switch emitted good instruction.edges decides.edges known.1) all
 
   -- tracked names
   tracked_same : (x name : Name) → IsReadAs reading x name → is_tracked plain x ≡ calls_track calls name
@@ -168,7 +254,8 @@ module _ (reading : Reading) (plain : Script) (calls : List ScriptCall) (are : A
   apart_read _ _ is keeps = absurd is
 
   pub tracked_apart : EachItem (KeepsTrackedApart ledger (calls_track calls)) program → EachItem (KeepsTrackedApart ledger' (is_tracked plain)) program'
-  tracked_apart all = carried (KeepsTrackedApart ledger (calls_track calls)) (KeepsTrackedApart ledger' (is_tracked plain)) apart_read (λ place instruction stays. tt) all
+  tracked_apart all = carried (KeepsTrackedApart ledger (calls_track calls)) (KeepsTrackedApart ledger' (is_tracked plain)) apart_read (λ place instruction stays. tt)
+      (λ item other keys switch is_switch bare emitted good place instruction results decides known. tt) all
 
   -- edges
   edges_read : (plain item : Item) → IsReadItem reading plain item → ItemEdgesMatch ledger program item → ItemEdgesMatch ledger' program' plain
@@ -179,8 +266,53 @@ module _ (reading : Reading) (plain : Script) (calls : List ScriptCall) (are : A
   edges_read (Assign number x) (Assign variable name) is match = tt
   edges_read _ _ is match = absurd is
 
+  -- a block to which nothing is passed has no parameters
+  none_taken : (tys : List «Type») → [] ≡ map (λ (ty : «Type»). Some ty) tys → tys ≡ []
+  none_taken [] same = refl
+  none_taken (ty ∷ tys) same = let no_way : ⊥ = cc in absurd no_way
+
+  switch_edges : (item : Item) (other : ℕ) (keys : List ℕ) (switch : Instruction Name Name) → switch.operation ≡ Switch keys → item ≡ emitted_item other switch
+      → ItemEdgesMatch ledger program item → AllByRecursion (EdgeMatches types (parameter_types ledger program) [] []) switch.edges
+  switch_edges item other keys switch is_switch emitted match =
+      subst (λ (operation : Operation). EachEdgeMatches types (parameter_types ledger program) (call_shape operation) switch.edges) is_switch (subst (ItemEdgesMatch ledger program) emitted match)
+
+  target_bare : (item : Item) (other : ℕ) (keys : List ℕ) (switch : Instruction Name Name) → switch.operation ≡ Switch keys → AllByRecursion (λ edge. edge.arguments ≡ []) switch.edges
+      → item ≡ emitted_item other switch → ItemEdgesMatch ledger program item → (edge : Edge Name Name) → DecidesAlong reading item edge → parameter_types ledger' program' edge.target ≡ []
+  target_bare item other keys switch is_switch bare emitted match edge along = by along.leads
+    where
+      both : (edges : List (Edge Name Name)) → AllByRecursion (λ edge. edge.arguments ≡ []) edges → AllByRecursion (EdgeMatches types (parameter_types ledger program) [] []) edges
+          → AllByRecursion (λ edge. parameter_types ledger program edge.target ≡ []) edges
+      both [] none all = tt
+      both (e ∷ edges) none all =
+          (none_taken (parameter_types ledger program e.target) (ap (λ arguments. map (argument_type types [] []) arguments) (sym none.0) ∙ all.0), both edges none.1 all.1)
+
+      by : IsGenerated reading edge.target ⊎ ((name : Name) × IsReadAs reading edge.target name × Contains (item_targets (Some item)) name) → parameter_types ledger' program' edge.target ≡ []
+      by (inl own) = ap (λ (names : List Name). map types' names) (goes.own edge.target own).0
+      by (inr (name, read, among)) =
+          let found = item_edge (λ e. parameter_types ledger program e.target ≡ []) item other switch emitted name
+          (both switch.edges bare (switch_edges item other keys switch is_switch emitted match)) among in
+          parameters_same edge.target name read ∙ subst (λ (x : Name). parameter_types ledger program x ≡ []) found.1 found.2
+
+  decided_edges : (item : Item) (other : ℕ) (keys : List ℕ) (switch : Instruction Name Name) → switch.operation ≡ Switch keys → AllByRecursion (λ edge. edge.arguments ≡ []) switch.edges
+      → item ≡ emitted_item other switch → ItemEdgesMatch ledger program item → (edges : List (Edge Name Name)) → AllByRecursion (DecidesAlong reading item) edges
+      → AllByRecursion (EdgeMatches types' (parameter_types ledger' program') [] []) edges
+  decided_edges item other keys switch is_switch bare emitted match [] decides = tt
+  decided_edges item other keys switch is_switch bare emitted match (edge ∷ edges) decides = (
+    ap (λ arguments. map (argument_type types' [] []) arguments) decides.0.nothing
+        ∙ ap (λ (tys : List «Type»). map (λ (ty : «Type»). Some ty) tys) (sym (target_bare item other keys switch is_switch bare emitted match edge decides.0)),
+    decided_edges item other keys switch is_switch bare emitted match edges decides.1,
+  )
+
+  pub decider_matches : (item : Item) (other : ℕ) (keys : List ℕ) (switch : Instruction Name Name) → switch.operation ≡ Switch keys → AllByRecursion (λ edge. edge.arguments ≡ []) switch.edges
+      → item ≡ emitted_item other switch → ItemEdgesMatch ledger program item → (place : ℕ) (instruction : Instruction Name Name) → IsDecider reading item place instruction
+      → EachEdgeMatches types' (parameter_types ledger' program') (call_shape instruction.operation) instruction.edges
+  decider_matches item other keys switch is_switch bare emitted match place instruction decides =
+      subst (λ (shape : Option CallShape). EachEdgeMatches types' (parameter_types ledger' program') shape instruction.edges) (sym (no_call instruction.operation decides.deciding))
+      (decided_edges item other keys switch is_switch bare emitted match instruction.edges decides.edges)
+
   pub edges_match : EachItem (ItemEdgesMatch ledger program) program → EachItem (ItemEdgesMatch ledger' program') program'
   edges_match all =
       carried (ItemEdgesMatch ledger program) (ItemEdgesMatch ledger' program') edges_read
       (λ place instruction stays. subst (EachEdgeMatches types' (parameter_types ledger' program') (call_shape instruction.operation)) (sym stays.no_edges)
-      (none_match types' (parameter_types ledger' program') (call_shape instruction.operation))) all
+      (none_match types' (parameter_types ledger' program') (call_shape instruction.operation)))
+      (λ item other keys switch is_switch bare emitted match place instruction results decides known. decider_matches item other keys switch is_switch bare emitted match place instruction decides) all

@@ -1,5 +1,5 @@
 -- Types go from a script's calls to their plain calls: items with their names read are well typed, and so is the code of emissions.
-use Rattle.std.proofs.Common.{inl, inr, ℕ, suc, List, [], ◌∷◌, ◌++◌, length, map, sym, ◌∙◌, ap, ap₂, subst, Option, Some, None}
+use Rattle.std.proofs.Common.{◌≡◌, ◌⊎◌, inl, inr, ℕ, suc, List, [], ◌∷◌, ◌++◌, length, map, sym, ◌∙◌, ap, ap₂, subst, Option, Some, None}
 use Rattle.std.specs.Prelude.{fold}
 use Rattle.std.specs.List.{AllByRecursion}
 use Rattle.clif_opcodes.specs.Kinds.{is_met}
@@ -7,31 +7,35 @@ use Rattle.clif_types.specs.declared.types.«Type».{«Type»}
 use Rattle.clif_types.specs.Signature.{SignatureShape}
 use Rattle.clif_tables.specs.Callees.{types_of}
 use Rattle.clif_meaning.specs.Access.{library_call}
-use Rattle.clif_meaning.specs.Instruction.{Instruction, Operation, operation_typing}
+use Rattle.clif_meaning.specs.Instruction.{Instruction, Operation, Switch, operation_typing}
 use Rattle.clif_meaning.specs.Event.{CallShape}
 use Rattle.clif_meaning.specs.Ledger.{Ledger, empty_ledger, ledger_after, ledger_with, or_invalid}
 use Rattle.clif_meaning.specs.Library.{pointer_of}
 use Rattle.clif_meaning.specs.Name.{Name}
-use Rattle.clif_meaning.specs.Premises.{CallsLibraryAsNamed, EachItem, EntryTakes, IfLibraryCall, IsItemWellTyped, WellTyped, parameter_types}
+use Rattle.clif_meaning.specs.Premises.{CallsLibraryAsNamed, EachItem, EntryTakes, IfLibraryCall, IsItemWellTyped, ItemEdgesMatch, WellTyped, parameter_types}
 use Rattle.clif_meaning.specs.Program.{Program, Item, Instruct, Use, Assign, program_of}
 use Rattle.clif_meaning.specs.Request.{Script}
 use Rattle.clif_meaning.specs.Typing.{EachEdgeMatches, IsWellTyped, TakesOperands, call_shape}
 use Rattle.clif_expansion.specs.Code.{NameTypes}
 use Rattle.clif_expansion.specs.Emission.{StaysInLine, building}
 use Rattle.clif_expansion.specs.Expansion.{IsCutProgram, IsReadBlock}
-use Rattle.clif_expansion.specs.JoinedCalls.{AreJoinedCalls, Asking, Emitting, Starting}
-use Rattle.clif_expansion.specs.JoinedPrograms.{IsEmission, built_items}
+use Rattle.clif_expansion.specs.JoinedCalls.{AreJoinedCalls, Asking, Emitting, Starting, Switching}
+use Rattle.clif_expansion.specs.JoinedPrograms.{IsDecidingItem, IsEmission, built_items}
 use Rattle.clif_expansion.specs.Joining.{IsJoined}
 use Rattle.clif_expansion.specs.PerformedCalls.{ArePerformed, HaveTypes, IsTypedInLine}
 use Rattle.clif_expansion.specs.Reading.{Agree, IsReadInstruction, IsReadItem, Reading}
-use Rattle.clif_expansion.specs.ScriptCall.{ScriptCall, ledger_of, program_of_calls}
-use Rattle.clif_expansion.proofs.CalledPrograms.{EachKnown, go}
+use Rattle.clif_expansion.specs.ScriptCall.{ScriptCall, emitted_item, ledger_of, program_of_calls}
+use Rattle.clif_expansion.specs.Walk.{IsGenerated}
+use Rattle.clif_expansion.proofs.CalledPrograms.{OwnItems}
 use Rattle.clif_expansion.proofs.JoinedCalls.{fold_on}
 use Rattle.clif_expansion.proofs.JoinedPrograms.{IsCalledSo, LastsLater}
 use Rattle.clif_expansion.proofs.LedgerTypes.{types_before}
 use Rattle.clif_expansion.proofs.Names.{each_read}
+use Rattle.clif_expansion.proofs.Placing.{of_contained}
+use Rattle.clif_expansion.proofs.ProgramsOfCalls.{EachKnown, GoesSo, all_anything, anything, go, undecided}
 use Rattle.clif_expansion.proofs.ReadConditions
 use Rattle.clif_expansion.proofs.calls.Blocks.{all_read, each_item}
+use Rattle.clif_expansion.proofs.calls.Deciders.{IsKnownCode, IsKnownItem, each_decided, known_lasts, no_library, takes_anywhere}
 use Rattle.clif_expansion.proofs.calls.Premises as carried
 use Rattle.clif_expansion.proofs.calls.Premises.{each_matches, none_match}
 
@@ -75,12 +79,12 @@ module _ (pointer_width : ℕ) (types : NameTypes) where
   lasts reading later keeps generated code item is = (λ agree. is.0 (λ x name read. agree x name (keeps x name read)), is.1)
 
   each_typed : (reading : Reading) (plain : Script) (calls : List ScriptCall) (are : AreJoinedCalls reading plain calls)
-      → HaveTypes (ledger_after plain) types.plain → ArePerformed pointer_width reading plain calls are → EachKnown IsCodeTyped lasts reading plain calls are
+      → HaveTypes (ledger_after plain) types.plain → ArePerformed pointer_width reading plain calls are → EachKnown IsCodeTyped lasts undecided (λ a b c d e f g h i j. tt) anything reading plain calls are
   each_typed reading plain calls Starting have' done = tt
-  each_typed reading plain calls (Asking old script earlier ask request are is) have' done =
+  each_typed reading plain calls (Asking old script earlier ask request are is placed) have' done =
       each_typed old script earlier are
       (types_before (ledger_after script) (ask ∷ []) types.plain (subst (λ (l : Ledger). HaveTypes l types.plain) (fold_on ledger_with empty_ledger script (ask ∷ [])) have')) done
-  each_typed reading plain calls (Emitting old script earlier code last whole are line stays whole_stays same) have' done =
+  each_typed reading plain calls (Emitting old script earlier code last whole are placed line stays whole_stays same) have' done =
       let behind' : HaveTypes (fold ledger_with (ledger_after script) (map building code ++ building last ∷ [])) types.plain =
       subst (λ (l : Ledger). HaveTypes l types.plain) (fold_on ledger_with empty_ledger script (map building code ++ building last ∷ [])) have' in (
         each_typed old script earlier are (types_before (ledger_after script) (map building code ++ building last ∷ []) types.plain behind') done.0,
@@ -88,6 +92,13 @@ module _ (pointer_width : ℕ) (types : NameTypes) where
           λ agree returns typed. items_typed types.plain returns (length (ledger_after script).answers) (code ++ last ∷ []) (done.1.typed types returns behind' agree typed),
           items_as_named (pointer_of pointer_width) (length (ledger_after script).answers) (code ++ last ∷ []) done.1.as_named,
         ),
+      )
+  each_typed reading plain calls (Switching old script more earlier block value ty keys edges switch branches tables are at placed is code) have' done =
+      let behind' : HaveTypes (fold ledger_with (ledger_after script) more) types.plain =
+      subst (λ (l : Ledger). HaveTypes l types.plain) (fold_on ledger_with empty_ledger script more) have' in (
+        each_typed old script earlier are (types_before (ledger_after script) more types.plain behind') done,
+        tt,
+        all_anything (length script) more,
       )
 
 -- JOINED CALLS ------------------------------------------------------------------------------------------------------------
@@ -110,7 +121,7 @@ module _ (pointer_width : ℕ) (reading : Reading) (plain : Script) (calls : Lis
   types = record { plain = carried.types' reading plain calls are; script = carried.types reading plain calls are }
 
   abbrev Stands : List Item → Item → Type 0
-  Stands = IsCalledSo (IsCodeTyped pointer_width types) reading
+  Stands = IsCalledSo (IsCodeTyped pointer_width types) (IsKnownCode ledger' types.plain) reading (length ledger.answers) program'
 
   joined : IsJoined reading ledger' ledger
   joined = carried.joined reading plain calls are
@@ -118,10 +129,14 @@ module _ (pointer_width : ℕ) (reading : Reading) (plain : Script) (calls : Lis
   agree : Agree reading types.plain types.script
   agree = carried.agree reading plain calls are
 
+  goes : GoesSo (IsCodeTyped pointer_width types) (lasts pointer_width types) (IsKnownCode ledger' types.plain) (known_lasts ledger' types.plain) (IsKnownItem ledger' types.plain) reading plain calls
+  goes =
+      go (IsCodeTyped pointer_width types) (lasts pointer_width types) (IsKnownCode ledger' types.plain) (known_lasts ledger' types.plain) (IsKnownItem ledger' types.plain) reading plain calls are
+      (each_decided ledger' types.plain (IsCodeTyped pointer_width types) (lasts pointer_width types) reading plain calls are (λ x ty is. ap or_invalid is) (λ x there. there)
+      (each_typed pointer_width types reading plain calls are (λ x ty is. ap or_invalid is) done))
+
   cut : IsCutProgram reading Stands program' program
-  cut =
-      (go (IsCodeTyped pointer_width types) (lasts pointer_width types) reading plain calls are
-      (each_typed pointer_width types reading plain calls are (λ x ty is. ap or_invalid is) done)).cut
+  cut = goes.cut
 
   -- READ ITEMS ------------------------------------------------------------------------------------------------------------
 
@@ -173,17 +188,70 @@ module _ (pointer_width : ℕ) (reading : Reading) (plain : Script) (calls : Lis
       subst (AllByRecursion (IsItemWellTyped ledger' program' returns)) (sym is.built)
       (line_typed returns is.place _ is.line (subst (AllByRecursion (IsTypedItem types.plain returns)) is.built (known.0 agree returns item_is)))
 
+  -- what decides for a switch is well typed
+  decider_typed : (returns : List «Type») (item : Item) (other : ℕ) (keys : List ℕ) (switch : Instruction Name Name) → switch.operation ≡ Switch keys
+      → AllByRecursion (λ edge. edge.arguments ≡ []) switch.edges → item ≡ emitted_item other switch → IsItemWellTyped ledger program returns item → (code : List Item)
+      → AllByRecursion (IsDecidingItem reading item) code → AllByRecursion (IsKnownItem ledger' types.plain) code → AllByRecursion (IsItemWellTyped ledger' program' returns) code
+  decider_typed returns item other keys switch is_switch bare emitted typed [] decides known = tt
+  decider_typed returns item other keys switch is_switch bare emitted typed (Instruct place instruction results ∷ code) decides known = (
+    record {
+      made_at = known.0.0.made_at;
+      operands = takes_anywhere returns instruction.operation instruction.controlling (map types.plain instruction.operands) decides.0.deciding known.0.0.operands;
+      edges = carried.decider_matches reading plain calls are item other keys switch is_switch bare emitted (matches item other switch emitted typed) place instruction decides.0;
+    },
+    decider_typed returns item other keys switch is_switch bare emitted typed code decides.1 known.1,
+  )
+    where
+      matches : (i : Item) (n : ℕ) (s : Instruction Name Name) → i ≡ emitted_item n s → IsItemWellTyped ledger program returns i → ItemEdgesMatch ledger program i
+      matches i n s is well =
+          subst (ItemEdgesMatch ledger program) (sym is) (edges_of (subst (IsItemWellTyped ledger program returns) is well))
+        where
+          edges_of : IsItemWellTyped ledger program returns (emitted_item n s) → ItemEdgesMatch ledger program (emitted_item n s)
+          edges_of w = w.edges
+  decider_typed returns item other keys switch is_switch bare emitted typed (Use variable name ∷ code) decides known = absurd decides.0
+  decider_typed returns item other keys switch is_switch bare emitted typed (Assign variable name ∷ code) decides known = absurd decides.0
+
   code_typed : (returns : List «Type») (code : List Item) (item : Item) → Stands code item → IsItemWellTyped ledger program returns item → AllByRecursion (IsItemWellTyped ledger' program' returns) code
   code_typed returns (item' ∷ []) item (inl is) typed = (item_typed returns item' item is.0 typed, tt)
   code_typed returns [] item (inl is) typed = absurd is
   code_typed returns (item' ∷ second ∷ code) item (inl is) typed = absurd is
-  code_typed returns code item (inr is) typed = emission_typed returns code item is.0 is.1 typed
+  code_typed returns code item (inr (inl is)) typed = emission_typed returns code item is.0 is.1 typed
+  code_typed returns code item (inr (inr is)) typed =
+      decider_typed returns item is.switched.other is.switched.keys is.switched.switch is.switched.is_switch is.switched.nothing is.switched.emitted typed code is.switched.decides is.decided
+
+  own_typed : (returns : List «Type») → EachItem (IsItemWellTyped ledger program returns) program → (x : Name) → IsGenerated reading x → AllByRecursion (IsItemWellTyped ledger' program' returns) (program'.items x)
+  own_typed returns all x generated = by (goes.own x generated).1
+    where
+      by : (program'.items x ≡ [])
+          ⊎ OwnItems (IsCodeTyped pointer_width types) (lasts pointer_width types) (IsKnownCode ledger' types.plain) (known_lasts ledger' types.plain) (IsKnownItem ledger' types.plain) reading (length ledger.answers) program' program x
+          → AllByRecursion (IsItemWellTyped ledger' program' returns) (program'.items x)
+      by (inl none) = subst (AllByRecursion (IsItemWellTyped ledger' program' returns)) (sym none) tt
+      by (inr items) =
+          decider_typed returns items.item items.other items.keys items.switch items.is_switch items.nothing items.emitted
+          (of_contained (IsItemWellTyped ledger program returns) (program.items items.block) items.item (all items.block) items.there) (program'.items x) items.decides items.known
+
+  decider_as_named : (item : Item) (code : List Item) → AllByRecursion (IsDecidingItem reading item) code → AllByRecursion (CallsLibraryAsNamed (pointer_of pointer_width)) code
+  decider_as_named item [] decides = tt
+  decider_as_named item (Instruct place instruction results ∷ code) decides =
+      (no_library (pointer_of pointer_width) instruction.operation decides.0.deciding, decider_as_named item code decides.1)
+  decider_as_named item (Use variable name ∷ code) decides = absurd decides.0
+  decider_as_named item (Assign variable name ∷ code) decides = absurd decides.0
 
   code_as_named : (code : List Item) (item : Item) → Stands code item → CallsLibraryAsNamed (pointer_of pointer_width) item → AllByRecursion (CallsLibraryAsNamed (pointer_of pointer_width)) code
   code_as_named (item' ∷ []) item (inl is) named = (item_as_named (pointer_of pointer_width) item' item is.0 named, tt)
   code_as_named [] item (inl is) named = absurd is
   code_as_named (item' ∷ second ∷ code) item (inl is) named = absurd is
-  code_as_named code item (inr is) named = is.1.1
+  code_as_named code item (inr (inl is)) named = is.1.1
+  code_as_named code item (inr (inr is)) named = decider_as_named item code is.switched.decides
+
+  own_as_named : (x : Name) → IsGenerated reading x → AllByRecursion (CallsLibraryAsNamed (pointer_of pointer_width)) (program'.items x)
+  own_as_named x generated = by (goes.own x generated).1
+    where
+      by : (program'.items x ≡ [])
+          ⊎ OwnItems (IsCodeTyped pointer_width types) (lasts pointer_width types) (IsKnownCode ledger' types.plain) (known_lasts ledger' types.plain) (IsKnownItem ledger' types.plain) reading (length ledger.answers) program' program x
+          → AllByRecursion (CallsLibraryAsNamed (pointer_of pointer_width)) (program'.items x)
+      by (inl none) = subst (AllByRecursion (CallsLibraryAsNamed (pointer_of pointer_width))) (sym none) tt
+      by (inr items) = decider_as_named items.item (program'.items x) items.decides
 
   -- PREMISES --------------------------------------------------------------------------------------------------------------
 
@@ -196,11 +264,11 @@ module _ (pointer_width : ℕ) (reading : Reading) (plain : Script) (calls : Lis
   pub well_typed : (signature : SignatureShape) → WellTyped ledger program signature → WellTyped ledger' program' signature
   well_typed signature typed = record {
     items = each_item Stands (IsItemWellTyped ledger program (types_of signature.returns)) (IsItemWellTyped ledger' program' (types_of signature.returns))
-        (code_typed (types_of signature.returns)) reading program' program cut (all_read reading plain calls are) typed.items;
+        (code_typed (types_of signature.returns)) reading program' program cut (all_read reading plain calls are) (own_typed (types_of signature.returns) typed.items) typed.items;
     entry = entry_takes (types_of signature.params) program'.entry program.entry cut.entry typed.entry;
   }
 
   pub libc_as_named : EachItem (CallsLibraryAsNamed (pointer_of pointer_width)) program → EachItem (CallsLibraryAsNamed (pointer_of pointer_width)) program'
   libc_as_named all =
       each_item Stands (CallsLibraryAsNamed (pointer_of pointer_width)) (CallsLibraryAsNamed (pointer_of pointer_width)) code_as_named reading program' program cut
-      (all_read reading plain calls are) all
+      (all_read reading plain calls are) own_as_named all

@@ -1,13 +1,13 @@
 -- Verdicts on calls of a script, found call by call.
 use Rattle.std.proofs.Common.{◌≡◌, ◌+◌, ℕ, suc, Bool, true, false, List, [], ◌∷◌, ◌++◌, length, map, refl, sym, ◌∙◌, ap, arith, Option, Some, None}
-use Rattle.std.specs.Prelude.{IsTrue, fold, if◌then◌else◌, is_some, not, ◌&&◌}
+use Rattle.std.specs.Prelude.{IsTrue, fold, if◌then◌else◌, is_some, not, option_map, ◌&&◌}
 use Rattle.clif_meaning.specs.Acceptance.{Accepted, Misuse, Refusal, Refused, Unfilled, Unsealed, Verdict, allows, is_refused, refusal_of, verdict_from}
 use Rattle.clif_meaning.specs.Ledger.{Ledger, empty_ledger, ledger_with}
 use Rattle.clif_meaning.specs.Request.{Attempt, Finalize, outright}
 use Rattle.clif_expansion.specs.CallsVerdict.{AreCallsAllowed, AreCallsTaken, CallAttempt, VerdictsAreRead, asking, calls_made, is_call_refused, made, verdict_on_calls_from}
 use Rattle.clif_expansion.specs.Joining.{IsReadRefusal}
 use Rattle.clif_expansion.specs.Reading.{Reading}
-use Rattle.clif_expansion.specs.ScriptCall.{Ask, Emit, ScriptCall, call_allowed, call_refusal, ledger_with_call}
+use Rattle.clif_expansion.specs.ScriptCall.{Ask, Emit, OfCall, ScriptCall, call_allowed, call_refusal, ledger_with_call}
 use Rattle.clif_expansion.proofs.ReadConditions.{conditions_are_read}
 
 -- there is a refusal on both sides, or on neither
@@ -16,6 +16,10 @@ refused_same reading None None is = refl
 refused_same reading (Some (Unsealed x)) (Some (Unsealed block)) is = refl
 refused_same reading (Some (Unfilled x)) (Some (Unfilled block)) is = refl
 refused_same reading _ _ is = absurd is
+
+some_mapped : (refusal : Option Refusal) → is_some (option_map OfCall refusal) ≡ is_some refusal
+some_mapped None = refl
+some_mapped (Some refusal) = refl
 
 -- ONE CALL ----------------------------------------------------------------------------------------------------------------
 
@@ -98,9 +102,11 @@ one_more ledger (first ∷ calls) call are may none = (are.0, are.1, one_more (l
 -- without an emission
 asked_alone : (place : ℕ) (ledger : Ledger) (attempts : List Attempt)
     → verdict_on_calls_from place ledger (map asking attempts ++ made (Ask Finalize) ∷ []) ≡ verdict_from place ledger (attempts ++ outright Finalize ∷ [])
-asked_alone place ledger [] = refl
+asked_alone place ledger [] = ap (λ (refused : Bool). decided place true false refused Accepted) (some_mapped (refusal_of ledger Finalize))
 asked_alone place ledger (attempt ∷ attempts) =
-    ap (decided place (allows ledger attempt.request) (is_refused ledger attempt) (is_some (refusal_of ledger attempt.request)))
+    ap (λ (refused : Bool). decided place (allows ledger attempt.request) (is_refused ledger attempt) refused
+    (verdict_on_calls_from (suc place) (ledger_with ledger attempt.request) (map asking attempts ++ made (Ask Finalize) ∷ []))) (some_mapped (refusal_of ledger attempt.request))
+    ∙ ap (decided place (allows ledger attempt.request) (is_refused ledger attempt) (is_some (refusal_of ledger attempt.request)))
     (asked_alone (suc place) (ledger_with ledger attempt.request) attempts)
 
 pub verdicts_are_read : VerdictsAreRead
@@ -108,7 +114,8 @@ verdicts_are_read = record {
   allowed = λ reading plain ledger asked request joined is. sym (conditions_are_read.allowed reading plain ledger asked request joined.ledgers joined.one_to_one is);
   blamed = λ reading plain ledger asked request joined is. sym (conditions_are_read.blamed reading plain ledger asked request joined.ledgers joined.one_to_one is);
   refused = λ reading plain ledger asked request joined is.
-      refused_same reading (refusal_of plain asked) (refusal_of ledger request) (conditions_are_read.refused reading plain ledger asked request joined.ledgers joined.one_to_one is);
+      some_mapped (refusal_of ledger request)
+      ∙ refused_same reading (refusal_of plain asked) (refusal_of ledger request) (conditions_are_read.refused reading plain ledger asked request joined.ledgers joined.one_to_one is);
   goes_on = goes_on;
   misused = λ place ledger attempt rest allowed blamed. not_allowed place ledger attempt rest false allowed blamed;
   blames = λ place ledger attempt rest allowed blamed. not_allowed place ledger attempt rest true allowed blamed;

@@ -1,5 +1,5 @@
-use Rattle.clif_expansion.proofs.CalledPrograms
+use Rattle.clif_expansion.proofs.ProgramsOfCalls
 use Rattle.clif_expansion.proofs.laws.joined_calls_have_joined_programs.Goals as goal
 
 pub returns : goal.returns
-returns c = CalledPrograms.joined_programs
+returns c = ProgramsOfCalls.joined_programs

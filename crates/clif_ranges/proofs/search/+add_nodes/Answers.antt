@@ -1,8 +1,9 @@
-use Rattle.std.proofs.Common.{◌≡◌, ◌+◌, ◌*◌, ◌<◌, ℕ, length, List, [], ◌∷◌, ◌++◌, get_or, refl, ap, sym, subst, arith, rules, Result, Ok, Err}
-use Rattle.std.specs.Prelude.{IfOk}
+use Rattle.std.proofs.Common.{◌≡◌, ◌<◌, length, [], ◌∷◌, get_or, refl, ap, sym, subst, arith, rules, Result, Ok, Err}
+use Rattle.std.specs.Prelude.{IfOk, Contains}
+use Rattle.std.proofs.lemmas.List.Elements.{Contains-get_or}
 use Rattle.clif_ranges.specs.declared.ranges.CaseRange.{CaseRange}
 use Rattle.clif_ranges.specs.Search.{AddsNodes, AreSeparate}
-use Rattle.clif_ranges.proofs.Searching.{alone_adds, line_adds, split_adds}
+use Rattle.clif_ranges.proofs.Searching.{line_adds, split_adds}
 use Rattle.clif_ranges.proofs.Separate.{high_begins, higher_part, low_ends, lower_part}
 use Rattle.clif_ranges.proofs.search.+add_nodes.Goals as goal
 
@@ -48,7 +49,8 @@ returns-then-ranges-gt-IN_TURN-clause-ok t c =
     c.add_nodes-then-ranges-gt-IN_TURN.new.nodes.items c.requires.before (low_ends low high range some is parts) (high_begins high range some is (higher_part low high parts))
     (omega (arith, c.split_at.ensures.back_len, c.split_at.ensures.front_len, c.if-ranges-gt-IN_TURN.true))
     (omega (arith, c.split_at.ensures.back_len, c.split_at.ensures.front_len))
-    (omega (arith, c.split_at.ensures.back_len, c.split_at.ensures.front_len)) c.in_ok-push.ensures.items c.in_ok-behind.ensures.ok lows))
+    (omega (arith, c.split_at.ensures.back_len, c.split_at.ensures.front_len))
+    (range, subst (Contains high) (sym is) (Contains-get_or high 0 range some), refl) c.in_ok-push.ensures.items c.in_ok-behind.ensures.ok lows))
     c.add_nodes-then-ranges-gt-IN_TURN.ensures.ok
 
 pub add_nodes-requires-2 : goal.add_nodes-requires-2

@@ -1,10 +1,10 @@
-use Rattle.std.proofs.Common.{◌≡◌, refl, ℕ, length, List, [], ◌∷◌, arith, rules, ap, subst, sym, append-nil, ◌∙◌, ◌++◌}
+use Rattle.std.proofs.Common.{refl, List, [], ◌∷◌, rules, ap, subst, sym, append-nil, ◌∙◌, ◌++◌}
 use Rattle.clif_ranges.specs.declared.ranges.CaseRange.{CaseRange}
 use Rattle.clif_ranges.specs.declared.search.Test.TheVariants as test
-use Rattle.clif_ranges.specs.Search.{AreInOrder, FindsCases, FindsEachKey}
+use Rattle.clif_ranges.specs.Search.{AreInOrder, AreTestsOf, FindsCases, FindsEachKey}
 use Rattle.clif_ranges.specs.declared.search.Node.{Node}
 use Rattle.clif_ranges.proofs.Keys.{has_block}
-use Rattle.clif_ranges.proofs.Searching.{nothing_to_find}
+use Rattle.clif_ranges.proofs.Searching.{nothing_tested, nothing_to_find}
 use Rattle.clif_ranges.proofs.search.search_tree.Goals as goal
 
 -- what finds the ranges' keys finds those of their cases
@@ -39,3 +39,13 @@ returns-clause-order c =
     let adds = c.in_ok-add_nodes.ensures.ok in
     subst (AreInOrder (0 ∷ []) 1) (append-nil adds.added ∙ sym (adds.is ∙ ap (λ nodes. nodes ++ adds.added) c.new-nodes.ensures.items))
     (adds.order [] [] refl)
+
+pub returns-then-is_empty-clause-tests : goal.returns-then-is_empty-clause-tests
+returns-then-is_empty-clause-tests c =
+    nothing_tested c.args.ranges.now c.push.new.self.items (search rules)
+    (c.in_ok-push.ensures.items ∙ ap (λ nodes. nodes ++ record { number = 0; test = test.Nothing } ∷ []) c.new-nodes.ensures.items)
+
+pub returns-clause-tests : goal.returns-clause-tests
+returns-clause-tests c =
+    let adds = c.in_ok-add_nodes.ensures.ok in
+    subst (AreTestsOf c.args.ranges.now) (sym (adds.is ∙ ap (λ nodes. nodes ++ adds.added) c.new-nodes.ensures.items)) adds.tests
