@@ -1,6 +1,6 @@
 -- What the steps of a switch make of a builder. Source: own.
 use Rattle.std.specs.Prelude.{◌≡◌, ◌≢◌, ◌↔◌, ◌<◌, ◌≤◌, ◌+◌, ◌-◌, ◌^◌, ◌==◌, if◌then◌else◌, ℕ, suc, false, IsTrue, List, [], ◌∷◌, ◌++◌, length, map, replicate, Contains, All, AllPairs, Option, Some, None, Result, Ok, Err, OnOk, IfOk, IfSome, is_err, slice_get}
-use Rattle.std.specs.List.{AllZip}
+use Rattle.std.specs.List.{AllByRecursion, AllZip}
 use Rattle.clif_types.specs.Signature.{SignatureShape}
 use Rattle.clif_types.specs.declared.condcodes.IntCC.TheVariants.{Equal, UnsignedGreaterThan}
 use Rattle.clif_types.specs.declared.error.BuildError.{BuildError}
@@ -12,6 +12,7 @@ use Rattle.clif_ir.specs.Body.{value_at}
 use Rattle.clif_ir.specs.Changes.{with_tables}
 use Rattle.clif_tables.specs.Lists.{with_jump_table}
 use Rattle.clif_ranges.specs.declared.search.Next.{Next}
+use Rattle.clif_ranges.specs.declared.search.Node.{Node}
 use Rattle.clif_ranges.specs.declared.search.Test.{Test}
 use Rattle.clif_ranges.specs.declared.search.Test.TheVariants as test
 use Rattle.clif_meaning.specs.Instruction.{Compare, Instruction}
@@ -29,7 +30,7 @@ use Rattle.clif_builder.specs.Growth.{EntriesStay, GrowsBesideTables, TypesStay}
 use Rattle.clif_builder.specs.Ledger.{NamesBlock, NamesValue, ledger_of}
 use Rattle.clif_builder.specs.StandsFor.{StandsFor}
 use Rattle.clif_expansion.specs.Emission.{building}
-use Rattle.clif_switch_calls.specs.SwitchCalls.{Switched, block_for, blocks_of, branching, compared, difference, difference_name, i8, name_for, number_instructions, number_name, other_of, test_calls, with_number, with_number_name}
+use Rattle.clif_switch_calls.specs.SwitchCalls.{Switched, block_for, blocks_of, branching, compared, difference, difference_name, i8, name_for, nodes_calls, number_instructions, number_name, other_of, tables_of, test_calls, with_number, with_number_name}
 use Rattle.clif_switch.specs.declared.emission.SwitchedValue.{SwitchedValue}
 
 -- STEPS -------------------------------------------------------------------------------------------------------------------
@@ -137,6 +138,11 @@ cases_in test.Nothing = []
 cases_in (test.OneKey range other) = range.now.blocks.items
 cases_in (test.NotBelow first above other) = []
 cases_in (test.Table range) = range.now.blocks.items
+
+-- how many tables nodes make
+abbrev pub tables_in : List Node → ℕ
+tables_in [] = 0
+tables_in (node ∷ nodes) = tables_of node.test + tables_in nodes
 
 -- if one key is tested, it has a block
 abbrev pub HasItsBlock : Test → Type 0
@@ -273,3 +279,10 @@ MakesTest switched tested old new before after answer =
     (at : StandsAt signature calls s switched.val switched.otherwise cases plain old) (names : List Name) → All (Contains cases) (cases_in tested) → AllZip (NamesBlock (calls ++ at.added)) names before
     → OnOk answer ((on : StandsOn at (test_calls s (tables_at at) tested (next_place calls plain)) new)
     × AllZip (NamesBlock (calls ++ on.later.added)) (names ++ blocks_of tested (next_place calls plain)) after)
+
+-- the same of all nodes, of which the first stands in the current block
+abbrev pub MakesNodes : SwitchedValue → List Node → (old new : FunctionBuilder) → Result (Unit {0}) BuildError → Type 0
+MakesNodes switched nodes old new answer =
+    (signature : SignatureShape) (calls : List AnsweredCall) (s : Switched) (cases : List ℕ) (plain : Script)
+    (at : StandsAt signature calls s switched.val switched.otherwise cases plain old) → AllByRecursion (λ node. All (Contains cases) (cases_in node.test)) nodes
+    → OnOk answer (StandsOn at (nodes_calls s [] (tables_at at) nodes (next_place calls plain)) new)

@@ -2,10 +2,11 @@
 #![tactic(auto)]
 
 ghost use Rattle.std.specs.Prelude.{◌≡◌, ◌<◌, ◌≤◌, suc, [], ◌∷◌, ◌++◌, false, IfOk, IsTrue, OnOk, length, map, All};
+ghost use Rattle.std.specs.List.{AllByRecursion};
 ghost use Rattle.clif_ir.specs.Body.{value_at};
-ghost use Rattle.clif_ranges.specs.Search.{named_by, number_of};
+ghost use Rattle.clif_ranges.specs.Search.{AreInOrder, named_by, number_of};
 ghost use Rattle.clif_builder.specs.Builder.{HasCurrent, IsLeft, is_free};
-ghost use Rattle.clif_switch.specs.Emission.{AddsBlocks, EndsBlock, GivesValue, HasItsBlock, IsEntered, IsOpenFor, IsSwitchedIn, Makes, MakesBlock, MakesBranch, MakesCheck, MakesEntry, MakesNext, MakesOf, MakesTable, MakesTest, MakesValue, MayLead, StaysHere, Steps, bare_to, cases_in, difference_calls, difference_named, key_calls, number_calls, number_named};
+ghost use Rattle.clif_switch.specs.Emission.{AddsBlocks, EndsBlock, GivesValue, HasItsBlock, IsEntered, IsOpenFor, IsSwitchedIn, Makes, MakesBlock, MakesBranch, MakesCheck, MakesEntry, MakesNext, MakesNodes, MakesOf, MakesTable, MakesTest, MakesValue, MayLead, StaysHere, Steps, bare_to, cases_in, difference_calls, difference_named, key_calls, number_calls, number_named, tables_in};
 ghost use Rattle.clif_switch_calls.specs.SwitchCalls.{compared, i32, index_calls, index_name, is_widest, signed_64, table_calls, tables_of};
 
 use clif_builder::laws::{
@@ -26,18 +27,28 @@ pub struct SwitchedValue {
     pub otherwise: Block,
 }
 
-// All nodes, of which the first stands in the current block.
+// All nodes, of which the first stands in the current block, and each later one in the block that was made for it.
 pub(crate) fn emit_nodes(
     bx: &mut FunctionBuilder<'_>,
     switched: SwitchedValue,
     nodes: &[Node<'_>],
-) -> Result<(), BuildError> {
+) -> Result<(), BuildError>
+    requires current { HasCurrent bx.old }
+    requires switched { IsSwitchedIn bx.old switched }
+    requires sound { bx.old.failed ≡ false }
+    requires leads { AllByRecursion (λ node. All (MayLead bx.old) (cases_in node.test)) nodes.now }
+    requires filled { AllByRecursion (λ node. HasItsBlock node.test) nodes.now }
+    requires order { AreInOrder (0 ∷ []) 1 nodes.now }
+    ensures ends { EndsBlock (tables_in nodes.now) bx.old bx.new result }
+    ensures made { MakesNodes switched nodes.now bx.old bx.new result }
+{
     let mut blocks = Vec::new(bx.func().allocator());
-    for node in nodes {
-        if node.number > 0 {
-            enter(bx, blocks[node.number - 1])?;
-        }
-        emit_test(bx, switched, &mut blocks, node.test)?;
+    let on = switched;
+    emit_test(bx, on, &mut blocks, nodes[0].test)?;
+    for node in &nodes[1..] {
+        let on = switched;
+        enter(bx, blocks[node.number - 1])?;
+        emit_test(bx, on, &mut blocks, node.test)?;
     }
     Ok(())
 }
@@ -68,21 +79,23 @@ fn emit_test(
     requires switched { IsSwitchedIn bx.old switched }
     requires leads { All (MayLead bx.old) (cases_in test) }
     requires filled { HasItsBlock test }
-    ensures ends { EndsBlock (tables_of test) bx.old bx.new result }
-    ensures blocks { OnOk result (AddsBlocks (length (named_by test)) bx.old bx.new blocks.old.items blocks.new.items) }
-    ensures made { MakesTest switched test bx.old bx.new blocks.old.items blocks.new.items result }
+    requires sound { bx.old.failed ≡ false }
+    ensures ends { EndsBlock (tables_of test.entry) bx.old bx.new result }
+    ensures blocks { OnOk result (AddsBlocks (length (named_by test.entry)) bx.old bx.new blocks.old.items blocks.new.items) }
+    ensures made { MakesTest switched test.entry bx.old bx.new blocks.old.items blocks.new.items result }
 {
+    let on = switched;
     match test {
         Test::Nothing => {
             bx.jump(switched.otherwise, &[])?;
             Ok(())
         }
         Test::OneKey { range, other } => {
-            let other = block_for(bx, switched, blocks, other)?;
+            let other = block_for(bx, on, blocks, other)?;
             branch_on_key(bx, switched, range.first, range.blocks[0], other)
         }
         Test::NotBelow { first, other, .. } => {
-            let other = block_for(bx, switched, blocks, other)?;
+            let other = block_for(bx, on, blocks, other)?;
             let above = new_block(bx, blocks)?;
             let cond = IntCC::UnsignedGreaterThanOrEqual;
             branch_on(bx, switched, cond, first, above, other)
