@@ -31,7 +31,7 @@ pub record Kept (old new : FunctionBuilder) : Type 0 where
   pub stands : (signature : SignatureShape) (calls : List AnsweredCall) → StandsFor signature calls old → StandsFor signature calls new
 
 -- the tables were set
-set_steps : {A : Type 0} (old new : FunctionBuilder) (tables : TableLists) (answer : Result A BuildError) → tables.exception_tables ≡ old.func.now.tables.exception_tables → SetsTables tables old new answer → Steps old new answer
+pub set_steps : {A : Type 0} (old new : FunctionBuilder) (tables : TableLists) (answer : Result A BuildError) → tables.exception_tables ≡ old.func.now.tables.exception_tables → SetsTables tables old new answer → Steps old new answer
 set_steps {A} old new tables answer kept sets = record {
   loans = sets.call.loans;
   srcloc = sets.call.srcloc;

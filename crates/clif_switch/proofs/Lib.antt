@@ -9,5 +9,7 @@ mod Differences
 mod Blocks
 mod Targets
 mod Edges
+mod Tables
+mod Serving
 mod Indices
 mod Counting
