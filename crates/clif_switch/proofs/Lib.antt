@@ -11,5 +11,6 @@ mod Targets
 mod Edges
 mod Tables
 mod Serving
+mod Cases
 mod Indices
 mod Counting

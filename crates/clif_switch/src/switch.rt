@@ -1,12 +1,21 @@
 //! Switches: control goes by a value to the block of its case.
 #![tactic(auto)]
 
+ghost use Rattle.std.specs.Prelude.{◌≡◌, ◌≢◌, ◌↔◌, ◌⊎◌, IsTrue, OnErr, OnOk, false};
+ghost use Rattle.std.specs.FinMap as map;
+ghost use Rattle.clif_types.specs.declared.error.BuildError.TheVariants as BuildError;
+ghost use Rattle.clif_ranges.specs.declared.error.SwitchError.TheVariants as SwitchError;
+ghost use Rattle.clif_ranges.specs.Cases.{cases_in, CaseMap, case_map_code};
+ghost use Rattle.clif_switch.specs.Switches.{Emits, MayEmit};
+
 use crate::emission::{SwitchedValue, emit_nodes};
 use clif_builder::{FunctionBuilder, InstBuilderBase};
 use clif_ranges::{Cases, SwitchError, search_tree};
+use clif_switch_calls::laws::switch_calls_are_code;
 use clif_types::{Block, BuildError, Value};
 use std::alloc::Global;
 use std::collections::HashMap;
+use std::marker::Model;
 
 /// The cases of a switch: for some values a block.
 ///
@@ -24,31 +33,64 @@ pub struct Switch {
     cases: Cases,
 }
 
+impl Model for Switch {
+    ghost Value = { CaseMap };
+
+    ghost coded = { case_map_code };
+
+    ghost view = { λ s. s.cases };
+}
+
 impl Switch {
     /// A switch without a case.
-    pub fn new(alloc: Global) -> Switch {
+    pub fn new(alloc: Global) -> Switch
+        ensures { result ≡ map.empty }
+    {
         Switch {
             cases: Cases::new(alloc),
         }
     }
 
     /// Sets the block for an index.
-    pub fn set_entry(&mut self, index: u128, block: Block) -> Result<(), SwitchError> {
+    ///
+    /// # Errors
+    ///
+    /// `SetTwice`, exactly where the index has a block; or `Build(Memory)`, where memory is refused. The switch is as it was then.
+    pub fn set_entry(&mut self, index: u128, block: Block) -> Result<(), SwitchError>
+        ensures ok { OnOk result (self.new ≡ map.insert self.old index block) }
+        ensures err { OnErr result (self.new ≡ self.old) }
+        ensures twice { (result ≡ Err (SwitchError.SetTwice index)) ↔ IsTrue (map.contains_key self.old index) }
+        ensures only { OnErr result ((result ≡ Err (SwitchError.SetTwice index)) ⊎ (result ≡ Err (SwitchError.Build BuildError.Memory))) }
+    {
         self.cases.set(index, block)
     }
 
     /// The block of each index that was set.
-    pub fn entries(&self) -> &HashMap<u128, Block> {
+    pub fn entries(&self) -> &HashMap<u128, Block>
+        ensures { cases_in result.now ≡ self.now }
+    {
         self.cases.entries()
     }
 
-    /// Appends the switch.
+    /// Appends the instructions that go by a value to the block of its case, or to `otherwise` where it has none: tests, each in a block of
+    /// its own but for the first one, and jump tables for ranges of consecutive indices. The order in which entries were set doesn't
+    /// matter. The current block is left afterwards, and so are the blocks that were made, which are sealed.
+    ///
+    /// # Errors
+    ///
+    /// `KeyTooWide`, where the greatest index is no number of the value's type, and `TableTooLong`, where 2^32 indices or more are
+    /// consecutive: the builder is as it was then. `Build(Failed)`, exactly where the builder failed before; and the errors of the calls
+    /// that build instructions and blocks.
     pub fn emit(
         self,
         bx: &mut FunctionBuilder<'_>,
         val: Value,
         otherwise: Block,
-    ) -> Result<(), SwitchError> {
+    ) -> Result<(), SwitchError>
+        requires { MayEmit self val otherwise bx.old }
+        ensures { Emits self.entry val otherwise bx.old bx.new result }
+    {
+        switch_calls_are_code();
         if bx.has_failed() {
             return Err(SwitchError::Build(BuildError::Failed));
         }
@@ -63,7 +105,9 @@ impl Switch {
             return Err(SwitchError::Build(bx.refuse()));
         };
         let switched = SwitchedValue { ty, val, otherwise };
-        emit_nodes(bx, switched, nodes.as_slice())?;
-        Ok(())
+        match emit_nodes(bx, switched, nodes.as_slice()) {
+            Ok(()) => Ok(()),
+            Err(error) => Err(SwitchError::Build(error)),
+        }
     }
 }
