@@ -11,3 +11,4 @@ mod Targets
 mod Edges
 mod Indices
 mod Counting
+mod Tests
