@@ -14,3 +14,4 @@ mod Serving
 mod Cases
 mod Indices
 mod Counting
+mod Tests

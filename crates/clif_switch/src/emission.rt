@@ -84,6 +84,8 @@ fn emit_test(
     ensures blocks { OnOk result (AddsBlocks (length (named_by test.entry)) bx.old bx.new blocks.old.items blocks.new.items) }
     ensures made { MakesTest switched test.entry bx.old bx.new blocks.old.items blocks.new.items result }
 {
+    ledger_is_read_by_number();
+    requests_ask_for_their_shapes();
     let on = switched;
     match test {
         Test::Nothing => {
