@@ -1,5 +1,5 @@
 -- The blocks of cases are those of the ranges and tests.
-use Rattle.std.proofs.Common.{◌≡◌, ◌<◌, ◌+◌, ℕ, suc, Bool, true, false, List, [], ◌∷◌, ◌++◌, length, map, refl, sym, ◌∙◌, ap, ap₂, subst, arith, inl, inr, cond}
+use Rattle.std.proofs.Common.{◌≡◌, ◌<◌, ◌+◌, ℕ, suc, Bool, true, false, List, [], ◌∷◌, ◌++◌, length, map, get_or, refl, sym, ◌∙◌, ap, subst, arith, inl, inr, cond}
 use Rattle.std.specs.Prelude.{All, Contains}
 use Rattle.std.specs.List.{AllByRecursion, count_by, enumerate_from, flat_map}
 use Rattle.std.proofs.lemmas.List.{map-append}
@@ -43,13 +43,14 @@ range_contained (one ∷ ranges) range block here is =
 module _ (entries : List (ℕ × ℕ)) (ranges : List CaseRange) (are : AreRangesOf entries ranges) where
   of_range : (range : CaseRange) → Contains ranges range → All (Contains (blocks_of_cases entries)) range.blocks.items
   of_range range here k d below =
-      subst (λ (list : List (ℕ × ℕ)). Contains (blocks_of_cases list) _) are.cases (range_contained ranges range _ here (All-contains_itself range.blocks.items k d below))
+      subst (λ (list : List (ℕ × ℕ)). Contains (blocks_of_cases list) (get_or range.blocks.items k d)) are.cases
+      (range_contained ranges range (get_or range.blocks.items k d) here (All-contains_itself range.blocks.items k d below))
 
   -- the blocks of a test's cases are blocks of cases
   pub test_cases : (t : Test) → IsTestOf ranges t → All (Contains (blocks_of_cases entries)) (cases_in t)
-  test_cases test.Nothing is k d below = absurd (omega (arith, below))
+  test_cases test.Nothing is = λ k d below. absurd (omega (arith, below))
   test_cases (test.OneKey range other) is = of_range range.now is.0
-  test_cases (test.NotBelow first above other) is k d below = absurd (omega (arith, below))
+  test_cases (test.NotBelow first above other) is = λ k d below. absurd (omega (arith, below))
   test_cases (test.Table range) is = of_range range.now is.0
 
   pub all_cases : (nodes : List Node) → AllByRecursion (λ node. IsTestOf ranges node.test) nodes → AllByRecursion (λ node. All (Contains (blocks_of_cases entries)) (cases_in node.test)) nodes

@@ -12,6 +12,7 @@ mod Edges
 mod Tables
 mod Serving
 mod Cases
+mod Answered
 mod Indices
 mod Counting
 mod Tests

@@ -32,8 +32,8 @@ pub record MayEmit (cases : CaseMap) (value otherwise : ℕ) (b : FunctionBuilde
   pub current : HasCurrent b
   pub exists : value < length b.func.now.values
   pub integer : IsTrue (is_int (value_at b.func.now value).ty)
-  pub otherwise : MayLead b otherwise
-  pub blocks : All (MayLead b) (map (λ case. case.1) (map.entries cases))
+  pub otherwise_leads : MayLead b otherwise
+  pub cases_lead : All (MayLead b) (map (λ case. case.1) (map.entries cases))
 
 -- What is emitted is code of the switch: it walks from the current block to the block of each key's case, behind at most two conditional
 -- branches more than the logarithm of the number of ranges, rounded up, and one table at most.

@@ -9,9 +9,10 @@ ghost use Rattle.clif_ranges.specs.Cases.{cases_in, CaseMap, case_map_code};
 ghost use Rattle.clif_switch.specs.Switches.{Emits, MayEmit};
 
 use crate::emission::{SwitchedValue, emit_nodes};
+use clif_builder::laws::{ledger_is_read_by_number, requests_ask_for_their_shapes};
 use clif_builder::{FunctionBuilder, InstBuilderBase};
 use clif_ranges::{Cases, SwitchError, search_tree};
-use clif_switch_calls::laws::switch_calls_are_code;
+use clif_switch_calls::laws::{later_blocks_are_unwritten, switch_calls_are_code};
 use clif_types::{Block, BuildError, Value};
 use std::alloc::Global;
 use std::collections::HashMap;
@@ -88,9 +89,12 @@ impl Switch {
         otherwise: Block,
     ) -> Result<(), SwitchError>
         requires { MayEmit self val otherwise bx.old }
-        ensures { Emits self.entry val otherwise bx.old bx.new result }
+        ensures { Emits self val otherwise bx.old bx.new result }
     {
+        ledger_is_read_by_number();
+        requests_ask_for_their_shapes();
         switch_calls_are_code();
+        later_blocks_are_unwritten();
         if bx.has_failed() {
             return Err(SwitchError::Build(BuildError::Failed));
         }

@@ -1,0 +1,173 @@
+-- What emitting a switch makes of a builder, by what its nodes make of it.
+use Rattle.std.proofs.Common.{◌≡◌, ◌<◌, ◌≤◌, ◌+◌, ◌^◌, inl, inr, ℕ, suc, true, false, List, [], ◌∷◌, ◌++◌, length, map, refl, sym, ◌∙◌, ap, subst, arith, append-nil, Option, Some, None}
+use Rattle.std.specs.Prelude.{◌↔◌, All, Contains, IsTrue, Result, Ok, Err, OnOk, IfErr, is_some, option_map, replicate}
+use Rattle.std.specs.FinMap as finite
+use Rattle.std.proofs.lemmas.List.Elements.{All-contains, All-contains_itself}
+use Rattle.clif_types.specs.Signature.{SignatureShape}
+use Rattle.clif_types.specs.Types.{is_int}
+use Rattle.clif_types.specs.declared.error.BuildError.{BuildError}
+use Rattle.clif_types.specs.declared.error.BuildError.TheVariants.{Failed}
+use Rattle.clif_types.specs.declared.types.«Type».{«Type»}
+use Rattle.clif_ir.specs.Body.{value_at}
+use Rattle.clif_ranges.specs.declared.ranges.CaseRange.{CaseRange}
+use Rattle.clif_ranges.specs.declared.search.Node.{Node}
+use Rattle.clif_ranges.specs.declared.error.SwitchError.{SwitchError}
+use Rattle.clif_ranges.specs.declared.error.SwitchError.TheVariants as switch_error
+use Rattle.clif_ranges.specs.Cases.{AreRangesFor, CaseMap, IsRefusal}
+use Rattle.clif_ranges.specs.Ranges.{AreFewest}
+use Rattle.clif_ranges.specs.Search.{AreInOrder, AreTestsOf, FindsCases}
+use Rattle.clif_meaning.specs.Ledger.{Ledger, empty_ledger, has_block, type_of}
+use Rattle.clif_meaning.specs.Name.{Name}
+use Rattle.clif_meaning.specs.Request.{AnsweredCall, Script, script_of}
+use Rattle.clif_builder.specs.declared.builder.FunctionBuilder.{FunctionBuilder}
+use Rattle.clif_builder.specs.Ledger.{NamesBlock, NamesValue, block_name, ledger_of}
+use Rattle.clif_builder.specs.LedgerLaws.{LedgerIsReadByNumber, RequestsAskForTheirShapes}
+use Rattle.clif_builder.specs.StandsFor.{StandsFor}
+use Rattle.clif_expansion.specs.ConstantCalls.{AreAllowed}
+use Rattle.clif_expansion.proofs.Placing.{contained_first, contained_in, contained_later}
+use Rattle.clif_switch_calls.specs.SwitchCalls.{Switched, nodes_calls}
+use Rattle.clif_switch_calls.specs.SwitchLaw.{LaterBlocksAreUnwritten, MaySwitch, SearchesCases, SwitchCallsAreCode, case_edges, case_keys, switch_calls}
+use Rattle.clif_expansion.specs.Switching.{IsSwitchCode}
+use Rattle.clif_switch.specs.declared.emission.SwitchedValue.{SwitchedValue}
+use Rattle.clif_switch.specs.Emission.{EndsBlock, MakesNodes, StandsAt, StandsOn, Steps, next_place, tables_at, tables_in}
+use Rattle.clif_switch.specs.Switches.{Emits, IsCodeOf, IsUnemitted, MayEmit, NamesSwitch}
+use Rattle.clif_switch.proofs.Cases.{all_cases, blocks_of_cases, tables_are}
+use Rattle.clif_switch.proofs.Names.{as_many}
+use Rattle.clif_switch.proofs.Numbers.{type_is}
+use Rattle.clif_switch.proofs.Values.{done}
+
+-- ERRORS ------------------------------------------------------------------------------------------------------------------
+
+same_error : (e y : BuildError) → ◌≡◌ {A = Result (Unit {0}) SwitchError} (Err (switch_error.Build e)) (Err (switch_error.Build y)) → e ≡ y
+same_error e y same = cc
+
+same_failure : (e y : BuildError) → ◌≡◌ {A = Result (Unit {0}) BuildError} (Err e) (Err y) → e ≡ y
+same_failure e y same = cc
+
+-- something failed as it was built
+pub failed_by : (cases : CaseMap) (value otherwise : ℕ) (old new : FunctionBuilder) (e : BuildError) → Steps {A = Unit {0}} old new (Err e) → Emits cases value otherwise old new (Err (switch_error.Build e))
+failed_by cases value otherwise old new e steps = record {
+  loans = steps.loans;
+  srcloc = steps.srcloc;
+  failed = (λ is. steps.failed.0 (ap Err (same_error e Failed is)), λ is. ap (λ (y : BuildError). Err (switch_error.Build y)) (same_failure e Failed (steps.failed.1 is)));
+  unchanged = steps.unchanged;
+  errors = steps.fails;
+  sound = tt;
+  variables = steps.variables;
+  grows = tt;
+  types = tt;
+  exceptions = tt;
+  tables = tt;
+  leaves = tt;
+  left = tt;
+  free = tt;
+  stands = λ signature calls s block stands allowed current named. tt;
+}
+
+-- THE CODE ----------------------------------------------------------------------------------------------------------------
+
+mapped : {X Y : Type 0} (f : X → Y) (xs : List X) (x : X) → Contains xs x → Contains (map f xs) (f x)
+mapped f [] x here = absurd (omega (arith, here.1))
+mapped {X} f (y ∷ xs) x here =
+    let later : Contains xs x → Contains (map f xs) (f x) = mapped f xs x in
+    elim (contained_in y xs x here) [
+      | inl same ↦ subst (λ (z : X). Contains (f y ∷ map f xs) (f z)) same (contained_first (f y) (map f xs))
+      | inr further ↦ contained_later (f y) (map f xs) (f x) (later further)
+    ]
+
+module _ (reads : LedgerIsReadByNumber) (asks : RequestsAskForTheirShapes) (codes : SwitchCallsAreCode) (unwritten : LaterBlocksAreUnwritten)
+    (cases : CaseMap) (value otherwise : ℕ) (old new : FunctionBuilder) (ranges : List CaseRange) (nodes : List Node) (may : MayEmit cases value otherwise old)
+    (fits : AreRangesFor cases (value_at old.func.now value).ty ranges) (fewest : AreFewest ranges) (finds : FindsCases ranges nodes 0) (order : AreInOrder (0 ∷ []) 1 nodes) (tests : AreTestsOf ranges nodes) where
+  abbrev entries : List (ℕ × ℕ)
+  entries = finite.entries cases
+
+  abbrev blocks : List ℕ
+  blocks = blocks_of_cases entries
+
+  module _ (signature : SignatureShape) (calls : List AnsweredCall) (s : Switched) (block : Name) (stands : StandsFor signature calls old) (allowed : AreAllowed empty_ledger (script_of calls))
+      (current : (ledger_of calls).current ≡ Some block) (named : NamesSwitch calls s cases value otherwise) where
+    on_calls : (P : List AnsweredCall → Type 0) → P calls → P (calls ++ [])
+    on_calls P p = subst P (sym (append-nil calls)) p
+
+    at_start : StandsAt signature calls s value otherwise blocks [] old
+    at_start = record {
+      added = [];
+      asked = refl;
+      stands = on_calls (λ list. StandsFor signature list old) stands;
+      value = on_calls (λ list. NamesValue list s.value value) named.value_named;
+      typed = on_calls (λ list. type_of (ledger_of list) s.value ≡ Some s.ty) named.typed;
+      otherwise_named = on_calls (λ list. NamesBlock list s.otherwise otherwise) named.otherwise_named;
+      cases_named = λ b is. on_calls (λ list. NamesBlock list (s.named b) b) (All-contains (λ (c : ℕ). NamesBlock calls (s.named c) c) blocks b named.cases_named is);
+    }
+
+    type_same : s.ty ≡ (value_at old.func.now value).ty
+    type_same = type_is reads asks at_start
+
+    -- the current block is there
+    block_there : IsTrue (has_block (ledger_of calls) block)
+    block_there =
+        let name : block_name (ledger_of calls) may.current.0 ≡ Some block =
+        same_some (sym (ap (option_map (block_name (ledger_of calls))) may.current.1) ∙ sym stands.ledger.current ∙ ap (option_map Some) current) in
+        ap is_some ((reads calls old.func.now old.ctx.now old.position stands.ledger).state may.current.0 block name).found
+      where
+        same_some : {x y : Option Name} → Some x ≡ Some y → x ≡ y
+        same_some same = cc
+
+    searches : SearchesCases s cases ranges nodes
+    searches = record { ranges_for = subst (λ (ty : «Type»). AreRangesFor cases ty ranges) (sym type_same) fits; finds = finds; order = order; tests = tests }
+
+    may_switch : MaySwitch (script_of calls) block s cases
+    may_switch = record {
+      current = current;
+      there = block_there;
+      int = subst (λ (ty : «Type»). IsTrue (is_int ty)) (sym type_same) may.integer;
+      value = named.typed;
+      otherwise = named.otherwise_named.is_block;
+      targets = λ k d below.
+          (All-contains (λ (c : ℕ). NamesBlock calls (s.named c) c) blocks _ named.cases_named (mapped (λ (case : ℕ × ℕ). case.1) entries _ (All-contains_itself entries k d below))).is_block;
+      unwritten = unwritten (script_of calls) allowed;
+    }
+
+    -- the list with the calls of the nodes at its end
+    stood : MakesNodes (record { ty = (value_at old.func.now value).ty; val = value; otherwise = otherwise }) nodes old new done
+        → (added : List AnsweredCall) × StandsFor signature (calls ++ added) new × IsCodeOf calls added s cases block
+    unfolding at_start
+    stood makes =
+        let on : StandsOn at_start (nodes_calls s [] (tables_at at_start) nodes (next_place calls [])) new = makes signature calls s blocks [] at_start (all_cases entries ranges fits.ranges_of nodes tests.tests) in
+        let many : next_place calls [] ≡ length (script_of calls) = let is = as_many calls in omega (arith, is) in
+        let asked : script_of on.later.added ≡ switch_calls (script_of calls) s nodes =
+        on.later.asked ∙ ap (λ (list : List AnsweredCall). nodes_calls s [] (length (ledger_of list).jump_tables) nodes (next_place calls [])) (append-nil calls)
+        ∙ ap (λ (p : ℕ). nodes_calls s [] (length (ledger_of calls).jump_tables) nodes p) many in
+        (on.later.added, on.later.stands, record {
+          ranges = ranges;
+          ranges_for = searches.ranges_for;
+          fewest = fewest;
+          code = λ k short. subst (λ (more : Script). IsSwitchCode (script_of calls) more block s.value s.ty (case_keys cases) (case_edges s cases) (k + 2) 1) (sym asked)
+              (codes (script_of calls) block s cases ranges nodes k may_switch searches short);
+        })
+
+  pub emitted : EndsBlock {A = Unit {0}} (tables_in nodes) old new done → MakesNodes (record { ty = (value_at old.func.now value).ty; val = value; otherwise = otherwise }) nodes old new done
+      → Emits cases value otherwise old new (Ok tt)
+  emitted ends makes = record {
+    loans = ends.steps.loans;
+    srcloc = ends.steps.srcloc;
+    failed = (λ is. absurd (no_failure is), λ is. absurd (no_error (ends.steps.failed.1 is)));
+    unchanged = ends.steps.unchanged;
+    errors = tt;
+    sound = ends.steps.fails;
+    variables = ends.steps.variables;
+    grows = ends.steps.grows;
+    types = ends.steps.types;
+    exceptions = ends.steps.exceptions;
+    tables = ends.tables ∙ ap (λ (n : ℕ). old.func.now.tables.jump_tables ++ replicate n None) (tables_are entries ranges fits.ranges_of nodes tests);
+    leaves = ends.leaves;
+    left = ends.left;
+    free = ends.free;
+    stands = λ signature calls s block stands allowed current named. stood signature calls s block stands allowed current named makes;
+  }
+    where
+      no_failure : ◌≡◌ {A = Result (Unit {0}) SwitchError} (Ok tt) (Err (switch_error.Build Failed)) → ⊥
+      no_failure same = cc
+
+      no_error : ◌≡◌ {A = Result (Unit {0}) BuildError} (Ok tt) (Err Failed) → ⊥
+      no_error same = cc

@@ -1,0 +1,66 @@
+-- The nodes of the search are emitted, unless the switch is refused before.
+use Rattle.std.proofs.Common.{◌≡◌, ℕ, pos, List, [], ◌∷◌, sym, ◌∙◌, ap, subst}
+use Rattle.std.specs.Prelude.{All, Contains}
+use Rattle.std.specs.List.{AllByRecursion}
+use Rattle.std.specs.FinMap as finite
+use Rattle.clif_types.specs.declared.types.«Type».{«Type»}
+use Rattle.clif_types.specs.declared.types.«Type».TheVariants as type
+use Rattle.clif_inst_builder.specs.Shapes as shapes
+use Rattle.clif_ranges.specs.declared.ranges.CaseRange.{CaseRange}
+use Rattle.clif_ranges.specs.declared.search.Node.{Node}
+use Rattle.clif_ranges.specs.Search.{AreInOrder, AreSeparate, AreTestsOf, FindsCases}
+use Rattle.clif_ir.specs.Body.{Body, value_at}
+use Rattle.clif_ranges.specs.Cases.{AreRangesFor, CaseMap}
+use Rattle.clif_ranges.specs.Ranges.{AreFewest, AreRangesOf}
+use Rattle.clif_switch.specs.Emission.{HasItsBlock, MakesNodes, MayLead, cases_in}
+use Rattle.clif_switch.proofs.Values.{done}
+use Rattle.clif_switch.proofs.Cases.{all_blocks, all_cases, all_hold, blocks_of_cases, separate}
+use Rattle.clif_switch.proofs.Answered.{emitted, failed_by}
+use Rattle.clif_switch.proofs.Steps.{builds_steps, steps_err}
+use Rattle.clif_switch.proofs.switch.Switch.emit.Goals as goal
+
+pub returns-in-Err-Build : goal.returns-in-Err-Build
+returns-in-Err-Build c =
+    failed_by c.args.self c.args.val c.args.otherwise c.args.bx.now c.refuse.new.self c.refuse.result
+    (steps_err c.args.bx.now c.refuse.new.self c.refuse.result (builds_steps c.args.bx.now c.refuse.new.self (shapes.unary_imm (pos 0)) type.Invalid _ (c.refuse.ensures.refused (shapes.unary_imm (pos 0)) type.Invalid)))
+
+pub search_tree-requires : goal.search_tree-requires
+search_tree-requires c = subst AreSeparate (sym c.as_slice.ensures.value) (separate (finite.entries c.self.inside.cases) c.in-Ok.ranges.items c.in-Ok.ensures.ok.ranges_of)
+
+pub returns-in_default : goal.returns-in_default
+returns-in_default c =
+    failed_by c.args.self c.args.val c.args.otherwise c.args.bx.now c.refuse-in_default.new.self c.refuse-in_default.result
+    (steps_err c.args.bx.now c.refuse-in_default.new.self c.refuse-in_default.result
+    (builds_steps c.args.bx.now c.refuse-in_default.new.self (shapes.unary_imm (pos 0)) type.Invalid _ (c.refuse-in_default.ensures.refused (shapes.unary_imm (pos 0)) type.Invalid)))
+
+pub emit_nodes-requires-clause-leads : goal.emit_nodes-requires-clause-leads
+emit_nodes-requires-clause-leads c =
+    let entries : List (ℕ × ℕ) = finite.entries c.args.self in
+    let ranges : List CaseRange = c.as_slice.result.now in
+    let are : AreRangesOf entries ranges =
+    subst (λ (m : CaseMap). AreRangesOf (finite.entries m) ranges) c.self.view_is (subst (AreRangesOf (finite.entries c.self.inside.cases)) (sym c.as_slice.ensures.value) c.in-Ok.ensures.ok.ranges_of) in
+    all_hold (MayLead c.args.bx.now) (blocks_of_cases entries) c.requires.cases_lead c.as_slice-2.result.now
+    (subst (λ (nodes : List Node). AllByRecursion (λ node. All (Contains (blocks_of_cases entries)) (cases_in node.test)) nodes) (sym c.as_slice-2.ensures.value)
+    (all_cases entries ranges are c.in-Ok-search_tree.nodes.items c.in-Ok-search_tree.ensures.tests.tests))
+
+pub emit_nodes-requires-clause-filled : goal.emit_nodes-requires-clause-filled
+emit_nodes-requires-clause-filled c =
+    subst (λ (nodes : List Node). AllByRecursion (λ node. HasItsBlock node.test) nodes) (sym c.as_slice-2.ensures.value)
+    (all_blocks c.as_slice.result.now c.in-Ok-search_tree.nodes.items c.in-Ok-search_tree.ensures.tests.tests)
+
+pub returns-in-Ok-emit_nodes : goal.returns-in-Ok-emit_nodes
+returns-in-Ok-emit_nodes c =
+    let ranges : List CaseRange = c.as_slice.result.now in
+    let nodes : List Node = c.as_slice-2.result.now in
+    let same : c.in-Ok-search_tree.nodes.items ≡ nodes = sym c.as_slice-2.ensures.value in
+    let ty : «Type» = (value_at c.args.bx.now.func.now c.args.val).ty in
+    let of_type : c.value_type-ty.result ≡ ty = c.value_type-ty.ensures ∙ ap (λ (f : Body). (value_at f c.args.val).ty) c.func-2.ensures in
+    let fits : AreRangesFor c.args.self ty ranges =
+    subst (λ (m : CaseMap). AreRangesFor m ty ranges) c.self.view_is
+    (subst (λ (t : «Type»). AreRangesFor c.self.inside.cases t ranges) of_type (subst (AreRangesFor c.self.inside.cases c.value_type-ty.result) (sym c.as_slice.ensures.value) c.in-Ok.ensures.ok)) in
+    emitted c.ledger_is_read_by_number.ensures c.requests_ask_for_their_shapes.ensures c.switch_calls_are_code.ensures c.later_blocks_are_unwritten.ensures
+    c.args.self c.args.val c.args.otherwise c.args.bx.now c.emit_nodes.new.bx ranges nodes c.requires fits
+    (subst AreFewest (sym c.as_slice.ensures.value) c.in-Ok.ensures.fewest) (subst (λ (list : List Node). FindsCases ranges list 0) same c.in-Ok-search_tree.ensures.ok)
+    (subst (AreInOrder (0 ∷ []) 1) same c.in-Ok-search_tree.ensures.order) (subst (AreTestsOf ranges) same c.in-Ok-search_tree.ensures.tests)
+    c.in-Ok-emit_nodes.ensures.ends
+    (subst (λ (t : «Type»). MakesNodes (record { ty = t; val = c.args.val; otherwise = c.args.otherwise }) nodes c.args.bx.now c.emit_nodes.new.bx done) of_type c.in-Ok-emit_nodes.ensures.made)
