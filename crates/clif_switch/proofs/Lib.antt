@@ -11,3 +11,5 @@ mod Targets
 mod Edges
 mod Indices
 mod Counting
+mod Nodes
+mod Emitted
