@@ -31,7 +31,7 @@ use Rattle.clif_expansion.specs.Switching.{IsSwitchCode}
 use Rattle.clif_switch.specs.declared.emission.SwitchedValue.{SwitchedValue}
 use Rattle.clif_switch.specs.Emission.{EndsBlock, MakesNodes, StandsAt, StandsOn, Steps, next_place, tables_at, tables_in}
 use Rattle.clif_switch.specs.Switches.{Emits, IsCodeOf, IsUnemitted, MayEmit, NamesSwitch}
-use Rattle.clif_switch.proofs.Cases.{all_cases, blocks_of_cases, tables_are}
+use Rattle.clif_switch.proofs.Cases.{all_cases, blocks_of_cases, each_case, tables_are}
 use Rattle.clif_switch.proofs.Names.{as_many}
 use Rattle.clif_switch.proofs.Numbers.{type_is}
 use Rattle.clif_switch.proofs.Values.{done}
@@ -86,6 +86,9 @@ module _ (reads : LedgerIsReadByNumber) (asks : RequestsAskForTheirShapes) (code
 
   module _ (signature : SignatureShape) (calls : List AnsweredCall) (s : Switched) (block : Name) (stands : StandsFor signature calls old) (allowed : AreAllowed empty_ledger (script_of calls))
       (current : (ledger_of calls).current ≡ Some block) (named : NamesSwitch calls s cases value otherwise) where
+    all_named : All (λ (c : ℕ). NamesBlock calls (s.named c) c) blocks
+    all_named = each_case (λ (c : ℕ). NamesBlock calls (s.named c) c) cases ranges fits.ranges_of named.cases_named
+
     on_calls : (P : List AnsweredCall → Type 0) → P calls → P (calls ++ [])
     on_calls P p = subst P (sym (append-nil calls)) p
 
@@ -97,7 +100,7 @@ module _ (reads : LedgerIsReadByNumber) (asks : RequestsAskForTheirShapes) (code
       value = on_calls (λ list. NamesValue list s.value value) named.value_named;
       typed = on_calls (λ list. type_of (ledger_of list) s.value ≡ Some s.ty) named.typed;
       otherwise_named = on_calls (λ list. NamesBlock list s.otherwise otherwise) named.otherwise_named;
-      cases_named = λ b is. on_calls (λ list. NamesBlock list (s.named b) b) (All-contains (λ (c : ℕ). NamesBlock calls (s.named c) c) blocks b named.cases_named is);
+      cases_named = λ b is. on_calls (λ list. NamesBlock list (s.named b) b) (All-contains (λ (c : ℕ). NamesBlock calls (s.named c) c) blocks b all_named is);
     }
 
     type_same : s.ty ≡ (value_at old.func.now value).ty
@@ -124,7 +127,7 @@ module _ (reads : LedgerIsReadByNumber) (asks : RequestsAskForTheirShapes) (code
       value = named.typed;
       otherwise = named.otherwise_named.is_block;
       targets = λ k d below.
-          (All-contains (λ (c : ℕ). NamesBlock calls (s.named c) c) blocks _ named.cases_named (mapped (λ (case : ℕ × ℕ). case.1) entries _ (All-contains_itself entries k d below))).is_block;
+          (All-contains (λ (c : ℕ). NamesBlock calls (s.named c) c) blocks _ all_named (mapped (λ (case : ℕ × ℕ). case.1) entries _ (All-contains_itself entries k d below))).is_block;
       unwritten = unwritten (script_of calls) allowed;
     }
 

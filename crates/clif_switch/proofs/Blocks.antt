@@ -92,7 +92,7 @@ created_open b block exists untouched = record {
   unfilled = λ filled. no_status (sym untouched.pristine ∙ filled);
 }
 
-some_same : (a b : ℕ) → Some a ≡ Some b → a ≡ b
+pub some_same : (a b : ℕ) → Some a ≡ Some b → a ≡ b
 some_same a b same = cc
 
 -- the current block isn't one that comes later

@@ -1,20 +1,24 @@
 -- The blocks of cases are those of the ranges and tests.
-use Rattle.std.proofs.Common.{◌≡◌, ◌<◌, ◌+◌, ℕ, suc, Bool, true, false, List, [], ◌∷◌, ◌++◌, length, map, get_or, refl, sym, ◌∙◌, ap, subst, arith, inl, inr, cond}
+use Rattle.std.proofs.Common.{◌≡◌, ◌<◌, ◌+◌, ℕ, suc, Option, Some, Bool, true, false, List, [], ◌∷◌, ◌++◌, length, map, get_or, refl, sym, ◌∙◌, ap, subst, arith, inl, inr, cond}
 use Rattle.std.specs.Prelude.{All, Contains}
 use Rattle.std.specs.List.{AllByRecursion, count_by, enumerate_from, flat_map}
 use Rattle.std.proofs.lemmas.List.{map-append}
-use Rattle.std.proofs.lemmas.List.Elements.{All-contains, All-contains_itself}
+use Rattle.std.proofs.lemmas.List.Elements.{All-contains, All-contains_itself, All-from_recursion}
 use Rattle.std.proofs.lemmas.List.Recursion.{is_count_by}
 use Rattle.clif_ranges.specs.declared.ranges.CaseRange.{CaseRange}
 use Rattle.clif_ranges.specs.declared.search.Node.{Node}
 use Rattle.clif_ranges.specs.declared.search.Test.{Test}
 use Rattle.clif_ranges.specs.declared.search.Test.TheVariants as test
+use Rattle.std.specs.FinMap as finite
+use Rattle.clif_ranges.specs.Cases.{CaseMap}
+use Rattle.clif_ranges.proofs.Keys.{has_block, of_key, of_ranges}
 use Rattle.clif_ranges.specs.Ranges.{AreRangesOf, HasGap, cases_of}
 use Rattle.clif_ranges.specs.Search.{AreSeparate, AreTestsOf, IsTestOf, is_table}
 use Rattle.clif_expansion.specs.Keys.{table_count}
-use Rattle.clif_expansion.proofs.Placing.{contained_in, contained_left}
+use Rattle.clif_expansion.proofs.Placing.{contained_first, contained_in, contained_later, contained_left}
 use Rattle.clif_switch_calls.specs.SwitchCalls.{tables_of}
 use Rattle.clif_switch_calls.proofs.Counted.{tables_counted}
+use Rattle.clif_switch_calls.proofs.Targets.{case_found}
 use Rattle.clif_switch.specs.Emission.{HasItsBlock, cases_in, tables_in}
 
 abbrev pub blocks_of_cases : List (ℕ × ℕ) → List ℕ
@@ -88,3 +92,22 @@ all_hold P blocks all (node ∷ nodes) are = (λ k d below. All-contains P block
 -- the ranges of cases are separate
 pub separate : (entries : List (ℕ × ℕ)) (ranges : List CaseRange) → AreRangesOf entries ranges → AreSeparate ranges
 separate entries ranges are = record { filled = are.filled; gaps = are.gaps }
+
+-- what holds of the block of each key holds of the blocks of all cases
+pub each_case : (P : ℕ → Type 0) (cases : CaseMap) (ranges : List CaseRange) → AreRangesOf (finite.entries cases) ranges → ((key block : ℕ) → finite.get cases key ≡ Some block → P block)
+    → All P (blocks_of_cases (finite.entries cases))
+each_case P cases ranges are holds = of_list (finite.entries cases) (λ case here. holds case.0 case.1 (found case here))
+  where
+    found : (case : ℕ × ℕ) → Contains (finite.entries cases) case → finite.get cases case.0 ≡ Some case.1
+    found case here =
+        sym (has_block cases ranges are case.0) ∙ sym (of_ranges case.0 ranges) ∙ ap (of_key case.0) are.cases ∙ case_found (finite.entries cases) ranges are case here
+
+    of_list : (entries : List (ℕ × ℕ)) → ((case : ℕ × ℕ) → Contains entries case → P case.1) → All P (blocks_of_cases entries)
+    of_list entries each k d below = of_recursion (blocks_of_cases entries) (over entries each) k d below
+      where
+        over : (list : List (ℕ × ℕ)) → ((case : ℕ × ℕ) → Contains list case → P case.1) → AllByRecursion P (blocks_of_cases list)
+        over [] each = tt
+        over (case ∷ list) each = (each case (contained_first case list), over list (λ other here. each other (contained_later case list other here)))
+
+        of_recursion : (list : List ℕ) → AllByRecursion P list → All P list
+        of_recursion list all = All-from_recursion P list all

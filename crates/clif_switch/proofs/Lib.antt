@@ -16,3 +16,5 @@ mod Answered
 mod Indices
 mod Counting
 mod Tests
+mod Nodes
+mod Emitted

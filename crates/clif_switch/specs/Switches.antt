@@ -1,6 +1,6 @@
 -- What emitting a switch makes of a builder. Source: the module `switch` of cranelift-frontend; that a refusal leaves the builder as it
 -- was is own.
-use Rattle.std.specs.Prelude.{◌≡◌, ◌↔◌, ◌<◌, ◌≤◌, ◌+◌, ◌^◌, ℕ, List, ◌++◌, length, map, replicate, All, IsTrue, false, None, Some, Result, Ok, Err, OnOk, IfErr}
+use Rattle.std.specs.Prelude.{◌≡◌, ◌↔◌, ◌<◌, ◌≤◌, ◌+◌, ◌^◌, ℕ, List, ◌++◌, length, replicate, IsTrue, false, None, Some, Result, Ok, Err, OnOk, IfErr}
 use Rattle.std.specs.FinMap as map
 use Rattle.clif_types.specs.Signature.{SignatureShape}
 use Rattle.clif_types.specs.Types.{is_int}
@@ -33,7 +33,7 @@ pub record MayEmit (cases : CaseMap) (value otherwise : ℕ) (b : FunctionBuilde
   pub exists : value < length b.func.now.values
   pub integer : IsTrue (is_int (value_at b.func.now value).ty)
   pub otherwise_leads : MayLead b otherwise
-  pub cases_lead : All (MayLead b) (map (λ case. case.1) (map.entries cases))
+  pub cases_lead : (key block : ℕ) → map.get cases key ≡ Some block → MayLead b block
 
 -- What is emitted is code of the switch: it walks from the current block to the block of each key's case, behind at most two conditional
 -- branches more than the logarithm of the number of ranges, rounded up, and one table at most.
@@ -49,7 +49,7 @@ pub record NamesSwitch (calls : List AnsweredCall) (s : Switched) (cases : CaseM
   pub value_named : NamesValue calls s.value value
   pub typed : type_of (ledger_of calls) s.value ≡ Some s.ty
   pub otherwise_named : NamesBlock calls s.otherwise otherwise
-  pub cases_named : All (λ block. NamesBlock calls (s.named block) block) (map (λ case. case.1) (map.entries cases))
+  pub cases_named : (key block : ℕ) → map.get cases key ≡ Some block → NamesBlock calls (s.named block) block
 
 -- why nothing was emitted: it is refused for its cases, and the builder is as it was; or it failed
 abbrev pub IsUnemitted : CaseMap → «Type» → (old new : FunctionBuilder) → SwitchError → Type 0

@@ -14,7 +14,7 @@ use Rattle.clif_ranges.specs.Cases.{AreRangesFor, CaseMap}
 use Rattle.clif_ranges.specs.Ranges.{AreFewest, AreRangesOf}
 use Rattle.clif_switch.specs.Emission.{HasItsBlock, MakesNodes, MayLead, cases_in}
 use Rattle.clif_switch.proofs.Values.{done}
-use Rattle.clif_switch.proofs.Cases.{all_blocks, all_cases, all_hold, blocks_of_cases, separate}
+use Rattle.clif_switch.proofs.Cases.{all_blocks, all_cases, all_hold, blocks_of_cases, each_case, separate}
 use Rattle.clif_switch.proofs.Answered.{emitted, failed_by}
 use Rattle.clif_switch.proofs.Steps.{builds_steps, steps_err}
 use Rattle.clif_switch.proofs.switch.Switch.emit.Goals as goal
@@ -39,7 +39,7 @@ emit_nodes-requires-clause-leads c =
     let ranges : List CaseRange = c.as_slice.result.now in
     let are : AreRangesOf entries ranges =
     subst (λ (m : CaseMap). AreRangesOf (finite.entries m) ranges) c.self.view_is (subst (AreRangesOf (finite.entries c.self.inside.cases)) (sym c.as_slice.ensures.value) c.in-Ok.ensures.ok.ranges_of) in
-    all_hold (MayLead c.args.bx.now) (blocks_of_cases entries) c.requires.cases_lead c.as_slice-2.result.now
+    all_hold (MayLead c.args.bx.now) (blocks_of_cases entries) (each_case (MayLead c.args.bx.now) c.args.self ranges are c.requires.cases_lead) c.as_slice-2.result.now
     (subst (λ (nodes : List Node). AllByRecursion (λ node. All (Contains (blocks_of_cases entries)) (cases_in node.test)) nodes) (sym c.as_slice-2.ensures.value)
     (all_cases entries ranges are c.in-Ok-search_tree.nodes.items c.in-Ok-search_tree.ensures.tests.tests))
 
