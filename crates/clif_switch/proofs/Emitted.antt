@@ -1,7 +1,7 @@
 -- Nodes that were emitted, and those that follow.
 use Rattle.std.proofs.Common.{◌≡◌, ◌<◌, ◌≤◌, ◌+◌, ℕ, zero, suc, List, [], ◌∷◌, ◌++◌, drop, drop_of_length-le, length, replicate, take, refl, sym, ◌∙◌, ap, subst, arith, append_assoc, append-nil, Some, None}
 use Rattle.std.proofs.Math.Seq.{drop-cons}
-use Rattle.std.proofs.lemmas.List.{get_or_default, length-append, replicate-append-replicate}
+use Rattle.std.proofs.lemmas.List.{get_or_default, length-append, replicate-append-replicate, take_all}
 use Rattle.std.specs.Prelude.{◌≢◌, ◌-◌, Contains, All, Result, Ok, Err, reverse, slice_index_or}
 use Rattle.std.specs.Result.{IsErrAnd}
 use Rattle.std.specs.List.{AllByRecursion, AllZip}
@@ -199,15 +199,17 @@ module _ (switched : SwitchedValue) (nodes rest : List Node) (node : Node) (old 
           elsewhere n less ready here =
               apart blocks n node.number waits_next.rising less ready.some ready_next.inside (sym (some_same (block_at blocks node.number) (block_at blocks n) (sym entered.position ∙ here)))
 
--- the next node of a list
+-- the next node of a list stands first in what is left
 pub at_next : (switched : SwitchedValue) (nodes items : List Node) (old new : FunctionBuilder) (blocks : List ℕ) (j : ℕ) (node d : Node) → node ≡ slice_index_or items j d → j < length items
     → Emitted switched nodes (drop j items) old new blocks → Emitted switched nodes (node ∷ drop (suc j) items) old new blocks
 at_next switched nodes items old new blocks j node d is inside state =
     subst (λ (rest : List Node). Emitted switched nodes rest old new blocks) (drop-cons items j d inside ∙ ap (λ (n : Node). n ∷ drop (suc j) items) (sym is)) state
 
+-- a read with another default
 block_is : (blocks : List ℕ) (number block : ℕ) → block ≡ slice_index_or blocks (number - 1) block → number - 1 < length blocks → block_at blocks number ≡ block
 block_is blocks number block is inside = get_or_default blocks (number - 1) 0 block inside ∙ sym is
 
+-- the same where the node is read by its place
 module _ (switched : SwitchedValue) (nodes items : List Node) (old new : FunctionBuilder) (blocks : List ℕ) (j : ℕ) (node d : Node) (is : node ≡ slice_index_or items j d) (inside : j < length items)
     (state : Emitted switched nodes (drop j items) old new blocks) where
   next : Emitted switched nodes (node ∷ drop (suc j) items) old new blocks
@@ -313,19 +315,14 @@ module _ (switched : SwitchedValue) (rest : List Node) (node : Node) (old last :
 abbrev pub behind_first : List Node → List Node
 behind_first nodes = take (length nodes - 1) (drop 1 nodes)
 
-take_all : (nodes : List Node) (k : ℕ) → k ≡ length nodes → take k nodes ≡ nodes
-take_all [] zero is = refl
-take_all [] (suc k) is = refl
-take_all (node ∷ nodes) zero is = absurd (omega (arith, is))
-take_all (node ∷ nodes) (suc k) is = ap (λ (rest : List Node). node ∷ rest) (take_all nodes k (omega (arith, is)))
-
+-- the first node was emitted
 pub emitted_start : (switched : SwitchedValue) (nodes : List Node) (node d : Node) (old last : FunctionBuilder) (before after : List ℕ) → node ≡ slice_index_or nodes 0 d → before ≡ [] → AreInOrder (0 ∷ []) 1 nodes
     → AllByRecursion (λ (node : Node). All (MayLead old) (cases_in node.test)) nodes → AllByRecursion (λ (node : Node). HasItsBlock node.test) nodes
     → EndsBlock {A = Unit {0}} (tables_of node.test) old last done → AddsBlocks (length (named_by node.test)) old last before after → MakesTest switched node.test old last before after done
     → Emitted switched nodes (behind_first nodes) old last after
 emitted_start switched [] node d old last before after is none order leads filled ends adds makes = let no_way : ⊥ = (let waits = order in cc) in absurd no_way
 emitted_start switched (first ∷ rest) node d old last before after is none order leads filled ends adds makes =
-    subst (λ (left : List Node). Emitted switched (first ∷ rest) left old last after) (sym (take_all rest (length (first ∷ rest) - 1) (omega arith)))
+    subst (λ (left : List Node). Emitted switched (first ∷ rest) left old last after) (sym (take_all (length (first ∷ rest) - 1) rest (omega arith)))
     (emitted_first switched rest first old last after order leads filled
     (subst (λ (n : Node). EndsBlock {A = Unit {0}} (tables_of n.test) old last done) is ends)
     (subst (λ (list : List ℕ). AddsBlocks (length (named_by first.test)) old last list after) none (subst (λ (n : Node). AddsBlocks (length (named_by n.test)) old last before after) is adds))

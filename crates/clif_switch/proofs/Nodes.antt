@@ -2,6 +2,7 @@
 use Rattle.std.proofs.Common.{◌≡◌, ◌<◌, ◌≤◌, ◌+◌, ℕ, zero, suc, List, [], ◌∷◌, ◌++◌, length, sym, ◌∙◌, ap, subst, arith, Some}
 use Rattle.std.specs.Prelude.{◌≢◌, ◌-◌, All, AllPairs, reverse, slice_index_or}
 use Rattle.std.specs.List.{AllByRecursion}
+use Rattle.std.proofs.lemmas.List.Elements.{All-append}
 use Rattle.std.proofs.lemmas.List.{get_or-append-add, get_or_append_left, length-append}
 use Rattle.clif_ranges.specs.declared.search.Next.TheVariants as next
 use Rattle.clif_ranges.specs.declared.search.Node.{Node}
@@ -34,10 +35,7 @@ pub record Waits (base bound : ℕ) (b : FunctionBuilder) (blocks waiting : List
   pub behind : All (λ block. base ≤ block) blocks
   pub exist : All (λ block. block < length b.func.now.blocks) blocks
 
-all_through : {X : Type 0} (P Q : X → Type 0) → ((x : X) → P x → Q x) → (xs : List X) → AllByRecursion P xs → AllByRecursion Q xs
-all_through P Q on [] all = tt
-all_through P Q on (x ∷ xs) all = (on x all.0, all_through P Q on xs all.1)
-
+-- what holds below a bound
 ready_below : (bound : ℕ) (P Q : ℕ → Type 0) → ((n : ℕ) → n < bound → P n → Q n) → (numbers : List ℕ) → Fall bound numbers → AllByRecursion P numbers → AllByRecursion Q numbers
 ready_below bound P Q on [] fall all = tt
 ready_below bound P Q on (n ∷ numbers) fall all =
@@ -72,7 +70,7 @@ waits_entered base bound number old mid blocks waiting more entered waits = reco
       };
     }
 
--- the blocks of what a test names first stand behind
+-- the blocks of what a test names first stand behind those of before
 module _ (new : FunctionBuilder) (blocks made : List ℕ) (are_open : All (IsOpenFor new) made) where
   at_made : (j number : ℕ) → number ≡ suc (length blocks + j) → j < length made → IsReady new (blocks ++ made) number
   at_made j number is inside = record {
@@ -94,16 +92,12 @@ module _ (new : FunctionBuilder) (blocks made : List ℕ) (are_open : All (IsOpe
       (at_made 1 above (let is = are.1.0 in omega (arith, is)) (omega (arith, many)), (at_made 0 n (let is = are.0 in omega (arith, is)) (omega (arith, many)), all))
   at_named (test.Table range) waiting are many all = all
 
-all_append : (P : ℕ → Type 0) (xs ys : List ℕ) → All P xs → All P ys → All P (xs ++ ys)
-all_append P [] ys first second k d inside = second k d inside
-all_append P (x ∷ xs) ys first second zero d inside = first 0 d (omega arith)
-all_append P (x ∷ xs) ys first second (suc k) d inside = all_append P xs ys (λ i e less. first (suc i) e (omega (arith, less))) second k d (omega (arith, inside))
-
+-- numbers below a seam, and numbers from it on
 rising_append : (xs ys : List ℕ) (seam : ℕ) → AllPairs (λ x y. x < y) xs → AllPairs (λ x y. x < y) ys → All (λ x. x < seam) xs → All (λ y. seam ≤ y) ys → AllPairs (λ x y. x < y) (xs ++ ys)
 rising_append [] ys seam first second below above i j d less inside = second i j d less inside
 rising_append (x ∷ xs) ys seam first second below above i zero d less inside = absurd (omega (arith, less))
 rising_append (x ∷ xs) ys seam first second below above zero (suc j) d less inside =
-    all_append (λ y. x < y) xs ys (λ k e there. first 0 (suc k) e (omega arith) (omega (arith, there)))
+    All-append (λ y. x < y) xs ys (λ k e there. first 0 (suc k) e (omega arith) (omega (arith, there)))
     (λ k e there. let under : x < seam = below 0 e (omega arith) in let over = above k e there in omega (arith, under, over)) j d (omega (arith, inside))
 rising_append (x ∷ xs) ys seam first second below above (suc i) (suc j) d less inside =
     rising_append xs ys seam (λ a b e under there. first (suc a) (suc b) e (omega (arith, under)) (omega (arith, there))) second (λ k e there. below (suc k) e (omega (arith, there))) above
@@ -120,8 +114,8 @@ waits_tested base bound mid new blocks after waiting t steps leaves low elsewher
           (fall_on t (suc (length blocks)) bound waiting are under (omega arith) waits.falls);
       ready = at_named new blocks made adds.are_open t waiting are adds.many (ready_below bound (IsReady mid blocks) (IsReady new (blocks ++ made)) stays waiting waits.falls waits.ready);
       rising = rising_append blocks made (length mid.func.now.blocks) waits.rising adds.rising waits.exist adds.behind;
-      behind = all_append (λ block. base ≤ block) blocks made waits.behind (λ k d inside. let later = adds.behind k d inside in omega (arith, low, later));
-      exist = all_append (λ block. block < length new.func.now.blocks) blocks made (λ k d inside. let there = waits.exist k d inside in let more = steps.grows.2 in omega (arith, there, more))
+      behind = All-append (λ block. base ≤ block) blocks made waits.behind (λ k d inside. let later = adds.behind k d inside in omega (arith, low, later));
+      exist = All-append (λ block. block < length new.func.now.blocks) blocks made (λ k d inside. let there = waits.exist k d inside in let more = steps.grows.2 in omega (arith, there, more))
           (λ k d inside. (adds.are_open k d inside).leads.exists);
     })
   where
