@@ -1,6 +1,6 @@
 -- What emitting a switch makes of a builder, by what its nodes make of it.
-use Rattle.std.proofs.Common.{◌≡◌, ◌<◌, ◌≤◌, ◌+◌, ◌^◌, inl, inr, ℕ, suc, true, false, List, [], ◌∷◌, ◌++◌, length, map, refl, sym, ◌∙◌, ap, subst, arith, append-nil, Option, Some, None}
-use Rattle.std.specs.Prelude.{◌↔◌, All, Contains, IsTrue, Result, Ok, Err, OnOk, IfErr, is_some, option_map, replicate}
+use Rattle.std.proofs.Common.{◌≡◌, ◌+◌, inl, inr, ℕ, List, [], ◌∷◌, ◌++◌, length, map, refl, sym, ◌∙◌, ap, subst, arith, append-nil, Option, Some, None}
+use Rattle.std.specs.Prelude.{All, Contains, IsTrue, Result, Ok, Err, is_some, option_map, replicate}
 use Rattle.std.specs.FinMap as finite
 use Rattle.std.proofs.lemmas.List.Elements.{All-contains, All-contains_itself}
 use Rattle.clif_types.specs.Signature.{SignatureShape}
@@ -13,10 +13,10 @@ use Rattle.clif_ranges.specs.declared.ranges.CaseRange.{CaseRange}
 use Rattle.clif_ranges.specs.declared.search.Node.{Node}
 use Rattle.clif_ranges.specs.declared.error.SwitchError.{SwitchError}
 use Rattle.clif_ranges.specs.declared.error.SwitchError.TheVariants as switch_error
-use Rattle.clif_ranges.specs.Cases.{AreRangesFor, CaseMap, IsRefusal}
+use Rattle.clif_ranges.specs.Cases.{AreRangesFor, CaseMap}
 use Rattle.clif_ranges.specs.Ranges.{AreFewest}
 use Rattle.clif_ranges.specs.Search.{AreInOrder, AreTestsOf, FindsCases}
-use Rattle.clif_meaning.specs.Ledger.{Ledger, empty_ledger, has_block, type_of}
+use Rattle.clif_meaning.specs.Ledger.{empty_ledger, has_block, type_of}
 use Rattle.clif_meaning.specs.Name.{Name}
 use Rattle.clif_meaning.specs.Request.{AnsweredCall, Script, script_of}
 use Rattle.clif_builder.specs.declared.builder.FunctionBuilder.{FunctionBuilder}
@@ -28,9 +28,8 @@ use Rattle.clif_expansion.proofs.Placing.{contained_first, contained_in, contain
 use Rattle.clif_switch_calls.specs.SwitchCalls.{Switched, nodes_calls}
 use Rattle.clif_switch_calls.specs.SwitchLaw.{LaterBlocksAreUnwritten, MaySwitch, SearchesCases, SwitchCallsAreCode, case_edges, case_keys, switch_calls}
 use Rattle.clif_expansion.specs.Switching.{IsSwitchCode}
-use Rattle.clif_switch.specs.declared.emission.SwitchedValue.{SwitchedValue}
 use Rattle.clif_switch.specs.Emission.{EndsBlock, MakesNodes, StandsAt, StandsOn, Steps, next_place, tables_at, tables_in}
-use Rattle.clif_switch.specs.Switches.{Emits, IsCodeOf, IsUnemitted, MayEmit, NamesSwitch}
+use Rattle.clif_switch.specs.Switches.{Emits, IsCodeOf, MayEmit, NamesSwitch}
 use Rattle.clif_switch.proofs.Cases.{all_cases, blocks_of_cases, each_case, tables_are}
 use Rattle.clif_switch.proofs.Names.{as_many}
 use Rattle.clif_switch.proofs.Numbers.{type_is}

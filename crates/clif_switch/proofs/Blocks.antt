@@ -1,6 +1,6 @@
 -- Blocks that are made and entered, and branches to them.
-use Rattle.std.proofs.Common.{◌≡◌, ◌<◌, ◌≤◌, ◌+◌, inl, inr, ℕ, ℤ, suc, true, false, List, [], ◌∷◌, ◌++◌, length, map, refl, sym, ◌∙◌, ap, subst, arith, append_assoc, append-nil, Option, Some, None}
-use Rattle.std.specs.Prelude.{◌≢◌, IsTrue, Result, Ok, Err, OnOk, IfOk, is_some, replicate, slice_get, option_and_then}
+use Rattle.std.proofs.Common.{◌≡◌, ◌<◌, ◌≤◌, inl, inr, ℕ, ℤ, true, List, [], ◌∷◌, ◌++◌, length, refl, sym, ◌∙◌, ap, subst, arith, append_assoc, append-nil, Some, None}
+use Rattle.std.specs.Prelude.{◌≢◌, Result, Ok, Err, is_some, replicate, slice_get, option_and_then}
 use Rattle.std.specs.Result.{IsErrAnd}
 use Rattle.clif_types.specs.Signature.{SignatureShape}
 use Rattle.clif_types.specs.declared.error.BuildError.{BuildError}
@@ -9,11 +9,10 @@ use Rattle.clif_instructions.specs.Instruction.{is_terminator}
 use Rattle.clif_instructions.specs.declared.instructions.InstructionData.{InstructionData}
 use Rattle.clif_records.specs.Tables.{is_yes}
 use Rattle.clif_ssa.specs.Ssa.{SameBlocks}
-use Rattle.clif_meaning.specs.Ledger.{ABlock, Answered}
-use Rattle.clif_meaning.specs.Name.{Name, answer_of}
+use Rattle.clif_meaning.specs.Ledger.{ABlock}
+use Rattle.clif_meaning.specs.Name.{answer_of}
 use Rattle.clif_meaning.specs.Request.{AnsweredCall, CreateBlock, Script}
 use Rattle.clif_builder.specs.declared.builder.FunctionBuilder.{FunctionBuilder}
-use Rattle.clif_builder.specs.declared.context.BlockStatus.{BlockStatus}
 use Rattle.clif_builder.specs.declared.context.BlockStatus.TheVariants.{Empty, Filled}
 use Rattle.clif_builder.specs.Builder.{HasCurrent}
 use Rattle.clif_builder.specs.Built.{Builds, BuildsValue}
@@ -27,7 +26,7 @@ use Rattle.clif_builder.proofs.Lasting.{ledger-behind}
 use Rattle.clif_constant_operands.specs.Chains.{BuildsWithConstant}
 use Rattle.clif_constant_calls.specs.Stands.{BuildsLike}
 use Rattle.clif_switch_calls.specs.SwitchCalls.{Switched}
-use Rattle.clif_switch.specs.Emission.{EndsBlock, IsEntered, IsOpenFor, LeavesBlocks, MayLead, NamesTarget, ServesMore, StandsAt, StandsOn, StaysHere, Steps, next_place}
+use Rattle.clif_switch.specs.Emission.{EndsBlock, IsOpenFor, LeavesBlocks, NamesTarget, StandsAt, StandsOn, StaysHere, Steps, next_place}
 use Rattle.clif_switch.proofs.Names.{place_is, stands_behind}
 use Rattle.clif_switch.proofs.Numbers.{constant_went}
 use Rattle.clif_switch.proofs.Steps.{builds_steps, call_steps, leaves_on, may_lead_on, steps_err, steps_ok, steps_on}

@@ -1,5 +1,5 @@
 -- The blocks of cases are those of the ranges and tests.
-use Rattle.std.proofs.Common.{◌≡◌, ◌<◌, ◌+◌, ℕ, suc, Option, Some, Bool, true, false, List, [], ◌∷◌, ◌++◌, length, map, get_or, refl, sym, ◌∙◌, ap, subst, arith, inl, inr, cond}
+use Rattle.std.proofs.Common.{◌≡◌, ◌+◌, ℕ, suc, Some, List, [], ◌∷◌, ◌++◌, map, get_or, refl, sym, ◌∙◌, ap, subst, arith, inl, inr, cond}
 use Rattle.std.specs.Prelude.{All, Contains}
 use Rattle.std.specs.List.{AllByRecursion, count_by, enumerate_from, flat_map}
 use Rattle.std.proofs.lemmas.List.{map-append}
@@ -12,7 +12,7 @@ use Rattle.clif_ranges.specs.declared.search.Test.TheVariants as test
 use Rattle.std.specs.FinMap as finite
 use Rattle.clif_ranges.specs.Cases.{CaseMap}
 use Rattle.clif_ranges.proofs.Keys.{has_block, of_key, of_ranges}
-use Rattle.clif_ranges.specs.Ranges.{AreRangesOf, HasGap, cases_of}
+use Rattle.clif_ranges.specs.Ranges.{AreRangesOf, cases_of}
 use Rattle.clif_ranges.specs.Search.{AreSeparate, AreTestsOf, IsTestOf, is_table}
 use Rattle.clif_expansion.specs.Keys.{table_count}
 use Rattle.clif_expansion.proofs.Placing.{contained_first, contained_in, contained_later, contained_left}

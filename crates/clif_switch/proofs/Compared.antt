@@ -1,35 +1,31 @@
 -- Arithmetic on a number, and branches.
-use Rattle.std.proofs.Common.{◌≡◌, ◌<◌, ◌+◌, ℕ, ℤ, suc, true, false, Bool, List, [], ◌∷◌, ◌++◌, length, map, refl, sym, ◌∙◌, ap, subst, arith, append_assoc, Option, Some, None}
-use Rattle.std.specs.Prelude.{Result, Ok, Err, IfOk, OnOk}
-use Rattle.std.proofs.lemmas.List.{length-append, length-map, map_push}
+use Rattle.std.proofs.Common.{◌≡◌, ◌+◌, ℕ, List, [], ◌∷◌, ◌++◌, length, map, sym, ◌∙◌, ap, subst, append_assoc}
+use Rattle.std.specs.Prelude.{Result, Ok, Err, IfOk}
+use Rattle.std.proofs.lemmas.List.{length-map, map_push}
 use Rattle.clif_types.specs.Signature.{SignatureShape}
-use Rattle.clif_types.specs.declared.condcodes.IntCC.{IntCC}
 use Rattle.clif_types.specs.declared.error.BuildError.{BuildError}
-use Rattle.clif_types.specs.declared.types.LaneType.TheVariants as lane
 use Rattle.clif_types.specs.declared.types.«Type».{«Type»}
 use Rattle.clif_types.specs.declared.types.«Type».TheVariants as type
 use Rattle.clif_instructions.specs.declared.instructions.InstructionData.{InstructionData}
 use Rattle.clif_inst_builder.specs.Shapes as shapes
-use Rattle.clif_ir.specs.Body.{value_at}
-use Rattle.clif_meaning.specs.Instruction.{Arithmetic, Brif, Compare, Instruction}
+use Rattle.clif_meaning.specs.Instruction.{Arithmetic, Instruction}
 use Rattle.clif_meaning.specs.Ledger.{or_invalid, type_of}
-use Rattle.clif_meaning.specs.Name.{Name, answer_of}
+use Rattle.clif_meaning.specs.Name.{Name}
 use Rattle.clif_meaning.specs.Request.{AnsweredCall, Build, Request, Script}
 use Rattle.clif_builder.specs.declared.builder.FunctionBuilder.{FunctionBuilder}
 use Rattle.clif_builder.specs.Built.{Builds, BuildsValue, numbers_of}
 use Rattle.clif_builder.specs.Calls.{answered}
-use Rattle.clif_builder.specs.Ledger.{NamesBlock, NamesEdge, NamesValue, ledger_of}
+use Rattle.clif_builder.specs.Ledger.{NamesBlock, NamesValue, ledger_of}
 use Rattle.clif_builder.specs.LedgerLaws.{AsksForShape, LedgerIsReadByNumber, RequestsAskForTheirShapes}
-use Rattle.clif_builder.specs.StandsFor.{StandsFor}
 use Rattle.clif_constant_calls.specs.Stands.{StandsWith}
 use Rattle.clif_expansion.specs.Constants.{computing}
 use Rattle.clif_expansion.specs.Emission.{building}
 use Rattle.clif_expansion.specs.ScriptCall.{emitted_types}
-use Rattle.clif_switch_calls.specs.SwitchCalls.{Switched, bare_edge, branching, compared, i8, number_instructions, number_name, with_number, with_number_name}
+use Rattle.clif_switch_calls.specs.SwitchCalls.{Switched, bare_edge, branching, number_instructions, with_number, with_number_name}
 use Rattle.clif_switch.specs.Emission.{NamesAnswer, StandsAt, StandsOn, next_place, number_calls, number_named}
 use Rattle.clif_switch.proofs.Lines.{value_built}
-use Rattle.clif_switch.proofs.Names.{on_then, stands_behind}
-use Rattle.clif_switch.proofs.Numbers.{asks_here, held_is, place_after, value_then}
+use Rattle.clif_switch.proofs.Names.{stands_behind}
+use Rattle.clif_switch.proofs.Numbers.{asks_here, place_after, value_then}
 
 module _ (reads : LedgerIsReadByNumber) (asks : RequestsAskForTheirShapes) {signature : SignatureShape} {calls : List AnsweredCall} {s : Switched} {x otherwise : ℕ} {cases : List ℕ} {plain : Script} {old : FunctionBuilder}
     (at : StandsAt signature calls s x otherwise cases plain old) where

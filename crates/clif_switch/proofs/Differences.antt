@@ -1,6 +1,6 @@
 -- The difference of the value and the first key of a range.
-use Rattle.std.proofs.Common.{◌≡◌, ◌<◌, ◌+◌, ◌-◌, ℕ, ℤ, suc, zero, true, false, Bool, List, [], ◌∷◌, ◌++◌, length, map, refl, sym, ◌∙◌, ap, subst, arith, append-nil, Option, Some, None}
-use Rattle.std.specs.Prelude.{if◌then◌else◌, nat_lt, ◌&&◌, ◌^◌, Result, Ok, Err, IfOk, OnOk}
+use Rattle.std.proofs.Common.{◌≡◌, ◌+◌, ◌-◌, ℕ, ℤ, suc, zero, true, false, Bool, List, [], ◌∷◌, ◌++◌, length, map, refl, sym, ◌∙◌, ap, subst, arith, append-nil}
+use Rattle.std.specs.Prelude.{if◌then◌else◌, nat_lt, ◌&&◌, ◌^◌, Result, Ok, Err, IfOk}
 use Rattle.std.proofs.lemmas.List.{length-append, map_push}
 use Rattle.clif_opcodes.specs.declared.opcodes.BinaryOpcode.TheVariants.{Iadd, Isub}
 use Rattle.clif_types.specs.Signature.{SignatureShape}
@@ -10,11 +10,10 @@ use Rattle.clif_types.specs.declared.types.«Type».{«Type»}
 use Rattle.clif_types.specs.declared.types.«Type».TheVariants as type
 use Rattle.clif_instructions.specs.declared.instructions.InstructionData.{InstructionData}
 use Rattle.clif_meaning.specs.Instruction.{Arithmetic, Binary, Instruction}
-use Rattle.clif_meaning.specs.Ledger.{type_of}
 use Rattle.clif_meaning.specs.Name.{Name, answer_of}
-use Rattle.clif_meaning.specs.Request.{AnsweredCall, Request, Script}
+use Rattle.clif_meaning.specs.Request.{AnsweredCall, Script}
 use Rattle.clif_builder.specs.declared.builder.FunctionBuilder.{FunctionBuilder}
-use Rattle.clif_builder.specs.Ledger.{NamesBlock, NamesValue, ledger_of}
+use Rattle.clif_builder.specs.Ledger.{NamesValue}
 use Rattle.clif_builder.specs.Built.{BuildsValue}
 use Rattle.clif_builder.specs.LedgerLaws.{LedgerIsReadByNumber, RequestsAskForTheirShapes}
 use Rattle.clif_constant_operands.specs.Chains.{BuildsWithConstant}
@@ -22,7 +21,7 @@ use Rattle.clif_constant_calls.specs.Stands.{BuildsLike, StandsBehind, StandsWit
 use Rattle.clif_expansion.specs.ConstantCalls.{constant_calls, constant_instructions, constant_name}
 use Rattle.clif_expansion.specs.Constants.{computing, place_behind}
 use Rattle.clif_expansion.specs.Emission.{building}
-use Rattle.clif_switch_calls.specs.SwitchCalls.{Switched, difference, difference_name, is_subtracted, is_widest, negated_64, with_number, with_number_name}
+use Rattle.clif_switch_calls.specs.SwitchCalls.{Switched, difference, is_subtracted, is_widest, negated_64, with_number, with_number_name}
 use Rattle.clif_switch.specs.Emission.{NamesAnswer, StandsAt, StandsOn, difference_calls, difference_named, next_place}
 use Rattle.clif_switch.proofs.Compared.{named_with}
 use Rattle.clif_switch.proofs.Names.{place_is}

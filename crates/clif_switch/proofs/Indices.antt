@@ -1,5 +1,5 @@
 -- A comparison of a named value with the greatest index.
-use Rattle.std.proofs.Common.{◌≡◌, ◌<◌, ◌≤◌, ◌+◌, ℕ, ℤ, pos, suc, true, false, Bool, List, [], ◌∷◌, ◌++◌, length, map, refl, sym, ◌∙◌, ap, subst, arith, append_assoc, Option, Some, None}
+use Rattle.std.proofs.Common.{◌≡◌, ◌<◌, ◌≤◌, ◌+◌, ℕ, ℤ, suc, true, false, Bool, List, [], ◌∷◌, ◌++◌, length, map, refl, sym, ◌∙◌, ap, subst, arith, append_assoc, Some, None}
 use Rattle.std.specs.Prelude.{if◌then◌else◌, ◌/◌, ◌-◌, ◌^◌, ◌==◌, nat_lt, replicate, Result, Ok, Err, IfOk}
 use Rattle.std.proofs.lemmas.List.{length-append, map_push}
 use Rattle.clif_opcodes.specs.declared.opcodes.ConvertOpcode.TheVariants.{Ireduce, Uextend}
@@ -20,13 +20,13 @@ use Rattle.clif_builder.specs.LedgerLaws.{LedgerIsReadByNumber, RequestsAskForTh
 use Rattle.clif_constant_operands.specs.Chains.{BuildsWithConstant}
 use Rattle.clif_constant_calls.specs.Stands.{BuildsLike, StandsBehind, type_in}
 use Rattle.clif_expansion.specs.ConstantCalls.{constant_instructions, constant_name}
-use Rattle.clif_expansion.specs.Constants.{computing, i64, place_behind}
+use Rattle.clif_expansion.specs.Constants.{computing, i64}
 use Rattle.clif_expansion.specs.Emission.{building}
-use Rattle.clif_switch_calls.specs.SwitchCalls.{Switched, branching, i8, i32, index_calls, index_name, is_composed, number_instructions, number_name, signed_64, with_number, with_number_name}
+use Rattle.clif_switch_calls.specs.SwitchCalls.{Switched, branching, i8, i32, index_calls, index_name, is_composed, signed_64, with_number, with_number_name}
 use Rattle.clif_switch.specs.Emission.{GivesValue, IsEntered, LeavesBlocks, NamesAnswer, StandsAt, StandsOn, Steps, check_calls, next_place}
 use Rattle.clif_switch.proofs.Differences.{behind_is, on_none, with_constant_made}
 use Rattle.clif_switch.proofs.Lines.{value_built}
-use Rattle.clif_switch.proofs.Numbers.{asks_here, place_after, small_plain, value_then}
+use Rattle.clif_switch.proofs.Numbers.{asks_here, place_after, value_then}
 use Rattle.clif_switch.proofs.Steps.{leaves_on, steps_on}
 use Rattle.clif_switch.proofs.Values.{done}
 

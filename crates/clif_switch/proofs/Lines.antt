@@ -1,20 +1,17 @@
 -- Values that are built one behind the other.
-use Rattle.std.proofs.Common.{◌≡◌, ◌+◌, ℕ, ℤ, suc, List, [], ◌∷◌, ◌++◌, length, refl, sym, ◌∙◌, ap, subst, append_assoc, Option, Some, None}
-use Rattle.std.specs.Prelude.{Result, Ok, Err, IfOk}
+use Rattle.std.proofs.Common.{◌≡◌, ℕ, List, [], ◌∷◌, ◌++◌, length, refl, subst, append_assoc}
+use Rattle.std.specs.Prelude.{Ok}
 use Rattle.clif_types.specs.Signature.{SignatureShape}
-use Rattle.clif_types.specs.declared.error.BuildError.{BuildError}
 use Rattle.clif_types.specs.declared.types.«Type».{«Type»}
 use Rattle.clif_instructions.specs.declared.instructions.InstructionData.{InstructionData}
 use Rattle.clif_meaning.specs.Instruction.{Arithmetic}
-use Rattle.clif_meaning.specs.Ledger.{or_invalid, type_of}
 use Rattle.clif_meaning.specs.Name.{Name, answer_of}
-use Rattle.clif_meaning.specs.Request.{AnsweredCall, Request, Script, script_of}
+use Rattle.clif_meaning.specs.Request.{AnsweredCall, Script}
 use Rattle.clif_builder.specs.declared.builder.FunctionBuilder.{FunctionBuilder}
 use Rattle.clif_builder.specs.Built.{BuildsValue, numbers_with}
 use Rattle.clif_builder.specs.Calls.{answered}
-use Rattle.clif_builder.specs.Ledger.{NamesValue, ledger_of}
-use Rattle.clif_builder.specs.LedgerLaws.{AskForTheirShapes, AsksForShape, LedgerIsReadByNumber, RequestsAskForTheirShapes}
-use Rattle.clif_builder.specs.StandsFor.{StandsFor}
+use Rattle.clif_builder.specs.Ledger.{NamesValue}
+use Rattle.clif_builder.specs.LedgerLaws.{AsksForShape, LedgerIsReadByNumber}
 use Rattle.clif_expansion.specs.Constants.{computing}
 use Rattle.clif_expansion.specs.Emission.{building}
 use Rattle.clif_expansion.specs.ScriptCall.{emitted_types}

@@ -1,22 +1,18 @@
 -- What a builder stands for as plain calls follow, and what names lead to then.
-use Rattle.std.proofs.Common.{◌≡◌, ◌+◌, ℕ, zero, suc, true, List, [], ◌∷◌, ◌++◌, length, map, refl, sym, ◌∙◌, ap, subst, arith, append_assoc, Option, Some, None}
-use Rattle.std.specs.Prelude.{Contains, Result, Ok, Err, OnOk, IfOk, slice_get, option_and_then, option_map, is_some}
+use Rattle.std.proofs.Common.{◌≡◌, ◌+◌, ℕ, suc, List, [], ◌∷◌, ◌++◌, length, refl, ◌∙◌, ap, subst, arith, append_assoc, Option, Some, None}
 use Rattle.std.proofs.lemmas.List.{length-append, map-append}
 use Rattle.clif_types.specs.Signature.{SignatureShape}
-use Rattle.clif_types.specs.declared.error.BuildError.{BuildError}
 use Rattle.clif_types.specs.declared.types.«Type».{«Type»}
-use Rattle.clif_meaning.specs.Ledger.{Ledger, or_invalid, type_of, value_answer_type, answer_at}
-use Rattle.clif_meaning.specs.Name.{Name, answer_of}
-use Rattle.clif_meaning.specs.Request.{AnsweredCall, Request, Script, script_of}
-use Rattle.clif_simulation.proofs.LedgerValues.{type_stays, typed_earlier}
+use Rattle.clif_meaning.specs.Ledger.{type_of, value_answer_type, answer_at}
+use Rattle.clif_meaning.specs.Name.{Name}
+use Rattle.clif_meaning.specs.Request.{AnsweredCall, Script, script_of}
 use Rattle.clif_builder.specs.declared.builder.FunctionBuilder.{FunctionBuilder}
-use Rattle.clif_builder.specs.Calls.{IsTold}
 use Rattle.clif_builder.specs.Ledger.{NamesBlock, NamesValue, ledger_of}
 use Rattle.clif_builder.specs.LedgerLaws.{LedgerIsReadByNumber}
 use Rattle.clif_builder.specs.StandsFor.{StandsFor}
 use Rattle.clif_builder.proofs.Lasting.{answer-stays, block-stays, value-stays}
 use Rattle.clif_switch_calls.specs.SwitchCalls.{Switched}
-use Rattle.clif_switch.specs.Emission.{Makes, MakesValue, NamesAnswer, StandsAt, StandsOn, next_place}
+use Rattle.clif_switch.specs.Emission.{StandsAt, StandsOn, next_place}
 
 -- how many calls there are
 pub as_many : (added : List AnsweredCall) → length (script_of added) ≡ length added

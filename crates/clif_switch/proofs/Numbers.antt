@@ -1,6 +1,6 @@
 -- What names lead to behind the constants of a switch.
-use Rattle.std.proofs.Common.{◌≡◌, ◌<◌, ◌+◌, inl, inr, ℕ, ℤ, suc, zero, true, false, Bool, List, [], ◌∷◌, ◌++◌, length, map, refl, sym, ◌∙◌, ap, subst, arith, Option, Some, None}
-use Rattle.std.specs.Prelude.{if◌then◌else◌, nat_le, ◌&&◌, ◌/◌, ◌^◌, Result, Ok, Err, IfOk, OnOk}
+use Rattle.std.proofs.Common.{◌≡◌, ◌<◌, ◌+◌, inl, inr, ℕ, ℤ, suc, true, false, Bool, List, [], ◌∷◌, ◌++◌, length, map, refl, sym, ◌∙◌, ap, subst, arith}
+use Rattle.std.specs.Prelude.{if◌then◌else◌, nat_le, ◌&&◌, ◌/◌, ◌^◌, Result, Ok, Err, IfOk}
 use Rattle.clif_opcodes.specs.declared.opcodes.ConvertOpcode.TheVariants.{Sextend}
 use Rattle.clif_types.specs.Signature.{SignatureShape}
 use Rattle.clif_types.specs.declared.error.BuildError.{BuildError}
@@ -25,7 +25,7 @@ use Rattle.clif_constant_calls.proofs.Standing.{type_at}
 use Rattle.clif_expansion.specs.ConstantCalls.{constant_instructions, constant_name}
 use Rattle.clif_expansion.specs.Constants.{computing, i64}
 use Rattle.clif_expansion.specs.Emission.{building}
-use Rattle.clif_switch_calls.specs.SwitchCalls.{Switched, is_composed, is_widest, number_instructions, number_name, signed_64}
+use Rattle.clif_switch_calls.specs.SwitchCalls.{Switched, is_composed, is_widest, signed_64}
 use Rattle.clif_switch.specs.Emission.{GivesValue, NamesAnswer, StandsAt, StandsOn, next_place}
 use Rattle.clif_switch.proofs.Lines.{value_built}
 use Rattle.clif_switch.proofs.Names.{long, on_then}

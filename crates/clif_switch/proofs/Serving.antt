@@ -1,26 +1,21 @@
 -- A table serves the branch of its range.
-use Rattle.std.proofs.Common.{◌≡◌, ◌<◌, ◌≤◌, ◌+◌, inl, inr, ℕ, zero, suc, List, [], ◌∷◌, ◌++◌, length, map, refl, sym, ◌∙◌, ap, subst, arith, append-nil, Option, Some, None, set}
+use Rattle.std.proofs.Common.{◌≡◌, ◌≤◌, inl, inr, ℕ, zero, suc, List, [], ◌∷◌, ◌++◌, length, map, refl, sym, ◌∙◌, ap, subst, arith, append-nil, Option, Some, None}
 use Rattle.std.proofs.Math.Seq.{set-append_seam}
-use Rattle.std.specs.Prelude.{All, IsTrue, Result, Ok, Err, OnOk, replicate, slice_get, slice_set}
+use Rattle.std.specs.Prelude.{All, Ok, Err, slice_get, slice_set}
 use Rattle.clif_types.specs.declared.error.BuildError.{BuildError}
-use Rattle.clif_types.specs.declared.types.«Type».{«Type»}
 use Rattle.clif_types.specs.declared.types.«Type».TheVariants as type
 use Rattle.clif_instructions.specs.declared.block_call.BlockCall.{BlockCall}
-use Rattle.clif_instructions.specs.declared.instructions.InstructionData.{InstructionData}
-use Rattle.clif_inst_builder.specs.Served.{jump_tables, unserved_in}
 use Rattle.clif_inst_builder.specs.Shapes as shapes
 use Rattle.clif_inst_builder.specs.Shapes.{TakesThenBuilds}
 use Rattle.clif_ir.specs.Body.{Body}
-use Rattle.clif_tables.specs.Lists.{unserved, with_jump_table, with_table_served}
-use Rattle.clif_ssa.specs.Ssa.{SsaState, sealed_of}
-use Rattle.clif_records.specs.Tables.{is_yes}
+use Rattle.clif_tables.specs.Lists.{unserved, with_table_served}
 use Rattle.clif_builder.specs.declared.builder.FunctionBuilder.{FunctionBuilder}
 use Rattle.clif_builder.specs.Builder.{CanLead}
 use Rattle.clif_builder.specs.Built.{Builds}
 use Rattle.clif_builder.specs.declared.context.BlockStatus.TheVariants.{Filled}
 use Rattle.clif_builder.specs.Context.{ContextState, status_of}
 use Rattle.clif_builder.specs.Entries.{MayServe, TakesJumpTable}
-use Rattle.clif_switch.specs.Emission.{EndsBlock, GivesValue, LeavesBlocks, MakesTable, MayLead, ServesMore, Steps, bare_to}
+use Rattle.clif_switch.specs.Emission.{EndsBlock, LeavesBlocks, MakesTable, MayLead, ServesMore, Steps, bare_to}
 use Rattle.clif_switch.proofs.Blocks.{ends_by}
 use Rattle.clif_switch.proofs.Edges.{set_steps}
 use Rattle.clif_switch.proofs.Steps.{leaves_all, leaves_on, may_lead_on, steps_ok, steps_on}

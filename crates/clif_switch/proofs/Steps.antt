@@ -1,20 +1,17 @@
 -- Steps one behind the other.
-use Rattle.std.proofs.Common.{◌≡◌, ◌<◌, ◌≤◌, inl, inr, ℕ, true, false, List, refl, sym, ◌∙◌, ap, subst, arith, Option, Some, None}
-use Rattle.std.specs.Prelude.{◌↔◌, ◌≢◌, IsTrue, length, Result, Ok, Err, OnOk, IfOk, is_err}
+use Rattle.std.proofs.Common.{◌≡◌, ◌≤◌, ℕ, true, false, refl, sym, ◌∙◌, ap, arith}
+use Rattle.std.specs.Prelude.{IsTrue, length, Result, Ok, Err, OnOk}
 use Rattle.clif_types.specs.declared.error.BuildError.{BuildError}
 use Rattle.clif_types.specs.declared.error.BuildError.TheVariants.{Failed}
 use Rattle.clif_types.specs.declared.types.«Type».{«Type»}
-use Rattle.clif_instructions.specs.Instruction.{is_branch, is_terminator}
 use Rattle.clif_instructions.specs.declared.instructions.InstructionData.{InstructionData}
-use Rattle.clif_ir.specs.Body.{Body, value_at}
+use Rattle.clif_ir.specs.Body.{Body}
 use Rattle.clif_records.specs.Tables.{is_yes}
 use Rattle.clif_ssa.specs.Ssa.{SsaState, sealed_of}
 use Rattle.clif_builder.specs.declared.builder.FunctionBuilder.{FunctionBuilder}
-use Rattle.clif_builder.specs.declared.context.BlockStatus.TheVariants.{Filled}
-use Rattle.clif_builder.specs.Builder.{FillsCurrent, HasCurrent, IsLeft}
 use Rattle.clif_builder.specs.Built.{Builds, BuildsValue}
 use Rattle.clif_builder.specs.Calls.{IsCall}
-use Rattle.clif_builder.specs.Context.{ContextState, FillsNone, status_of}
+use Rattle.clif_builder.specs.Context.{FillsNone}
 use Rattle.clif_builder.specs.Growth.{Grows, GrowsBesideTables, TypesStay}
 use Rattle.clif_switch.specs.Emission.{LeavesBlocks, MayLead, Steps}
 

@@ -1,5 +1,5 @@
 -- What a builder stands for behind the calls of a table.
-use Rattle.std.proofs.Common.{◌≡◌, ◌<◌, ◌+◌, ℕ, zero, suc, List, [], ◌∷◌, ◌++◌, length, map, refl, sym, ◌∙◌, ap, subst, arith, append_assoc, append-nil}
+use Rattle.std.proofs.Common.{◌≡◌, ℕ, suc, List, [], ◌∷◌, ◌++◌, length, map, refl, sym, ◌∙◌, ap, subst, arith, append_assoc, append-nil}
 use Rattle.std.specs.Prelude.{All, Contains, Ok}
 use Rattle.std.proofs.lemmas.List.{length-append, length-map, map-append}
 use Rattle.clif_types.specs.Signature.{SignatureShape}
@@ -13,8 +13,7 @@ use Rattle.clif_meaning.specs.Request.{AnsweredCall, Build, MakeEdge, MakeJumpTa
 use Rattle.clif_builder.specs.declared.builder.FunctionBuilder.{FunctionBuilder}
 use Rattle.clif_builder.specs.Built.{Builds, numbers_of}
 use Rattle.clif_builder.specs.Calls.{answered}
-use Rattle.clif_builder.specs.Entries.{TakesJumpTable}
-use Rattle.clif_builder.specs.Ledger.{NamesBlock, NamesEdges, NamesValue, ledger_of}
+use Rattle.clif_builder.specs.Ledger.{NamesEdges, NamesValue, ledger_of}
 use Rattle.clif_builder.specs.LedgerLaws.{LedgerIsReadByNumber, TableCallsAddNothing}
 use Rattle.clif_builder.specs.StandsFor.{StandsFor}
 use Rattle.clif_builder.proofs.LedgerShaped.{table-shape}

@@ -1,5 +1,5 @@
 -- Names of the blocks that are made for nodes.
-use Rattle.std.proofs.Common.{◌≡◌, ◌<◌, ℕ, true, false, List, [], ◌∷◌, ◌++◌, length, refl, sym, ◌∙◌, ap, subst, arith, append-nil}
+use Rattle.std.proofs.Common.{◌≡◌, ◌<◌, ℕ, true, false, List, [], ◌∷◌, ◌++◌, sym, subst, arith, append-nil}
 use Rattle.std.proofs.lemmas.Grind.{common_steps}
 use Rattle.std.specs.Prelude.{◌==◌, nat_lt, Result, Ok, Err, IfOk}
 use Rattle.std.specs.List.{AllZip}
@@ -10,7 +10,7 @@ use Rattle.clif_meaning.specs.Request.{AnsweredCall, CreateBlock, Script}
 use Rattle.clif_builder.specs.declared.builder.FunctionBuilder.{FunctionBuilder}
 use Rattle.clif_builder.specs.Ledger.{NamesBlock}
 use Rattle.clif_switch_calls.specs.SwitchCalls.{Switched}
-use Rattle.clif_switch.specs.Emission.{NamesTarget, StandsAt, StandsOn, next_place}
+use Rattle.clif_switch.specs.Emission.{NamesTarget, StandsAt, next_place}
 use Rattle.clif_switch.proofs.Differences.{on_none}
 
 -- LISTS OF NAMES ----------------------------------------------------------------------------------------------------------

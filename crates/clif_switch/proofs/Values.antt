@@ -1,6 +1,6 @@
 -- Code in a line: values that are built one behind the other.
-use Rattle.std.proofs.Common.{◌≡◌, ◌<◌, ◌≤◌, ◌+◌, ℕ, suc, true, false, List, [], ◌∷◌, ◌++◌, length, refl, sym, ◌∙◌, ap, subst, arith, append-nil, Option, Some, None}
-use Rattle.std.specs.Prelude.{◌≢◌, IsTrue, replicate, Result, Ok, Err, OnOk, IfOk}
+use Rattle.std.proofs.Common.{◌≡◌, ◌<◌, ℕ, true, List, ◌++◌, length, refl, sym, ◌∙◌, ap, subst, arith, append-nil, None}
+use Rattle.std.specs.Prelude.{replicate, Result, Ok, Err, OnOk}
 use Rattle.clif_types.specs.declared.error.BuildError.{BuildError}
 use Rattle.clif_types.specs.declared.types.LaneType.TheVariants as lane
 use Rattle.clif_types.specs.declared.types.«Type».{«Type»}
@@ -9,14 +9,13 @@ use Rattle.clif_inst_builder.specs.Shapes as shapes
 use Rattle.clif_switch_calls.specs.SwitchCalls.{is_widest}
 use Rattle.clif_instructions.specs.Instruction.{result_type_of}
 use Rattle.clif_instructions.specs.declared.instructions.InstructionData.{InstructionData}
-use Rattle.clif_ir.specs.Body.{Body, value_at}
-use Rattle.clif_ssa.specs.Ssa.{SsaState}
+use Rattle.clif_ir.specs.Body.{value_at}
 use Rattle.clif_builder.specs.declared.builder.FunctionBuilder.{FunctionBuilder}
 use Rattle.clif_builder.specs.Builder.{HasCurrent}
 use Rattle.clif_builder.specs.Built.{BuildsValue}
-use Rattle.clif_switch.specs.Emission.{GivesValue, IsSwitchedIn, LeavesBlocks, MayLead, ServesMore, Steps}
+use Rattle.clif_switch.specs.Emission.{GivesValue, IsSwitchedIn, LeavesBlocks, Steps}
 use Rattle.clif_switch.specs.declared.emission.SwitchedValue.{SwitchedValue}
-use Rattle.clif_switch.proofs.Steps.{leaves_all, leaves_on, may_lead_on, steps_err, steps_ok, steps_on, value_steps}
+use Rattle.clif_switch.proofs.Steps.{leaves_all, leaves_on, may_lead_on, steps_ok, steps_on, value_steps}
 
 -- no error
 abbrev pub done : Result (Unit {0}) BuildError

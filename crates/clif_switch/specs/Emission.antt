@@ -1,5 +1,5 @@
 -- What the steps of a switch make of a builder. Source: own.
-use Rattle.std.specs.Prelude.{◌≡◌, ◌≢◌, ◌↔◌, ◌<◌, ◌≤◌, ◌+◌, ◌-◌, ◌^◌, ◌==◌, if◌then◌else◌, ℕ, suc, false, IsTrue, List, [], ◌∷◌, ◌++◌, length, map, replicate, Contains, All, AllPairs, Option, Some, None, Result, Ok, Err, OnOk, IfOk, IfSome, is_err, slice_get}
+use Rattle.std.specs.Prelude.{◌≡◌, ◌≢◌, ◌↔◌, ◌<◌, ◌≤◌, ◌+◌, ◌-◌, ◌^◌, ◌==◌, if◌then◌else◌, ℕ, suc, false, IsTrue, List, [], ◌∷◌, ◌++◌, length, map, replicate, Contains, All, AllPairs, Some, None, Result, Err, OnOk, IfOk, is_err}
 use Rattle.std.specs.List.{AllByRecursion, AllZip}
 use Rattle.clif_types.specs.Signature.{SignatureShape}
 use Rattle.clif_types.specs.declared.condcodes.IntCC.TheVariants.{Equal, UnsignedGreaterThan}
@@ -15,7 +15,7 @@ use Rattle.clif_ranges.specs.declared.search.Next.{Next}
 use Rattle.clif_ranges.specs.declared.search.Node.{Node}
 use Rattle.clif_ranges.specs.declared.search.Test.{Test}
 use Rattle.clif_ranges.specs.declared.search.Test.TheVariants as test
-use Rattle.clif_meaning.specs.Instruction.{Compare, Instruction}
+use Rattle.clif_meaning.specs.Instruction.{Compare}
 use Rattle.clif_meaning.specs.Ledger.{type_of}
 use Rattle.clif_meaning.specs.Name.{Name, answer_of}
 use Rattle.clif_meaning.specs.Request.{AnsweredCall, CreateBlock, SealBlock, SwitchToBlock, Script, script_of}
@@ -26,7 +26,7 @@ use Rattle.clif_builder.specs.declared.builder.FunctionBuilder.{FunctionBuilder}
 use Rattle.clif_builder.specs.declared.context.BlockStatus.TheVariants.{Filled}
 use Rattle.clif_builder.specs.Builder.{HasCurrent, IsLeft, SameLoans, is_free}
 use Rattle.clif_builder.specs.Context.{FillsNone, status_of}
-use Rattle.clif_builder.specs.Growth.{EntriesStay, GrowsBesideTables, TypesStay}
+use Rattle.clif_builder.specs.Growth.{GrowsBesideTables, TypesStay}
 use Rattle.clif_builder.specs.Ledger.{NamesBlock, NamesValue, ledger_of}
 use Rattle.clif_builder.specs.StandsFor.{StandsFor}
 use Rattle.clif_expansion.specs.Emission.{building}

@@ -1,6 +1,6 @@
 -- What emitting a switch makes of a builder. Source: the module `switch` of cranelift-frontend; that a refusal leaves the builder as it
 -- was is own.
-use Rattle.std.specs.Prelude.{◌≡◌, ◌↔◌, ◌<◌, ◌≤◌, ◌+◌, ◌^◌, ℕ, List, ◌++◌, length, replicate, IsTrue, false, None, Some, Result, Ok, Err, OnOk, IfErr}
+use Rattle.std.specs.Prelude.{◌≡◌, ◌↔◌, ◌<◌, ◌≤◌, ◌+◌, ◌^◌, ℕ, List, ◌++◌, length, replicate, IsTrue, false, None, Some, Result, Err, OnOk, IfErr}
 use Rattle.std.specs.FinMap as map
 use Rattle.clif_types.specs.Signature.{SignatureShape}
 use Rattle.clif_types.specs.Types.{is_int}

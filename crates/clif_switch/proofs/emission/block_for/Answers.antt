@@ -1,5 +1,5 @@
 -- Control goes to `otherwise`, or to a new block.
-use Rattle.std.proofs.Common.{◌≡◌, List, [], ◌∷◌, ◌++◌, sym, subst}
+use Rattle.std.proofs.Common.{◌++◌, sym, subst}
 use Rattle.std.specs.Prelude.{IfOk}
 use Rattle.std.specs.List.{AllZip}
 use Rattle.clif_ranges.specs.declared.search.Next.{Next}

@@ -1,9 +1,5 @@
 -- The key zero needs no comparison.
-use Rattle.std.proofs.Common.{◌≡◌, ℕ, Bool, true, List, [], ◌∷◌, ◌++◌, refl, sym, ◌∙◌, ap, subst}
-use Rattle.std.specs.Prelude.{if◌then◌else◌, ◌==◌}
-use Rattle.clif_types.specs.declared.condcodes.IntCC.TheVariants.{Equal}
-use Rattle.clif_meaning.specs.Request.{Script}
-use Rattle.clif_switch_calls.specs.SwitchCalls.{branching, compared}
+use Rattle.std.proofs.Common.{ℕ, sym, ◌∙◌, subst}
 use Rattle.clif_switch.specs.Emission.{StandsOn, key_calls, next_place}
 use Rattle.clif_switch.proofs.Compared.{branch_made}
 use Rattle.clif_switch.proofs.Numbers.{held_is, type_is}

@@ -1,12 +1,10 @@
 -- A block is created, a comparison built, and the branch.
-use Rattle.std.proofs.Common.{◌≡◌, ◌<◌, ◌≤◌, ℕ, ℤ, pos, suc, List, [], ◌∷◌, ◌++◌, length, map, refl, sym, ◌∙◌, ap, subst, arith}
+use Rattle.std.proofs.Common.{◌≡◌, ◌<◌, ◌≤◌, ℕ, pos, suc, [], ◌∷◌, ◌++◌, length, map, refl, sym, ◌∙◌, arith}
 use Rattle.std.specs.Prelude.{◌^◌, ◌-◌, Ok}
 use Rattle.clif_types.specs.declared.condcodes.IntCC.TheVariants.{UnsignedGreaterThan}
-use Rattle.clif_types.specs.declared.types.«Type».TheVariants as type
 use Rattle.clif_inst_builder.specs.Shapes as shapes
-use Rattle.clif_ir.specs.Body.{value_at}
 use Rattle.clif_meaning.specs.Instruction.{Compare}
-use Rattle.clif_meaning.specs.Name.{Name, answer_of}
+use Rattle.clif_meaning.specs.Name.{answer_of}
 use Rattle.clif_meaning.specs.Request.{CreateBlock, Script}
 use Rattle.clif_expansion.specs.Emission.{building}
 use Rattle.clif_constant_calls.specs.Stands.{type_in}
@@ -17,8 +15,7 @@ use Rattle.clif_switch.proofs.Compared.{branch_made}
 use Rattle.clif_switch.proofs.Indices.{small_made}
 use Rattle.clif_switch.proofs.Names.{on_then}
 use Rattle.clif_switch.proofs.Numbers.{held_is, one_after, small_plain, type_is, with_constant_gives}
-use Rattle.clif_switch.proofs.Steps.{builds_steps, steps_err, steps_on}
-use Rattle.clif_switch.proofs.Values.{Went, went_then}
+use Rattle.clif_switch.proofs.Values.{went_then}
 use Rattle.clif_switch.proofs.emission.check_index.Goals as goal
 
 

@@ -1,9 +1,8 @@
 -- A difference is a number and a subtraction, or a sum with the negated number.
-use Rattle.std.proofs.Common.{rules, arith, w64, to_z, of_z, ◌≡◌, ℕ, ℤ, List, [], ◌∷◌, ◌++◌, map, refl, sym, ◌∙◌, ap, subst}
+use Rattle.std.proofs.Common.{rules, arith, w64, to_z, of_z, ◌≡◌, ℕ, ℤ, [], ◌∷◌, ◌++◌, refl, sym, ◌∙◌, ap, subst}
 use Rattle.std.proofs.lemmas.Grind.{common_steps}
 use Rattle.std.proofs.lemmas.Int.{to_z-of_z}
 use mir.Val.{SFits}
-use Rattle.std.specs.Prelude.{IfOk, Result}
 use Rattle.clif_opcodes.specs.declared.opcodes.BinaryOpcode.TheVariants.{Iadd, Isub}
 use Rattle.clif_types.specs.declared.types.«Type».{«Type»}
 use Rattle.clif_inst_builder.specs.Shapes as shapes

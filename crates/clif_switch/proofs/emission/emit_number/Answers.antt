@@ -1,11 +1,10 @@
 -- A number is an instruction or two of a constant, or its halves and their concatenation.
-use Rattle.std.proofs.Common.{rules, w64, ◌≡◌, ◌/◌, ◌^◌, ℕ, ℤ, true, sym, ◌∙◌, ap, subst, arith, refl}
+use Rattle.std.proofs.Common.{rules, w64, ◌≡◌, ◌/◌, ◌^◌, ℤ, sym, ◌∙◌, subst, arith}
 use Rattle.std.proofs.lemmas.Grind.{common_steps}
 use Rattle.std.proofs.lemmas.Int.{to_z-of_z}
-use Rattle.std.specs.Prelude.{Ok, Err, OnOk, Result}
+use Rattle.std.specs.Prelude.{Ok, Err}
 use mir.Val.{SFits}
 use Rattle.std.proofs.lemmas.Result.{err_from_is_err_and}
-use Rattle.clif_types.specs.declared.error.BuildError.{BuildError}
 use Rattle.clif_types.specs.declared.types.«Type».{«Type»}
 use Rattle.clif_inst_builder.specs.Shapes as shapes
 use Rattle.clif_builder.specs.Built.{BuildsValue}

@@ -1,7 +1,7 @@
 -- The table stands before the code that comes to the index, and serves the branch behind it.
-use Rattle.std.proofs.Common.{◌≡◌, ◌<◌, ◌≤◌, ◌+◌, ℕ, suc, List, [], ◌∷◌, ◌++◌, length, map, refl, sym, ◌∙◌, ap, subst, arith, append_assoc, append-nil, Some}
+use Rattle.std.proofs.Common.{◌≡◌, ◌≤◌, ◌+◌, ℕ, suc, List, [], ◌∷◌, ◌++◌, length, map, sym, ◌∙◌, ap, subst, arith, append_assoc}
 use Rattle.std.specs.Prelude.{All}
-use Rattle.std.proofs.lemmas.List.{length-append, length-map}
+use Rattle.std.proofs.lemmas.List.{length-map}
 use Rattle.clif_instructions.specs.declared.block_call.BlockCall.{BlockCall}
 use Rattle.clif_ir.specs.Body.{Body}
 use Rattle.clif_meaning.specs.Acceptance.{table_branch}
@@ -11,7 +11,7 @@ use Rattle.clif_meaning.specs.Request.{Build, MakeJumpTable, Request, ServedBy, 
 use Rattle.clif_builder.specs.Ledger.{NamesEdges}
 use Rattle.clif_expansion.specs.Emission.{building}
 use Rattle.clif_switch_calls.specs.SwitchCalls.{answers_of, bare_edge, difference, difference_name, index_calls, index_name, table_targets}
-use Rattle.clif_switch.specs.Emission.{LeavesBlocks, MayLead, NamesAnswer, StandsOn, bare_to, difference_calls, difference_named, next_place, tables_at}
+use Rattle.clif_switch.specs.Emission.{MayLead, NamesAnswer, StandsOn, bare_to, difference_calls, difference_named, next_place, tables_at}
 use Rattle.clif_switch.proofs.Names.{on_then}
 use Rattle.clif_switch.proofs.Numbers.{place_after}
 use Rattle.clif_switch.proofs.Serving.{all_lead, all_lead_on, held_is_table, may_serve, served, table_ends, table_leaves, table_then}

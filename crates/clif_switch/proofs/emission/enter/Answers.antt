@@ -1,6 +1,6 @@
 -- The seal and the change of block stand one behind the other.
-use Rattle.std.proofs.Common.{◌≡◌, List, [], ◌∷◌, ◌++◌, refl}
-use Rattle.clif_meaning.specs.Request.{AnsweredCall, SealBlock, SwitchToBlock}
+use Rattle.std.proofs.Common.{[], ◌∷◌, ◌++◌, refl}
+use Rattle.clif_meaning.specs.Request.{SealBlock, SwitchToBlock}
 use Rattle.clif_builder.specs.Calls.{answered}
 use Rattle.clif_switch.specs.Emission.{StandsOn}
 use Rattle.clif_switch.proofs.Names.{on_then, stands_behind}

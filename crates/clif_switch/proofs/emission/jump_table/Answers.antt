@@ -1,5 +1,5 @@
 -- Each edge leaves the builder as it is, and so the table is created where they were made.
-use Rattle.std.proofs.Common.{◌≡◌, false, arith, pos, List, [], ◌∷◌, ◌++◌, map, refl, sym, ◌∙◌, ap, subst}
+use Rattle.std.proofs.Common.{◌≡◌, arith, pos, List, [], ◌∷◌, ◌++◌, sym, ◌∙◌, ap, subst}
 use Rattle.std.proofs.lemmas.Grind.{common_steps}
 use Rattle.clif_types.specs.declared.types.«Type».TheVariants as type
 use Rattle.clif_inst_builder.specs.Shapes as shapes

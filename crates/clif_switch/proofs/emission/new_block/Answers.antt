@@ -1,5 +1,5 @@
 -- A block is created, and put behind those of the nodes.
-use Rattle.std.proofs.Common.{◌≡◌, pos, List, ◌++◌}
+use Rattle.std.proofs.Common.{pos, ◌++◌}
 use Rattle.clif_types.specs.declared.types.«Type».TheVariants as type
 use Rattle.clif_inst_builder.specs.Shapes as shapes
 use Rattle.clif_switch.proofs.Blocks.{block_made, created_went, refused_then, stays_failed}
