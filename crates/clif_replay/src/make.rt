@@ -21,12 +21,12 @@ use crate::make_parameters::{
     append_block_params_for_function_returns,
 };
 use crate::make_tables::{block_call, br_table, create_jump_table};
+use clif_builder::FunctionBuilder;
 use clif_calls::{Call, Name, Plan};
 use clif_opcodes::PooledConstOpcode;
 use clif_records::Variable;
 use clif_resolution::{Answer, CallError, has_current, value_named};
 use clif_types::{EntityRef, Type, Value};
-use clif_builder::FunctionBuilder;
 
 // Makes one call, where its conditions hold.
 pub(crate) fn make_call(

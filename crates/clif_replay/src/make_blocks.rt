@@ -4,10 +4,10 @@ ghost use Rattle.clif_builder.specs.Builder.{is_free};
 ghost use Rattle.clif_replay.specs.Makes.{MakesCall};
 ghost use Rattle.clif_replay.specs.Ready.{IsSound, can_switch, can_insert};
 
+use clif_builder::FunctionBuilder;
 use clif_calls::{Call, Name};
 use clif_resolution::{Answer, CallError, block_named, has_current, may_seal};
 use clif_types::Block;
-use clif_builder::FunctionBuilder;
 
 // `create_block()`.
 pub(crate) fn create_block(

@@ -5,11 +5,11 @@ ghost use Rattle.clif_ssa.specs.Ssa.{predecessors_of};
 ghost use Rattle.clif_replay.specs.Makes.{MakesCall};
 ghost use Rattle.clif_replay.specs.Ready.{IsSound, can_change};
 
+use clif_builder::FunctionBuilder;
+use clif_builder::laws::leads_are_read_by_number;
 use clif_calls::{Call, Name};
 use clif_resolution::{Answer, CallError, block_named, inst_named, may_seal};
 use clif_types::{Block, Inst};
-use clif_builder::FunctionBuilder;
-use clif_builder::laws::leads_are_read_by_number;
 
 // `change_jump_destination(branch, from, to)`, of an instruction that leads to the first block, where both are unsealed.
 pub(crate) fn change_jump_destination(

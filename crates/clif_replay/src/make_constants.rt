@@ -8,11 +8,11 @@ ghost use Rattle.clif_replay.specs.Makes.{MakesConstant};
 ghost use Rattle.clif_replay.specs.Ready.{IsSound};
 
 use crate::make_instructions::{Lender, append};
+use clif_builder::{FunctionBuilder, InstBuilderBase};
 use clif_ir::InstructionData;
 use clif_opcodes::{Demand, PooledConstOpcode};
 use clif_resolution::{Answer, CallError, has_current};
 use clif_types::{BuildError, Constant, Type};
-use clif_builder::{FunctionBuilder, InstBuilderBase};
 
 // The instruction with this opcode, of the constant of these bytes, in a current unfilled block. The type is `Invalid` where the
 // opcode tells it.

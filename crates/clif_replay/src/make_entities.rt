@@ -6,10 +6,10 @@ ghost use Rattle.clif_replay.specs.Entries.{entry_in, number_made};
 ghost use Rattle.clif_replay.specs.Makes.{MakesCall};
 ghost use Rattle.clif_replay.specs.Ready.{IsSound};
 
+use clif_builder::FunctionBuilder;
 use clif_calls::{Call, EntryCall};
 use clif_resolution::{Answer, CallError, has_signature};
 use clif_types::{BuildError, EntityRef, StackSlotData};
-use clif_builder::FunctionBuilder;
 
 // How many shifts of an alignment there are: it is at most 2^31 bytes.
 const ALIGN_SHIFTS: u8 = 32;

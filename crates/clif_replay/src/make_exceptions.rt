@@ -6,12 +6,12 @@ ghost use Rattle.clif_replay.specs.Makes.{MakesCall, MakesExceptions};
 ghost use Rattle.clif_replay.specs.Ready.{IsSound};
 
 use crate::make_instructions::{Lender, append};
+use clif_builder::laws::{requests_ask_for_their_shapes, table_calls_add_nothing};
+use clif_builder::{FunctionBuilder, InstBuilderBase};
 use clif_calls::{Call, Name, TableItem, ThrowingCall};
 use clif_ir::{ExceptionTableData, ExceptionTargets};
 use clif_resolution::{Answer, CallError, edge_copied, items_found, operands_found, with_table};
 use clif_types::{BuildError, ExceptionTable, SigRef, Type};
-use clif_builder::laws::{requests_ask_for_their_shapes, table_calls_add_nothing};
-use clif_builder::{FunctionBuilder, InstBuilderBase};
 
 // `create_exception_table(ExceptionTableData { sig, normal, items })`, of edges that were answered.
 pub(crate) fn create_exception_table(

@@ -9,11 +9,11 @@ ghost use Rattle.clif_replay.specs.Requests.{operand_in};
 ghost use Rattle.clif_replay.specs.Ready.{IsSound};
 
 use crate::make::one_value;
+use clif_builder::{ConstantOperands, FunctionBuilder};
 use clif_calls::{ImmediateCall, Name};
 use clif_constant_calls::laws::constant_operands_stand;
 use clif_resolution::{Answer, CallError, has_current, value_named};
 use clif_types::{BuildError, Value};
-use clif_builder::{ConstantOperands, FunctionBuilder};
 
 // An instruction with a constant as an operand, in a current unfilled block, of an integer.
 pub(crate) fn make_immediate(

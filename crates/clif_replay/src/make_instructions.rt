@@ -7,11 +7,11 @@ ghost use Rattle.clif_builder.specs.Built.{Builds};
 ghost use Rattle.clif_replay.specs.Makes.{MakesPlan};
 ghost use Rattle.clif_replay.specs.Ready.{IsSound};
 
+use clif_builder::{FunctionBuilder, InstBuilderBase};
 use clif_calls::Plan;
 use clif_ir::InstructionData;
 use clif_resolution::{Answer, CallError, plan_found};
 use clif_types::{BuildError, Inst, Type};
-use clif_builder::{FunctionBuilder, InstBuilderBase};
 
 // The method that lends the builder for an instruction.
 #[derive(Clone, Copy)]

@@ -5,11 +5,11 @@ ghost use Rattle.clif_builder.specs.Labels.{CollectsLabels};
 ghost use Rattle.clif_replay.specs.Makes.{LabelsValue, MakesCall};
 ghost use Rattle.clif_replay.specs.Ready.{IsSound};
 
+use clif_builder::FunctionBuilder;
+use clif_builder::laws::notes_add_nothing;
 use clif_calls::{Call, Name};
 use clif_resolution::{Answer, CallError, value_named};
 use clif_types::{SourceLoc, ValueLabel};
-use clif_builder::FunctionBuilder;
-use clif_builder::laws::notes_add_nothing;
 
 // `set_srcloc(srcloc)`.
 pub(crate) fn set_srcloc(

@@ -3,11 +3,11 @@ ghost use Rattle.clif_replay.specs.Makes.{MakesCall};
 ghost use Rattle.clif_replay.specs.Ready.{IsSound};
 
 use crate::make_instructions::{Lender, append};
+use clif_builder::FunctionBuilder;
+use clif_builder::laws::requests_ask_for_their_shapes;
 use clif_calls::{Call, OutsideCall};
 use clif_resolution::{Answer, CallError, outside_call_found};
 use clif_types::Type;
-use clif_builder::FunctionBuilder;
-use clif_builder::laws::requests_ask_for_their_shapes;
 
 // An outside call of what was imported, in a current unfilled block.
 pub(crate) fn make_outside_call(

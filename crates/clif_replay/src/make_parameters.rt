@@ -7,10 +7,10 @@ ghost use Rattle.clif_replay.specs.Makes.{MakesCall};
 ghost use Rattle.clif_replay.specs.Ready.{IsSound, can_append, can_append_function_params, last_params};
 
 use crate::make::one_value;
+use clif_builder::FunctionBuilder;
 use clif_calls::{Call, Name};
 use clif_resolution::{Answer, CallError, block_named};
 use clif_types::{Block, Type};
-use clif_builder::FunctionBuilder;
 
 // `append_block_param(block, ty)`, where nothing was made in the block.
 pub(crate) fn append_block_param(

@@ -8,14 +8,14 @@ ghost use Rattle.clif_replay.specs.Makes.{MakesCall, MakesTable};
 ghost use Rattle.clif_resolution.specs.Conditions.{serves};
 ghost use Rattle.clif_replay.specs.Ready.{IsSound};
 
+use clif_builder::laws::{requests_ask_for_their_shapes, table_calls_add_nothing};
+use clif_builder::{FunctionBuilder, InstBuilder};
 use clif_calls::{Call, Name, TableEdge};
 use clif_ir::JumpTableData;
 use clif_resolution::{
     Answer, CallError, edge_copied, edge_found, edges_copied, has_current, may_serve, value_named,
 };
 use clif_types::{BuildError, Inst, JumpTable, Type, Value};
-use clif_builder::laws::{requests_ask_for_their_shapes, table_calls_add_nothing};
-use clif_builder::{FunctionBuilder, InstBuilder};
 
 // `block_call(block, args)`, where the block and the arguments exist.
 pub(crate) fn block_call(

@@ -16,12 +16,12 @@ ghost use Rattle.clif_builder.specs.Context.{empty_context};
 ghost use Rattle.clif_replay.specs.Errors.{replay_error_at, replay_memory, replay_error_text};
 
 use crate::make::make_call;
+use clif_builder::laws::ledger_is_read_by_number;
+use clif_builder::{FinalizeError, FunctionBuilder, FunctionBuilderContext};
 use clif_calls::Call;
 use clif_ir::Function;
 use clif_resolution::{Answer, CallError};
 use clif_types::{Signature, TargetFrontendConfig, UserFuncName};
-use clif_builder::laws::ledger_is_read_by_number;
-use clif_builder::{FinalizeError, FunctionBuilder, FunctionBuilderContext};
 use std::alloc::{AllocFailed, Global};
 use std::error::Error;
 use std::fmt;

@@ -3,9 +3,9 @@ ghost use Rattle.std.specs.Prelude.{◌≡◌, ◌<◌, length, Some, is_some, f
 ghost use Rattle.clif_resolution.specs.Conditions.{is_open, can_seal};
 ghost use Rattle.std.specs.List.{list_all};
 
+use clif_builder::FunctionBuilder;
 use clif_ir::BlockCall;
 use clif_types::{Block, SigRef};
-use clif_builder::FunctionBuilder;
 
 /// Whether there is a current block to which no terminator was appended.
 pub fn has_current(builder: &FunctionBuilder<'_>) -> bool

@@ -9,10 +9,10 @@ use crate::answers::{Answer, CallError};
 use crate::conditions::{are_open, has_current, has_signature};
 use crate::names::{value_named, values_named};
 use crate::tables::edge_copied;
+use clif_builder::FunctionBuilder;
 use clif_calls::{TableItem, ThrowingCall};
 use clif_ir::{ExceptionTableItem, ExceptionTargets, Function, InstructionData, ValueList};
 use clif_types::ExceptionTable;
-use clif_builder::FunctionBuilder;
 
 // An item of a table, with what its name leads to.
 fn item_found(

@@ -7,10 +7,10 @@ ghost use Rattle.clif_resolution.specs.Conditions.{IsFound, may_lead};
 
 use crate::answers::{Answer, CallError};
 use crate::conditions::may_seal;
+use clif_builder::FunctionBuilder;
 use clif_calls::{Edge, Name, Passed};
 use clif_ir::{BlockArg, BlockArgs, BlockCall, Function, ValueList};
 use clif_types::{Block, EntityRef, Inst, Value};
-use clif_builder::FunctionBuilder;
 
 /// The block that a name leads to.
 pub fn block_named(answers: &[Answer], name: Name) -> Option<Block>

@@ -7,9 +7,9 @@ ghost use Rattle.clif_resolution.specs.Callings.{IsOutsideShape, can_call, outsi
 use crate::answers::{Answer, CallError};
 use crate::conditions::has_current;
 use crate::names::values_named;
+use clif_builder::FunctionBuilder;
 use clif_calls::OutsideCall;
 use clif_ir::{Function, InstructionData, ValueList};
-use clif_builder::FunctionBuilder;
 
 /// The instruction of an outside call, where it may be made.
 ///

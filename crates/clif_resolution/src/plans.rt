@@ -9,6 +9,7 @@ ghost use Rattle.clif_resolution.specs.Plans.{FindsPlan, IsPlanned, ValuesExist,
 use crate::answers::{Answer, CallError};
 use crate::conditions::has_current;
 use crate::names::{edge_named, one_value, three_values, two_edges, two_values, values_named};
+use clif_builder::FunctionBuilder;
 use clif_calls::{Edge, Name, Plan};
 use clif_ir::{Function, InstructionData};
 use clif_opcodes::{
@@ -16,7 +17,6 @@ use clif_opcodes::{
     UnaryOpcode,
 };
 use clif_types::{IntCC, MemFlagsData, StackSlot, TrapCode, Type, Value};
-use clif_builder::FunctionBuilder;
 
 /// An instruction, before it is made: its shape and its controlling type.
 #[derive(Drop)]

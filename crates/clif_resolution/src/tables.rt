@@ -7,10 +7,10 @@ ghost use Rattle.clif_resolution.specs.Conditions.{IsEdge, has_edge, serves};
 use crate::answers::{Answer, CallError};
 use crate::conditions::are_open;
 use crate::names::{block_named, edge_answered, passed_named};
+use clif_builder::FunctionBuilder;
 use clif_calls::{Name, TableEdge};
 use clif_ir::BlockCall;
 use clif_types::JumpTable;
-use clif_builder::FunctionBuilder;
 use std::alloc::Global;
 
 /// The edge that names lead to, whether its target is sealed or not.

@@ -139,14 +139,17 @@ module _ (reads : LedgerIsReadByNumber) (asks : RequestsAskForTheirShapes) (code
         let many : next_place calls [] ≡ length (script_of calls) = let is = as_many calls in omega (arith, is) in
         let asked : script_of on.later.added ≡ switch_calls (script_of calls) s nodes =
         on.later.asked ∙ ap (λ (list : List AnsweredCall). nodes_calls s [] (length (ledger_of list).jump_tables) nodes (next_place calls [])) (append-nil calls)
-        ∙ ap (λ (p : ℕ). nodes_calls s [] (length (ledger_of calls).jump_tables) nodes p) many in
-        (on.later.added, on.later.stands, record {
-          ranges = ranges;
-          ranges_for = searches.ranges_for;
-          fewest = fewest;
-          code = λ k short. subst (λ (more : Script). IsSwitchCode (script_of calls) more block s.value s.ty (case_keys cases) (case_edges s cases) (k + 2) 1) (sym asked)
-              (codes (script_of calls) block s cases ranges nodes k may_switch searches short);
-        })
+        ∙ ap (λ (p : ℕ). nodes_calls s [] (length (ledger_of calls).jump_tables) nodes p) many in (
+          on.later.added,
+          on.later.stands,
+          record {
+            ranges = ranges;
+            ranges_for = searches.ranges_for;
+            fewest = fewest;
+            code = λ k short. subst (λ (more : Script). IsSwitchCode (script_of calls) more block s.value s.ty (case_keys cases) (case_edges s cases) (k + 2) 1) (sym asked)
+                (codes (script_of calls) block s cases ranges nodes k may_switch searches short);
+          },
+        )
 
   pub emitted : EndsBlock {A = Unit {0}} (tables_in nodes) old new done → MakesNodes (record { ty = (value_at old.func.now value).ty; val = value; otherwise = otherwise }) nodes old new done
       → Emits cases value otherwise old new (Ok tt)

@@ -34,7 +34,7 @@ use Rattle.clif_switch.proofs.Values.{Went, done, none_more, value_went, went_th
 
 -- NEW BLOCKS --------------------------------------------------------------------------------------------------------------
 
-slice_get-last : {X : Type 0} (xs : List X) (x : X) → slice_get (xs ++ x ∷ []) (length xs) ≡ Some x
+pub slice_get-last : {X : Type 0} (xs : List X) (x : X) → slice_get (xs ++ x ∷ []) (length xs) ≡ Some x
 slice_get-last [] x = refl
 slice_get-last (y ∷ xs) x = slice_get-last xs x
 

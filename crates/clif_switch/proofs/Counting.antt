@@ -129,7 +129,7 @@ made_blocks next.Otherwise = refl
 made_blocks (next.Node number) = refl
 
 made_compared : (s : Switched) (condition : IntCC) (number place : ℕ) (taken other : Name) → made_in (compared s condition number place taken other) ≡ 0
-made_compared s condition number place taken other = 
+made_compared s condition number place taken other =
     let code : List (Instruction Name Name) = with_number (Compare condition) s.ty number place s.value in
     let both = made_append (map building code) (branching i8 (with_number_name s.ty number place) taken other ∷ []) in
     let line = made_building code in

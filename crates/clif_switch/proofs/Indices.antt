@@ -1,5 +1,5 @@
 -- A comparison of a named value with the greatest index.
-use Rattle.std.proofs.Common.{◌≡◌, ◌<◌, ◌≤◌, ◌+◌, ℕ, ℤ, suc, true, false, Bool, List, [], ◌∷◌, ◌++◌, length, map, refl, sym, ◌∙◌, ap, subst, arith, append_assoc, Some, None}
+use Rattle.std.proofs.Common.{◌≡◌, ◌≤◌, ◌+◌, ℕ, ℤ, suc, true, false, Bool, List, [], ◌∷◌, ◌++◌, length, map, refl, sym, ◌∙◌, ap, subst, arith, append_assoc, None}
 use Rattle.std.specs.Prelude.{if◌then◌else◌, ◌/◌, ◌-◌, ◌^◌, ◌==◌, nat_lt, replicate, Result, Ok, Err, IfOk}
 use Rattle.std.proofs.lemmas.List.{length-append, map_push}
 use Rattle.clif_opcodes.specs.declared.opcodes.ConvertOpcode.TheVariants.{Ireduce, Uextend}
@@ -24,6 +24,7 @@ use Rattle.clif_expansion.specs.Constants.{computing, i64}
 use Rattle.clif_expansion.specs.Emission.{building}
 use Rattle.clif_switch_calls.specs.SwitchCalls.{Switched, branching, i8, i32, index_calls, index_name, is_composed, signed_64, with_number, with_number_name}
 use Rattle.clif_switch.specs.Emission.{GivesValue, IsEntered, LeavesBlocks, NamesAnswer, StandsAt, StandsOn, Steps, check_calls, next_place}
+use Rattle.clif_switch.proofs.Blocks.{some_same}
 use Rattle.clif_switch.proofs.Differences.{behind_is, on_none, with_constant_made}
 use Rattle.clif_switch.proofs.Lines.{value_built}
 use Rattle.clif_switch.proofs.Numbers.{asks_here, place_after, value_then}
@@ -144,12 +145,6 @@ module _ {signature : SignatureShape} {calls : List AnsweredCall} {s : Switched}
       (subst (λ (n : Name). NamesAnswer at [] old n operand) (sym name) (record { on = on_none at; named = names }))
 
 -- WHERE A BLOCK WAS ENTERED ------------------------------------------------------------------------------------------------
-
-other_block : (a b : ℕ) → a < b → b ≡ a → ⊥
-other_block a b less same = omega (arith, less, same)
-
-some_same : (a b : ℕ) → Some a ≡ Some b → a ≡ b
-some_same a b same = cc
 
 -- behind code that ends in a block, another one is entered that is new
 pub leaves_entered : (old mid new : FunctionBuilder) (block : ℕ) → LeavesBlocks old mid → IsEntered block mid new → length old.func.now.blocks ≤ block → LeavesBlocks old new

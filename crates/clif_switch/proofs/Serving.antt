@@ -16,14 +16,10 @@ use Rattle.clif_builder.specs.declared.context.BlockStatus.TheVariants.{Filled}
 use Rattle.clif_builder.specs.Context.{ContextState, status_of}
 use Rattle.clif_builder.specs.Entries.{MayServe, TakesJumpTable}
 use Rattle.clif_switch.specs.Emission.{EndsBlock, LeavesBlocks, MakesTable, MayLead, ServesMore, Steps, bare_to}
-use Rattle.clif_switch.proofs.Blocks.{ends_by}
+use Rattle.clif_switch.proofs.Blocks.{ends_by, slice_get-last}
 use Rattle.clif_switch.proofs.Edges.{set_steps}
 use Rattle.clif_switch.proofs.Steps.{leaves_all, leaves_on, may_lead_on, steps_ok, steps_on}
 use Rattle.clif_switch.proofs.Values.{done}
-
-slice_get-last : {X : Type 0} (xs : List X) (x : X) → slice_get (xs ++ x ∷ []) (length xs) ≡ Some x
-slice_get-last [] x = refl
-slice_get-last (y ∷ xs) x = slice_get-last xs x
 
 -- bare edges may be made to blocks to which branches may lead
 pub edges_lead : (b : FunctionBuilder) (items : List ℕ) → All (MayLead b) items → All (CanLead b) (map bare_to items)
@@ -43,11 +39,12 @@ all_lead_on old new items more leaves may k d below = may_lead_on old new _ more
 -- the table that was created last may serve
 pub may_serve : (old b : FunctionBuilder) (table otherwise : ℕ) (items : List ℕ) → table ≡ length old.func.now.tables.jump_tables
     → b.func.now.tables.jump_tables ≡ old.func.now.tables.jump_tables ++ Some (map bare_to (otherwise ∷ items)) ∷ [] → All (MayLead b) (otherwise ∷ items) → MayServe b table
-may_serve old b table otherwise items is tables may =
-    (map bare_to (otherwise ∷ items),
-    ap unserved (ap (λ (list : List (Option (List BlockCall))). slice_get list table) tables ∙ ap (slice_get (old.func.now.tables.jump_tables ++ Some (map bare_to (otherwise ∷ items)) ∷ [])) is
-    ∙ slice_get-last old.func.now.tables.jump_tables (Some (map bare_to (otherwise ∷ items)))),
-    edges_lead b (otherwise ∷ items) may)
+may_serve old b table otherwise items is tables may = (
+  map bare_to (otherwise ∷ items),
+  ap unserved (ap (λ (list : List (Option (List BlockCall))). slice_get list table) tables ∙ ap (slice_get (old.func.now.tables.jump_tables ++ Some (map bare_to (otherwise ∷ items)) ∷ [])) is
+      ∙ slice_get-last old.func.now.tables.jump_tables (Some (map bare_to (otherwise ∷ items)))),
+  edges_lead b (otherwise ∷ items) may,
+)
 
 -- a table was created
 pub table_leaves : (edges : List BlockCall) (old new : FunctionBuilder) (table : ℕ) → MakesTable edges old new (Ok table) → LeavesBlocks old new

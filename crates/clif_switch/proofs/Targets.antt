@@ -34,9 +34,10 @@ module _ {signature : SignatureShape} {calls : List AnsweredCall} {s : Switched}
   -- control goes to `otherwise`
   pub next_none : (target : NamesTarget at [] old s.otherwise otherwise) × AllZip (NamesBlock (calls ++ target.on.later.added)) (names ++ []) before
   unfolding on_none
-  next_none =
-      (record { on = on_none at; named = at.otherwise_named },
-      subst (λ (list : List Name). AllZip (NamesBlock (calls ++ at.added)) list before) (sym (append-nil names)) zip)
+  next_none = (
+    record { on = on_none at; named = at.otherwise_named },
+    subst (λ (list : List Name). AllZip (NamesBlock (calls ++ at.added)) list before) (sym (append-nil names)) zip,
+  )
 
   -- the names of blocks behind a new one
   pub zip_more : (more : Script) (new : FunctionBuilder) (name : Name) (block : ℕ) (after : List ℕ) → (target : NamesTarget at more new name block) → after ≡ before ++ block ∷ []

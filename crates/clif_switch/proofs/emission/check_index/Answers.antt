@@ -18,7 +18,6 @@ use Rattle.clif_switch.proofs.Numbers.{held_is, one_after, small_plain, type_is,
 use Rattle.clif_switch.proofs.Values.{went_then}
 use Rattle.clif_switch.proofs.emission.check_index.Goals as goal
 
-
 pub returns-in_err-brif-clause-ends : goal.returns-in_err-brif-clause-ends
 returns-in_err-brif-clause-ends c =
     let made = c.in_ok-block.ensures in

@@ -16,10 +16,11 @@ returns-then-is_err c =
 
 pub loop-block-preserved : goal.loop-block-preserved
 loop-block-preserved c =
-    let pushed : c.push.new.self.items ≡ c.loop-block.entries.items ++ c.in_ok-entry.entry ∷ [] = grind (arith, common_steps, c.push.ensures.items, c.is_err.ensures.value, c.is_err.ensures.negation, c.if-is_err.false) in
-    (kept_on c.args.bx.now c.loop-block.bx c.block_call-in-loop-block.new.self c.loop-block.invariant.0 (kept_first c.loop-block.bx c.block_call-in-loop-block.new.self _ [] c.in_ok-entry.entry c.in_ok-entry.ensures),
-    c.loop-block.invariant.1,
-    edges_pushed c.loop-block.entries.items c.push.new.self.items c.args.blocks.now c.loop-block.block-index _ c.in_ok-entry.entry c.loop-block-test.true c.loop-block.invariant.2 (c.in_ok-entry.ensures.edge ∙ ap bare_to c.block-item.is) pushed)
+    let pushed : c.push.new.self.items ≡ c.loop-block.entries.items ++ c.in_ok-entry.entry ∷ [] = grind (arith, common_steps, c.push.ensures.items, c.is_err.ensures.value, c.is_err.ensures.negation, c.if-is_err.false) in (
+      kept_on c.args.bx.now c.loop-block.bx c.block_call-in-loop-block.new.self c.loop-block.invariant.0 (kept_first c.loop-block.bx c.block_call-in-loop-block.new.self _ [] c.in_ok-entry.entry c.in_ok-entry.ensures),
+      c.loop-block.invariant.1,
+      edges_pushed c.loop-block.entries.items c.push.new.self.items c.args.blocks.now c.loop-block.block-index _ c.in_ok-entry.entry c.loop-block-test.true c.loop-block.invariant.2 (c.in_ok-entry.ensures.edge ∙ ap bare_to c.block-item.is) pushed,
+    )
 
 pub returns-in_default : goal.returns-in_default
 returns-in_default c =
