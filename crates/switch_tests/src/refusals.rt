@@ -1,11 +1,7 @@
 //! Cases that are set twice, and builders that failed.
 #![tactic(auto)]
 
-use crate::asserted::{asserts_current, block};
-use cranelift_frontend::{
-    Block, EntityRef, Function, FunctionBuilder, FunctionBuilderContext, InstBuilder, Switch,
-    SwitchError,
-};
+use cranelift_frontend::{Block, EntityRef, Switch, SwitchError};
 use std::test::Fail;
 
 /// A key that is set twice keeps its first block, and the text of the refusal is upstream's.

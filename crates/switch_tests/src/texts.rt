@@ -1,10 +1,9 @@
 //! The texts of upstream's tests of its switch.
 #![tactic(auto)]
 
-use crate::asserted::{asserts_current, block, emit, lines, number};
+use crate::asserted::{block, emit, enter, lines, number};
 use cranelift_frontend::{
-    Function, FunctionBuilder, FunctionBuilderContext, InstBuilder, Switch, SwitchError, Type,
-    types,
+    Function, FunctionBuilder, FunctionBuilderContext, SwitchError, Type, types,
 };
 use std::alloc::Global;
 use std::process::Abort;
@@ -28,13 +27,10 @@ fn switched(
         made.push(block(rt, &mut builder)).expect(rt, "room");
     }
     assert!(rt; keys.len() < made.len() && otherwise < made.len());
-    builder.switch_to_block(made[0]);
+    enter(rt, &mut builder, made[0]);
     let value = number(rt, &mut builder, ty, 0);
-    let mut switch = Switch::new(alloc);
-    for (place, key) in keys.iter().enumerate() {
-        switch.set_entry(*key, made[place + 1]).expect(rt, "a case");
-    }
-    let answer = emit(rt, &mut builder, switch, value, made[otherwise]);
+    let cases = &made[1..keys.len() + 1];
+    let answer = emit(rt, alloc, &mut builder, keys, cases, value, made[otherwise]);
     (lines(rt, alloc, builder.func()), answer)
 }
 
@@ -45,6 +41,7 @@ fn asserts_narrow(rt: &impl Abort, alloc: Global, keys: &[u128], otherwise: usiz
     } else {
         keys.len()
     };
+    assert!(rt; blocks < usize::MAX);
     let (made, answer) = switched(rt, alloc, types::I8, keys, blocks + 1, otherwise);
     assert!(rt; answer.is_ok());
     assert_eq!(rt; made.as_str(), text);
