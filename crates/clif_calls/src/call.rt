@@ -2,6 +2,7 @@
 use crate::entry::EntryCall;
 use crate::immediate::ImmediateCall;
 use crate::outside::OutsideCall;
+use crate::switch::SwitchEntry;
 use crate::table::{TableEdge, TableItem, ThrowingCall};
 use clif_records::Variable;
 use clif_types::{
@@ -214,7 +215,7 @@ pub enum PlainInstruction {
 
 /// One call on a builder, with names in place of what earlier calls answered.
 ///
-/// Each variant but `Entry`, `Plain`, `Cursor`, `Outside`, `Immediate` and `Throwing` is the builder's method, or the
+/// Each variant but `Entry`, `Plain`, `Cursor`, `Outside`, `Immediate`, `Switch` and `Throwing` is the builder's method, or the
 /// instruction, of its name, and has its conditions. A variable is named by its number.
 #[derive(Drop)]
 pub enum Call {
@@ -360,6 +361,15 @@ pub enum Call {
     BrTable {
         index: Name,
         table: JumpTable,
+    },
+    /// `Switch::new`, `set_entry` for each entry, in this order, and `emit(value, otherwise)`: answers nothing, and fills the
+    /// block, behind which there is no current one. Control goes to the block of the entry whose key the value is, as an
+    /// unsigned number, and to `otherwise` where there is none. The value is an integer, and no target is sealed. Refused
+    /// where a key comes twice, where a key is no number of the value's type, and where 2^32 keys or more follow one another.
+    Switch {
+        entries: Vec<SwitchEntry>,
+        value: Name,
+        otherwise: Name,
     },
     /// A call along the edges of an exception table, an instruction without results, which fills the block.
     Throwing(ThrowingCall),

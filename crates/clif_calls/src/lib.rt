@@ -7,6 +7,7 @@ mod entry;
 mod immediate;
 mod outside;
 mod plan;
+mod switch;
 mod table;
 
 pub use answer::OutsideAnswer;
@@ -15,4 +16,5 @@ pub use entry::EntryCall;
 pub use immediate::ImmediateCall;
 pub use outside::OutsideCall;
 pub use plan::Plan;
+pub use switch::SwitchEntry;
 pub use table::{Passed, TableEdge, TableItem, ThrowingCall};
