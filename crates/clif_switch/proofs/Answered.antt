@@ -1,5 +1,5 @@
 -- What emitting a switch makes of a builder, by what its nodes make of it.
-use Rattle.std.proofs.Common.{◌≡◌, ◌+◌, inl, inr, ℕ, List, [], ◌∷◌, ◌++◌, length, map, refl, sym, ◌∙◌, ap, subst, arith, append-nil, Option, Some, None}
+use Rattle.std.proofs.Common.{◌≡◌, ◌≤◌, ◌+◌, inl, inr, ℕ, List, [], ◌∷◌, ◌++◌, length, map, refl, sym, ◌∙◌, ap, subst, arith, append-nil, Option, Some, None}
 use Rattle.std.specs.Prelude.{All, Contains, IsTrue, Result, Ok, Err, is_some, option_map, replicate}
 use Rattle.std.specs.FinMap as finite
 use Rattle.std.proofs.lemmas.List.Elements.{All-contains, All-contains_itself}
@@ -16,17 +16,17 @@ use Rattle.clif_ranges.specs.declared.error.SwitchError.TheVariants as switch_er
 use Rattle.clif_ranges.specs.Cases.{AreRangesFor, CaseMap}
 use Rattle.clif_ranges.specs.Ranges.{AreFewest}
 use Rattle.clif_ranges.specs.Search.{AreInOrder, AreTestsOf, FindsCases}
-use Rattle.clif_meaning.specs.Ledger.{empty_ledger, has_block, type_of}
+use Rattle.clif_meaning.specs.Ledger.{has_block, type_of}
+use Rattle.clif_meaning.specs.Program.{program_of}
 use Rattle.clif_meaning.specs.Name.{Name}
 use Rattle.clif_meaning.specs.Request.{AnsweredCall, Script, script_of}
 use Rattle.clif_builder.specs.declared.builder.FunctionBuilder.{FunctionBuilder}
 use Rattle.clif_builder.specs.Ledger.{NamesBlock, NamesValue, block_name, ledger_of}
 use Rattle.clif_builder.specs.LedgerLaws.{LedgerIsReadByNumber, RequestsAskForTheirShapes}
 use Rattle.clif_builder.specs.StandsFor.{StandsFor}
-use Rattle.clif_expansion.specs.ConstantCalls.{AreAllowed}
 use Rattle.clif_expansion.proofs.Placing.{contained_first, contained_in, contained_later}
 use Rattle.clif_switch_calls.specs.SwitchCalls.{Switched, nodes_calls}
-use Rattle.clif_switch_calls.specs.SwitchLaw.{LaterBlocksAreUnwritten, MaySwitch, SearchesCases, SwitchCallsAreCode, case_edges, case_keys, switch_calls}
+use Rattle.clif_switch_calls.specs.SwitchLaw.{MaySwitch, SearchesCases, SwitchCallsAreCode, case_edges, case_keys, switch_calls}
 use Rattle.clif_expansion.specs.Switching.{IsSwitchCode}
 use Rattle.clif_switch.specs.Emission.{EndsBlock, MakesNodes, StandsAt, StandsOn, Steps, next_place, tables_at, tables_in}
 use Rattle.clif_switch.specs.Switches.{Emits, IsCodeOf, MayEmit, NamesSwitch}
@@ -52,6 +52,7 @@ failed_by cases value otherwise old new e steps = record {
   unchanged = steps.unchanged;
   errors = steps.fails;
   sound = tt;
+  looks_once = steps.looks_once;
   variables = steps.variables;
   grows = tt;
   types = tt;
@@ -60,7 +61,7 @@ failed_by cases value otherwise old new e steps = record {
   leaves = tt;
   left = tt;
   free = tt;
-  stands = λ signature calls s block stands allowed current named. tt;
+  stands = λ signature calls s block stands current named. tt;
 }
 
 -- THE CODE ----------------------------------------------------------------------------------------------------------------
@@ -74,7 +75,7 @@ mapped {X} f (y ∷ xs) x here =
       | inr further ↦ contained_later (f y) (map f xs) (f x) (later further)
     ]
 
-module _ (reads : LedgerIsReadByNumber) (asks : RequestsAskForTheirShapes) (codes : SwitchCallsAreCode) (unwritten : LaterBlocksAreUnwritten)
+module _ (reads : LedgerIsReadByNumber) (asks : RequestsAskForTheirShapes) (codes : SwitchCallsAreCode)
     (cases : CaseMap) (value otherwise : ℕ) (old new : FunctionBuilder) (ranges : List CaseRange) (nodes : List Node) (may : MayEmit cases value otherwise old)
     (fits : AreRangesFor cases (value_at old.func.now value).ty ranges) (fewest : AreFewest ranges) (finds : FindsCases ranges nodes 0) (order : AreInOrder (0 ∷ []) 1 nodes) (tests : AreTestsOf ranges nodes) where
   abbrev entries : List (ℕ × ℕ)
@@ -83,7 +84,7 @@ module _ (reads : LedgerIsReadByNumber) (asks : RequestsAskForTheirShapes) (code
   abbrev blocks : List ℕ
   blocks = blocks_of_cases entries
 
-  module _ (signature : SignatureShape) (calls : List AnsweredCall) (s : Switched) (block : Name) (stands : StandsFor signature calls old) (allowed : AreAllowed empty_ledger (script_of calls))
+  module _ (signature : SignatureShape) (calls : List AnsweredCall) (s : Switched) (block : Name) (stands : StandsFor signature calls old)
       (current : (ledger_of calls).current ≡ Some block) (named : NamesSwitch calls s cases value otherwise) where
     all_named : All (λ (c : ℕ). NamesBlock calls (s.named c) c) blocks
     all_named = each_case (λ (c : ℕ). NamesBlock calls (s.named c) c) cases ranges fits.ranges_of named.cases_named
@@ -118,6 +119,16 @@ module _ (reads : LedgerIsReadByNumber) (asks : RequestsAskForTheirShapes) (code
     searches : SearchesCases s cases ranges nodes
     searches = record { ranges_for = subst (λ (ty : «Type»). AreRangesFor cases ty ranges) (sym type_same) fits; finds = finds; order = order; tests = tests }
 
+    -- only blocks have items, and no block has a later name
+    unwritten : (later : Name) → length (script_of calls) ≤ later.place → (program_of (script_of calls)).items later ≡ []
+    unwritten later behind = elim (stands.carries.holds.blocks.only later) [
+      | inl none ↦ none
+      | inr (number, named) ↦
+          let earlier = stands.carries.holds.blocks.earlier number later named in
+          let many = as_many calls in
+          absurd (omega (arith, behind, earlier, many))
+    ]
+
     may_switch : MaySwitch (script_of calls) block s cases
     may_switch = record {
       current = current;
@@ -127,7 +138,7 @@ module _ (reads : LedgerIsReadByNumber) (asks : RequestsAskForTheirShapes) (code
       otherwise = named.otherwise_named.is_block;
       targets = λ k d below.
           (All-contains (λ (c : ℕ). NamesBlock calls (s.named c) c) blocks _ all_named (mapped (λ (case : ℕ × ℕ). case.1) entries _ (All-contains_itself entries k d below))).is_block;
-      unwritten = unwritten (script_of calls) allowed;
+      unwritten = unwritten;
     }
 
     -- the list with the calls of the nodes at its end
@@ -160,6 +171,7 @@ module _ (reads : LedgerIsReadByNumber) (asks : RequestsAskForTheirShapes) (code
     unchanged = ends.steps.unchanged;
     errors = tt;
     sound = ends.steps.fails;
+    looks_once = ends.steps.looks_once;
     variables = ends.steps.variables;
     grows = ends.steps.grows;
     types = ends.steps.types;
@@ -168,7 +180,7 @@ module _ (reads : LedgerIsReadByNumber) (asks : RequestsAskForTheirShapes) (code
     leaves = ends.leaves;
     left = ends.left;
     free = ends.free;
-    stands = λ signature calls s block stands allowed current named. stood signature calls s block stands allowed current named makes;
+    stands = λ signature calls s block stands current named. stood signature calls s block stands current named makes;
   }
     where
       no_failure : ◌≡◌ {A = Result (Unit {0}) SwitchError} (Ok tt) (Err (switch_error.Build Failed)) → ⊥

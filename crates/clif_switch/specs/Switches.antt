@@ -12,15 +12,15 @@ use Rattle.clif_ranges.specs.declared.error.SwitchError.{SwitchError}
 use Rattle.clif_ranges.specs.declared.error.SwitchError.TheVariants as switch_error
 use Rattle.clif_ranges.specs.Cases.{AreRangesFor, CaseMap, IsRefusal}
 use Rattle.clif_ranges.specs.Ranges.{AreFewest}
-use Rattle.clif_meaning.specs.Ledger.{empty_ledger, type_of}
+use Rattle.clif_meaning.specs.Ledger.{type_of}
 use Rattle.clif_meaning.specs.Name.{Name}
 use Rattle.clif_meaning.specs.Request.{AnsweredCall, script_of}
 use Rattle.clif_builder.specs.declared.builder.FunctionBuilder.{FunctionBuilder}
 use Rattle.clif_builder.specs.Builder.{HasCurrent, IsLeft, SameLoans, is_free}
 use Rattle.clif_builder.specs.Growth.{GrowsBesideTables, TypesStay}
 use Rattle.clif_builder.specs.Ledger.{NamesBlock, NamesValue, ledger_of}
+use Rattle.clif_ssa.specs.Structure.{LooksOnce}
 use Rattle.clif_builder.specs.StandsFor.{StandsFor}
-use Rattle.clif_expansion.specs.ConstantCalls.{AreAllowed}
 use Rattle.clif_expansion.specs.Keys.{table_count}
 use Rattle.clif_expansion.specs.Switching.{IsSwitchCode}
 use Rattle.clif_switch_calls.specs.SwitchCalls.{Switched}
@@ -65,6 +65,7 @@ pub record Emits (cases : CaseMap) (value otherwise : ℕ) (old new : FunctionBu
   pub unchanged : IsTrue old.failed → new ≡ old
   pub errors : IfErr answer (IsUnemitted cases (value_at old.func.now value).ty old new)
   pub sound : OnOk answer (new.failed ≡ false)
+  pub looks_once : LooksOnce old.ctx.now.ssa → LooksOnce new.ctx.now.ssa
   pub variables : new.ctx.now.variables ≡ old.ctx.now.variables
   pub grows : OnOk answer (GrowsBesideTables old.func.now new.func.now)
   pub types : OnOk answer (TypesStay old.func.now new.func.now)
@@ -74,7 +75,7 @@ pub record Emits (cases : CaseMap) (value otherwise : ℕ) (old new : FunctionBu
   pub leaves : OnOk answer (LeavesBlocks old new)
   pub left : OnOk answer (IsLeft new)
   pub free : OnOk answer (IsTrue (is_free new))
-  -- where it stood for calls that may be made, it stands for them with code of the switch
+  -- where it stood for calls, it stands for them with code of the switch
   pub stands : (signature : SignatureShape) (calls : List AnsweredCall) (s : Switched) (block : Name)
-      → StandsFor signature calls old → AreAllowed empty_ledger (script_of calls) → (ledger_of calls).current ≡ Some block → NamesSwitch calls s cases value otherwise
+      → StandsFor signature calls old → (ledger_of calls).current ≡ Some block → NamesSwitch calls s cases value otherwise
       → OnOk answer ((added : List AnsweredCall) × StandsFor signature (calls ++ added) new × IsCodeOf calls added s cases block)

@@ -12,7 +12,7 @@ use crate::emission::{SwitchedValue, emit_nodes};
 use clif_builder::laws::{ledger_is_read_by_number, requests_ask_for_their_shapes};
 use clif_builder::{FunctionBuilder, InstBuilderBase};
 use clif_ranges::{Cases, SwitchError, search_tree};
-use clif_switch_calls::laws::{later_blocks_are_unwritten, switch_calls_are_code};
+use clif_switch_calls::laws::switch_calls_are_code;
 use clif_types::{Block, BuildError, Value};
 use std::alloc::Global;
 use std::collections::HashMap;
@@ -94,7 +94,6 @@ impl Switch {
         ledger_is_read_by_number();
         requests_ask_for_their_shapes();
         switch_calls_are_code();
-        later_blocks_are_unwritten();
         if bx.has_failed() {
             return Err(SwitchError::Build(BuildError::Failed));
         }

@@ -22,7 +22,7 @@ use Rattle.clif_switch_calls.proofs.Branches.{target_of}
 abbrev pub keys_of : List (ℕ × ℕ) → List ℕ
 keys_of entries = map (λ case. case.0) entries
 
-keys_both : (first second : List (ℕ × ℕ)) → keys_of (first ++ second) ≡ keys_of first ++ keys_of second
+pub keys_both : (first second : List (ℕ × ℕ)) → keys_of (first ++ second) ≡ keys_of first ++ keys_of second
 keys_both [] second = refl
 keys_both (case ∷ first) second = ap (λ (keys : List ℕ). case.0 ∷ keys) (keys_both first second)
 
@@ -34,7 +34,7 @@ is_one key other = nat_lt key (suc other) && nat_lt other (suc key)
 one_same : (key other : ℕ) → key ≡ other → is_one key other ≡ true
 one_same key other same = grind (arith, nat_tests)
 
-one_other : (key other : ℕ) → (key < other) ⊎ (other < key) → is_one key other ≡ false
+pub one_other : (key other : ℕ) → (key < other) ⊎ (other < key) → is_one key other ≡ false
 one_other key other (inl under) =
     let is : nat_lt other (suc key) ≡ false = grind (arith, nat_tests) in
     let at : nat_lt key (suc other) ≡ true = grind (arith, nat_tests) in
@@ -62,7 +62,7 @@ range_with key first (block ∷ blocks) at below =
 
 -- RANGES ------------------------------------------------------------------------------------------------------------------
 
-abbrev all_keys : List CaseRange → List ℕ
+abbrev pub all_keys : List CaseRange → List ℕ
 all_keys ranges = keys_of (flat_map cases_of ranges)
 
 more_keys : (range : CaseRange) (ranges : List CaseRange) (key : ℕ) → is_key (all_keys (range ∷ ranges)) key ≡ (is_key (keys_of (cases_of range)) key || is_key (all_keys ranges) key)
@@ -70,19 +70,19 @@ more_keys range ranges key =
     ap (λ (keys : List ℕ). is_key keys key) (keys_both (cases_of range) (flat_map cases_of ranges)) ∙ list_any-append (is_one key) (keys_of (cases_of range)) (all_keys ranges)
 
 -- the key is in none of the ranges
-abbrev Outside : ℕ → CaseRange → Type 0
+abbrev pub Outside : ℕ → CaseRange → Type 0
 Outside key range = (key < range.first) ⊎ (end_of range ≤ key)
 
-none_with : (ranges : List CaseRange) (key : ℕ) → AllByRecursion (Outside key) ranges → is_key (all_keys ranges) key ≡ false
+pub none_with : (ranges : List CaseRange) (key : ℕ) → AllByRecursion (Outside key) ranges → is_key (all_keys ranges) key ≡ false
 none_with [] key all = refl
 none_with (range ∷ ranges) key all =
     more_keys range ranges key ∙ ap₂ (λ (a b : Bool). a || b) (range_without key range.first range.blocks.items all.0) (none_with ranges key all.1)
 
-or_right : (c d : Bool) → d ≡ true → (c || d) ≡ true
+pub or_right : (c d : Bool) → d ≡ true → (c || d) ≡ true
 or_right true d is = refl
 or_right false d is = is
 
-one_with : (ranges : List CaseRange) (range : CaseRange) (key : ℕ) → Contains ranges range → range.first ≤ key → key < end_of range → is_key (all_keys ranges) key ≡ true
+pub one_with : (ranges : List CaseRange) (range : CaseRange) (key : ℕ) → Contains ranges range → range.first ≤ key → key < end_of range → is_key (all_keys ranges) key ≡ true
 one_with [] range key here at below = absurd (none_contained range here)
 one_with (first ∷ ranges) range key here at below =
     let later : Contains ranges range → is_key (all_keys ranges) key ≡ true = (λ further. one_with ranges range key further at below) in
@@ -115,7 +115,7 @@ module _ (keys : List ℕ) where
   Separate [] = Unit {0}
   Separate (range ∷ ranges) = AllByRecursion (λ other. end_of range < other.first) ranges × Separate ranges
 
-  outside_later : (key : ℕ) (range : CaseRange) (ranges : List CaseRange) → key ≤ end_of range → AllByRecursion (λ other. end_of range < other.first) ranges → AllByRecursion (Outside key) ranges
+  pub outside_later : (key : ℕ) (range : CaseRange) (ranges : List CaseRange) → key ≤ end_of range → AllByRecursion (λ other. end_of range < other.first) ranges → AllByRecursion (Outside key) ranges
   outside_later key range [] under all = tt
   outside_later key range (other ∷ ranges) under all = (inl (omega (arith, under, all.0)), outside_later key range ranges under all.1)
 

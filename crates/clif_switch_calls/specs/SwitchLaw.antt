@@ -1,10 +1,13 @@
 -- The law: the plain calls of a switch are code of the switch. Own.
-use Rattle.std.specs.Prelude.{◌≡◌, ◌≤◌, ◌+◌, ◌^◌, ℕ, List, [], ◌∷◌, ◌++◌, length, map, All, IsTrue, Some}
+use Rattle.std.specs.Prelude.{◌≡◌, ◌≤◌, ◌+◌, ◌^◌, ℕ, true, List, [], ◌∷◌, ◌++◌, length, map, All, IsTrue, is_some, Option, Some, None}
 use Rattle.std.specs.FinMap as finite
 use Rattle.clif_types.specs.Types.{is_int}
+use Rattle.clif_types.specs.declared.types.«Type».{«Type»}
 use Rattle.clif_ranges.specs.declared.ranges.CaseRange.{CaseRange}
 use Rattle.clif_ranges.specs.declared.search.Node.{Node}
-use Rattle.clif_ranges.specs.Cases.{AreRangesFor, CaseMap}
+use Rattle.clif_ranges.specs.declared.error.SwitchError.{SwitchError}
+use Rattle.clif_ranges.specs.declared.error.SwitchError.TheVariants as switch_error
+use Rattle.clif_ranges.specs.Cases.{AreRangesFor, CaseMap, IsRefusal}
 use Rattle.clif_ranges.specs.Search.{AreInOrder, AreTestsOf, FindsCases}
 use Rattle.clif_meaning.specs.Instruction.{Edge}
 use Rattle.clif_meaning.specs.Ledger.{empty_ledger, has_block, ledger_after, type_of}
@@ -12,6 +15,7 @@ use Rattle.clif_meaning.specs.Name.{Name}
 use Rattle.clif_meaning.specs.Program.{program_of}
 use Rattle.clif_meaning.specs.Request.{Script}
 use Rattle.clif_expansion.specs.ConstantCalls.{AreAllowed}
+use Rattle.clif_expansion.specs.Keys.{SetTwice, SwitchRefusal, TooGreat, TooLong, keys_refusal}
 use Rattle.clif_expansion.specs.Switching.{IsSwitchCode}
 use Rattle.clif_switch_calls.specs.SwitchCalls.{Switched, bare_edge, nodes_calls}
 
@@ -57,3 +61,17 @@ SwitchCallsAreCode =
     (plain : Script) (block : Name) (s : Switched) (cases : CaseMap) (ranges : List CaseRange) (nodes : List Node) (k : ℕ)
     → MaySwitch plain block s cases → SearchesCases s cases ranges nodes → length ranges ≤ 2 ^ k
     → IsSwitchCode plain (switch_calls plain s nodes) block s.value s.ty (case_keys cases) (case_edges s cases) (k + 2) 1
+
+-- why the definitions refuse the keys of a switch, where the builder tells this; nothing is wrong with the keys where memory or a
+-- table ran out
+abbrev pub refusal_in : SwitchError → Option SwitchRefusal
+refusal_in (switch_error.SetTwice key) = Some SetTwice
+refusal_in (switch_error.KeyTooWide ty max) = Some TooGreat
+refusal_in switch_error.TableTooLong = Some TooLong
+refusal_in (switch_error.Build error) = None
+
+-- Keys are refused as the builder refuses their cases, and where it finds ranges of the cases, they aren't.
+pub record RefusalsAreOfKeys : Type 0 where
+  pub refused : (cases : CaseMap) (ty : «Type») (error : SwitchError) → IsRefusal cases ty error → is_some (refusal_in error) ≡ true
+      → keys_refusal ty (case_keys cases) ≡ refusal_in error
+  pub taken : (cases : CaseMap) (ty : «Type») (ranges : List CaseRange) → AreRangesFor cases ty ranges → keys_refusal ty (case_keys cases) ≡ None

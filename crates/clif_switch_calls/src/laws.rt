@@ -1,6 +1,6 @@
 //! The laws.
 
-ghost use Rattle.clif_switch_calls.specs.SwitchLaw.{LaterBlocksAreUnwritten, SwitchCallsAreCode};
+ghost use Rattle.clif_switch_calls.specs.SwitchLaw.{LaterBlocksAreUnwritten, RefusalsAreOfKeys, SwitchCallsAreCode};
 
 /// The plain calls of a switch, node by node of a search among its cases, are code of the switch: from before it control walks to
 /// the block of each key's case.
@@ -11,4 +11,9 @@ pub fn switch_calls_are_code()
 /// Behind calls that may be made nothing was built in blocks that aren't there yet.
 pub fn later_blocks_are_unwritten()
     ensures { LaterBlocksAreUnwritten }
+{}
+
+/// The keys of a switch are refused as the builder refuses its cases, and where it finds ranges of the cases, they aren't.
+pub fn refusals_are_of_keys()
+    ensures { RefusalsAreOfKeys }
 {}

@@ -58,7 +58,7 @@ returns-in-Ok-emit_nodes c =
     let fits : AreRangesFor c.args.self ty ranges =
     subst (λ (m : CaseMap). AreRangesFor m ty ranges) c.self.view_is
     (subst (λ (t : «Type»). AreRangesFor c.self.inside.cases t ranges) of_type (subst (AreRangesFor c.self.inside.cases c.value_type-ty.result) (sym c.as_slice.ensures.value) c.in-Ok.ensures.ok)) in
-    emitted c.ledger_is_read_by_number.ensures c.requests_ask_for_their_shapes.ensures c.switch_calls_are_code.ensures c.later_blocks_are_unwritten.ensures
+    emitted c.ledger_is_read_by_number.ensures c.requests_ask_for_their_shapes.ensures c.switch_calls_are_code.ensures
     c.args.self c.args.val c.args.otherwise c.args.bx.now c.emit_nodes.new.bx ranges nodes c.requires fits
     (subst AreFewest (sym c.as_slice.ensures.value) c.in-Ok.ensures.fewest) (subst (λ (list : List Node). FindsCases ranges list 0) same c.in-Ok-search_tree.ensures.ok)
     (subst (AreInOrder (0 ∷ []) 1) same c.in-Ok-search_tree.ensures.order) (subst (AreTestsOf ranges) same c.in-Ok-search_tree.ensures.tests)
