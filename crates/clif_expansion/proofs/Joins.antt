@@ -54,13 +54,13 @@ module _ (reading later : Reading) (keeps : KeepsReading reading later) where
   pub edges_later : (edges' edges : List (Edge Name Name)) → AllZip (IsReadEdge reading) edges' edges → AllZip (IsReadEdge later) edges' edges
   edges_later edges' edges are = zip_each (IsReadEdge reading) (IsReadEdge later) edge_later edges' edges are
 
-  table_later : (table' table : Option (List (Edge Name Name))) → IsReadTable reading table' table → IsReadTable later table' table
+  pub table_later : (table' table : Option (List (Edge Name Name))) → IsReadTable reading table' table → IsReadTable later table' table
   table_later None None is = tt
   table_later (Some edges') (Some edges) is = edges_later edges' edges is
   table_later None (Some edges) is = absurd is
   table_later (Some edges') None is = absurd is
 
-  exception_later : (table' table : Option ExceptionTable) → IsReadException reading table' table → IsReadException later table' table
+  pub exception_later : (table' table : Option ExceptionTable) → IsReadException reading table' table → IsReadException later table' table
   exception_later None None is = tt
   exception_later (Some table') (Some table) is = record {
     signature = is.signature;

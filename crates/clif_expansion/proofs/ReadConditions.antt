@@ -12,6 +12,7 @@ use Rattle.clif_meaning.specs.Name.{Name, same_name}
 use Rattle.clif_meaning.specs.Request.{Request, CreateBlock, SwitchToBlock, SealBlock, SealAllBlocks, InsertBlockAfter, SetColdBlock, EnsureInsertedBlock, AppendBlockParams, AppendFunctionParams, DeclareVar, DefVar, UseVar, MakeEntry, MakeEdge, MakeJumpTable, MakeExceptionTable, Annotate, GivenEntry, ServedBy, TriedBy, Imported, TableItem, TagTo, DefaultTo, InContext, Build, ChangeJumpDestination, Finalize}
 use Rattle.clif_expansion.specs.Joining.{AreJoinedLedgers, Both, ConditionsAreRead, IsOwnState, IsReadAnswer, IsReadCurrent, IsReadException, IsReadLayout, NoMore, Own, StandAmong, IsReadRefusal, IsReadRequest, IsReadState, IsReadTable, IsReadTableItem}
 use Rattle.clif_expansion.specs.Reading.{IsOneToOne, IsReadArgument, IsReadAs, IsReadEdge, IsReadInstruction, Reading}
+use Rattle.clif_expansion.specs.ScriptCall.{Emit, call_allowed, can_emit}
 use Rattle.clif_expansion.proofs.Among.{any_leading, leading_empty, other_generated}
 use Rattle.clif_expansion.proofs.JoinedStates.{inserted_read}
 use Rattle.clif_expansion.proofs.Names.{same_read}
@@ -267,6 +268,15 @@ module _ (reading : Reading) (plain ledger : Ledger) (ledgers : AreJoinedLedgers
       ap (λ (es : List GivenEntry). may_give_all plain es) same ∙ ap (λ (each : Bool). tables_differ entries && each) (gives_same entries) in
       λ i. contexts i && given i && opened i && operands i && edges i && can_operate (operation i) (is.controlling i)
       && list_all (has_entry (ledgers.states.tables i)) (operation_entries (operation i))
+
+  -- an instruction that only scripts have may be emitted under both names
+  pub emission_same : (instruction' instruction : Instruction Name Name) → IsReadInstruction reading instruction' instruction
+      → call_allowed plain (Emit instruction') ≡ call_allowed ledger (Emit instruction)
+  emission_same instruction' instruction is =
+      let operands = values_same instruction'.operands instruction.operands is.operands in
+      let contexts = values_same instruction'.contexts instruction.contexts is.contexts in
+      let edges = all_same (IsReadEdge reading) (can_lead plain) (can_lead ledger) lead_same instruction'.edges instruction.edges is.edges in
+      λ i. contexts i && opened i && operands i && edges i && can_emit (is.operation i) (is.controlling i)
 
   allowed : (asked request : Request) → IsReadRequest reading asked request → allows plain asked ≡ allows ledger request
   allowed CreateBlock CreateBlock is = refl

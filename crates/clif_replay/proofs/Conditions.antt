@@ -424,7 +424,7 @@ pub arguments-same : (naming : Naming) (ledger : Ledger) (names : List Name) →
 arguments-same naming ledger [] = refl
 arguments-same naming ledger (name ∷ names) = ap (λ (rest : Bool). has_value ledger (naming name) && rest) (arguments-same naming ledger names)
 
-target-same : {naming : Naming} {declared : SignatureShape} (calls : List AnsweredCall) (b : FunctionBuilder) (answers : List Answer) → IsReady naming declared calls b answers
+pub target-same : {naming : Naming} {declared : SignatureShape} (calls : List AnsweredCall) (b : FunctionBuilder) (answers : List Answer) → IsReady naming declared calls b answers
     → (name : Name) → (has_block (ledger_of calls) (naming name) && not (is_sealed (ledger_of calls) (naming name))) ≡ is_target b (block_of answers name)
 target-same {naming} calls b answers ready name = by (block_of answers name) refl
   where

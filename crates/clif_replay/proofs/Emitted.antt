@@ -42,32 +42,38 @@ use Rattle.clif_replay.proofs.ReadyLaws.{edge-is, value-found}
 
 -- THE NAMING --------------------------------------------------------------------------------------------------------------
 
--- Names of the first answers are known as before; one of the answer behind them is a result of the call at this place; and later
--- ones follow behind so many calls.
-abbrev extended : Naming → (answers last behind : ℕ) → Naming
-extended naming answers last behind name =
+-- Names of the first answers are known as before; those of the answer behind them are known as answers of the call at this place, from
+-- some index on; and later ones follow behind so many calls.
+abbrev pub extended : Naming → (answers last shift behind : ℕ) → Naming
+extended naming answers last shift behind name =
     if nat_lt name.place answers then naming name
-    else if name.place == answers then named.answer_of last (suc name.answer)
+    else if name.place == answers then named.answer_of last (shift + name.answer)
     else named.answer_of (behind + (name.place - suc answers)) name.answer
 
-module _ (naming : Naming) (answers last behind : ℕ) (name : Name) where
-  extended-earlier : name.place < answers → extended naming answers last behind name ≡ naming name
-  extended-earlier less = ap (λ (t : Bool). if t then naming name else (if name.place == answers then named.answer_of last (suc name.answer) else named.answer_of (behind + (name.place - suc answers)) name.answer))
+module _ (naming : Naming) (answers last shift behind : ℕ) (name : Name) where
+  pub extended-earlier : name.place < answers → extended naming answers last shift behind name ≡ naming name
+  extended-earlier less = ap (λ (t : Bool). if t then naming name else (if name.place == answers then named.answer_of last (shift + name.answer) else named.answer_of (behind + (name.place - suc answers)) name.answer))
       (lt-ltb name.place answers less)
 
-  not-earlier : (name.place < answers → ⊥) → extended naming answers last behind name
-      ≡ (if name.place == answers then named.answer_of last (suc name.answer) else named.answer_of (behind + (name.place - suc answers)) name.answer)
+  not-earlier : (name.place < answers → ⊥) → extended naming answers last shift behind name
+      ≡ (if name.place == answers then named.answer_of last (shift + name.answer) else named.answer_of (behind + (name.place - suc answers)) name.answer)
   not-earlier not_less = if-no (nat_lt name.place answers) _ _ (false_from_ne_true (nat_lt name.place answers) (λ less. not_less (ltb-true name.place answers less)))
 
-  extended-here : name.place ≡ answers → extended naming answers last behind name ≡ named.answer_of last (suc name.answer)
+  pub extended-here : name.place ≡ answers → extended naming answers last shift behind name ≡ named.answer_of last (shift + name.answer)
   extended-here here = not-earlier (λ less. omega (arith, less, here))
-      ∙ ap (λ (t : Bool). if t then named.answer_of last (suc name.answer) else named.answer_of (behind + (name.place - suc answers)) name.answer) (eq-eqb name.place answers here)
+      ∙ ap (λ (t : Bool). if t then named.answer_of last (shift + name.answer) else named.answer_of (behind + (name.place - suc answers)) name.answer) (eq-eqb name.place answers here)
 
-  extended-later : (k : ℕ) → name.place ≡ suc answers + k → extended naming answers last behind name ≡ named.answer_of (behind + k) name.answer
+  pub extended-later : (k : ℕ) → name.place ≡ suc answers + k → extended naming answers last shift behind name ≡ named.answer_of (behind + k) name.answer
   extended-later k later =
       let distance : name.place - suc answers ≡ k = omega (arith, later) in
       not-earlier (λ less. omega (arith, less, later)) ∙ if-no (name.place == answers) _ _ (ne_eqb name.place answers (λ here. omega (arith, here, later)))
       ∙ ap (λ (d : ℕ). named.answer_of (behind + d) name.answer) distance
+
+-- the results of an instruction stand behind its number
+result-here : (naming : Naming) (answers last behind : ℕ) (name : Name) → name.place ≡ answers → extended naming answers last 1 behind name ≡ named.answer_of last (suc name.answer)
+result-here naming answers last behind name here =
+    let one : 1 + name.answer ≡ suc name.answer = omega arith in
+    extended-here naming answers last 1 behind name here ∙ ap (named.answer_of last) one
 
 -- THE LEDGER --------------------------------------------------------------------------------------------------------------
 
@@ -113,77 +119,95 @@ two-numbers (inst ∷ other ∷ more ∷ numbers) value many at = let no_way : �
 
 -- READINESS ---------------------------------------------------------------------------------------------------------------
 
+-- Behind more calls names of the list's next answer are answers of the last one, from some index on.
+module _ {naming : Naming} {declared : SignatureShape} (calls added : List AnsweredCall) (old new : FunctionBuilder) (answers : List Answer) (a : Answer) (last shift : ℕ)
+    (ready : IsReady naming declared calls old answers) (stands : StandsFor declared (calls ++ added) new) where
+  abbrev pub all : List AnsweredCall
+  all = calls ++ added
+
+  abbrev pub names : Naming
+  names = extended naming (length answers) last shift (length (calls ++ added))
+
+  -- an answer that the list had
+  still : (place : ℕ) (x : Answer) → place < length answers → IsAnswered naming calls place x → IsAnswered names all place x
+  still place x inside one = record {
+    other = one.other;
+    call = one.call;
+    answered = one.answered;
+    at_call = get-front calls added one.other one.call one.at_call;
+    at_answered = answers-stay calls added one.other one.answered one.at_answered;
+    leads = elim one.leads [
+      | inl itself ↦ inl (λ name here. known name here ∙ itself.0 name here, itself.1)
+      | inr other ↦ elim other [
+        | inl behind ↦ inr (inl (λ name here. known name here ∙ behind.0 name here, behind.1))
+        | inr none ↦ inr (inr (λ name here. known name here ∙ none.0 name here, none.1))
+      ]
+    ];
+  }
+    where
+      known : (name : Name) → name.place ≡ place → names name ≡ naming name
+      known name here = extended-earlier naming (length answers) last shift (length all) name (omega (arith, here, inside))
+
+  -- the builder that stands for them is ready, where its tables agree and the next answer is that of the last call
+  pub ready-with : IsAnswered names all (length answers) a → ((made : BlockCall) → a ≡ answer.Edge made → ⊥)
+      → TablesAgree (NamesEdges all) (ledger_of all).jump_tables new.func.now.tables.jump_tables
+      → TablesAgree (NamesExceptions all) (ledger_of all).exception_tables new.func.now.tables.exception_tables
+      → IsReady names declared all new (answers ++ a ∷ [])
+  ready-with newest no_edge tables exceptions = record {
+    reads = ready.reads;
+    stands = stands;
+    answered = λ place x at. elim (get-push answers a place x at) [
+      | inl earlier ↦ still place x (slice_get_within answers place x earlier) (ready.answered place x earlier)
+      | inr here ↦ subst (IsAnswered names all place) here.1 (subst (λ (k : ℕ). IsAnswered names all k a) (sym here.0) newest)
+    ];
+    later = λ name k here.
+        let more : length (answers ++ a ∷ []) ≡ length answers + 1 = length-append answers (a ∷ []) in
+        extended-later naming (length answers) last shift (length all) name k (omega (arith, here, more));
+    edges = λ name made at zero_th. elim (get-push answers a name.place (answer.Edge made) at) [
+      | inl earlier ↦
+          let there = ready.edges name made earlier zero_th in
+          let kept = answer-stays ready.reads calls added old new ready.stands stands (naming name) (AnEdge there.0) (edge-is _ there.0 there.1) in
+          let known : names name ≡ naming name = extended-earlier naming (length answers) last shift (length all) name (slice_get_within answers name.place (answer.Edge made) earlier) in
+          (there.0, ap (edge_named (ledger_of all)) known ∙ ap answered_edge kept, edge-stays ready.reads calls added old new ready.stands stands there.0 made there.2)
+      | inr here ↦ absurd (no_edge made here.1)
+    ];
+    tables = tables;
+    exceptions = exceptions;
+  }
+
 -- Behind more calls, which leave the tables, the results of the last one are the script's answer.
 ready-behind : {naming : Naming} {declared : SignatureShape} (calls added : List AnsweredCall) (old new : FunctionBuilder) (answers : List Answer) (first count last : ℕ) (call : AnsweredCall) (given : List Answered)
     → IsReady naming declared calls old answers → StandsFor declared (calls ++ added) new → AllByRecursion LeavesTables (script_of added) → KeepsTables old new
     → slice_get (calls ++ added) last ≡ Some call → slice_get (ledger_of (calls ++ added)).answers last ≡ Some given → AreResults (answer.Values first count) given call.numbers
-    → IsReady (extended naming (length answers) last (length (calls ++ added))) declared (calls ++ added) new (answers ++ answer.Values first count ∷ [])
-ready-behind {naming} {declared} calls added old new answers first count last call given ready stands leave keeps at_call at_answered are = record {
-  reads = ready.reads;
-  stands = stands;
-  answered = λ place x at. elim (get-push answers (answer.Values first count) place x at) [
-    | inl earlier ↦ still place x (slice_get_within answers place x earlier) (ready.answered place x earlier)
-    | inr here ↦ subst (IsAnswered names all place) here.1 (newest place here.0)
-  ];
-  later = λ name k here.
-      let more : length (answers ++ answer.Values first count ∷ []) ≡ length answers + 1 = length-append answers (answer.Values first count ∷ []) in
-      extended-later naming (length answers) last (length all) name k (omega (arith, here, more));
-  edges = λ name made at zero_th. elim (get-push answers (answer.Values first count) name.place (answer.Edge made) at) [
-    | inl earlier ↦
-        let there = ready.edges name made earlier zero_th in
-        let kept = answer-stays ready.reads calls added old new ready.stands stands (naming name) (AnEdge there.0) (edge-is _ there.0 there.1) in
-        let known : names name ≡ naming name = extended-earlier naming (length answers) last (length all) name (slice_get_within answers name.place (answer.Edge made) earlier) in
-        (there.0, ap (edge_named (ledger_of all)) known ∙ ap answered_edge kept, edge-stays ready.reads calls added old new ready.stands stands there.0 made there.2)
-    | inr here ↦ absurd (no-edge made here.1)
-  ];
-  tables = subst (TablesAgree (NamesEdges all) (ledger_of all).jump_tables) (sym keeps.0)
-      (subst (λ (tables : List (Option (List (meaning.Edge named.Name named.Name)))). TablesAgree (NamesEdges all) tables old.func.now.tables.jump_tables)
-      (sym (ap (λ (l : Ledger). l.jump_tables) (ledger-behind calls added) ∙ kept.0))
-      (tables-stay ready.reads calls added old new ready.stands stands (ledger_of calls).jump_tables old.func.now.tables.jump_tables ready.tables));
-  exceptions = subst (TablesAgree (NamesExceptions all) (ledger_of all).exception_tables) (sym keeps.1)
-      (subst (λ (tables : List (Option ExceptionTable)). TablesAgree (NamesExceptions all) tables old.func.now.tables.exception_tables)
-      (sym (ap (λ (l : Ledger). l.exception_tables) (ledger-behind calls added) ∙ kept.1))
-      (exceptions-stay ready.reads calls added old new ready.stands stands (ledger_of calls).exception_tables old.func.now.tables.exception_tables ready.exceptions));
-}
+    → IsReady (extended naming (length answers) last 1 (length (calls ++ added))) declared (calls ++ added) new (answers ++ answer.Values first count ∷ [])
+ready-behind {naming} {declared} calls added old new answers first count last call given ready stands leave keeps at_call at_answered are =
+    ready-with calls added old new answers (answer.Values first count) last 1 ready stands
+    (record {
+      other = last;
+      call = call;
+      answered = given;
+      at_call = at_call;
+      at_answered = at_answered;
+      leads = inr (inl (λ name at. result-here naming (length answers) last (length all) name at, are));
+    })
+    no-edge
+    (subst (TablesAgree (NamesEdges all) (ledger_of all).jump_tables) (sym keeps.0)
+    (subst (λ (tables : List (Option (List (meaning.Edge named.Name named.Name)))). TablesAgree (NamesEdges all) tables old.func.now.tables.jump_tables)
+    (sym (ap (λ (l : Ledger). l.jump_tables) (ledger-behind calls added) ∙ kept.0))
+    (tables-stay ready.reads calls added old new ready.stands stands (ledger_of calls).jump_tables old.func.now.tables.jump_tables ready.tables)))
+    (subst (TablesAgree (NamesExceptions all) (ledger_of all).exception_tables) (sym keeps.1)
+    (subst (λ (tables : List (Option ExceptionTable)). TablesAgree (NamesExceptions all) tables old.func.now.tables.exception_tables)
+    (sym (ap (λ (l : Ledger). l.exception_tables) (ledger-behind calls added) ∙ kept.1))
+    (exceptions-stay ready.reads calls added old new ready.stands stands (ledger_of calls).exception_tables old.func.now.tables.exception_tables ready.exceptions)))
   where
     all : List AnsweredCall
     all = calls ++ added
-
-    names : Naming
-    names = extended naming (length answers) last (length (calls ++ added))
 
     kept : ((fold ledger_with (ledger_of calls) (script_of added)).jump_tables ≡ (ledger_of calls).jump_tables) × ((fold ledger_with (ledger_of calls) (script_of added)).exception_tables ≡ (ledger_of calls).exception_tables)
     kept = kept-all (ledger_of calls) (script_of added) leave
 
     no-edge : (made : BlockCall) → answer.Values first count ≡ answer.Edge made → ⊥
     no-edge made same = cc
-
-    -- an answer that the list had
-    still : (place : ℕ) (x : Answer) → place < length answers → IsAnswered naming calls place x → IsAnswered names all place x
-    still place x inside one = record {
-      other = one.other;
-      call = one.call;
-      answered = one.answered;
-      at_call = get-front calls added one.other one.call one.at_call;
-      at_answered = answers-stay calls added one.other one.answered one.at_answered;
-      leads = elim one.leads [
-        | inl itself ↦ inl (λ name here. known name here ∙ itself.0 name here, itself.1)
-        | inr behind ↦ inr (λ name here. known name here ∙ behind.0 name here, behind.1)
-      ];
-    }
-      where
-        known : (name : Name) → name.place ≡ place → names name ≡ naming name
-        known name here = extended-earlier naming (length answers) last (length all) name (omega (arith, here, inside))
-
-    newest : (place : ℕ) → place ≡ length answers → IsAnswered names all place (answer.Values first count)
-    newest place here = record {
-      other = last;
-      call = call;
-      answered = given;
-      at_call = at_call;
-      at_answered = at_answered;
-      leads = inr (λ name at. extended-here naming (length answers) last (length all) name (at ∙ here), are);
-    }
 
 -- AN EMISSION -------------------------------------------------------------------------------------------------------------
 
@@ -230,9 +254,9 @@ stands-ready {naming} {declared} calls called old new answers ty x value ready k
   asked = with_calls.asked;
   last = last;
   at_end = ending;
-  extended = extended naming (length answers) last (length all);
-  earlier = λ name less. extended-earlier naming (length answers) last (length all) name less;
-  results = λ name here. extended-here naming (length answers) last (length all) name here;
+  extended = extended naming (length answers) last 1 (length all);
+  earlier = λ name less. extended-earlier naming (length answers) last 1 (length all) name less;
+  results = λ name here. result-here naming (length answers) last (length all) name here;
   ready = ready-behind calls with_calls.added old new answers value 1 last at_call.0 given ready with_calls.stands
       (subst (AllByRecursion LeavesTables) (sym with_calls.asked) (built-leave (constant_instructions ty (constant_in called) (length calls)) (constant_last (plain_in called) ty (length calls) x)))
       keeps at_call.1 answered_last (result.0 ∷ [], numbers.0, answers_are, numbers.1, refl);

@@ -22,6 +22,11 @@ pub mod NamingExamples
 pub mod Whole
 pub mod Narrowing
 pub mod ReadCalls
+pub mod Nowhere
+pub mod Unanswered
+pub mod SwitchCases
+pub mod SetEntries
+pub mod Switched
 pub mod Known
 pub mod Stepping
 pub mod EmissionExamples

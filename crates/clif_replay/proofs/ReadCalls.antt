@@ -21,23 +21,27 @@ use Rattle.clif_calls.specs.declared.call.Call.{Call}
 use Rattle.clif_calls.specs.declared.call.Call.TheVariants as call
 use Rattle.clif_calls.specs.declared.call.Edge as script
 use Rattle.clif_calls.specs.declared.call.Name.{Name}
+use Rattle.clif_calls.specs.declared.immediate.ImmediateCall.{ImmediateCall}
 use Rattle.clif_calls.specs.declared.outside.OutsideCall.TheVariants as outside
 use Rattle.clif_calls.specs.declared.plan.Plan.{Plan}
+use Rattle.clif_calls.specs.declared.switch.SwitchEntry.{SwitchEntry}
 use Rattle.clif_calls.specs.declared.table.Passed.{Passed}
 use Rattle.clif_calls.specs.declared.table.Passed.TheVariants as passed
 use Rattle.clif_calls.specs.declared.table.TableItem.{TableItem}
 use Rattle.clif_calls.specs.declared.table.TableItem.TheVariants as item
 use Rattle.clif_calls.specs.declared.table.ThrowingCall.TheVariants as throwing
 use Rattle.clif_calls.specs.Plan.{edges_in, operands_in, plan_of}
-use Rattle.clif_expansion.specs.Joining.{AreJoinedLedgers, IsReadAnswer, IsReadException, IsReadExceptionTable, IsReadRequest, IsReadState, IsReadTable, IsReadTableItem}
+use Rattle.clif_expansion.specs.Joining.{IsReadAnswer, IsReadException, IsReadExceptionTable, IsReadRequest, IsReadState, IsReadTable, IsReadTableItem}
 use Rattle.clif_expansion.specs.Reading.{IsReadArgument, IsReadAs, IsReadEdge, IsReadInstruction, Reading}
-use Rattle.clif_replay.specs.Requests.{Naming, edge_of, item_of, name_of, passed_of, request_in, request_of, request_under, table_edge_of}
+use Rattle.clif_switch_calls.specs.SwitchCalls.{bare_edge}
+use Rattle.clif_replay.specs.Cases.{cases_of, switch_under}
+use Rattle.clif_replay.specs.Requests.{Naming, edge_of, emission_under, item_of, operand_in, name_of, passed_of, request_in, request_of, request_under, table_edge_of}
 use Rattle.clif_replay.proofs.Planning.{controlling-same}
 use Rattle.clif_replay.proofs.Options.{some-is}
 use Rattle.clif_builder.proofs.LedgerLists.{and-then-some}
 
 -- what is read as an answer has its type
-type-read : (reading : Reading) (a b : Option Answered) → IsReadAnswer reading a b → value_answer_type a ≡ value_answer_type b
+pub type-read : (reading : Reading) (a b : Option Answered) → IsReadAnswer reading a b → value_answer_type a ≡ value_answer_type b
 type-read reading None None is = refl
 type-read reading (Some ABlock) (Some ABlock) is = refl
 type-read reading (Some (AVariable v)) (Some (AVariable w)) is = refl
@@ -79,11 +83,18 @@ as-long R [] (y ∷ ys) are = absurd are
 as-long R (x ∷ xs) [] are = absurd are
 as-long R (x ∷ xs) (y ∷ ys) are = ap suc (as-long R xs ys are.1)
 
-module _ (reading : Reading) (naming : Naming) (plain ledger : Ledger) (joined : AreJoinedLedgers reading plain ledger)
+-- Names that are read as others have their types, and tables are read.
+pub record AreReadTables (reading : Reading) (plain ledger : Ledger) : Type 0 where
+  pub types : (x name : named.Name) → IsReadAs reading x name → value_answer_type (answer_at plain x) ≡ value_answer_type (answer_at ledger name)
+  pub jump_tables : AllZip (IsReadTable reading) plain.jump_tables ledger.jump_tables
+  pub exception_tables : AllZip (IsReadException reading) plain.exception_tables ledger.exception_tables
+  pub tables : plain.tables ≡ ledger.tables
+
+module _ (reading : Reading) (naming : Naming) (plain ledger : Ledger) (joined : AreReadTables reading plain ledger)
     (reads : (name : Name) → IsReadAs reading (naming name) (name_of name)) where
   -- a name has the same type
   pub type-same : (name : Name) → or_invalid (type_of plain (naming name)) ≡ or_invalid (type_of ledger (name_of name))
-  type-same name = ap or_invalid (type-read reading (answer_at plain (naming name)) (answer_at ledger (name_of name)) (joined.answers (naming name) (name_of name) (reads name)))
+  type-same name = ap or_invalid (joined.types (naming name) (name_of name) (reads name))
 
   -- lists of names
   names-read : (names : List Name) → AllZip (IsReadAs reading) (map naming names) (map name_of names)
@@ -127,7 +138,37 @@ module _ (reading : Reading) (naming : Naming) (plain ledger : Ledger) (joined :
 
   -- what an exception table holds is read
   held-read : (table : ℕ) → IsReadExceptionTable reading (exceptions_at plain table) (exceptions_at ledger table)
-  held-read table = exception-read reading plain.exception_tables ledger.exception_tables table joined.states.exception_tables
+  held-read table = exception-read reading plain.exception_tables ledger.exception_tables table joined.exception_tables
+
+  -- so is a switch
+  bare-read : (name : Name) → IsReadEdge reading (bare_edge (naming name)) (bare_edge (name_of name))
+  bare-read name = record { target = reads name; arguments = tt }
+
+  cases-read : (cases : List (ℕ × Name)) (otherwise : Name)
+      → AllZip (IsReadEdge reading) (map (λ case. bare_edge (naming case.1)) cases ++ bare_edge (naming otherwise) ∷ [])
+      (map (λ case. bare_edge (name_of case.1)) cases ++ bare_edge (name_of otherwise) ∷ [])
+  cases-read [] otherwise = (bare-read otherwise, tt)
+  cases-read (case ∷ cases) otherwise = (bare-read case.1, cases-read cases otherwise)
+
+  pub switch-read : (entries : List SwitchEntry) (value otherwise : Name)
+      → IsReadInstruction reading (switch_under naming plain entries value otherwise) (switch_under name_of ledger entries value otherwise)
+  switch-read entries value otherwise = record {
+    operation = refl;
+    controlling = type-same value;
+    operands = (reads value, tt);
+    contexts = tt;
+    edges = cases-read (cases_of entries) otherwise;
+  }
+
+  -- and arithmetic with a constant
+  pub emission-read : (called : ImmediateCall) → IsReadInstruction reading (emission_under naming plain called) (emission_under name_of ledger called)
+  emission-read called = record {
+    operation = refl;
+    controlling = type-same (operand_in called);
+    operands = (reads (operand_in called), tt);
+    contexts = tt;
+    edges = tt;
+  }
 
   pub request-read : (declared : SignatureShape) (c : Call) → IsReadRequest reading (request_under naming declared plain c) (request_of declared ledger c)
   request-read declared call.CreateBlock = tt
@@ -152,6 +193,7 @@ module _ (reading : Reading) (naming : Naming) (plain ledger : Ledger) (joined :
   request-read declared (call.Plain instruction) = plan-read (plan_of instruction)
   request-read declared (call.Cursor instruction) = plan-read (plan_of instruction)
   request-read declared (call.Immediate immediate) = tt
+  request-read declared (call.Switch entries value otherwise) = tt
   request-read declared (call.SetSrcloc srcloc) = tt
   request-read declared call.CollectDebugInfo = tt
   request-read declared (call.SetValLabel value label) = (reads value, tt)
@@ -174,7 +216,7 @@ module _ (reading : Reading) (naming : Naming) (plain ledger : Ledger) (joined :
   request-read declared (call.Return values) =
       (refl, record { operation = refl; controlling = refl; operands = names-read values.items; contexts = tt; edges = tt })
   request-read declared (call.BrTable index table) =
-      let edges = table-read reading plain.jump_tables ledger.jump_tables table joined.states.jump_tables in (
+      let edges = table-read reading plain.jump_tables ledger.jump_tables table joined.jump_tables in (
         refl,
         record {
           operation = ap (λ (n : ℕ). BrTable (n - 1)) (as-long (IsReadEdge reading) _ _ edges);
@@ -187,7 +229,7 @@ module _ (reading : Reading) (naming : Naming) (plain ledger : Ledger) (joined :
   request-read declared (call.Outside (outside.Call function args)) = (
     refl,
     record {
-      operation = ap (λ (tables : TableLists). meaning.Call (function_at tables function).name (signature_at tables (function_at tables function).signature)) joined.states.tables;
+      operation = ap (λ (tables : TableLists). meaning.Call (function_at tables function).name (signature_at tables (function_at tables function).signature)) joined.tables;
       controlling = refl;
       operands = names-read args.items;
       contexts = tt;
@@ -197,7 +239,7 @@ module _ (reading : Reading) (naming : Naming) (plain ledger : Ledger) (joined :
   request-read declared (call.Outside (outside.CallIndirect signature callee args)) = (
     refl,
     record {
-      operation = ap (λ (tables : TableLists). CallIndirect (signature_at tables signature)) joined.states.tables;
+      operation = ap (λ (tables : TableLists). CallIndirect (signature_at tables signature)) joined.tables;
       controlling = refl;
       operands = (reads callee, names-read args.items);
       contexts = tt;
@@ -206,7 +248,7 @@ module _ (reading : Reading) (naming : Naming) (plain ledger : Ledger) (joined :
   )
   request-read declared (call.Throwing (throwing.TryCall function args table)) =
       let held = held-read table in
-      let tables = joined.states.tables in (
+      let tables = joined.tables in (
         ap (λ (signature : ℕ). TriedBy table ∷ Imported (AFunctionRef function) ∷ Imported (ASignatureRef signature) ∷ []) held.signature,
         record {
           operation = ap (λ (lists : TableLists). TryCall (function_at lists function).name (record { signature = signature_at lists (exceptions_at plain table).signature; items = (exceptions_at plain table).items })) tables
@@ -220,7 +262,7 @@ module _ (reading : Reading) (naming : Naming) (plain ledger : Ledger) (joined :
       )
   request-read declared (call.Throwing (throwing.TryCallIndirect callee args table)) =
       let held = held-read table in
-      let tables = joined.states.tables in (
+      let tables = joined.tables in (
         ap (λ (signature : ℕ). TriedBy table ∷ Imported (ASignatureRef signature) ∷ []) held.signature,
         record {
           operation = ap (λ (lists : TableLists). TryCallIndirect (record { signature = signature_at lists (exceptions_at plain table).signature; items = (exceptions_at plain table).items })) tables

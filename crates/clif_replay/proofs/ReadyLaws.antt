@@ -25,7 +25,7 @@ use Rattle.clif_instructions.specs.declared.block_call.BlockCall.{BlockCall}
 use Rattle.clif_meaning.specs.Instruction as meaning
 use Rattle.clif_meaning.specs.Name as named
 use Rattle.clif_replay.specs.Requests.{Naming}
-use Rattle.clif_replay.specs.Ready.{AnswerIs, AreResults, IsAnswered, IsReady, KeepsTables, TablesAgree}
+use Rattle.clif_replay.specs.Ready.{AnswerIs, AreResults, IsAnswered, IsReady, KeepsTables, TablesAgree, no_answer}
 use Rattle.clif_resolution.specs.Answers.{AnswerExists, edge_at, edge_in, block_in, block_of, inst_in, inst_of, value_in, value_of}
 use Rattle.clif_builder.proofs.Lasting.{answer-stays, edge-stays, ledger-more}
 use Rattle.clif_replay.proofs.Lasting.{LeavesTables, exceptions-kept, exceptions-stay, no-edge, tables-kept, tables-stay}
@@ -83,6 +83,22 @@ entry {naming} calls b answers ready place a at = by (ready.answered place a at)
     results x names answer.Exceptions are = absurd are
     results x names answer.Entry are = absurd are
 
+    -- names that lead behind all answers of a call
+    empty : (x : IsAnswered naming calls place a) → ((name : Name) → name.place ≡ place → naming name ≡ named.answer_of x.other (length x.answered + name.answer)) → a ≡ no_answer
+        → Entry naming calls place a
+    empty x names none = subst (λ (other : Answer). Entry naming calls place other) (sym none) (record {
+      given = [];
+      numbers = [];
+      is = (refl, refl);
+      told = λ name here.
+          ap (answer_at (ledger_of calls)) (names name here) ∙ answer-there calls x.other (length x.answered + name.answer) x.answered x.at_answered
+          ∙ slice_get_past x.answered (length x.answered + name.answer) (omega arith);
+      numbered = λ name here.
+          let count = (ready.stands.ledger.answers x.other x.call x.answered x.at_call x.at_answered).count in
+          ap (number_of calls) (names name here) ∙ number-there calls x.other (length x.answered + name.answer) x.call x.at_call
+          ∙ slice_get_past x.call.numbers (length x.answered + name.answer) (omega (arith, count));
+    })
+
     by : IsAnswered naming calls place a → Entry naming calls place a
     by x = elim x.leads [
       | inl itself ↦
@@ -93,7 +109,10 @@ entry {naming} calls b answers ready place a at = by (ready.answered place a at)
             told = λ name here. ap (answer_at (ledger_of calls)) (itself.0 name here) ∙ answer-there calls x.other name.answer x.answered x.at_answered;
             numbered = λ name here. ap (number_of calls) (itself.0 name here) ∙ number-there calls x.other name.answer x.call x.at_call;
           }
-      | inr behind ↦ results x behind.0 a behind.1
+      | inr other ↦ elim other [
+        | inl behind ↦ results x behind.0 a behind.1
+        | inr none ↦ empty x none.0 none.1
+      ]
     ]
 
 -- the builder agrees with an answer of its calls
@@ -366,7 +385,13 @@ results-of {naming} calls b answers ready place i at = by (ready.answered place 
         }
 
     by : IsAnswered naming calls place (answer.Inst i) → Results naming calls b place i
-    by x = elim x.leads [ inl names ↦ itself x names.0 names.1 | inr behind ↦ absurd behind.1 ]
+    by x = elim x.leads [
+      | inl names ↦ itself x names.0 names.1
+      | inr other ↦ elim other [
+        | inl behind ↦ absurd behind.1
+        | inr none ↦ let wrong : answer.Inst i ≡ answer.Nothing = none.1 in absurd (let no_way : ⊥ = cc in no_way)
+      ]
+    ]
 
 -- a name that leads to a value names it
 pub value-found : {naming : Naming} {declared : SignatureShape} (calls : List AnsweredCall) (b : FunctionBuilder) (answers : List Answer) → IsReady naming declared calls b answers

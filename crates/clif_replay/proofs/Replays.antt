@@ -25,7 +25,7 @@ use Rattle.clif_replay.specs.Errors.{replay_error_at}
 use Rattle.clif_replay.specs.declared.script.ReplayError.{ReplayError}
 use Rattle.clif_replay.specs.declared.script.ReplayError.TheVariants as replay
 use Rattle.clif_replay.specs.Replay.{ReplayMakes, ReplayTells}
-use Rattle.clif_replay.specs.Requests.{IsReplayed, IsStoppedByTable, MayBeRefused, attempts_of, calls_of, is_tried}
+use Rattle.clif_replay.specs.Requests.{IsReplayed, IsStoppedByTable, MayBeRefused, attempts_of, calls_of, is_refusable}
 use Rattle.clif_expansion.specs.CallsVerdict.{verdict_on_call_attempts}
 use Rattle.clif_expansion.proofs.calls.Headline.{keep_premises}
 use Rattle.clif_replay.proofs.Verdicts.{all-replayed, means-replayed, verdict-accepted}
@@ -191,7 +191,7 @@ misuse-place error.Memory place i told at is = let no_way : ⊥ = cc in absurd n
 misuse-place error.Full place i told at is = let no_way : ⊥ = cc in absurd no_way
 
 -- the call at a place was only tried
-pub refused-there : (calls : List Call) (place i : ℕ) (c : Call) → slice_get calls place ≡ Some c → is_tried c ≡ true → place ≡ i → MayBeRefused calls i
+pub refused-there : (calls : List Call) (place i : ℕ) (c : Call) → slice_get calls place ≡ Some c → is_refusable c ≡ true → place ≡ i → MayBeRefused calls i
 refused-there calls place i c here tried is = inr (c, ap (slice_get calls) (sym is) ∙ here, tried)
 
 -- a loop ends at the length

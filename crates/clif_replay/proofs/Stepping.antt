@@ -1,36 +1,47 @@
 -- One step of a replay: a call of the list is made, and the builder that stood for the plain calls of the script's calls stands for
 -- those of one call more.
 use Rattle.std.proofs.Common.{◌≡◌, ◌≢◌, ◌<◌, ◌⊎◌, inl, inr, ℕ, suc, ◌+◌, List, [], ◌∷◌, ◌++◌, length, ap, arith, refl, sym, ◌∙◌, subst}
-use Rattle.std.specs.Prelude.{◌&&◌, Bool, true, false, Option, None, is_some, option_map, map, fold, Result, Ok, Err, OnOk, IfOk}
+use Rattle.std.specs.Prelude.{◌&&◌, ◌||◌, Bool, true, false, Option, Some, None, is_some, option_map, map, fold, slice_get, Result, Ok, Err, OnOk, IfOk}
+use Rattle.std.specs.List.{list_any}
+use Rattle.std.specs.Global.{Vec}
+use Rattle.std.proofs.lemmas.Bool.{false≢true}
 use Rattle.std.proofs.lemmas.List.{map_push, map-append, length-append, length-map}
 use Rattle.clif_types.specs.Signature.{SignatureShape}
 use Rattle.clif_meaning.specs.Acceptance.{Refusal, allows, blames_variable, refusal_of}
 use Rattle.clif_meaning.specs.Ledger.{Ledger, empty_ledger, ledger_after}
-use Rattle.clif_meaning.specs.Name.{answer_of}
+use Rattle.clif_meaning.specs.Name as named
+use Rattle.clif_meaning.specs.Name.{answer_of, same_name}
 use Rattle.clif_meaning.specs.Request.{AnsweredCall, Request, Script, script_of}
 use Rattle.clif_simulation.proofs.LedgerValues.{as_many}
 use Rattle.clif_builder.specs.declared.builder.FunctionBuilder.{FunctionBuilder}
 use Rattle.clif_builder.specs.Builder.{SameLoans}
+use Rattle.clif_builder.specs.Ledger.{block_name}
 use Rattle.clif_expansion.specs.CallsVerdict.{AreCallsTaken, call_blames_variable}
 use Rattle.clif_expansion.specs.ScriptCall.{Ask, Emit, OfCall, ScriptCall, call_allowed, call_answers, call_refusal, ledger_of, ledger_with_call}
+use Rattle.clif_expansion.specs.Switching.{BeginsHere}
 use Rattle.clif_expansion.proofs.EmittedPrograms.{one_longer}
 use Rattle.clif_expansion.proofs.JoinedCalls.{fold_on}
+use Rattle.clif_expansion.proofs.Names.{names_equal}
 use Rattle.clif_expansion.proofs.calls.Verdicts.{one_more}
 use Rattle.clif_calls.specs.declared.call.Call.{Call}
 use Rattle.clif_calls.specs.declared.call.Call.TheVariants as call
 use Rattle.clif_calls.specs.declared.call.Name.{Name}
 use Rattle.clif_calls.specs.declared.immediate.ImmediateCall.{ImmediateCall}
+use Rattle.clif_calls.specs.declared.switch.SwitchEntry.{SwitchEntry}
 use Rattle.clif_calls.specs.declared.outside.OutsideCall.TheVariants as outside
 use Rattle.clif_calls.specs.declared.table.ThrowingCall.TheVariants as throwing
 use Rattle.clif_resolution.specs.declared.answers.Answer.{Answer}
 use Rattle.clif_resolution.specs.declared.answers.CallError.{CallError}
 use Rattle.clif_resolution.specs.declared.answers.CallError.TheVariants as error
-use Rattle.clif_replay.specs.Emits.{IsReadyBehind, MakesEmission, MakesScriptCall, plain_calls_under}
+use Rattle.clif_replay.specs.Cases.{switch_under}
+use Rattle.clif_replay.specs.Emits.{IsReadyBehind, IsReadyBehindSwitch, IsSwitchJudged, MakesEmission, MakesScriptCall, MakesSwitch, plain_calls_under}
 use Rattle.clif_replay.specs.Limits.{MeetsFullTable}
 use Rattle.clif_replay.specs.Makes.{MakesCall}
-use Rattle.clif_replay.specs.Ready.{IsJudged, IsReady, types_after}
-use Rattle.clif_replay.specs.Requests.{Naming, call_of, emission_under, is_tried, name_of, request_of, request_under}
-use Rattle.clif_replay.proofs.Known.{AreKnown, allowed-same, blamed-same, emitted-same, known-asked, known-emitted}
+use Rattle.clif_replay.specs.Ready.{IsCallJudged, IsJudged, IsReady, types_after}
+use Rattle.clif_replay.specs.Requests.{Naming, call_of, emission_under, is_refusable, is_tried, name_of, request_of, request_under}
+use Rattle.clif_replay.proofs.Known.{AreKnown, allowed-same, blamed-same, emitted-same, known-asked, known-emitted, known-switched, switch-refused, switch-same}
+use Rattle.clif_replay.proofs.Nowhere.{AreAnswered}
+use Rattle.clif_replay.proofs.ReadyLaws.{read}
 
 -- The builder stands for plain calls of these calls of the script, which are taken, and gave these answers.
 pub record IsInStep (declared : SignatureShape) (script : List ScriptCall) (b : FunctionBuilder) (answers : List Answer) : Type 0 where
@@ -41,16 +52,21 @@ pub record IsInStep (declared : SignatureShape) (script : List ScriptCall) (b : 
   pub taken : AreCallsTaken empty_ledger script
   pub counts : length (ledger_of script).answers ≡ length answers
 
+-- The call may be made at this ledger and isn't refused, or it is known why it wasn't made.
+abbrev pub IsJudgedOn : Ledger → ScriptCall → (tried : Bool) → Result Answer CallError → Type 0
+IsJudgedOn ledger this tried result =
+    IsCallJudged (call_allowed ledger this) (tried && call_blames_variable ledger this) (is_some (call_refusal ledger this)) result
+
 -- A call of the list was made, or wasn't.
 pub record IsStep (c : Call) (old new : FunctionBuilder) (answers : List Answer) (result : Result Answer CallError) : Type 0 where
   pub judged : (declared : SignatureShape) (script : List ScriptCall) → IsInStep declared script old answers
-      → IsJudged (call_allowed (ledger_of script) (call_of declared (ledger_of script) c)) (is_tried c && call_blames_variable (ledger_of script) (call_of declared (ledger_of script) c)) result
+      → IsJudgedOn (ledger_of script) (call_of declared (ledger_of script) c) (is_tried c) result
   pub goes_on : (declared : SignatureShape) (script : List ScriptCall) → IsInStep declared script old answers
       → IfOk result (λ answer. IsInStep declared (script ++ call_of declared (ledger_of script) c ∷ []) new (answers ++ answer ∷ []))
   pub loans : SameLoans old new
   pub name : OnOk result (new.func.now.name ≡ old.func.now.name)
   pub sound : OnOk result (new.failed ≡ false)
-  pub refused : result ≡ Err error.Refused → is_tried c ≡ true
+  pub refused : result ≡ Err error.Refused → is_refusable c ≡ true
   pub full : result ≡ Err error.Full → MeetsFullTable c old.func.now old.ctx.now
   pub variables : OnOk result (new.ctx.now.variables ≡ types_after c old.ctx.now.variables)
 
@@ -66,6 +82,44 @@ one-on answers answer =
     let longer = one_longer answers answer in
     omega (arith, longer)
 
+-- a call that is refused only where it isn't allowed
+never-judged : (allowed blamed refused : Bool) (result : Result Answer CallError) → refused ≡ false → IsJudged allowed blamed result → IsCallJudged allowed blamed refused result
+never-judged allowed blamed refused (Ok answer) never judged = (judged, never)
+never-judged allowed blamed refused (Err error.Misuse) never judged = judged
+never-judged allowed blamed refused (Err error.Refused) never judged = inl judged
+never-judged allowed blamed refused (Err error.Memory) never judged = tt
+never-judged allowed blamed refused (Err error.Full) never judged = judged
+
+-- BLOCKS WERE ANSWERED ----------------------------------------------------------------------------------------------------
+
+laid-block : (ledger : Ledger) (names : List named.Name) (numbers : List ℕ) (x : named.Name) → map Some names ≡ map (block_name ledger) numbers → list_any (same_name x) names ≡ true
+    → (k : ℕ) × (block_name ledger k ≡ Some x)
+laid-block ledger [] numbers x are found = absurd (false≢true found)
+laid-block ledger (name ∷ names) [] x are found = let no_way : ⊥ = cc in absurd no_way
+laid-block ledger (name ∷ names) (k ∷ numbers) x are found = by (same_name x name) refl found (λ later. laid-block ledger names numbers x rest later)
+  where
+    first : Some name ≡ block_name ledger k
+    first = cc
+
+    rest : map Some names ≡ map (block_name ledger) numbers
+    rest = cc
+
+    by : (here : Bool) → same_name x name ≡ here → (here || list_any (same_name x) names) ≡ true
+        → (list_any (same_name x) names ≡ true → (j : ℕ) × (block_name ledger j ≡ Some x)) → (j : ℕ) × (block_name ledger j ≡ Some x)
+    by true same is later = (k, sym first ∙ ap Some (sym (names_equal x name same)))
+    by false same is later = later is
+
+ready-answered : (naming : Naming) (declared : SignatureShape) (made : List AnsweredCall) (b : FunctionBuilder) (answers : List Answer) → IsReady naming declared made b answers
+    → AreAnswered (ledger_after (script_of made))
+ready-answered naming declared made b answers ready = record {
+  blocks = λ x there.
+      let found = (read made b answers ready).numbered x there in
+      ready.stands.ledger.block_answers found.0 x found.1;
+  laid = λ x inserted.
+      let found = laid-block (ledger_after (script_of made)) (ledger_after (script_of made)).layout b.func.now.layout x ready.stands.ledger.layout inserted in
+      ready.stands.ledger.block_answers found.0 x found.1;
+}
+
 judged-same : (allowed other refused blamed : Bool) (result : Result Answer CallError) → allowed ≡ other → refused ≡ blamed → IsJudged allowed refused result → IsJudged other blamed result
 judged-same allowed other refused blamed result may blames judged =
     subst (λ (a : Bool). IsJudged a blamed result) may (subst (λ (r : Bool). IsJudged allowed r result) blames judged)
@@ -75,6 +129,14 @@ later-names : (naming : Naming) (declared : SignatureShape) (made : List Answere
     → (name : Name) (k : ℕ) → name.place ≡ length answers + k → naming name ≡ answer_of (length (ledger_after (script_of made)).answers + k) name.answer
 later-names naming declared made b answers ready name k place =
     ready.later name k place ∙ ap (λ (n : ℕ). answer_of (n + k) name.answer) (sym (as_many made))
+
+-- a call that is only tried may be refused
+tried-refusable : (c : Call) → is_tried c ≡ true → is_refusable c ≡ true
+tried-refusable (call.TryDefVar variable value) is = refl
+tried-refusable (call.TryUseVar variable) is = refl
+tried-refusable (call.Switch entries value otherwise) is = refl
+tried-refusable (call.CreateBlock) is = absurd (false≢true is)
+tried-refusable _ is = absurd (false≢true is)
 
 -- ASKING ------------------------------------------------------------------------------------------------------------------
 
@@ -86,27 +148,32 @@ record Asks (c : Call) : Type 0 where
 
 module _ (c : Call) (asks : Asks c) (old new : FunctionBuilder) (answers : List Answer) where
   ask-judged : (result : Result Answer CallError) → MakesCall c old new answers result → (declared : SignatureShape) (script : List ScriptCall) → IsInStep declared script old answers
-      → IsJudged (call_allowed (ledger_of script) (call_of declared (ledger_of script) c)) (is_tried c && call_blames_variable (ledger_of script) (call_of declared (ledger_of script) c)) result
+      → IsJudgedOn (ledger_of script) (call_of declared (ledger_of script) c) (is_tried c) result
   ask-judged result makes declared script s =
       let later = later-names s.naming declared s.made old answers s.ready in
+      let answered = ready-answered s.naming declared s.made old answers s.ready in
       let same = asks.call declared (ledger_of script) in
-      judged-same _ _ _ _ result
-      (allowed-same s.naming (length answers) (script_of s.made) script s.known s.counts later declared c ∙ ap (call_allowed (ledger_of script)) (sym same))
+      never-judged _ _ _ result
+      (ap (λ (this : ScriptCall). is_some (call_refusal (ledger_of script) this)) same
+      ∙ ap (λ (refusal : Option Refusal). is_some (option_map OfCall refusal)) (asks.refused_never declared (ledger_of script)))
+      (judged-same _ _ _ _ result
+      (allowed-same s.naming (length answers) (script_of s.made) script s.known s.counts later answered declared c ∙ ap (call_allowed (ledger_of script)) (sym same))
       (ap (λ (blamed : Bool). is_tried c && blamed)
-      (blamed-same s.naming (length answers) (script_of s.made) script s.known s.counts later declared c ∙ ap (call_blames_variable (ledger_of script)) (sym same)))
-      (makes.judged s.naming declared s.made s.ready)
+      (blamed-same s.naming (length answers) (script_of s.made) script s.known s.counts later answered declared c ∙ ap (call_blames_variable (ledger_of script)) (sym same)))
+      (makes.judged s.naming declared s.made s.ready))
 
   ask-goes-on : (result : Result Answer CallError) → MakesCall c old new answers result → (declared : SignatureShape) (script : List ScriptCall) → IsInStep declared script old answers
       → IfOk result (λ answer. IsInStep declared (script ++ call_of declared (ledger_of script) c ∷ []) new (answers ++ answer ∷ []))
   ask-goes-on (Err error) makes declared script s = tt
   ask-goes-on (Ok answer) makes declared script s =
       let later = later-names s.naming declared s.made old answers s.ready in
+      let answered = ready-answered s.naming declared s.made old answers s.ready in
       let after = makes.ready s.naming declared s.made s.ready in
       let judged = makes.judged s.naming declared s.made s.ready in
       let asked : Request = request_under s.naming declared (ledger_after (script_of s.made)) c in
       let request : Request = request_of declared (ledger_of script) c in
       let more : AnsweredCall = record { request = asked; numbers = after.0 } in
-      let may = sym (allowed-same s.naming (length answers) (script_of s.made) script s.known s.counts later declared c) ∙ judged in
+      let may = sym (allowed-same s.naming (length answers) (script_of s.made) script s.known s.counts later answered declared c) ∙ judged in
       subst (λ (last : ScriptCall). IsInStep declared (script ++ last ∷ []) new (answers ++ answer ∷ [])) (sym (asks.call declared (ledger_of script))) (record {
         naming = s.naming;
         made = s.made ++ more ∷ [];
@@ -114,7 +181,7 @@ module _ (c : Call) (asks : Asks c) (old new : FunctionBuilder) (answers : List 
         known =
             subst (λ (n : ℕ). AreKnown s.naming n (script_of (s.made ++ more ∷ [])) (script ++ Ask request ∷ [])) (one-on answers answer)
             (subst (λ (plain : Script). AreKnown s.naming (length answers + 1) plain (script ++ Ask request ∷ [])) (sym (map_push (λ (a : AnsweredCall). a.request) s.made more))
-            (known-asked s.naming (length answers) (script_of s.made) script s.known s.counts later declared c judged));
+            (known-asked s.naming (length answers) (script_of s.made) script s.known s.counts later answered declared c judged));
         taken = one_more empty_ledger script (Ask request) s.taken may
             (ap (λ (refusal : Option Refusal). is_some (option_map OfCall refusal)) (asks.refused_never declared (ledger_of script)));
         counts = one-answer-more script (Ask request) answers answer s.counts;
@@ -127,7 +194,7 @@ module _ (c : Call) (asks : Asks c) (old new : FunctionBuilder) (answers : List 
     loans = makes.loans;
     name = makes.name;
     sound = makes.sound;
-    refused = makes.refused;
+    refused = λ is. tried-refusable c (makes.refused is);
     full = makes.full;
     variables = makes.variables;
   }
@@ -139,7 +206,8 @@ module _ (called : ImmediateCall) (old new : FunctionBuilder) (answers : List An
       → IsJudged (call_allowed (ledger_of script) (Emit (emission_under name_of (ledger_of script) called))) false result
   emission-judged result makes declared script s =
       let later = later-names s.naming declared s.made old answers s.ready in
-      judged-same _ _ false false result (emitted-same s.naming (length answers) (script_of s.made) script s.known s.counts later called) refl
+      let answered = ready-answered s.naming declared s.made old answers s.ready in
+      judged-same _ _ false false result (emitted-same s.naming (length answers) (script_of s.made) script s.known s.counts later answered called) refl
       (makes.judged s.naming declared s.made s.ready)
 
   emission-goes-on : (result : Result Answer CallError) → MakesEmission called old new answers result → (declared : SignatureShape) (script : List ScriptCall) → IsInStep declared script old answers
@@ -147,6 +215,7 @@ module _ (called : ImmediateCall) (old new : FunctionBuilder) (answers : List An
   emission-goes-on (Err error) makes declared script s = tt
   emission-goes-on (Ok answer) makes declared script s =
       let later = later-names s.naming declared s.made old answers s.ready in
+      let answered = ready-answered s.naming declared s.made old answers s.ready in
       let behind = makes.ready s.naming declared s.made s.ready in
       let may = emission-judged (Ok answer) makes declared script s in
       let emission = emission_under name_of (ledger_of script) called in
@@ -161,7 +230,7 @@ module _ (called : ImmediateCall) (old new : FunctionBuilder) (answers : List An
         known =
             subst (λ (n : ℕ). AreKnown behind.extended n (script_of (s.made ++ behind.added)) (script ++ Emit emission ∷ [])) (one-on answers answer)
             (subst (λ (plain : Script). AreKnown behind.extended (length answers + 1) plain (script ++ Emit emission ∷ [])) (sym (map-append (λ (a : AnsweredCall). a.request) s.made behind.added))
-            (known-emitted s.naming (length answers) (script_of s.made) script s.known s.counts later called may (script_of behind.added)
+            (known-emitted s.naming (length answers) (script_of s.made) script s.known s.counts later answered called may (script_of behind.added)
             (behind.asked ∙ ap (λ (n : ℕ). plain_calls_under s.naming (ledger_after (script_of s.made)) n called) (sym counted))
             behind.extended behind.last (omega (arith, counted, long, both, at_end)) behind.earlier behind.results));
         taken = one_more empty_ledger script (Emit emission) s.taken may refl;
@@ -170,7 +239,7 @@ module _ (called : ImmediateCall) (old new : FunctionBuilder) (answers : List An
 
   emission-step : (result : Result Answer CallError) → MakesEmission called old new answers result → IsStep (call.Immediate called) old new answers result
   emission-step result makes = record {
-    judged = emission-judged result makes;
+    judged = λ declared script s. never-judged _ _ _ result refl (emission-judged result makes declared script s);
     goes_on = emission-goes-on result makes;
     loans = makes.loans;
     name = makes.name;
@@ -180,20 +249,88 @@ module _ (called : ImmediateCall) (old new : FunctionBuilder) (answers : List An
     variables = makes.variables;
   }
 
--- each call is one of both
-kind : (c : Call) → ((called : ImmediateCall) × (c ≡ call.Immediate called)) ⊎ Asks c
+-- SWITCHING ---------------------------------------------------------------------------------------------------------------
+
+begins-some : (more : Script) → BeginsHere more → 0 < length more
+begins-some [] begins = absurd begins
+begins-some (request ∷ more) begins = omega arith
+
+call-judged-same : (allowed other blamed refused also : Bool) (result : Result Answer CallError) → allowed ≡ other → refused ≡ also → IsCallJudged allowed blamed refused result → IsCallJudged other blamed also result
+call-judged-same allowed other blamed refused also result may told judged =
+    subst (λ (a : Bool). IsCallJudged a blamed also result) may (subst (λ (r : Bool). IsCallJudged allowed blamed r result) told judged)
+
+module _ (entries : Vec SwitchEntry) (value otherwise : Name) (old new : FunctionBuilder) (answers : List Answer) where
+  switch-judged : (result : Result Answer CallError) → MakesSwitch entries.items value otherwise old new answers result → (declared : SignatureShape) (script : List ScriptCall) → IsInStep declared script old answers
+      → IsSwitchJudged (ledger_of script) (switch_under name_of (ledger_of script) entries.items value otherwise) result
+  switch-judged result makes declared script s =
+      let later = later-names s.naming declared s.made old answers s.ready in
+      let answered = ready-answered s.naming declared s.made old answers s.ready in
+      call-judged-same _ _ false _ _ result
+      (switch-same s.naming (length answers) (script_of s.made) script s.known s.counts later answered entries.items value otherwise)
+      (switch-refused s.naming (length answers) (script_of s.made) script s.known s.counts later answered entries.items value otherwise)
+      (makes.judged s.naming declared s.made s.ready)
+
+  switch-goes-on : (result : Result Answer CallError) → MakesSwitch entries.items value otherwise old new answers result → (declared : SignatureShape) (script : List ScriptCall) → IsInStep declared script old answers
+      → IfOk result (λ answer. IsInStep declared (script ++ Emit (switch_under name_of (ledger_of script) entries.items value otherwise) ∷ []) new (answers ++ answer ∷ []))
+  switch-goes-on (Err error) makes declared script s = tt
+  switch-goes-on (Ok answer) makes declared script s =
+      let later = later-names s.naming declared s.made old answers s.ready in
+      let answered = ready-answered s.naming declared s.made old answers s.ready in
+      let behind = makes.ready s.naming declared s.made s.ready in
+      let may = switch-judged (Ok answer) makes declared script s in
+      let switch = switch_under name_of (ledger_of script) entries.items value otherwise in
+      let before : length (script_of s.made) ≡ length s.made = length-map s.made (λ (a : AnsweredCall). a.request) in
+      let long : length (script_of behind.added) ≡ length behind.added = length-map behind.added (λ (a : AnsweredCall). a.request) in
+      let both : length (s.made ++ behind.added) ≡ length s.made + length behind.added = length-append s.made behind.added in
+      let at_end = behind.at_end in
+      let whole : script_of (s.made ++ behind.added) ≡ script_of s.made ++ script_of behind.added = map-append (λ (a : AnsweredCall). a.request) s.made behind.added in
+      record {
+        naming = behind.extended;
+        made = s.made ++ behind.added;
+        ready = behind.ready;
+        known =
+            subst (λ (n : ℕ). AreKnown behind.extended n (script_of (s.made ++ behind.added)) (script ++ Emit switch ∷ [])) (one-on answers answer)
+            (subst (λ (plain : Script). AreKnown behind.extended (length answers + 1) plain (script ++ Emit switch ∷ [])) (sym whole)
+            (known-switched s.naming (length answers) (script_of s.made) script s.known s.counts later answered entries.items value otherwise may.0 (script_of behind.added)
+            behind.block behind.value behind.ty behind.keys behind.edges behind.branches behind.tables behind.is behind.current behind.code behind.extended behind.last
+            (omega (arith, before, long, both, at_end)) behind.given
+            (subst (λ (plain : Script). slice_get (ledger_after plain).answers behind.last ≡ Some behind.given) whole behind.at_given)
+            (begins-some (script_of behind.added) behind.code.begins) behind.earlier behind.behind));
+        taken = one_more empty_ledger script (Emit switch) s.taken may.0 may.1;
+        counts = one-answer-more script (Emit switch) answers answer s.counts;
+      }
+
+  switch-step : (result : Result Answer CallError) → MakesSwitch entries.items value otherwise old new answers result → IsStep (call.Switch entries value otherwise) old new answers result
+  switch-step result makes = record {
+    judged = switch-judged result makes;
+    goes_on = switch-goes-on result makes;
+    loans = makes.loans;
+    name = makes.name;
+    sound = makes.sound;
+    refused = λ is. refl;
+    full = λ is. tt;
+    variables = makes.variables;
+  }
+
+-- each call is one of these
+kind : (c : Call) → ((called : ImmediateCall) × (c ≡ call.Immediate called)) ⊎ ((entries : Vec SwitchEntry) × (value : Name) × (otherwise : Name) × (c ≡ call.Switch entries value otherwise)) ⊎ Asks c
 kind (call.Immediate called) = inl (called, refl)
-kind (call.Outside (outside.Call function args)) = inr (record { call = λ declared ledger. refl; makes = λ old new answers result is. is; refused_never = λ declared ledger. refl })
-kind (call.Outside (outside.CallIndirect signature callee args)) = inr (record { call = λ declared ledger. refl; makes = λ old new answers result is. is; refused_never = λ declared ledger. refl })
-kind (call.Throwing (throwing.TryCall function args table)) = inr (record { call = λ declared ledger. refl; makes = λ old new answers result is. is; refused_never = λ declared ledger. refl })
-kind (call.Throwing (throwing.TryCallIndirect callee args table)) = inr (record { call = λ declared ledger. refl; makes = λ old new answers result is. is; refused_never = λ declared ledger. refl })
-kind _ = inr (record { call = λ declared ledger. refl; makes = λ old new answers result is. is; refused_never = λ declared ledger. refl })
+kind (call.Switch entries value otherwise) = inr (inl (entries, value, otherwise, refl))
+kind (call.Outside (outside.Call function args)) = inr (inr (record { call = λ declared ledger. refl; makes = λ old new answers result is. is; refused_never = λ declared ledger. refl }))
+kind (call.Outside (outside.CallIndirect signature callee args)) = inr (inr (record { call = λ declared ledger. refl; makes = λ old new answers result is. is; refused_never = λ declared ledger. refl }))
+kind (call.Throwing (throwing.TryCall function args table)) = inr (inr (record { call = λ declared ledger. refl; makes = λ old new answers result is. is; refused_never = λ declared ledger. refl }))
+kind (call.Throwing (throwing.TryCallIndirect callee args table)) = inr (inr (record { call = λ declared ledger. refl; makes = λ old new answers result is. is; refused_never = λ declared ledger. refl }))
+kind _ = inr (inr (record { call = λ declared ledger. refl; makes = λ old new answers result is. is; refused_never = λ declared ledger. refl }))
 
 pub step : (c : Call) (old new : FunctionBuilder) (answers : List Answer) (result : Result Answer CallError) → MakesScriptCall c old new answers result → IsStep c old new answers result
 step c old new answers result makes = by (kind c)
   where
-    by : ((called : ImmediateCall) × (c ≡ call.Immediate called)) ⊎ Asks c → IsStep c old new answers result
+    by : ((called : ImmediateCall) × (c ≡ call.Immediate called)) ⊎ ((entries : Vec SwitchEntry) × (value : Name) × (otherwise : Name) × (c ≡ call.Switch entries value otherwise)) ⊎ Asks c
+        → IsStep c old new answers result
     by (inl (called, is)) =
         subst (λ (x : Call). IsStep x old new answers result) (sym is)
         (emission-step called old new answers result (subst (λ (x : Call). MakesScriptCall x old new answers result) is makes))
-    by (inr asks) = ask-step c asks old new answers result (asks.makes old new answers result makes)
+    by (inr (inl (entries, value, otherwise, is))) =
+        subst (λ (x : Call). IsStep x old new answers result) (sym is)
+        (switch-step entries value otherwise old new answers result (subst (λ (x : Call). MakesScriptCall x old new answers result) is makes))
+    by (inr (inr asks)) = ask-step c asks old new answers result (asks.makes old new answers result makes)

@@ -1,5 +1,5 @@
 -- The verdict on a list of calls, call by call.
-use Rattle.std.proofs.Common.{◌≡◌, ℕ, suc, ◌+◌, ◌<◌, List, [], ◌∷◌, ◌++◌, length, get_or, take, drop, refl, ap, arith, sym, ◌∙◌, subst}
+use Rattle.std.proofs.Common.{◌≡◌, ℕ, suc, ◌+◌, ◌<◌, List, [], ◌∷◌, ◌++◌, length, get_or, take, drop, refl, ap, arith, sym, ◌∙◌, subst, inl, inr}
 use Rattle.std.specs.Prelude.{fold, Option, Some, None, is_some, Bool, true, false, not, ◌&&◌, if◌then◌else◌, Result, Ok, Err}
 use Rattle.std.proofs.lemmas.List.{map_push, take_more, drop_more, drop_all, take_all}
 use Rattle.clif_types.specs.Signature.{SignatureShape}
@@ -16,15 +16,12 @@ use Rattle.clif_builder.specs.declared.error.FinalizeError.TheVariants as ending
 use Rattle.clif_builder.specs.Ledger.{RefusalAgrees}
 use Rattle.clif_builder.specs.Ledger.{ledger_of as plain_ledger_of}
 use Rattle.clif_calls.specs.declared.call.Call.{Call}
-use Rattle.clif_calls.specs.declared.call.Call.TheVariants as call
-use Rattle.clif_calls.specs.declared.outside.OutsideCall.TheVariants as outside
-use Rattle.clif_calls.specs.declared.table.ThrowingCall.TheVariants as throwing
 use Rattle.clif_resolution.specs.declared.answers.CallError.{CallError}
 use Rattle.clif_resolution.specs.declared.answers.CallError.TheVariants as error
 use Rattle.clif_replay.specs.declared.script.ReplayError.{ReplayError}
 use Rattle.clif_replay.specs.declared.script.ReplayError.TheVariants as replay
 use Rattle.clif_replay.specs.Errors.{replay_error_at}
-use Rattle.clif_replay.specs.Ready.{IsJudged}
+use Rattle.clif_replay.specs.Ready.{IsCallJudged}
 use Rattle.clif_replay.specs.Requests.{ArePlainCalls, IsReplayed, attempt_of, attempts_from, attempts_of, call_of, calls_from, calls_of, is_tried}
 use Rattle.clif_replay.proofs.Options.{if-no}
 use Rattle.clif_expansion.specs.CallsHeadline.{CallsMeanTheSame}
@@ -33,15 +30,6 @@ use Rattle.clif_expansion.specs.ScriptCall.{Ask, ScriptCall, call_allowed, call_
 use Rattle.clif_expansion.proofs.JoinedCalls.{fold_on, joined_calls}
 use Rattle.clif_expansion.proofs.calls.Headline.{calls_mean}
 use Rattle.clif_expansion.proofs.calls.Verdicts.{verdicts_are_read}
-
--- no call of a list is `finalize`
-never-refused : (declared : SignatureShape) (ledger : Ledger) (c : Call) → is_some (call_refusal ledger (call_of declared ledger c)) ≡ false
-never-refused declared ledger call.CreateBlock = refl
-never-refused declared ledger (call.Outside (outside.Call function args)) = refl
-never-refused declared ledger (call.Outside (outside.CallIndirect signature callee args)) = refl
-never-refused declared ledger (call.Throwing (throwing.TryCall function args table)) = refl
-never-refused declared ledger (call.Throwing (throwing.TryCallIndirect callee args table)) = refl
-never-refused declared ledger _ = refl
 
 -- the script's calls of the first ones of a list, and their ledger
 abbrev pub calls_before : SignatureShape → List Call → ℕ → List ScriptCall
@@ -95,16 +83,17 @@ rest-begins declared calls place c inside is rest =
     ∙ ap (λ (list : List Call). verdict_on_calls_from place ledger (attempts_from declared ledger list ++ made (Ask Finalize) ∷ []))
     (drop_more calls place c inside ∙ ap (λ (x : Call). x ∷ drop (place + 1) calls) (sym is))
 
--- one that is allowed leaves the verdict to the calls behind it
+-- one that is allowed and not refused leaves the verdict to the calls behind it
 pub rest-more : (declared : SignatureShape) (calls : List Call) (place : ℕ) (c : Call) → place < length calls → c ≡ get_or calls place c → HasRest declared calls place
-    → call_allowed (ledger_before declared calls place) (call_at declared calls place c) ≡ true → HasRest declared calls (place + 1)
-rest-more declared calls place c inside is rest allowed =
+    → call_allowed (ledger_before declared calls place) (call_at declared calls place c) ≡ true → is_some (call_refusal (ledger_before declared calls place) (call_at declared calls place c)) ≡ false
+    → HasRest declared calls (place + 1)
+rest-more declared calls place c inside is rest allowed taken =
     let ledger = ledger_before declared calls place in
     let this = call_at declared calls place c in
     let next = behind declared calls place (ledger_with_call ledger this) in
     let refused : Bool = is_tried c && call_blames_variable ledger this in
     let goes_on = if-no (not (call_allowed ledger this)) (if refused then Refused place else Misuse place) (if is_some (call_refusal ledger this) then Refused place else verdict_on_calls_from (suc place) (ledger_with_call ledger this) next) (ap not allowed) in
-    let fine = if-no (is_some (call_refusal ledger this)) (Refused place) (verdict_on_calls_from (suc place) (ledger_with_call ledger this) next) (never-refused declared ledger c) in
+    let fine = if-no (is_some (call_refusal ledger this)) (Refused place) (verdict_on_calls_from (suc place) (ledger_with_call ledger this) next) taken in
     let one_on : suc place ≡ place + 1 = omega arith in
     rest-begins declared calls place c inside is rest ∙ goes_on ∙ fine
     ∙ ap (λ (n : ℕ). verdict_on_calls_from n (ledger_with_call ledger this) next) one_on
@@ -124,6 +113,17 @@ denied-here declared calls place c refused inside is rest denied blames =
     else (if is_some (call_refusal ledger this) then Refused place
     else verdict_on_calls_from (suc place) (ledger_with_call ledger this) next)) denied
     ∙ ap (λ (blamed : Bool). if blamed then Refused place else Misuse place) blames
+
+-- one that is allowed and refused decides
+refused-here : (declared : SignatureShape) (calls : List Call) (place : ℕ) (c : Call) → place < length calls → c ≡ get_or calls place c → HasRest declared calls place
+    → call_allowed (ledger_before declared calls place) (call_at declared calls place c) ≡ true
+    → is_some (call_refusal (ledger_before declared calls place) (call_at declared calls place c)) ≡ true
+    → verdict_on_call_attempts (attempts_of declared calls) ≡ Refused place
+refused-here declared calls place c inside is rest allowed refused =
+    let ledger = ledger_before declared calls place in
+    let this = call_at declared calls place c in
+    rest-begins declared calls place c inside is rest
+    ∙ verdicts_are_read.refuses place ledger (attempt_of declared ledger c) (behind declared calls place (ledger_with_call ledger this)) allowed refused
 
 -- the error of a call tells where it was made: a misuse and a refusal are told as themselves
 misuse-at : (refusal : CallError) (place i : ℕ) (told : ReplayError) → told ≡ replay_error_at refusal place → told ≡ replay.Misuse i → (refusal ≡ error.Misuse) × (place ≡ i)
@@ -165,8 +165,9 @@ refusal-at error.Full place i told at refused = absurd (other i (sym at ∙ refu
 -- what a call's error tells of the verdict
 abbrev pub IsJudgedAt : SignatureShape → List Call → ℕ → Call → CallError → Type 0
 IsJudgedAt declared calls place c refusal =
-    IsJudged (call_allowed (ledger_before declared calls place) (call_at declared calls place c))
-    (is_tried c && call_blames_variable (ledger_before declared calls place) (call_at declared calls place c)) (Err refusal)
+    IsCallJudged (call_allowed (ledger_before declared calls place) (call_at declared calls place c))
+    (is_tried c && call_blames_variable (ledger_before declared calls place) (call_at declared calls place c))
+    (is_some (call_refusal (ledger_before declared calls place) (call_at declared calls place c))) (Err refusal)
 
 -- the error of a call that isn't allowed, and of no other, tells a misuse at its place
 pub misuse-told : (declared : SignatureShape) (calls : List Call) (place i : ℕ) (c : Call) (refusal : CallError) (told : ReplayError) → place < length calls → c ≡ get_or calls place c → HasRest declared calls place
@@ -176,13 +177,15 @@ misuse-told declared calls place i c refusal told inside is rest judged at misus
     let denied = subst (λ (e : CallError). IsJudgedAt declared calls place c e) place_is.0 judged in
     denied-here declared calls place c false inside is rest denied.0 denied.1 ∙ ap Misuse place_is.1
 
--- and a refusal where its variable is to blame
+-- and a refusal where its variable is to blame, or where it is refused though it is allowed
 pub refusal-told : (declared : SignatureShape) (calls : List Call) (place i : ℕ) (c : Call) (refusal : CallError) (told : ReplayError) → place < length calls → c ≡ get_or calls place c → HasRest declared calls place
     → IsJudgedAt declared calls place c refusal → told ≡ replay_error_at refusal place → told ≡ replay.Refused i → verdict_on_call_attempts (attempts_of declared calls) ≡ Refused i
 refusal-told declared calls place i c refusal told inside is rest judged at refused =
     let place_is = refusal-at refusal place i told at refused in
-    let denied = subst (λ (e : CallError). IsJudgedAt declared calls place c e) place_is.0 judged in
-    denied-here declared calls place c true inside is rest denied.0 denied.1 ∙ ap Refused place_is.1
+    elim (subst (λ (e : CallError). IsJudgedAt declared calls place c e) place_is.0 judged) [
+      | inl denied ↦ denied-here declared calls place c true inside is rest denied.0 denied.1 ∙ ap Refused place_is.1
+      | inr refusal ↦ refused-here declared calls place c inside is rest refusal.0 refusal.1 ∙ ap Refused place_is.1
+    ]
 
 -- all calls were made
 pub all-replayed : (declared : SignatureShape) (calls : List Call) (made : List AnsweredCall) → IsReplayed declared calls (length calls) made → ArePlainCalls (script_of made) (calls_of declared calls)

@@ -103,3 +103,10 @@ module _ (reading : Reading) (plain ledger : Ledger) where
             → IsReadAnswer whole (answer_at plain x) (answer_at ledger name)
         by x name (inl old) = answer_later reading whole whole-keeps (answer_at plain x) (answer_at ledger name) (joined.ledgers.answers x name old)
         by x name (inr (past, place, index)) = none-read whole (answer_at plain x) (answer_at ledger name) (no-answer plain x past) (no-answer ledger name (omega (arith, place)))
+
+-- later names are read alike, whatever was read so far
+pub whole-past : (reading other : Reading) (plain ledger : Ledger) (x : Name) → length plain.answers ≤ x.place → whole reading plain ledger x ≡ whole other plain ledger x
+whole-past reading other plain ledger x past =
+    let place : x.place ≡ length plain.answers + (x.place - length plain.answers) = omega (arith, past) in
+    stands-later reading plain ledger x (x.place - length plain.answers) (cases_lt x.place (length plain.answers)) place
+    ∙ sym (stands-later other plain ledger x (x.place - length plain.answers) (cases_lt x.place (length plain.answers)) place)

@@ -1,5 +1,5 @@
 -- Worked examples of what the names of an answer lead to, and of the plain calls of an emission. Own.
-use Rattle.std.specs.Prelude.{◌≡◌, ℕ, suc, pos, List, [], ◌∷◌, length}
+use Rattle.std.specs.Prelude.{◌≡◌, ℕ, suc, ◌+◌, pos, List, [], ◌∷◌, length}
 use Rattle.clif_types.specs.declared.types.«Type».{«Type»}
 use Rattle.clif_opcodes.specs.declared.opcodes.BinaryOpcode.TheVariants.{Iadd}
 use Rattle.clif_ir.specs.Body.{empty_function}
@@ -29,16 +29,23 @@ one_result = AnInstruction ∷ AValue i32 ∷ []
 abbrev pub its_numbers : List ℕ
 its_numbers = 5 ∷ 7 ∷ []
 
+-- behind both answers of the call at this place
+abbrev pub behind_both : ℕ → Naming
+behind_both other name = named.answer_of other (2 + name.answer)
+
 pub record NamingExamples : Type 0 where
   -- a list's call that was asked as it is
   pub block : LeadsTo name_of 3 3 (answer.Block 0) (ABlock ∷ []) (0 ∷ [])
   pub instruction : LeadsTo name_of 2 2 (answer.Inst 5) one_result its_numbers
   -- the first call of a list, for which three were asked: its answer is the last one's result
   pub results : LeadsTo (behind_number 2) 0 2 (answer.Values 7 1) one_result its_numbers
-  -- wrong ones: another value, the instruction itself, and the result under the instruction's name
+  -- a call that answers nothing, for which three were asked
+  pub nothing : LeadsTo (behind_both 2) 0 2 answer.Nothing one_result its_numbers
+  -- wrong ones: another value, the instruction itself, the result under the instruction's name, and nothing under the result's
   pub another_value : LeadsTo (behind_number 2) 0 2 (answer.Values 8 1) one_result its_numbers → ⊥
   pub itself : LeadsTo (behind_number 2) 0 2 (answer.Inst 5) one_result its_numbers → ⊥
   pub not_behind : LeadsTo name_of 2 2 (answer.Values 7 1) one_result its_numbers → ⊥
+  pub something : LeadsTo (behind_number 2) 0 2 answer.Nothing one_result its_numbers → ⊥
 
 -- the sum of the first answer and 7, and a ledger in which that answer is a value of this type
 abbrev pub seven_more : ImmediateCall

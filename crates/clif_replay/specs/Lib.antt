@@ -1,3 +1,4 @@
+pub mod Cases
 pub mod Entries
 pub mod Errors
 pub mod Limits

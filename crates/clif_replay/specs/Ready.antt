@@ -46,6 +46,10 @@ AnswerIs answer.Table answered numbers = (number : ℕ) × (answered ≡ AJumpTa
 AnswerIs answer.Exceptions answered numbers = (number : ℕ) × (answered ≡ AnExceptionTable number ∷ []) × (numbers ≡ number ∷ [])
 AnswerIs answer.Entry answered numbers = (entry : TableEntry) × (number : ℕ) × (answered ≡ AnEntry entry number ∷ []) × (numbers ≡ number ∷ [])
 
+-- a call that answers nothing
+abbrev pub no_answer : Answer
+no_answer = answer.Nothing
+
 -- two tables hold what agrees, or both serve an instruction
 abbrev pub TableAgrees : {A B : Type 0} → (A → B → Type 0) → Option A → Option B → Type 0
 TableAgrees {A} {B} Agree None None = Unit {0}
@@ -65,11 +69,13 @@ AreResults (answer.Values first count) answered numbers =
 AreResults _ answered numbers = ⊥
 
 -- The answer at this place is that of the builder's call at the other one, name by name; or it is the results alone of an
--- instruction that the builder's call made, the last one of several calls that were made for one of the list.
+-- instruction that the builder's call made, the last one of several calls that were made for one of the list; or it is none, and
+-- its names lead behind all answers of the last one of several calls.
 abbrev pub LeadsTo : Naming → (place other : ℕ) → Answer → List Answered → List ℕ → Type 0
 LeadsTo naming place other answer answered numbers =
     (((name : Name) → name.place ≡ place → naming name ≡ named.answer_of other name.answer) × AnswerIs answer answered numbers)
     ⊎ (((name : Name) → name.place ≡ place → naming name ≡ named.answer_of other (suc name.answer)) × AreResults answer answered numbers)
+    ⊎ (((name : Name) → name.place ≡ place → naming name ≡ named.answer_of other (length answered + name.answer)) × (answer ≡ no_answer))
 
 -- the builder's call to whose answers the names of this answer lead
 pub record IsAnswered (naming : Naming) (calls : List AnsweredCall) (place : ℕ) (answer : Answer) : Type 0 where
@@ -119,6 +125,14 @@ IsJudged allowed refused (Err error.Misuse) = (allowed ≡ false) × (refused �
 IsJudged allowed refused (Err error.Refused) = (allowed ≡ false) × (refused ≡ true)
 IsJudged allowed refused (Err error.Memory) = Unit {0}
 IsJudged allowed refused (Err error.Full) = allowed ≡ true
+
+-- The same of a call that may be refused though it may be made: it succeeds only where it isn't.
+abbrev pub IsCallJudged : (allowed blamed refused : Bool) → Result Answer CallError → Type 0
+IsCallJudged allowed blamed refused (Ok answer) = (allowed ≡ true) × (refused ≡ false)
+IsCallJudged allowed blamed refused (Err error.Misuse) = (allowed ≡ false) × (blamed ≡ false)
+IsCallJudged allowed blamed refused (Err error.Refused) = ((allowed ≡ false) × (blamed ≡ true)) ⊎ ((allowed ≡ true) × (refused ≡ true))
+IsCallJudged allowed blamed refused (Err error.Memory) = Unit {0}
+IsCallJudged allowed blamed refused (Err error.Full) = allowed ≡ true
 
 -- a block may be made current
 abbrev pub can_switch : FunctionBuilder → ℕ → Bool

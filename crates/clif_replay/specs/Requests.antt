@@ -41,6 +41,7 @@ use Rattle.clif_expansion.specs.Reading.{Reading}
 use Rattle.clif_expansion.specs.ScriptCall.{Ask, Emit, ScriptCall, call_allowed, ledger_of, ledger_with_call}
 use Rattle.clif_replay.specs.declared.script.ReplayError.{ReplayError}
 use Rattle.clif_replay.specs.declared.script.ReplayError.TheVariants as replay
+use Rattle.clif_replay.specs.Cases.{switch_under}
 use Rattle.clif_replay.specs.Entries.{entry_in}
 use Rattle.clif_replay.specs.Limits.{MeetsFullTable}
 use Rattle.clif_resolution.specs.Plans.{operation_in, controlling_in}
@@ -126,6 +127,7 @@ request_under naming signature ledger (call.Throwing called) = throwing_request 
 request_under naming signature ledger (call.Return values) = return_ (map naming values.items)
 request_under naming signature ledger (call.Trap code) = trap code
 request_under naming signature ledger (call.Immediate called) = Annotate []
+request_under naming signature ledger (call.Switch entries value otherwise) = Annotate []
 
 -- the request of a call with its own names
 abbrev pub request_of : SignatureShape → Ledger → Call → Request
@@ -136,6 +138,12 @@ abbrev pub is_tried : Call → Bool
 is_tried (call.TryDefVar variable value) = true
 is_tried (call.TryUseVar variable) = true
 is_tried _ = false
+
+-- A call that may be refused though it may be made, or though it may not be: a switch for its keys, and one that is only tried for
+-- its variable.
+abbrev pub is_refusable : Call → Bool
+is_refusable (call.Switch entries value otherwise) = true
+is_refusable call = is_tried call
 
 -- the operand that is named
 abbrev pub operand_in : ImmediateCall → named.Name
@@ -158,6 +166,7 @@ emission_under naming ledger called = computing (emitted_in called) (operand_typ
 -- a call of a list as a call of the script, with its own names: it emits, or asks the builder
 abbrev pub call_of : SignatureShape → Ledger → Call → ScriptCall
 call_of signature ledger (call.Immediate called) = Emit (emission_under name_of ledger called)
+call_of signature ledger (call.Switch entries value otherwise) = Emit (switch_under name_of ledger entries.items value otherwise)
 call_of signature ledger call = Ask (request_of signature ledger call)
 
 abbrev pub attempt_of : SignatureShape → Ledger → Call → CallAttempt
@@ -196,9 +205,9 @@ pub record IsReplayed (signature : SignatureShape) (calls : List Call) (place : 
       ≡ verdict_on_calls_from place (ledger_of (calls_of signature (take place calls)))
       (attempts_from signature (ledger_of (calls_of signature (take place calls))) (drop place calls) ++ verdict.made (Ask Finalize) ∷ [])
 
--- the calls that may be refused: `finalize`, behind the last one, and those that are only tried
+-- the calls that may be refused: `finalize`, behind the last one, switches, and those that are only tried
 abbrev pub MayBeRefused : List Call → ℕ → Type 0
-MayBeRefused calls place = (place ≡ length calls) ⊎ ((call : Call) × (slice_get calls place ≡ Some call) × (is_tried call ≡ true))
+MayBeRefused calls place = (place ≡ length calls) ⊎ ((call : Call) × (slice_get calls place ≡ Some call) × (is_refusable call ≡ true))
 
 -- the verdict that a replay's answer tells; refused memory and a full table tell none
 abbrev pub verdict_of : Result Body ReplayError → Option Verdict

@@ -1,4 +1,4 @@
-use Rattle.std.proofs.Common.{◌≡◌, ◌<◌, List, [], ◌∷◌, ◌++◌, rules, arith, ap, refl, sym, ◌∙◌, subst}
+use Rattle.std.proofs.Common.{◌≡◌, ◌<◌, List, [], ◌∷◌, ◌++◌, rules, arith, ap, refl, sym, ◌∙◌, subst, inl}
 use Rattle.std.proofs.lemmas.Grind.{common_steps}
 use Rattle.clif_meaning.specs.Request.{AnsweredCall}
 use Rattle.clif_calls.specs.declared.call.Call.{Call}
@@ -6,7 +6,7 @@ use Rattle.clif_expansion.specs.ScriptCall.{ScriptCall}
 use Rattle.clif_builder.specs.declared.builder.FunctionBuilder.{FunctionBuilder}
 use Rattle.clif_types.specs.Signature.{SignatureShape}
 use Rattle.clif_resolution.specs.declared.answers.Answer.{Answer}
-use Rattle.clif_replay.specs.Ready.{IsJudged, TablesAgree}
+use Rattle.clif_replay.specs.Ready.{IsCallJudged, TablesAgree}
 use Rattle.clif_replay.specs.Requests.{IsReplayed, calls_of, name_of}
 use Rattle.std.specs.Prelude.{ℕ, Bool, true, length, Err, Ok, Result, Some, slice_get, take}
 use Rattle.clif_resolution.specs.declared.answers.CallError.{CallError}
@@ -60,6 +60,9 @@ starts declared b reads stands tables exceptions = record {
   };
   known = record {
     calls = record { reading = λ x. NotMade; joined = Starting; performed = λ pointer_width. tt };
+    full = λ x. NotMade;
+    keeps = λ x name read. read;
+    only = λ x name read. inl read;
     reads = λ name below.
         let under : name.place < 0 = below in
         absurd (omega (arith, under));
@@ -102,9 +105,10 @@ loop-place-preserved c =
     let after = made.goes_on declared (calls_before declared calls place) before in
     let answers = ap (λ (xs : List Answer). xs ++ c.in-Ok.answer ∷ []) c.as_slice.ensures.value ∙ sym c.in_ok-push-in-Ok.ensures.items in
     let variables = made.variables in
+    let judged = made.judged declared (calls_before declared calls place) before in
     record {
       in_step = advance declared _ _ new _ _ (calls-more declared calls place call c.loop-place-test.true c.index-calls-place.is) answers after;
-      rest = rest-more declared calls place call c.loop-place-test.true c.index-calls-place.is c.loop-place.invariant.rest (made.judged declared (calls_before declared calls place) before);
+      rest = rest-more declared calls place call c.loop-place-test.true c.index-calls-place.is c.loop-place.invariant.rest judged.0 judged.1;
       types = first_of (search rules, grind (arith, common_steps, variables));
       loans = loans-then c.args.builder.now c.loop-place.builder new c.loop-place.invariant.loans made.loans;
       sound = made.sound;
@@ -132,8 +136,8 @@ same-refusal : (e : ReplayError) (k : ℕ) → ◌≡◌ {A = Result (Unit {0}) 
 same-refusal e k h = cc
 
 -- a call that finds a table full is allowed
-allowed-full : (e : CallError) → e ≡ error.Full → (allowed refused : Bool) → IsJudged allowed refused (Err e) → allowed ≡ true
-allowed-full e is allowed refused judged = subst (λ (told : CallError). IsJudged allowed refused (Err told)) is judged
+allowed-full : (e : CallError) → e ≡ error.Full → (allowed blamed refused : Bool) → IsCallJudged allowed blamed refused (Err e) → allowed ≡ true
+allowed-full e is allowed blamed refused judged = subst (λ (told : CallError). IsCallJudged allowed blamed refused (Err told)) is judged
 
 pub returns-in-Err-clause-table_full : goal.returns-in-Err-clause-table_full
 returns-in-Err-clause-table_full c = λ told.
@@ -158,7 +162,7 @@ returns-in-Err-clause-table_full c = λ told.
       position = builder.position;
       stands = invariant.in_step.ready.stands;
       named = invariant.name;
-      allowed = allowed-full c.in-Err.error is_full _ _ judged;
+      allowed = allowed-full c.in-Err.error is_full _ _ _ judged;
       meets = made.full (ap Err is_full);
     }
 
