@@ -9,7 +9,7 @@ use Rattle.clif_meaning.specs.Acceptance.{allows, blames_variable, can_assign, c
 use Rattle.clif_meaning.specs.Instruction.{Argument, Known, CallResult, CallPayload, Edge, Instruction, operation_entries}
 use Rattle.clif_meaning.specs.Ledger.{ABlock, Answered, BlockState, Ledger, answer_at, answered_edge, block_state, edge_named, has_block, has_instruction, has_value, is_filled, is_inserted, is_instruction_answer, is_pristine, is_sealed, leads_to, state_has, type_of, value_answer_type, variable_type}
 use Rattle.clif_meaning.specs.Name.{Name, same_name}
-use Rattle.clif_meaning.specs.Request.{Request, CreateBlock, SwitchToBlock, SealBlock, SealAllBlocks, InsertBlockAfter, SetColdBlock, EnsureInsertedBlock, AppendBlockParams, AppendFunctionParams, DeclareVar, DefVar, UseVar, MakeEntry, MakeEdge, MakeExceptionTable, MakeJumpTable, Annotate, Build, ChangeJumpDestination, Finalize, TableItem, TagTo, DefaultTo, InContext}
+use Rattle.clif_meaning.specs.Request.{GivenEntry, Request, CreateBlock, SwitchToBlock, SealBlock, SealAllBlocks, InsertBlockAfter, SetColdBlock, EnsureInsertedBlock, AppendBlockParams, AppendFunctionParams, DeclareVar, DefVar, UseVar, MakeEntry, MakeEdge, MakeExceptionTable, MakeJumpTable, Annotate, Build, ChangeJumpDestination, Finalize, TableItem, TagTo, DefaultTo, InContext}
 use Rattle.clif_expansion.specs.Joining.{Both, IsJoined, IsOwnState, IsReadAnswer, IsReadLayout, IsReadRequest, IsReadState, IsReadTableItem, Own, StandAmong}
 use Rattle.clif_expansion.specs.Reading.{IsReadArgument, IsReadAs, IsReadEdge, IsReadInstruction, Reading}
 use Rattle.clif_expansion.specs.ScriptCall.{Emit, call_allowed}
@@ -74,6 +74,67 @@ module _ (ledger : Ledger) (x : Name) (gone : IsNowhere ledger x) where
 none-assigned : (first : Option «Type») → can_assign first None ≡ false
 none-assigned None = refl
 none-assigned (Some ty) = refl
+
+-- WHAT IS DENIED ----------------------------------------------------------------------------------------------------------
+
+module _ (side : Ledger) where
+  deny-switch : (x : Name) → IsNowhere side x → allows side (SwitchToBlock x) ≡ false
+  deny-switch x gone = left-denied _ _ (left-denied _ _ (no-block side x gone))
+
+  deny-seal : (x : Name) → IsNowhere side x → allows side (SealBlock x) ≡ false
+  deny-seal x gone = left-denied _ _ (no-block side x gone)
+
+  deny-insert : (x after : Name) → IsNowhere side x → allows side (InsertBlockAfter x after) ≡ false
+  deny-insert x after gone = left-denied _ _ (left-denied _ _ (no-block side x gone))
+
+  deny-after : (x after : Name) → IsNowhere side after → allows side (InsertBlockAfter x after) ≡ false
+  deny-after x after gone = right-denied _ _ gone.outside
+
+  deny-params : (x : Name) (types : List «Type») → IsNowhere side x → allows side (AppendBlockParams x types) ≡ false
+  deny-params x types gone = no-state side x gone (λ state. state.is_pristine)
+
+  deny-function-params : (x : Name) (types : List «Type») → IsNowhere side x → allows side (AppendFunctionParams x types) ≡ false
+  deny-function-params x types gone = left-denied _ _ (no-state side x gone (λ state. state.is_pristine))
+
+  deny-assigned : (k : ℕ) (x : Name) → IsNowhere side x → allows side (DefVar k x) ≡ false
+  deny-assigned k x gone = right-denied _ _ (ap (can_assign (variable_type side k)) (no-type side x gone) ∙ none-assigned (variable_type side k))
+
+  unblamed : (k : ℕ) (x : Name) → IsNowhere side x → blames_variable side (DefVar k x) ≡ false
+  unblamed k x gone = left-denied _ _ (right-denied _ _ (no-value side x gone))
+
+  deny-edge : (edge : Edge Name Name) → (has_block side edge.target ≡ false) ⊎ (list_all (has_argument side) edge.arguments ≡ false) → allows side (MakeEdge edge) ≡ false
+  deny-edge edge (inl target) = left-denied _ _ target
+  deny-edge edge (inr arguments) = right-denied _ _ arguments
+
+  deny-exceptions : (signature : ℕ) (normal : Name) (items : List TableItem) → (is_some (edge_named side normal) ≡ false) ⊎ (list_all (has_item side) items ≡ false)
+      → allows side (MakeExceptionTable signature normal items) ≡ false
+  deny-exceptions signature normal items (inl edge) = left-denied _ _ edge
+  deny-exceptions signature normal items (inr listed) = right-denied _ _ listed
+
+  deny-branch : (branch from to : Name) → IsNowhere side branch → allows side (ChangeJumpDestination branch from to) ≡ false
+  deny-branch branch from to gone = left-denied _ _ (left-denied _ _ (left-denied _ _ (left-denied _ _ (no-instruction side branch gone))))
+
+  deny-source : (branch from to : Name) → IsNowhere side from → allows side (ChangeJumpDestination branch from to) ≡ false
+  deny-source branch from to gone =
+      left-denied _ _ (left-denied _ _ (left-denied _ _ (right-denied _ _ (no-state side from gone (λ state. list_any (same_name branch) state.predecessors)))))
+
+  deny-target : (branch from to : Name) → IsNowhere side to → allows side (ChangeJumpDestination branch from to) ≡ false
+  deny-target branch from to gone = left-denied _ _ (right-denied _ _ (no-block side to gone))
+
+  -- names of an instruction that lead nowhere: a context, an operand, or an edge's
+  abbrev NamesNothing : Instruction Name Name → Type 0
+  NamesNothing a = (list_all (has_value side) a.contexts ≡ false) ⊎ (list_all (has_value side) a.operands ≡ false) ⊎ (list_all (can_lead side) a.edges ≡ false)
+
+  deny-build : (entries : List GivenEntry) (a : Instruction Name Name) → NamesNothing a → allows side (Build entries a) ≡ false
+  deny-build entries a (inl contexts) =
+      left-denied _ _ (left-denied _ _ (left-denied _ _ (left-denied _ _ (left-denied _ _ (left-denied _ _ contexts)))))
+  deny-build entries a (inr (inl operands)) = left-denied _ _ (left-denied _ _ (left-denied _ _ (right-denied _ _ operands)))
+  deny-build entries a (inr (inr edges)) = left-denied _ _ (left-denied _ _ (right-denied _ _ edges))
+
+  deny-emission : (a : Instruction Name Name) → NamesNothing a → call_allowed side (Emit a) ≡ false
+  deny-emission a (inl contexts) = left-denied _ _ (left-denied _ _ (left-denied _ _ (left-denied _ _ contexts)))
+  deny-emission a (inr (inl operands)) = left-denied _ _ (left-denied _ _ (right-denied _ _ operands))
+  deny-emission a (inr (inr edges)) = left-denied _ _ (right-denied _ _ edges)
 
 -- the call may not be made on either side, and to blame its variable is it on both or on neither
 pub record AreDenied (plain ledger : Ledger) (asked request : Request) : Type 0 where
@@ -156,30 +217,25 @@ module _ (wide reading : Reading) (plain ledger : Ledger)
   item (InContext x) (TagTo tag edge) is = absurd is
   item (InContext x) (DefaultTo edge) is = absurd is
 
-  -- an instruction that is emitted
-  pub emitted : (a b : Instruction Name Name) → IsReadInstruction wide a b → IsReadInstruction reading a b ⊎ BothDenied (call_allowed plain (Emit a)) (call_allowed ledger (Emit b))
-  emitted a b is =
+  -- an instruction: it is read, or a name of it leads nowhere
+  named-parts : (a b : Instruction Name Name) → IsReadInstruction wide a b → IsReadInstruction reading a b ⊎ (NamesNothing plain a × NamesNothing ledger b)
+  named-parts a b is =
       by (values a.contexts b.contexts is.contexts) (values a.operands b.operands is.operands)
       (either-all (IsReadEdge wide) (IsReadEdge reading) (can_lead plain) (can_lead ledger) led a.edges b.edges is.edges)
     where
-      of_contexts : (c o v l e : Bool) → c ≡ false → (c && o && v && l && e) ≡ false
-      of_contexts c o v l e fails = left-denied _ e (left-denied _ l (left-denied _ v (left-denied c o fails)))
-
-      of_operands : (c o v l e : Bool) → v ≡ false → (c && o && v && l && e) ≡ false
-      of_operands c o v l e fails = left-denied _ e (left-denied _ l (right-denied (c && o) v fails))
-
-      of_edges : (c o v l e : Bool) → l ≡ false → (c && o && v && l && e) ≡ false
-      of_edges c o v l e fails = left-denied _ e (right-denied (c && o && v) l fails)
-
       by : AllZip (IsReadAs reading) a.contexts b.contexts ⊎ BothDenied (list_all (has_value plain) a.contexts) (list_all (has_value ledger) b.contexts)
           → AllZip (IsReadAs reading) a.operands b.operands ⊎ BothDenied (list_all (has_value plain) a.operands) (list_all (has_value ledger) b.operands)
           → AllZip (IsReadEdge reading) a.edges b.edges ⊎ BothDenied (list_all (can_lead plain) a.edges) (list_all (can_lead ledger) b.edges)
-          → IsReadInstruction reading a b ⊎ BothDenied (call_allowed plain (Emit a)) (call_allowed ledger (Emit b))
+          → IsReadInstruction reading a b ⊎ (NamesNothing plain a × NamesNothing ledger b)
       by (inl contexts) (inl operands) (inl edges) =
           inl (record { operation = is.operation; controlling = is.controlling; operands = operands; contexts = contexts; edges = edges })
-      by (inr denied) operands edges = inr (of_contexts _ _ _ _ _ denied.0, of_contexts _ _ _ _ _ denied.1)
-      by (inl contexts) (inr denied) edges = inr (of_operands _ _ _ _ _ denied.0, of_operands _ _ _ _ _ denied.1)
-      by (inl contexts) (inl operands) (inr denied) = inr (of_edges _ _ _ _ _ denied.0, of_edges _ _ _ _ _ denied.1)
+      by (inr denied) operands edges = inr (inl denied.0, inl denied.1)
+      by (inl contexts) (inr denied) edges = inr (inr (inl denied.0), inr (inl denied.1))
+      by (inl contexts) (inl operands) (inr denied) = inr (inr (inr denied.0), inr (inr denied.1))
+
+  -- one that is emitted
+  pub emitted : (a b : Instruction Name Name) → IsReadInstruction wide a b → IsReadInstruction reading a b ⊎ BothDenied (call_allowed plain (Emit a)) (call_allowed ledger (Emit b))
+  emitted a b is = elim (named-parts a b is) [ inl read ↦ inl read | inr nothing ↦ inr (deny-emission plain a nothing.0, deny-emission ledger b nothing.1) ]
 
   -- CALLS -----------------------------------------------------------------------------------------------------------------
 
@@ -189,63 +245,38 @@ module _ (wide reading : Reading) (plain ledger : Ledger)
   denied-so : (asked request : Request) → allows plain asked ≡ false → allows ledger request ≡ false → blames_variable plain asked ≡ blames_variable ledger request → Told asked request
   denied-so asked request first second blamed = inr (record { plain_denied = first; denied = second; blamed = blamed })
 
+  -- a call with one name, and with what else is the same
+  told-one : (x name : Name) (asked request : Request) → (IsReadAs reading x name → IsReadRequest reading asked request) → (IsNowhere plain x → allows plain asked ≡ false)
+      → (IsNowhere ledger name → allows ledger request ≡ false) → blames_variable plain asked ≡ blames_variable ledger request → IsReadAs wide x name → Told asked request
+  told-one x name asked request reads deny_plain denies blamed is = elim (each x name is) [
+    | inl read ↦ inl (reads read)
+    | inr gone ↦ denied-so asked request (deny_plain gone.0) (denies gone.1) blamed
+  ]
+
   pub told : (asked request : Request) → IsReadRequest wide asked request → Told asked request
   told CreateBlock CreateBlock is = inl tt
-  told (SwitchToBlock x) (SwitchToBlock block) is = by (each x block is)
-    where
-      by : IsReadAs reading x block ⊎ (IsNowhere plain x × IsNowhere ledger block) → Told (SwitchToBlock x) (SwitchToBlock block)
-      by (inl read) = inl read
-      by (inr gone) =
-          denied-so (SwitchToBlock x) (SwitchToBlock block) (left-denied _ _ (left-denied _ _ (no-block plain x gone.0)))
-          (left-denied _ _ (left-denied _ _ (no-block ledger block gone.1))) refl
-  told (SealBlock x) (SealBlock block) is = by (each x block is)
-    where
-      by : IsReadAs reading x block ⊎ (IsNowhere plain x × IsNowhere ledger block) → Told (SealBlock x) (SealBlock block)
-      by (inl read) = inl read
-      by (inr gone) = denied-so (SealBlock x) (SealBlock block) (left-denied _ _ (no-block plain x gone.0)) (left-denied _ _ (no-block ledger block gone.1)) refl
+  told (SwitchToBlock x) (SwitchToBlock block) is = told-one x block (SwitchToBlock x) (SwitchToBlock block) (λ read. read) (deny-switch plain x) (deny-switch ledger block) refl is
+  told (SealBlock x) (SealBlock block) is = told-one x block (SealBlock x) (SealBlock block) (λ read. read) (deny-seal plain x) (deny-seal ledger block) refl is
   told SealAllBlocks SealAllBlocks is = inl tt
-  told (InsertBlockAfter x y) (InsertBlockAfter block after) is = by (each x block is.0) (each y after is.1)
+  told (InsertBlockAfter x y) (InsertBlockAfter block after) is = by (each x block is.0)
     where
-      by : IsReadAs reading x block ⊎ (IsNowhere plain x × IsNowhere ledger block) → IsReadAs reading y after ⊎ (IsNowhere plain y × IsNowhere ledger after)
-          → Told (InsertBlockAfter x y) (InsertBlockAfter block after)
-      by (inl read) (inl behind) = inl (read, behind)
-      by (inl read) (inr gone) = denied-so (InsertBlockAfter x y) (InsertBlockAfter block after) (right-denied _ _ gone.0.outside) (right-denied _ _ gone.1.outside) refl
-      by (inr gone) behind =
-          denied-so (InsertBlockAfter x y) (InsertBlockAfter block after) (left-denied _ _ (left-denied _ _ (no-block plain x gone.0)))
-          (left-denied _ _ (left-denied _ _ (no-block ledger block gone.1))) refl
-  told (SetColdBlock x) (SetColdBlock block) is = by (each x block is)
-    where
-      by : IsReadAs reading x block ⊎ (IsNowhere plain x × IsNowhere ledger block) → Told (SetColdBlock x) (SetColdBlock block)
-      by (inl read) = inl read
-      by (inr gone) = denied-so (SetColdBlock x) (SetColdBlock block) (no-block plain x gone.0) (no-block ledger block gone.1) refl
+      by : IsReadAs reading x block ⊎ (IsNowhere plain x × IsNowhere ledger block) → Told (InsertBlockAfter x y) (InsertBlockAfter block after)
+      by (inl read) =
+          told-one y after (InsertBlockAfter x y) (InsertBlockAfter block after) (λ behind. (read, behind)) (deny-after plain x y) (deny-after ledger block after) refl is.1
+      by (inr gone) = denied-so (InsertBlockAfter x y) (InsertBlockAfter block after) (deny-insert plain x y gone.0) (deny-insert ledger block after gone.1) refl
+  told (SetColdBlock x) (SetColdBlock block) is = told-one x block (SetColdBlock x) (SetColdBlock block) (λ read. read) (no-block plain x) (no-block ledger block) refl is
   told EnsureInsertedBlock EnsureInsertedBlock is = inl tt
-  told (AppendBlockParams x given) (AppendBlockParams block types) is = by (each x block is.0)
-    where
-      by : IsReadAs reading x block ⊎ (IsNowhere plain x × IsNowhere ledger block) → Told (AppendBlockParams x given) (AppendBlockParams block types)
-      by (inl read) = inl (read, is.1)
-      by (inr gone) =
-          denied-so (AppendBlockParams x given) (AppendBlockParams block types) (no-state plain x gone.0 (λ state. state.is_pristine)) (no-state ledger block gone.1 (λ state. state.is_pristine)) refl
-  told (AppendFunctionParams x given) (AppendFunctionParams block types) is = by (each x block is.0)
-    where
-      by : IsReadAs reading x block ⊎ (IsNowhere plain x × IsNowhere ledger block) → Told (AppendFunctionParams x given) (AppendFunctionParams block types)
-      by (inl read) = inl (read, is.1)
-      by (inr gone) =
-          denied-so (AppendFunctionParams x given) (AppendFunctionParams block types) (left-denied _ _ (no-state plain x gone.0 (λ state. state.is_pristine)))
-          (left-denied _ _ (no-state ledger block gone.1 (λ state. state.is_pristine))) refl
+  told (AppendBlockParams x given) (AppendBlockParams block types) is =
+      told-one x block (AppendBlockParams x given) (AppendBlockParams block types) (λ read. (read, is.1)) (deny-params plain x given) (deny-params ledger block types) refl is.0
+  told (AppendFunctionParams x given) (AppendFunctionParams block types) is =
+      told-one x block (AppendFunctionParams x given) (AppendFunctionParams block types) (λ read. (read, is.1)) (deny-function-params plain x given) (deny-function-params ledger block types) refl is.0
   told (DeclareVar given) (DeclareVar ty) is = inl is
   told (DefVar number x) (DefVar variable value) is = by (each x value is.1)
     where
-      unassigned : (side : Ledger) (k : ℕ) (name : Name) → IsNowhere side name → allows side (DefVar k name) ≡ false
-      unassigned side k name gone =
-          right-denied (is_open side side.current) _ (ap (can_assign (variable_type side k)) (no-type side name gone) ∙ none-assigned (variable_type side k))
-
-      unblamed : (side : Ledger) (k : ℕ) (name : Name) → IsNowhere side name → blames_variable side (DefVar k name) ≡ false
-      unblamed side k name gone = left-denied _ _ (right-denied (is_open side side.current) _ (no-value side name gone))
-
       by : IsReadAs reading x value ⊎ (IsNowhere plain x × IsNowhere ledger value) → Told (DefVar number x) (DefVar variable value)
       by (inl read) = inl (is.0, read)
       by (inr gone) =
-          denied-so (DefVar number x) (DefVar variable value) (unassigned plain number x gone.0) (unassigned ledger variable value gone.1)
+          denied-so (DefVar number x) (DefVar variable value) (deny-assigned plain number x gone.0) (deny-assigned ledger variable value gone.1)
           (unblamed plain number x gone.0 ∙ sym (unblamed ledger variable value gone.1))
   told (UseVar number) (UseVar variable) is = inl is
   told (MakeEntry given) (MakeEntry entry) is = inl is
@@ -254,8 +285,8 @@ module _ (wide reading : Reading) (plain ledger : Ledger)
       by : IsReadEdge reading a b ⊎ BothDenied (has_block plain a.target) (has_block ledger b.target) ⊎ BothDenied (list_all (has_argument plain) a.arguments) (list_all (has_argument ledger) b.arguments)
           → Told (MakeEdge a) (MakeEdge b)
       by (inl read) = inl read
-      by (inr (inl denied)) = denied-so (MakeEdge a) (MakeEdge b) (left-denied _ _ denied.0) (left-denied _ _ denied.1) refl
-      by (inr (inr denied)) = denied-so (MakeEdge a) (MakeEdge b) (right-denied _ _ denied.0) (right-denied _ _ denied.1) refl
+      by (inr (inl denied)) = denied-so (MakeEdge a) (MakeEdge b) (deny-edge plain a (inl denied.0)) (deny-edge ledger b (inl denied.1)) refl
+      by (inr (inr denied)) = denied-so (MakeEdge a) (MakeEdge b) (deny-edge plain a (inr denied.0)) (deny-edge ledger b (inr denied.1)) refl
   told (MakeJumpTable first names) (MakeJumpTable default entries) is =
       by (either-all (IsReadAs wide) (IsReadAs reading) (λ x. is_some (edge_named plain x)) (λ x. is_some (edge_named ledger x)) named-edge (first ∷ names) (default ∷ entries) (is.0, is.1))
     where
@@ -266,44 +297,28 @@ module _ (wide reading : Reading) (plain ledger : Ledger)
   told (MakeExceptionTable number first listed) (MakeExceptionTable signature normal items) is =
       by (named-edge first normal is.1) (either-all (IsReadTableItem wide) (IsReadTableItem reading) (has_item plain) (has_item ledger) item listed items is.2)
     where
+      ask : Request
+      ask = MakeExceptionTable number first listed
+
+      request : Request
+      request = MakeExceptionTable signature normal items
+
       by : IsReadAs reading first normal ⊎ BothDenied (is_some (edge_named plain first)) (is_some (edge_named ledger normal))
-          → AllZip (IsReadTableItem reading) listed items ⊎ BothDenied (list_all (has_item plain) listed) (list_all (has_item ledger) items)
-          → Told (MakeExceptionTable number first listed) (MakeExceptionTable signature normal items)
+          → AllZip (IsReadTableItem reading) listed items ⊎ BothDenied (list_all (has_item plain) listed) (list_all (has_item ledger) items) → Told ask request
       by (inl read) (inl rest) = inl (is.0, read, rest)
-      by (inl read) (inr denied) = denied-so (MakeExceptionTable number first listed) (MakeExceptionTable signature normal items) (right-denied _ _ denied.0) (right-denied _ _ denied.1) refl
-      by (inr denied) rest = denied-so (MakeExceptionTable number first listed) (MakeExceptionTable signature normal items) (left-denied _ _ denied.0) (left-denied _ _ denied.1) refl
+      by (inl read) (inr denied) = denied-so ask request (deny-exceptions plain number first listed (inr denied.0)) (deny-exceptions ledger signature normal items (inr denied.1)) refl
+      by (inr denied) rest = denied-so ask request (deny-exceptions plain number first listed (inl denied.0)) (deny-exceptions ledger signature normal items (inl denied.1)) refl
   told (Annotate names) (Annotate given) is = by (values names given is)
     where
       by : AllZip (IsReadAs reading) names given ⊎ BothDenied (list_all (has_value plain) names) (list_all (has_value ledger) given) → Told (Annotate names) (Annotate given)
       by (inl read) = inl read
       by (inr denied) = denied-so (Annotate names) (Annotate given) denied.0 denied.1 refl
-  told (Build given a) (Build entries b) is =
-      by (values a.contexts b.contexts is.1.contexts) (values a.operands b.operands is.1.operands)
-      (either-all (IsReadEdge wide) (IsReadEdge reading) (can_lead plain) (can_lead ledger) led a.edges b.edges is.1.edges)
+  told (Build given a) (Build entries b) is = by (named-parts a b is.1)
     where
-      -- the parts of the condition, in order
-      of_contexts : (c g o v l p e : Bool) → c ≡ false → (c && g && o && v && l && p && e) ≡ false
-      of_contexts c g o v l p e fails = left-denied _ e (left-denied _ p (left-denied _ l (left-denied _ v (left-denied _ o (left-denied c g fails)))))
-
-      of_operands : (c g o v l p e : Bool) → v ≡ false → (c && g && o && v && l && p && e) ≡ false
-      of_operands c g o v l p e fails = left-denied _ e (left-denied _ p (left-denied _ l (right-denied (c && g && o) v fails)))
-
-      of_edges : (c g o v l p e : Bool) → l ≡ false → (c && g && o && v && l && p && e) ≡ false
-      of_edges c g o v l p e fails = left-denied _ e (left-denied _ p (right-denied (c && g && o && v) l fails))
-
-      by : AllZip (IsReadAs reading) a.contexts b.contexts ⊎ BothDenied (list_all (has_value plain) a.contexts) (list_all (has_value ledger) b.contexts)
-          → AllZip (IsReadAs reading) a.operands b.operands ⊎ BothDenied (list_all (has_value plain) a.operands) (list_all (has_value ledger) b.operands)
-          → AllZip (IsReadEdge reading) a.edges b.edges ⊎ BothDenied (list_all (can_lead plain) a.edges) (list_all (can_lead ledger) b.edges)
-          → Told (Build given a) (Build entries b)
-      by (inl contexts) (inl operands) (inl edges) =
-          inl (is.0, record { operation = is.1.operation; controlling = is.1.controlling; operands = operands; contexts = contexts; edges = edges })
-      by (inr denied) operands edges =
-          denied-so (Build given a) (Build entries b) (of_contexts _ _ _ _ _ _ _ denied.0) (of_contexts _ _ _ _ _ _ _ denied.1) refl
-      by (inl contexts) (inr denied) edges =
-          denied-so (Build given a) (Build entries b) (of_operands _ _ _ _ _ _ _ denied.0) (of_operands _ _ _ _ _ _ _ denied.1) refl
-      by (inl contexts) (inl operands) (inr denied) =
-          denied-so (Build given a) (Build entries b) (of_edges _ _ _ _ _ _ _ denied.0) (of_edges _ _ _ _ _ _ _ denied.1) refl
-  told (ChangeJumpDestination jump here there) (ChangeJumpDestination branch from to) is = by (each jump branch is.0) (each here from is.1) (each there to is.2)
+      by : IsReadInstruction reading a b ⊎ (NamesNothing plain a × NamesNothing ledger b) → Told (Build given a) (Build entries b)
+      by (inl read) = inl (is.0, read)
+      by (inr nothing) = denied-so (Build given a) (Build entries b) (deny-build plain given a nothing.0) (deny-build ledger entries b nothing.1) refl
+  told (ChangeJumpDestination jump here there) (ChangeJumpDestination branch from to) is = by (each jump branch is.0) (each here from is.1)
     where
       ask : Request
       ask = ChangeJumpDestination jump here there
@@ -311,25 +326,10 @@ module _ (wide reading : Reading) (plain ledger : Ledger)
       request : Request
       request = ChangeJumpDestination branch from to
 
-      of_branch : (i l s b u : Bool) → i ≡ false → (i && l && s && b && u) ≡ false
-      of_branch i l s b u fails = left-denied _ u (left-denied _ b (left-denied _ s (left-denied i l fails)))
-
-      of_source : (i l s b u : Bool) → l ≡ false → (i && l && s && b && u) ≡ false
-      of_source i l s b u fails = left-denied _ u (left-denied _ b (left-denied _ s (right-denied i l fails)))
-
-      of_target : (i l s b u : Bool) → b ≡ false → (i && l && s && b && u) ≡ false
-      of_target i l s b u fails = left-denied _ u (right-denied (i && l && s) b fails)
-
-      by : IsReadAs reading jump branch ⊎ (IsNowhere plain jump × IsNowhere ledger branch) → IsReadAs reading here from ⊎ (IsNowhere plain here × IsNowhere ledger from)
-          → IsReadAs reading there to ⊎ (IsNowhere plain there × IsNowhere ledger to) → Told ask request
-      by (inl read) (inl source) (inl target) = inl (read, source, target)
-      by (inr gone) source target =
-          denied-so ask request (of_branch _ _ _ _ _ (no-instruction plain jump gone.0)) (of_branch _ _ _ _ _ (no-instruction ledger branch gone.1)) refl
-      by (inl read) (inr gone) target =
-          denied-so ask request (of_source _ _ _ _ _ (no-state plain here gone.0 (λ state. list_any (same_name jump) state.predecessors)))
-          (of_source _ _ _ _ _ (no-state ledger from gone.1 (λ state. list_any (same_name branch) state.predecessors))) refl
-      by (inl read) (inl source) (inr gone) =
-          denied-so ask request (of_target _ _ _ _ _ (no-block plain there gone.0)) (of_target _ _ _ _ _ (no-block ledger to gone.1)) refl
+      by : IsReadAs reading jump branch ⊎ (IsNowhere plain jump × IsNowhere ledger branch) → IsReadAs reading here from ⊎ (IsNowhere plain here × IsNowhere ledger from) → Told ask request
+      by (inl read) (inl source) = told-one there to ask request (λ target. (read, source, target)) (deny-target plain jump here there) (deny-target ledger branch from to) refl is.2
+      by (inr gone) source = denied-so ask request (deny-branch plain jump here there gone.0) (deny-branch ledger branch from to gone.1) refl
+      by (inl read) (inr gone) = denied-so ask request (deny-source plain jump here there gone.0) (deny-source ledger branch from to gone.1) refl
   told Finalize Finalize is = inl tt
   told _ _ is = absurd is
 
