@@ -5,19 +5,23 @@ ghost use Rattle.clif_script.specs.Rows.{IsRowName};
 use crate::program::build_text;
 use crate::row_texts::{
     BOTH_ARMS, CHANGE_BOTH, CHANGE_ONE, EMPTY, FIRST, REORDERING, SAMPLE, SAMPLE_LATE,
-    UNDEF_VECTORS,
+    SWITCH_128BIT_MAX_U64, SWITCH_BORDER, SWITCH_HIGH, SWITCH_MANY, UNDEF_VECTORS,
 };
 use std::alloc::Global;
 use std::io;
 
 // The names of the rows, in order.
-const NAMES: [&str; 9] = [
+const NAMES: [&str; 13] = [
     "first",
     "reordering",
     "sample",
     "sample_late",
     "both_arms",
     "undef_vectors",
+    "switch_many",
+    "switch_128bit_max_u64",
+    "switch_high",
+    "switch_border",
     "change_both",
     "change_one",
     "empty",
@@ -34,6 +38,10 @@ pub fn row_text(name: &str) -> Option<&'static str>
         "sample_late" => Some(SAMPLE_LATE),
         "both_arms" => Some(BOTH_ARMS),
         "undef_vectors" => Some(UNDEF_VECTORS),
+        "switch_many" => Some(SWITCH_MANY),
+        "switch_128bit_max_u64" => Some(SWITCH_128BIT_MAX_U64),
+        "switch_high" => Some(SWITCH_HIGH),
+        "switch_border" => Some(SWITCH_BORDER),
         "change_both" => Some(CHANGE_BOTH),
         "change_one" => Some(CHANGE_ONE),
         "empty" => Some(EMPTY),

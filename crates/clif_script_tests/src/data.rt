@@ -3,13 +3,17 @@
 #![tactic(auto)]
 
 /// The rows by their names, with the texts of their functions.
-pub const ROWS: [(&str, &str); 9] = [
+pub const ROWS: [(&str, &str); 13] = [
     ("first", FIRST_TEXT),
     ("reordering", REORDERING_TEXT),
     ("sample", SAMPLE_TEXT),
     ("sample_late", SAMPLE_LATE_TEXT),
     ("both_arms", BOTH_ARMS_TEXT),
     ("undef_vectors", UNDEF_VECTORS_TEXT),
+    ("switch_many", SWITCH_MANY_TEXT),
+    ("switch_128bit_max_u64", SWITCH_128BIT_MAX_U64_TEXT),
+    ("switch_high", SWITCH_HIGH_TEXT),
+    ("switch_border", SWITCH_BORDER_TEXT),
     ("change_both", CHANGE_BOTH_TEXT),
     ("change_one", CHANGE_ONE_TEXT),
     ("empty", EMPTY_TEXT),
@@ -17,6 +21,131 @@ pub const ROWS: [(&str, &str); 9] = [
 
 /// The function of no calls.
 pub const EMPTY_TEXT: &str = "function u0:0() fast {\n}\n";
+
+/// The function of the switch with four ranges.
+pub const SWITCH_MANY_TEXT: &str = "\
+function u0:0() fast {
+block0:
+    v0 = iconst.i8 0
+    v1 = iconst.i8 7
+    v2 = icmp uge v0, v1  ; v0 = 0, v1 = 7
+    brif v2, block9, block8
+
+block9:
+    v3 = iconst.i8 10
+    v4 = icmp.i8 uge v0, v3  ; v0 = 0, v3 = 10
+    brif v4, block11, block10
+
+block11:
+    v5 = iconst.i8 -10
+    v6 = iadd.i8 v0, v5  ; v0 = 0, v5 = -10
+    v7 = uextend.i32 v6
+    br_table v7, block0, [block5, block6, block7]
+
+block10:
+    v8 = iconst.i8 7
+    v9 = icmp.i8 eq v0, v8  ; v0 = 0, v8 = 7
+    brif v9, block4, block0
+
+block8:
+    v10 = iconst.i8 5
+    v11 = icmp.i8 eq v0, v10  ; v0 = 0, v10 = 5
+    brif v11, block3, block12
+
+block12:
+    v12 = uextend.i32 v0  ; v0 = 0
+    br_table v12, block0, [block1, block2]
+}
+";
+
+const SWITCH_128BIT_MAX_U64_TEXT: &str = "\
+function %switch_128bit_max_u64() system_v {
+block0:
+    v0 = iconst.i64 0
+    v1 = uextend.i128 v0  ; v0 = 0
+    v2 = iconst.i64 -1
+    v3 = iconst.i64 0
+    v4 = iconcat v2, v3  ; v2 = -1, v3 = 0
+    v5 = icmp eq v1, v4
+    brif v5, block1, block4
+
+block4:
+    brif.i128 v1, block3, block2
+}
+";
+
+const SWITCH_HIGH_TEXT: &str = "\
+function %switch_high() system_v {
+block0:
+    v0 = iconst.i64 0x8000_0000_0000_0001
+    v1 = iconst.i64 0
+    v2 = iconcat v0, v1  ; v0 = 0x8000_0000_0000_0001, v1 = 0
+    v3 = iconst.i64 0x8000_0000_0000_0001
+    v4 = iconst.i64 0
+    v5 = iconcat v3, v4  ; v3 = 0x8000_0000_0000_0001, v4 = 0
+    v6 = icmp uge v2, v5
+    brif v6, block4, block3
+
+block4:
+    v7 = iconst.i64 0x8000_0000_0000_0001
+    v8 = iconst.i64 0
+    v9 = iconcat v7, v8  ; v7 = 0x8000_0000_0000_0001, v8 = 0
+    v10 = isub.i128 v2, v9
+    v11 = iconst.i64 0xffff_ffff
+    v12 = sextend.i128 v11  ; v11 = 0xffff_ffff
+    v13 = icmp ugt v10, v12
+    brif v13, block3, block5
+
+block5:
+    v14 = ireduce.i32 v10
+    br_table v14, block3, [block1, block2]
+
+block1:
+    trap user1
+
+block2:
+    trap user2
+
+block3:
+    trap user3
+}
+";
+
+const SWITCH_BORDER_TEXT: &str = "\
+function %switch_border() system_v {
+block0:
+    v0 = iconst.i64 0x8000_0000_0000_0001
+    v1 = iconst.i64 0
+    v2 = iconcat v0, v1  ; v0 = 0x8000_0000_0000_0001, v1 = 0
+    v3 = iconst.i64 0x8000_0000_0000_0000
+    v4 = iconst.i64 0
+    v5 = iconcat v3, v4  ; v3 = 0x8000_0000_0000_0000, v4 = 0
+    v6 = icmp uge v2, v5
+    brif v6, block4, block3
+
+block4:
+    v7 = iconst.i64 0x8000_0000_0000_0000
+    v8 = sextend.i128 v7  ; v7 = 0x8000_0000_0000_0000
+    v9 = iadd.i128 v2, v8
+    v10 = iconst.i64 0xffff_ffff
+    v11 = sextend.i128 v10  ; v10 = 0xffff_ffff
+    v12 = icmp ugt v9, v11
+    brif v12, block3, block5
+
+block5:
+    v13 = ireduce.i32 v9
+    br_table v13, block3, [block1, block2]
+
+block1:
+    trap user1
+
+block2:
+    trap user2
+
+block3:
+    trap user3
+}
+";
 
 const CHANGE_BOTH_TEXT: &str = "\
 function %change_both() -> i32 system_v {
