@@ -13,6 +13,7 @@ mod make_instructions;
 mod make_notes;
 mod make_outside;
 mod make_parameters;
+mod make_switch;
 mod make_tables;
 mod script;
 

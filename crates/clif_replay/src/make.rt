@@ -20,6 +20,7 @@ use crate::make_parameters::{
     append_block_param, append_block_params_for_function_params,
     append_block_params_for_function_returns,
 };
+use crate::make_switch::make_switch;
 use crate::make_tables::{block_call, br_table, create_jump_table};
 use clif_builder::FunctionBuilder;
 use clif_calls::{Call, Name, Plan};
@@ -110,6 +111,11 @@ pub(crate) fn make_call(
             make_instruction(builder, answers, Lender::Ins, &plan)
         }
         Call::BrTable { index, table } => br_table(builder, answers, *index, *table),
+        Call::Switch {
+            entries,
+            value,
+            otherwise,
+        } => make_switch(builder, answers, entries.as_slice(), *value, *otherwise),
         Call::Throwing(called) => make_throwing_call(builder, answers, called),
         Call::Return { values } => {
             let args = values.as_slice();
