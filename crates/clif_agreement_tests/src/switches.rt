@@ -18,14 +18,14 @@ use std::alloc::Global;
 use std::process::Abort;
 use std::test::Fail;
 
-/// What the keys of a script lead to: each returns a number of its own.
-type Cases = [(u128, u128)];
+/// A key of a script, and the number that is returned where the value is this key.
+type Case = (u128, u128);
 
 /// What every other value returns.
 const OTHER: u128 = 99;
 
 /// The keys of the row with four ranges.
-const FOUR_RANGES: [(u128, u128); 7] = [
+const FOUR_RANGES: [Case; 7] = [
     (0, 100),
     (1, 101),
     (5, 105),
@@ -36,7 +36,7 @@ const FOUR_RANGES: [(u128, u128); 7] = [
 ];
 
 // A switch on its argument, which has this type.
-fn switch_of(alloc: Global, ty: &str, cases: &Cases) -> Result<Script, Fail> {
+fn switch_of(alloc: Global, ty: &str, cases: &[Case]) -> Result<Script, Fail> {
     let mut text = format!(in alloc;
         "function %switch ({ty}) -> i32 system_v\nentry = create_block\nother = create_block\nx = append_block_params_for_function_params entry\n"
     )?;
@@ -55,7 +55,7 @@ fn switch_of(alloc: Global, ty: &str, cases: &Cases) -> Result<Script, Fail> {
 }
 
 // What a value leads to: the finite map, as a walk over its entries.
-fn number_of(cases: &Cases, value: u128) -> u128 {
+fn number_of(cases: &[Case], value: u128) -> u128 {
     for (key, number) in cases {
         if *key == value {
             return *number;
@@ -91,7 +91,7 @@ fn agrees(
     rt: &impl Abort,
     alloc: Global,
     ty: &str,
-    cases: &Cases,
+    cases: &[Case],
     values: &[u128],
     bound: u64,
 ) -> Result<(), Fail> {
@@ -176,7 +176,7 @@ fn widths(rt: HostRuntime) -> Result<(), Fail> {
 }
 
 /// Keys of 8 bits that are negative as signed numbers, and those beside them.
-const HIGH_BYTES: [(u128, u128); 6] = [
+const HIGH_BYTES: [Case; 6] = [
     (127, 1),
     (128, 2),
     (129, 3),

@@ -22,6 +22,112 @@ pub const ROWS: [(&str, &str); 13] = [
 /// The function of no calls.
 pub const EMPTY_TEXT: &str = "function u0:0() fast {\n}\n";
 
+/// A switch with five ranges of keys.
+pub const SWITCH: &str = "\
+# What a status of HTTP means: 1 that the request was served, 2 that its subject is elsewhere, 3 that it is missing, 4 that
+# the server failed, and 0 for all other numbers. The keys make five ranges, which are searched by halves.
+function %meaning_of_status (i16) -> i8 system_v
+entry = create_block
+served = create_block
+elsewhere = create_block
+missing = create_block
+failed = create_block
+other = create_block
+status = append_block_params_for_function_params entry
+
+switch_to_block entry
+seal_block entry
+switch status other 200:served 201:served 204:served 301:elsewhere 302:elsewhere 404:missing 500:failed
+
+switch_to_block served
+meaning = iconst.i8 1
+return meaning
+
+switch_to_block elsewhere
+meaning = iconst.i8 2
+return meaning
+
+switch_to_block missing
+meaning = iconst.i8 3
+return meaning
+
+switch_to_block failed
+meaning = iconst.i8 4
+return meaning
+
+switch_to_block other
+meaning = iconst.i8 0
+return meaning
+seal_all_blocks
+";
+
+/// Its function.
+pub const SWITCH_TEXT: &str = "\
+function %meaning_of_status(i16) -> i8 system_v {
+block0(v0: i16):
+    v1 = iconst.i16 301
+    v2 = icmp uge v0, v1  ; v1 = 301
+    brif v2, block7, block6
+
+block7:
+    v3 = iconst.i16 500
+    v4 = icmp.i16 eq v0, v3  ; v3 = 500
+    brif v4, block4, block8
+
+block8:
+    v5 = iconst.i16 404
+    v6 = icmp.i16 eq v0, v5  ; v5 = 404
+    brif v6, block3, block9
+
+block9:
+    v7 = iconst.i16 301
+    v8 = icmp.i16 uge v0, v7  ; v7 = 301
+    brif v8, block10, block5
+
+block10:
+    v9 = iconst.i16 -301
+    v10 = iadd.i16 v0, v9  ; v9 = -301
+    v11 = uextend.i32 v10
+    br_table v11, block5, [block2, block2]
+
+block6:
+    v12 = iconst.i16 204
+    v13 = icmp.i16 eq v0, v12  ; v12 = 204
+    brif v13, block1, block11
+
+block11:
+    v14 = iconst.i16 200
+    v15 = icmp.i16 uge v0, v14  ; v14 = 200
+    brif v15, block12, block5
+
+block12:
+    v16 = iconst.i16 -200
+    v17 = iadd.i16 v0, v16  ; v16 = -200
+    v18 = uextend.i32 v17
+    br_table v18, block5, [block1, block1]
+
+block1:
+    v19 = iconst.i8 1
+    return v19  ; v19 = 1
+
+block2:
+    v20 = iconst.i8 2
+    return v20  ; v20 = 2
+
+block3:
+    v21 = iconst.i8 3
+    return v21  ; v21 = 3
+
+block4:
+    v22 = iconst.i8 4
+    return v22  ; v22 = 4
+
+block5:
+    v23 = iconst.i8 0
+    return v23  ; v23 = 0
+}
+";
+
 /// The function of the switch with four ranges.
 pub const SWITCH_MANY_TEXT: &str = "\
 function u0:0() fast {
