@@ -41,7 +41,10 @@ fn switch_of(alloc: Global, ty: &str, cases: &[Case]) -> Result<Script, Fail> {
         "function %switch ({ty}) -> i32 system_v\nentry = create_block\nother = create_block\nx = append_block_params_for_function_params entry\n"
     )?;
     let mut line = String::from_str(alloc, "switch x other")?;
-    let mut ends = String::from_str(alloc, "switch_to_block other\nn = iconst.i32 99\nreturn n\n")?;
+    let mut ends = String::from_str(
+        alloc,
+        "switch_to_block other\nn = iconst.i32 99\nreturn n\n",
+    )?;
     for (key, number) in cases {
         text.push_str(format!(in alloc; "b{number} = create_block\n")?.as_str())?;
         line.push_str(format!(in alloc; " {key}:b{number}")?.as_str())?;
@@ -176,14 +179,7 @@ fn widths(rt: HostRuntime) -> Result<(), Fail> {
 }
 
 /// Keys of 8 bits that are negative as signed numbers, and those beside them.
-const HIGH_BYTES: [Case; 6] = [
-    (127, 1),
-    (128, 2),
-    (129, 3),
-    (200, 4),
-    (254, 5),
-    (255, 6),
-];
+const HIGH_BYTES: [Case; 6] = [(127, 1), (128, 2), (129, 3), (200, 4), (254, 5), (255, 6)];
 
 #[test]
 fn high_bytes(rt: HostRuntime) -> Result<(), Fail> {

@@ -209,7 +209,9 @@ pub fn targets_of(
 ) -> Result<Vec<Option<Name>>, AllocError> {
     let mut targets = tabled_targets(alloc, calls, places)?;
     if let Call::Switch {
-        entries, otherwise, ..
+        entries,
+        otherwise,
+        ..
     } = call
     {
         return switched_targets(alloc, entries.as_slice(), *otherwise);
