@@ -1,6 +1,6 @@
 //! The rows: scripts that stand in this crate, and the program `rows` that builds their functions, over two writers.
 ghost use Rattle.std.specs.Prelude.{◌≡◌, ◌<◌, ◌↔◌, length, string_bytes, slice_get, IfOk, IfSome, IsSome};
-ghost use Rattle.clif_script.specs.Rows.{IsRowName};
+ghost use Rattle.clif_script.specs.Rows.{IsOtherRow, IsRowName, IsSwitchRow};
 
 use crate::program::build_text;
 use crate::row_texts::{
@@ -31,6 +31,29 @@ const NAMES: [&str; 13] = [
 pub fn row_text(name: &str) -> Option<&'static str>
     ensures { IsSome result ↔ IsRowName name.now }
 {
+    match switch_row_text(name) {
+        Some(text) => Some(text),
+        None => other_row_text(name),
+    }
+}
+
+// That of a row with a switch.
+fn switch_row_text(name: &str) -> Option<&'static str>
+    ensures { IsSome result ↔ IsSwitchRow name.now }
+{
+    match name {
+        "switch_many" => Some(SWITCH_MANY),
+        "switch_128bit_max_u64" => Some(SWITCH_128BIT_MAX_U64),
+        "switch_high" => Some(SWITCH_HIGH),
+        "switch_border" => Some(SWITCH_BORDER),
+        _ => None,
+    }
+}
+
+// That of another row.
+fn other_row_text(name: &str) -> Option<&'static str>
+    ensures { IsSome result ↔ IsOtherRow name.now }
+{
     match name {
         "first" => Some(FIRST),
         "reordering" => Some(REORDERING),
@@ -38,10 +61,6 @@ pub fn row_text(name: &str) -> Option<&'static str>
         "sample_late" => Some(SAMPLE_LATE),
         "both_arms" => Some(BOTH_ARMS),
         "undef_vectors" => Some(UNDEF_VECTORS),
-        "switch_many" => Some(SWITCH_MANY),
-        "switch_128bit_max_u64" => Some(SWITCH_128BIT_MAX_U64),
-        "switch_high" => Some(SWITCH_HIGH),
-        "switch_border" => Some(SWITCH_BORDER),
         "change_both" => Some(CHANGE_BOTH),
         "change_one" => Some(CHANGE_ONE),
         "empty" => Some(EMPTY),
