@@ -22,6 +22,8 @@ mod refusals;
 #[cfg(test)]
 mod support;
 #[cfg(test)]
+mod switches;
+#[cfg(test)]
 mod tables;
 #[cfg(test)]
 mod tries;

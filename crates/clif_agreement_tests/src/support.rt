@@ -48,8 +48,8 @@ pub fn built(
     Ok(replay(alloc, calls, name, signature, ctx, text.config)?)
 }
 
-// A script and its function end so where they get these arguments and this memory. Stack slots lie in memory, too.
-fn both_end(
+/// A script and its function end so where they get these arguments and this memory. Stack slots lie in memory, too.
+pub fn both_end(
     rt: &impl Abort,
     alloc: Global,
     text: &Script,
@@ -73,6 +73,15 @@ fn both_end(
     Ok(())
 }
 
+/// A run returns this number, and leaves memory.
+pub fn returned(alloc: Global, number: u128) -> Result<Ending, Fail> {
+    Ok(Ending {
+        events: Vec::new(alloc),
+        end: End::Returned(vec![in alloc; number]?),
+        memory: zeros(alloc)?,
+    })
+}
+
 /// A script and its function return this number for each of these lists of arguments, and leave memory.
 pub fn answers(
     rt: &impl Abort,
@@ -83,11 +92,7 @@ pub fn answers(
 ) -> Result<(), Fail> {
     let mut ctx = FunctionBuilderContext::new(alloc);
     let func = built(alloc, text, &mut ctx)?;
-    let ending = Ending {
-        events: Vec::new(alloc),
-        end: End::Returned(vec![in alloc; number]?),
-        memory: zeros(alloc)?,
-    };
+    let ending = returned(alloc, number)?;
     for arguments in rows {
         both_end(rt, alloc, text, &func, arguments, &zeros(alloc)?, &ending)?;
     }

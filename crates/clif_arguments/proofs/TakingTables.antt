@@ -1,12 +1,14 @@
--- The words that were taken so far stand for what edges of tables pass, and for the items of exception tables.
+-- The words that were taken so far stand for what edges of tables pass, for the items of exception tables, and for the cases
+-- of a switch.
 use Rattle.std.proofs.Common.{◌≡◌, ℕ, List, [], ◌∷◌, ◌++◌, refl, ap, sym, ◌∙◌, subst}
 use Rattle.std.specs.Prelude.{codes}
 use Rattle.std.proofs.lemmas.List.{append_assoc, append-nil}
 use Rattle.clif_calls.specs.declared.table.Passed.{Passed}
 use Rattle.clif_calls.specs.declared.table.TableItem.{TableItem}
+use Rattle.clif_calls.specs.declared.switch.SwitchEntry.{SwitchEntry}
 use Rattle.clif_arguments.specs.declared.args.Args.{Args}
 use Rattle.clif_words.specs.Cursor.{words_left}
-use Rattle.clif_arguments.specs.Arguments.{Names, AreItems, ArePassed, IsItem, IsPassed}
+use Rattle.clif_arguments.specs.Arguments.{Names, AreItems, ArePassed, AreSwitchCases, IsItem, IsPassed, IsSwitchCase}
 use Rattle.clif_arguments.specs.Scope.{names_of}
 
 -- the words between an old and a new state stand for these
@@ -42,6 +44,13 @@ items_push names (w ∷ []) (b ∷ items) kind what one all is = absurd all
 items_push names (w ∷ v ∷ words) [] kind what one all is = absurd all
 items_push names (w ∷ v ∷ words) (b ∷ items) kind what one all is = (all.0, items_push names words items kind what one all.1 is)
 
+cases_push : (names : Names) (words : List (List ℕ)) (entries : List SwitchEntry) (word : List ℕ) (one : SwitchEntry) → AreSwitchCases names words entries → IsSwitchCase names word one
+    → AreSwitchCases names (words ++ word ∷ []) (entries ++ one ∷ [])
+cases_push names [] [] word one all is = (is, tt)
+cases_push names [] (b ∷ entries) word one all is = absurd all
+cases_push names (w ∷ words) [] word one all is = absurd all
+cases_push names (w ∷ words) (b ∷ entries) word one all is = (all.0, cases_push names words entries word one all.1 is)
+
 pub passed_more : (first old new : Args) (args : List Passed) (word : List ℕ) (one : Passed) → TakesMany ArePassed first old args → new.scope ≡ old.scope
     → words_left old.words ≡ word ∷ words_left new.words → IsPassed (names_of old.scope.now) word one → TakesMany ArePassed first new (args ++ one ∷ [])
 passed_more first old new args word one before scope taken is =
@@ -54,11 +63,20 @@ items_more first old new items kind what one before scope taken is =
     many_more AreItems first old new items (kind ∷ what ∷ []) one before scope taken
     (λ words all. items_push (names_of first.scope.now) words items kind what one all (subst (λ s. IsItem (names_of s.now) kind what one) before.scope is))
 
+pub cases_more : (first old new : Args) (entries : List SwitchEntry) (word : List ℕ) (one : SwitchEntry) → TakesMany AreSwitchCases first old entries → new.scope ≡ old.scope
+    → words_left old.words ≡ word ∷ words_left new.words → IsSwitchCase (names_of old.scope.now) word one → TakesMany AreSwitchCases first new (entries ++ one ∷ [])
+cases_more first old new entries word one before scope taken is =
+    many_more AreSwitchCases first old new entries (word ∷ []) one before scope taken
+    (λ words all. cases_push (names_of first.scope.now) words entries word one all (subst (λ s. IsSwitchCase (names_of s.now) word one) before.scope is))
+
 pub passed_none : (args : Args) → TakesMany ArePassed args args []
 passed_none args = record { scope = refl; words = []; taken = refl; stand = tt }
 
 pub items_none : (args : Args) → TakesMany AreItems args args []
 items_none args = record { scope = refl; words = []; taken = refl; stand = tt }
+
+pub cases_none : (args : Args) → TakesMany AreSwitchCases args args []
+cases_none args = record { scope = refl; words = []; taken = refl; stand = tt }
 
 -- the closing parenthesis comes behind them
 pub passed_closed : (first old new : Args) (args : List Passed) → TakesMany ArePassed first old args → new.scope ≡ old.scope → words_left old.words ≡ codes ")" ∷ words_left new.words
@@ -79,4 +97,8 @@ pub items_all : (first old : Args) (items : List TableItem) → TakesMany AreIte
     → (words_left old.words ≡ []) × AreItems (names_of first.scope.now) (words_left first.words) items
 items_all first old items before none = all_taken AreItems first old items before none
 
-pub ruleset table_rules = (passed_none, passed_more, passed_closed, passed_all, items_none, items_more, items_all)
+pub cases_all : (first old : Args) (entries : List SwitchEntry) → TakesMany AreSwitchCases first old entries → words_left old.words ≡ []
+    → (words_left old.words ≡ []) × AreSwitchCases (names_of first.scope.now) (words_left first.words) entries
+cases_all first old entries before none = all_taken AreSwitchCases first old entries before none
+
+pub ruleset table_rules = (passed_none, passed_more, passed_closed, passed_all, items_none, items_more, items_all, cases_none, cases_more, cases_all)

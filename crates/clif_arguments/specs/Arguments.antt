@@ -4,9 +4,10 @@ use Rattle.clif_types.specs.Texts.{lib_call_text}
 use Rattle.clif_types.specs.declared.extname.ExternalName.{ExternalName}
 use Rattle.clif_types.specs.declared.extname.ExternalName.TheVariants as name
 use Rattle.clif_types.specs.declared.extname.UserFuncName.TheVariants as func_name
-use Rattle.clif_words.specs.Spelling.{IsDecimal, IsOffset}
+use Rattle.clif_words.specs.Spelling.{IsDecimal, IsMagnitude, IsOffset}
 use Rattle.clif_calls.specs.declared.call.Name.{Name}
 use Rattle.clif_calls.specs.declared.call.Edge.{Edge}
+use Rattle.clif_calls.specs.declared.switch.SwitchEntry.{SwitchEntry}
 use Rattle.clif_calls.specs.declared.table.Passed.{Passed}
 use Rattle.clif_calls.specs.declared.table.Passed.TheVariants as passed
 use Rattle.clif_calls.specs.declared.table.TableEdge.{TableEdge}
@@ -119,6 +120,18 @@ abbrev pub AreItems : Names → List (List ℕ) → List TableItem → Type 0
 AreItems names [] [] = Unit {0}
 AreItems names (kind ∷ what ∷ words) (one ∷ items) = IsItem names kind what one × AreItems names words items
 AreItems names _ _ = ⊥
+
+-- a word stands for a case of a switch: the key, a colon, and the block
+abbrev pub IsSwitchCase : Names → List ℕ → SwitchEntry → Type 0
+IsSwitchCase names word entry =
+    (key block : List ℕ) × (word ≡ key ++ (codes ":" ++ block)) × IsMagnitude key entry.key × IsAnswer names block entry.block
+
+-- the words stand for the cases, one for one
+abbrev pub AreSwitchCases : Names → List (List ℕ) → List SwitchEntry → Type 0
+AreSwitchCases names [] [] = Unit {0}
+AreSwitchCases names [] (entry ∷ entries) = ⊥
+AreSwitchCases names (word ∷ words) [] = ⊥
+AreSwitchCases names (word ∷ words) (entry ∷ entries) = IsSwitchCase names word entry × AreSwitchCases names words entries
 
 -- an edge: the block, and what is passed in parentheses, which may be left out where nothing is passed
 abbrev pub IsEdge : Names → List (List ℕ) → Edge → Type 0

@@ -4,6 +4,7 @@ use Rattle.clif_calls.specs.declared.call.Name.{Name}
 use Rattle.clif_calls.specs.declared.call.Call.{Call}
 use Rattle.clif_calls.specs.declared.call.Call.TheVariants as call
 use Rattle.clif_calls.specs.declared.entry.EntryCall.TheVariants as entry
+use Rattle.clif_calls.specs.Switches.{table_count}
 use Rattle.clif_arguments.specs.declared.scope.Kind.{Kind}
 use Rattle.clif_arguments.specs.declared.scope.Kind.TheVariants as kind
 use Rattle.clif_arguments.specs.declared.scope.Numbered.{Numbered}
@@ -59,6 +60,19 @@ totals_behind (Some kind.ExceptionTable) totals = record totals { exception_tabl
 totals_behind (Some kind.Signature) totals = record totals { signatures = totals.signatures + 1 }
 totals_behind (Some kind.Function) totals = record totals { functions = totals.functions + 1 }
 
+-- how many jump tables the call makes that no name leads to
+abbrev pub unnamed_tables : Call → ℕ
+unnamed_tables (call.Switch entries value otherwise) = table_count entries.items
+unnamed_tables _ = 0
+
+-- so many jump tables more
+abbrev pub with_tables : ℕ → Totals → Totals
+with_tables count totals = record totals { jump_tables = totals.jump_tables + count }
+
+-- how many there are of each kind behind a call
+abbrev pub totals_after : Call → Totals → Totals
+totals_after call totals = with_tables (unnamed_tables call) (totals_behind (numbered_kind call) totals)
+
 -- what such a call answers by number
 abbrev pub next_of : Option Kind → Totals → Numbered
 next_of None totals = numbered.Nothing
@@ -72,12 +86,12 @@ next_of (Some kind.Function) totals = numbered.Function totals.functions
 -- how many there are of each kind behind these calls, where there were so many before them
 abbrev pub totals_from : Totals → List Call → Totals
 totals_from totals [] = totals
-totals_from totals (call ∷ calls) = totals_from (totals_behind (numbered_kind call) totals) calls
+totals_from totals (call ∷ calls) = totals_from (totals_after call totals) calls
 
 -- for each call, what it answers by number, where there were so many of each kind before the calls
 abbrev pub numbered_from : Totals → List Call → List Numbered
 numbered_from totals [] = []
-numbered_from totals (call ∷ calls) = next_of (numbered_kind call) totals ∷ numbered_from (totals_behind (numbered_kind call) totals) calls
+numbered_from totals (call ∷ calls) = next_of (numbered_kind call) totals ∷ numbered_from (totals_after call totals) calls
 
 -- the number, if it is one of this kind
 abbrev pub number_as : Kind → Numbered → Option ℕ

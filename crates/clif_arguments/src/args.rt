@@ -6,7 +6,7 @@ ghost use Rattle.clif_arguments.specs.Arguments.{IsPart};
 use crate::header::{function_name, last_signature};
 use crate::refusals::{unknown_name, unknown_type};
 use crate::scope::{Kind, Scope};
-use clif_calls::{Edge, Name, Passed, TableEdge, TableItem};
+use clif_calls::{Edge, Name, Passed, SwitchEntry, TableEdge, TableItem};
 use clif_records::Variable;
 use clif_types::{
     EntityRef, ExceptionTable, ExternalName, FuncRef, IntCC, JumpTable, MemFlagsData, SigRef,
@@ -15,7 +15,7 @@ use clif_types::{
 use clif_words::bytes::bytes;
 use clif_words::cursor::Cursor;
 use clif_words::error::{Expected, LineError};
-use clif_words::number::{decimal, magnitude, number, offset};
+use clif_words::number::{decimal, magnitude, number, offset, wide_magnitude};
 use clif_words::types::{condition_named, lib_call_named, trap_code_named, type_named};
 use std::alloc::Global;
 
@@ -34,7 +34,7 @@ impl<'w, 'a> Args<'w, 'a> {
     ghost use Rattle.clif_types.specs.Texts.{int_cc_text};
     ghost use Rattle.clif_words.specs.Cursor.{TakesFlags, texts, words_left};
     ghost use Rattle.clif_words.specs.Spelling.{IsBytes, IsMagnitude, IsNumber, IsTrapCode, IsTypeWord, flag_word};
-    ghost use Rattle.clif_arguments.specs.Arguments.{AreAnswers, AreClosed, AreItems, AreLast, AreLastPassed, ArePassed, IsEdge, IsExceptionTable, IsExternalName, IsFunctionRef, IsInst, IsItem, IsJumpTable, IsLastEdge, IsLastOffset, IsNumbered, IsPassed, IsSignatureName, IsSlot, IsTableEdge, IsVariable};
+    ghost use Rattle.clif_arguments.specs.Arguments.{AreAnswers, AreClosed, AreItems, AreLast, AreLastPassed, ArePassed, AreSwitchCases, IsEdge, IsExceptionTable, IsExternalName, IsFunctionRef, IsInst, IsItem, IsJumpTable, IsLastEdge, IsLastOffset, IsNumbered, IsPassed, IsSignatureName, IsSlot, IsSwitchCase, IsTableEdge, IsVariable};
     ghost use Rattle.clif_arguments.specs.Header.{IsSignature};
     ghost use Rattle.clif_arguments.specs.Taking.{TakesAnswer, TakesAnswers, TakesWord, TakesWords, names_in, numbers_in};
 
@@ -552,6 +552,38 @@ impl<'w, 'a> Args<'w, 'a> {
             items.push(self.item()?)?;
         }
         Ok(items)
+    }
+
+    // A case of a switch.
+    fn switch_case(&mut self) -> Result<SwitchEntry, LineError<'a>>
+        ensures scope { self.new.scope ≡ self.old.scope }
+        ensures ok { IfOk result (TakesWord self.old self.new (IsSwitchCase (names_in self.old))) }
+    {
+        let word = self.words.take(Expected::SwitchCase)?;
+        let Some((key, block)) = word.split_once(':') else {
+            return Err(LineError::wanted(Expected::SwitchCase));
+        };
+        let Some(key) = wide_magnitude(key) else {
+            return Err(LineError::wanted(Expected::SwitchKey));
+        };
+        match self.scope.answer(block) {
+            Some(block) => Ok(SwitchEntry { key, block }),
+            None => Err(unknown_name(block, Expected::Block)),
+        }
+    }
+
+    /// The cases of a switch, up to the end of the line.
+    #[tactic(auto, using(crate::proofs::TakingTables::table_rules))]
+    pub fn last_switch_cases(&mut self, alloc: Global) -> Result<Vec<SwitchEntry>, LineError<'a>>
+        ensures scope { self.new.scope ≡ self.old.scope }
+        ensures ok { IfOk result (λ entries. (words_left self.new.words ≡ []) ×
+            AreSwitchCases (names_in self.old) (words_left self.old.words) entries.items) }
+    {
+        let mut entries = Vec::new(alloc);
+        while !self.words.is_empty() {
+            entries.push(self.switch_case()?)?;
+        }
+        Ok(entries)
     }
 
     /// Values in parentheses.

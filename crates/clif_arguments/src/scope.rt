@@ -57,7 +57,6 @@ pub struct Scope<'a> {
     totals: Totals,
     ghost variables_counted: { totals.variables ≤ vec_len numbered },
     ghost slots_counted: { totals.stack_slots ≤ vec_len numbered },
-    ghost tables_counted: { totals.jump_tables ≤ vec_len numbered },
     ghost exceptions_counted: { totals.exception_tables ≤ vec_len numbered },
     ghost signatures_counted: { totals.signatures ≤ vec_len numbered },
     ghost functions_counted: { totals.functions ≤ vec_len numbered },
@@ -124,7 +123,7 @@ impl<'a> Scope<'a> {
     ghost use Rattle.std.specs.Prelude.{[], IfNone, OnOk};
     ghost use Rattle.clif_arguments.specs.Given.{no_totals};
     ghost use Rattle.clif_arguments.specs.Arguments.{IsAnswer};
-    ghost use Rattle.clif_arguments.specs.Scope.{Counts, Gives, given_in, names_of, number_of};
+    ghost use Rattle.clif_arguments.specs.Scope.{AddsTables, Counts, Gives, given_in, names_of, number_of};
 
     pub fn new(alloc: Global) -> Scope<'a>
         ensures names { result.names.entries ≡ [] }
@@ -176,6 +175,19 @@ impl<'a> Scope<'a> {
         Ok(())
     }
 
+    /// So many more jump tables were made, which no name leads to. There is no memory for the keys of as many as have no number.
+    pub fn add_tables(&mut self, count: usize) -> Result<(), AllocError>
+        ensures { OnOk result (AddsTables count self.old self.new) }
+    {
+        match self.totals.jump_tables.checked_add(count) {
+            Some(total) => {
+                self.totals.jump_tables = total;
+                Ok(())
+            }
+            None => Err(AllocError),
+        }
+    }
+
     /// One more call was read, which answers one of this kind or none.
     pub fn count(&mut self, answered: Option<Kind>) -> Result<(), AllocError>
         ensures { OnOk result (Counts answered self.old self.new) }
@@ -193,8 +205,8 @@ impl<'a> Scope<'a> {
             }
             Some(Kind::JumpTable) => {
                 let number = self.totals.jump_tables;
+                self.add_tables(1)?;
                 self.numbered.push(Numbered::JumpTable(number))?;
-                self.totals.jump_tables += 1;
             }
             Some(Kind::ExceptionTable) => {
                 let number = self.totals.exception_tables;

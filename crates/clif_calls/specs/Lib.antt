@@ -1,3 +1,4 @@
 pub mod Plan
 pub mod Outside
 pub mod Tables
+pub mod Switches

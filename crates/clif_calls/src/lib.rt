@@ -16,5 +16,5 @@ pub use entry::EntryCall;
 pub use immediate::ImmediateCall;
 pub use outside::OutsideCall;
 pub use plan::Plan;
-pub use switch::SwitchEntry;
+pub use switch::{SwitchEntry, table_count};
 pub use table::{Passed, TableEdge, TableItem, ThrowingCall};

@@ -1,7 +1,7 @@
 //! The interpreter of functions, written from the function machine. It has the bits of values, and follows aliases.
 use crate::error::{Cause, Operand, Place, RunError};
 use crate::outside::{Callee, Event, Outside, Payload, call_library, cut, show};
-use crate::run::{End, Ending, World};
+use crate::run::{Choices, End, Ending, World};
 use clif_ir::{BlockArg, BlockCall, ExceptionTargets, Function, InstructionData};
 use clif_operations::arithmetic::bits_of_bytes;
 use clif_operations::{Fault, Operation, Outcome, Store, Typed, bits_of, carry_out, kept};
@@ -34,6 +34,7 @@ struct State<'a, O> {
     events: Vec<Event>,
     // what the last function of the C library gave to a try call
     given: Option<Typed>,
+    choices: Choices,
 }
 
 /// A call by its parts.
@@ -411,6 +412,15 @@ impl<'a, O: Outside> State<'a, O> {
         }
     }
 
+    // A choice more, if the operation is one.
+    fn count(&mut self, operation: &Operation) {
+        match operation {
+            Operation::Brif => self.choices.branches = self.choices.branches.saturating_add(1),
+            Operation::BrTable(_) => self.choices.tables = self.choices.tables.saturating_add(1),
+            _ => {}
+        }
+    }
+
     // Makes an instruction of this shape and with these results.
     fn make(&mut self, shape: &InstructionData, results: &[Value]) -> Result<Next, Cause> {
         let Some(operation) = operation_of(self.func, shape) else {
@@ -427,6 +437,7 @@ impl<'a, O: Outside> State<'a, O> {
                 Ok(Next::InBlock)
             }
             (_, Outcome::Went(number)) => {
+                self.count(&operation);
                 self.follow(shape.branch_destination().get(number), Payload::None)
             }
             (_, Outcome::Returned) => Ok(Next::Ended(End::Returned(bits_of(alloc, operands)?))),
@@ -491,6 +502,21 @@ pub fn run<'a, O: Outside>(
     world: &World<'a, O>,
     bound: u64,
 ) -> Result<Ending, RunError> {
+    let (ending, _) = run_counted(alloc, func, world, bound)?;
+    Ok(ending)
+}
+
+/// The same, with the choices that the run made.
+///
+/// # Errors
+///
+/// Those of [`run`].
+pub fn run_counted<'a, O: Outside>(
+    alloc: Global,
+    func: &'a Function,
+    world: &World<'a, O>,
+    bound: u64,
+) -> Result<(Ending, Choices), RunError> {
     let mut state = match begin(alloc, func, world) {
         Ok(state) => state,
         Err(cause) => return Err(cause.at(Place::Start)),
@@ -503,12 +529,19 @@ pub fn run<'a, O: Outside>(
         };
     }
     let end = state.steps(first, bound)?;
-    let State { store, events, .. } = state;
-    Ok(Ending {
+    let State {
+        store,
+        events,
+        choices,
+        ..
+    } = state;
+    let memory = store.memory;
+    let ending = Ending {
         events,
         end,
-        memory: store.memory,
-    })
+        memory,
+    };
+    Ok((ending, choices))
 }
 
 // A run before its first step.
@@ -537,5 +570,6 @@ fn begin<'a, O: Outside>(
         outside: world.outside,
         events: Vec::new(alloc),
         given: None,
+        choices: Choices::NONE,
     })
 }

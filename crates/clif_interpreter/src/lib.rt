@@ -15,4 +15,4 @@ pub mod script;
 pub use clif_operations::{Fault, Memory};
 pub use error::{Cause, Operand, Place, RunError, Told};
 pub use outside::{Callee, Event, Outside};
-pub use run::{End, Ending, STEPS, World};
+pub use run::{Choices, End, Ending, STEPS, World};

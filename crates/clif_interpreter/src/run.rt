@@ -56,6 +56,23 @@ pub enum End {
     OutOfSteps,
 }
 
+/// How often a run of a function chose its way.
+#[derive(Clone, Copy, PartialEq, Eq, Debug)]
+pub struct Choices {
+    /// The conditional branches that it took.
+    pub branches: u64,
+    /// The jump tables by which it went.
+    pub tables: u64,
+}
+
+impl Choices {
+    /// Not at all.
+    pub const NONE: Choices = Choices {
+        branches: 0,
+        tables: 0,
+    };
+}
+
 /// What a run showed: its outside calls, how it ended, and what is in memory then.
 #[derive(PartialEq, Eq, Drop)]
 pub struct Ending {

@@ -254,6 +254,20 @@ impl<O: Outside> State<'_, '_, '_, O> {
         Ok(Next::Item)
     }
 
+    // Makes the switch at a place: goes to the block of the value's case, or to that of all other values. Nothing is passed.
+    fn switch(&mut self, place: usize, value: Name) -> Result<Next, Cause> {
+        let program = self.program;
+        let Some(map) = program.switches.at(place) else {
+            return Err(Cause::NoTarget);
+        };
+        let number = map.edge(self.value(value)?)?;
+        let Some(target) = program.target(place, number) else {
+            return Err(Cause::NoTarget);
+        };
+        self.enter(target, &[])?;
+        Ok(Next::Block(target))
+    }
+
     // The bits of a call's arguments, which have the types of the signature's parameters.
     fn arguments(&self, signature: &Signature, names: &[Name]) -> Result<Vec<u128>, Cause> {
         let params = signature.params.as_slice();
@@ -462,6 +476,7 @@ impl<O: Outside> State<'_, '_, '_, O> {
                 Ok(Next::Item)
             }
             Call::Immediate(called) => self.with_constant(place, *called),
+            Call::Switch { value, .. } => self.switch(place, *value),
             _ => self.call(place, call),
         }
     }

@@ -15,6 +15,8 @@ pub enum Fault {
     NoPlace,
     /// The instruction with this opcode isn't defined at such types.
     Types(Opcode),
+    /// A switch goes by a value of this type, which is no integer.
+    Switched(Type),
     /// The returned values don't have the types that the function returns.
     Returned,
     /// The address isn't aligned, and the flag `aligned` claims that it is.
@@ -61,6 +63,7 @@ impl fmt::Display for Fault {
         match self {
             Fault::TooWide(ty) => write!(f, "a value of type {ty} has more than 128 bits"),
             Fault::Types(opcode) => write!(f, "{opcode} isn't defined at such types"),
+            Fault::Switched(ty) => write!(f, "a switch isn't defined at type {ty}"),
             fault => f.write_str(fault.text()),
         }
     }

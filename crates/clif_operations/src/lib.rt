@@ -8,10 +8,12 @@ pub mod fault;
 pub mod library;
 pub mod memory;
 pub mod operation;
+pub mod switch;
 pub mod with_constant;
 
 pub use fault::Fault;
 pub use library::{LibraryCall, is_library_signature, library_result};
 pub use memory::{Memory, Slots};
 pub use operation::{Operation, Outcome, Store, Typed, bits_of, carry_out, kept};
+pub use switch::SwitchMap;
 pub use with_constant::WithConstant;

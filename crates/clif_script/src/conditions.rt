@@ -2,8 +2,8 @@
 use crate::condition::Condition;
 use crate::ledger::Ledger;
 use clif_calls::{
-    Call, Edge, EntryCall, ImmediateCall, Name, OutsideCall, Passed, TableEdge, TableItem,
-    ThrowingCall,
+    Call, Edge, EntryCall, ImmediateCall, Name, OutsideCall, Passed, SwitchEntry, TableEdge,
+    TableItem, ThrowingCall,
 };
 use clif_opcodes::{Demand, Opcode, PooledConstOpcode};
 use clif_operations::Operation;
@@ -145,6 +145,24 @@ impl Ledger<'_> {
         self.is_open()?;
         self.value(index)?;
         self.can_serve(self.table(table)?)
+    }
+
+    // A switch may be made: it goes by an integer, and no block that it leads to is sealed.
+    fn can_switch(
+        &self,
+        value: Name,
+        otherwise: Name,
+        entries: &[SwitchEntry],
+    ) -> Result<(), Condition> {
+        self.is_open()?;
+        if !self.value(value)?.is_int() {
+            return Err(Condition::NoInteger(value));
+        }
+        self.is_unsealed(self.block(otherwise)?)?;
+        for entry in entries {
+            self.is_unsealed(self.block(entry.block)?)?;
+        }
+        Ok(())
     }
 
     fn has_signature(&self, signature: SigRef) -> Result<(), Condition> {
@@ -302,6 +320,11 @@ impl Ledger<'_> {
             }
             Call::Outside(called) => self.can_call(called),
             Call::Immediate(called) => self.can_take_constant(*called),
+            Call::Switch {
+                entries,
+                value,
+                otherwise,
+            } => self.can_switch(*value, *otherwise, entries.as_slice()),
             Call::Throwing(called) => self.can_try(called),
             Call::DeclareVar { ty } => can_declare(*ty),
             Call::DefVar { variable, value } => self.can_define(variable.index(), *value),

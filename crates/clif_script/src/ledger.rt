@@ -1,6 +1,10 @@
 //! What the calls so far tell, as the conditions on calls ask it.
 use crate::condition::Condition;
-use clif_calls::{Call, EntryCall, ImmediateCall, Name, OutsideCall, TableEdge, TableItem};
+use crate::switches::blocks_made;
+use clif_calls::{
+    Call, EntryCall, ImmediateCall, Name, OutsideCall, SwitchEntry, TableEdge, TableItem,
+    table_count,
+};
 use clif_opcodes::Control;
 use clif_operations::Operation;
 use clif_script_program::branches::Branches;
@@ -47,6 +51,15 @@ pub(crate) const NEW_BLOCK: BlockState = BlockState {
     is_sealed: false,
     is_placed: false,
     edges: 0,
+};
+
+// A block that a switch makes, which is finished at once.
+const MADE_BLOCK: BlockState = BlockState {
+    is_begun: true,
+    is_filled: true,
+    is_sealed: true,
+    is_placed: true,
+    edges: 1,
 };
 
 /// What the calls so far tell.
@@ -390,6 +403,24 @@ impl<'a> Ledger<'a> {
         self.push(Answer::Inst)
     }
 
+    // A switch fills the current block, and makes blocks and jump tables of its own, which these serve. No block is current then.
+    fn switch(&mut self, entries: &[SwitchEntry], value: Name) -> Result<(), AllocError> {
+        self.begin();
+        if let Some(number) = self.current {
+            self.mark(number, Mark::Filled);
+        }
+        self.current = None;
+        for _ in 0..table_count(self.alloc, entries)? {
+            self.tables.push(None)?;
+        }
+        if let Ok(ty) = self.value(value) {
+            for _ in 0..blocks_made(self.alloc, entries, ty)? {
+                self.blocks.push(MADE_BLOCK)?;
+            }
+        }
+        self.push_values(&[])
+    }
+
     // A call is made: a row for each.
     pub(crate) fn change(&mut self, call: &Call) -> Result<(), AllocError> {
         let signature = self.signature;
@@ -414,6 +445,7 @@ impl<'a> Ledger<'a> {
                 items,
             } => self.add_exceptions(*by, *normal, items.as_slice()),
             Call::BrTable { table, .. } => self.branch(*table),
+            Call::Switch { entries, value, .. } => self.switch(entries.as_slice(), *value),
             Call::Throwing(called) => self.serve_exceptions(called.table()),
             Call::Outside(called) => self.call_outside(called),
             Call::Immediate(called) => self.take_constant(*called),

@@ -10,10 +10,11 @@ mod ledger;
 mod program;
 mod row_texts;
 mod rows;
+mod switches;
 
 pub use clif_calls::{
     Call, Edge, EntryCall, Name, OutsideAnswer, OutsideCall, Passed, PlainInstruction, Plan,
-    TableEdge, TableItem, ThrowingCall,
+    SwitchEntry, TableEdge, TableItem, ThrowingCall,
 };
 pub use clif_interpreter::STEPS;
 pub use clif_replay::{ReplayError, replay};

@@ -198,6 +198,81 @@ return a0 b0 c0
 seal_all_blocks
 ";
 
+/// A switch with four ranges of keys, which are searched by halves.
+pub(crate) const SWITCH_MANY: &str = "\
+# The keys make the ranges 0..1, 5, 7 and 10..12. No block of a case has anything in it, so none is in the layout.
+block0 = create_block
+switch_to_block block0
+x = iconst.i8 0
+block1 = create_block
+block2 = create_block
+block3 = create_block
+block4 = create_block
+block5 = create_block
+block6 = create_block
+block7 = create_block
+switch x block0 0:block1 1:block2 5:block3 7:block4 10:block5 11:block6 12:block7
+seal_all_blocks
+";
+
+/// A switch on 128 bits: the key 2^64 - 1 is made of its halves.
+pub(crate) const SWITCH_128BIT_MAX_U64: &str = "\
+function %switch_128bit_max_u64 () system_v
+block0 = create_block
+switch_to_block block0
+zero = iconst.i64 0
+x = uextend.i128 zero
+block1 = create_block
+block2 = create_block
+block3 = create_block
+switch x block3 0xffff_ffff_ffff_ffff:block1 0:block2
+seal_all_blocks
+";
+
+/// A range of keys that starts above 2^63: its first key is subtracted as a whole.
+pub(crate) const SWITCH_HIGH: &str = "\
+# The value is the first key of the range.
+function %switch_high () system_v
+block0 = create_block
+block1 = create_block
+block2 = create_block
+block3 = create_block
+switch_to_block block0
+low = iconst.i64 0x8000_0000_0000_0001
+high = iconst.i64 0
+x = iconcat low high
+switch x block3 0x8000_0000_0000_0001:block1 0x8000_0000_0000_0002:block2
+switch_to_block block1
+trap user1
+switch_to_block block2
+trap user2
+switch_to_block block3
+trap user3
+seal_all_blocks
+";
+
+/// A range of keys that starts at 2^63: the number that is added is its negation in 64 bits, with its sign repeated.
+pub(crate) const SWITCH_BORDER: &str = "\
+# The value is the second key of the range.
+function %switch_border () system_v
+block0 = create_block
+block1 = create_block
+block2 = create_block
+block3 = create_block
+switch_to_block block0
+low = iconst.i64 0x8000_0000_0000_0001
+high = iconst.i64 0
+x = iconcat low high
+switch x block3 0x8000_0000_0000_0000:block1 0x8000_0000_0000_0001:block2
+switch_to_block block1
+trap user1
+switch_to_block block2
+trap user2
+switch_to_block block3
+trap user3
+seal_all_blocks
+";
+
 /// A branch of which both arms are changed.
 pub(crate) const CHANGE_BOTH: &str = "\
 # Both arms lead to block1, and then to block2. The branch is one predecessor of block2.

@@ -1,23 +1,27 @@
 //! The rows: scripts that stand in this crate, and the program `rows` that builds their functions, over two writers.
 ghost use Rattle.std.specs.Prelude.{◌≡◌, ◌<◌, ◌↔◌, length, string_bytes, slice_get, IfOk, IfSome, IsSome};
-ghost use Rattle.clif_script.specs.Rows.{IsRowName};
+ghost use Rattle.clif_script.specs.Rows.{IsOtherRow, IsRowName, IsSwitchRow};
 
 use crate::program::build_text;
 use crate::row_texts::{
     BOTH_ARMS, CHANGE_BOTH, CHANGE_ONE, EMPTY, FIRST, REORDERING, SAMPLE, SAMPLE_LATE,
-    UNDEF_VECTORS,
+    SWITCH_128BIT_MAX_U64, SWITCH_BORDER, SWITCH_HIGH, SWITCH_MANY, UNDEF_VECTORS,
 };
 use std::alloc::Global;
 use std::io;
 
 // The names of the rows, in order.
-const NAMES: [&str; 9] = [
+const NAMES: [&str; 13] = [
     "first",
     "reordering",
     "sample",
     "sample_late",
     "both_arms",
     "undef_vectors",
+    "switch_many",
+    "switch_128bit_max_u64",
+    "switch_high",
+    "switch_border",
     "change_both",
     "change_one",
     "empty",
@@ -26,6 +30,29 @@ const NAMES: [&str; 9] = [
 /// The script of the row of this name, compared byte for byte.
 pub fn row_text(name: &str) -> Option<&'static str>
     ensures { IsSome result ↔ IsRowName name.now }
+{
+    match switch_row_text(name) {
+        Some(text) => Some(text),
+        None => other_row_text(name),
+    }
+}
+
+// That of a row with a switch.
+fn switch_row_text(name: &str) -> Option<&'static str>
+    ensures { IsSome result ↔ IsSwitchRow name.now }
+{
+    match name {
+        "switch_many" => Some(SWITCH_MANY),
+        "switch_128bit_max_u64" => Some(SWITCH_128BIT_MAX_U64),
+        "switch_high" => Some(SWITCH_HIGH),
+        "switch_border" => Some(SWITCH_BORDER),
+        _ => None,
+    }
+}
+
+// That of another row.
+fn other_row_text(name: &str) -> Option<&'static str>
+    ensures { IsSome result ↔ IsOtherRow name.now }
 {
     match name {
         "first" => Some(FIRST),

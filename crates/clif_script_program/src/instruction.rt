@@ -1,5 +1,5 @@
 //! The instructions of scripts, by their parts.
-use clif_calls::{Call, Edge, ImmediateCall, Name, Plan, TableEdge};
+use clif_calls::{Call, Edge, ImmediateCall, Name, Plan, SwitchEntry, TableEdge};
 use clif_opcodes::PooledConstOpcode;
 use clif_operations::arithmetic::bits_of_bytes;
 use clif_operations::{Operation, WithConstant};
@@ -208,6 +208,14 @@ pub fn targets_of(
     places: &[usize],
 ) -> Result<Vec<Option<Name>>, AllocError> {
     let mut targets = tabled_targets(alloc, calls, places)?;
+    if let Call::Switch {
+        entries,
+        otherwise,
+        ..
+    } = call
+    {
+        return switched_targets(alloc, entries.as_slice(), *otherwise);
+    }
     if let Some(plan) = plan_of(call) {
         for number in 0..edge_count(&plan) {
             targets.push(edge_of(&plan, number).map(|edge| edge.block))?;
@@ -226,6 +234,20 @@ fn tabled_targets(
     for place in places {
         targets.push(edge_made(calls, *place).map(|edge| edge.block))?;
     }
+    Ok(targets)
+}
+
+// Where the edges of a switch lead: to the block of each case, and then to that of all other keys.
+fn switched_targets(
+    alloc: Global,
+    entries: &[SwitchEntry],
+    otherwise: Name,
+) -> Result<Vec<Option<Name>>, AllocError> {
+    let mut targets = Vec::new(alloc);
+    for entry in entries {
+        targets.push(Some(entry.block))?;
+    }
+    targets.push(Some(otherwise))?;
     Ok(targets)
 }
 

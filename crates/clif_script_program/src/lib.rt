@@ -8,3 +8,4 @@ pub mod exceptions;
 pub mod imports;
 pub mod instruction;
 pub mod program;
+pub mod switches;

@@ -3,7 +3,8 @@ use crate::branches::Branches;
 use crate::exceptions::{ExceptionTables, Exceptions};
 use crate::imports::Imports;
 use crate::instruction::{edge_made, result_count, targets_of};
-use clif_calls::{Call, EntryCall, Name, TableEdge};
+use crate::switches::Switches;
+use clif_calls::{Call, EntryCall, Name, SwitchEntry, TableEdge, table_count};
 use clif_types::{AbiParam, EntityRef, ExceptionTable, JumpTable, Signature, Type};
 use std::alloc::{AllocError, Global};
 
@@ -33,11 +34,13 @@ pub struct Program {
     pub variables: Vec<Type>,
     /// The size of each stack slot, and the shift of its alignment.
     pub slots: Vec<(u32, u8)>,
-    // for each jump table the places of the calls that answered its edges, the default first
+    // for each jump table the places of the calls that answered its edges, the default first; those of switches have none
     tables: Vec<Vec<usize>>,
     /// The exception tables.
     pub exceptions: ExceptionTables,
     branches: Branches,
+    /// The switches.
+    pub switches: Switches,
     /// The signatures and functions that the script imports.
     pub imports: Imports,
     /// For each call how many answers it has. What is no value is never given.
@@ -58,6 +61,7 @@ impl Program {
             tables: Vec::new(alloc),
             exceptions: ExceptionTables::new(alloc),
             branches: Branches::new(alloc),
+            switches: Switches::new(alloc),
             imports: Imports::new(alloc),
             answers: Vec::new(alloc),
         };
@@ -233,6 +237,7 @@ impl Program {
                 self.put_into_layout();
                 self.add_item(place, true)
             }
+            Call::Switch { entries, .. } => self.add_switch(place, entries.as_slice()),
             Call::ChangeJumpDestination { branch, from, to } => {
                 self.change_branch(*branch, *from, *to);
                 Ok(())
@@ -274,6 +279,18 @@ impl Program {
             places.push(entry.place)?;
         }
         self.tables.push(places)?;
+        Ok(())
+    }
+
+    // Adds the switch at a place, behind which no block is current. It makes jump tables that no call names.
+    fn add_switch(&mut self, place: usize, entries: &[SwitchEntry]) -> Result<(), AllocError> {
+        self.switches.add(place, entries)?;
+        for _ in 0..table_count(self.alloc, entries)? {
+            self.tables.push(Vec::new(self.alloc))?;
+        }
+        self.put_into_layout();
+        self.add_item(place, true)?;
+        self.current = None;
         Ok(())
     }
 

@@ -3,13 +3,17 @@
 #![tactic(auto)]
 
 /// The rows by their names, with the texts of their functions.
-pub const ROWS: [(&str, &str); 9] = [
+pub const ROWS: [(&str, &str); 13] = [
     ("first", FIRST_TEXT),
     ("reordering", REORDERING_TEXT),
     ("sample", SAMPLE_TEXT),
     ("sample_late", SAMPLE_LATE_TEXT),
     ("both_arms", BOTH_ARMS_TEXT),
     ("undef_vectors", UNDEF_VECTORS_TEXT),
+    ("switch_many", SWITCH_MANY_TEXT),
+    ("switch_128bit_max_u64", SWITCH_128BIT_MAX_U64_TEXT),
+    ("switch_high", SWITCH_HIGH_TEXT),
+    ("switch_border", SWITCH_BORDER_TEXT),
     ("change_both", CHANGE_BOTH_TEXT),
     ("change_one", CHANGE_ONE_TEXT),
     ("empty", EMPTY_TEXT),
@@ -17,6 +21,237 @@ pub const ROWS: [(&str, &str); 9] = [
 
 /// The function of no calls.
 pub const EMPTY_TEXT: &str = "function u0:0() fast {\n}\n";
+
+/// A switch with five ranges of keys.
+pub const SWITCH: &str = "\
+# What a status of HTTP means: 1 that the request was served, 2 that its subject is elsewhere, 3 that it is missing, 4 that
+# the server failed, and 0 for all other numbers. The keys make five ranges, which are searched by halves.
+function %meaning_of_status (i16) -> i8 system_v
+entry = create_block
+served = create_block
+elsewhere = create_block
+missing = create_block
+failed = create_block
+other = create_block
+status = append_block_params_for_function_params entry
+
+switch_to_block entry
+seal_block entry
+switch status other 200:served 201:served 204:served 301:elsewhere 302:elsewhere 404:missing 500:failed
+
+switch_to_block served
+meaning = iconst.i8 1
+return meaning
+
+switch_to_block elsewhere
+meaning = iconst.i8 2
+return meaning
+
+switch_to_block missing
+meaning = iconst.i8 3
+return meaning
+
+switch_to_block failed
+meaning = iconst.i8 4
+return meaning
+
+switch_to_block other
+meaning = iconst.i8 0
+return meaning
+seal_all_blocks
+";
+
+/// Its function.
+pub const SWITCH_TEXT: &str = "\
+function %meaning_of_status(i16) -> i8 system_v {
+block0(v0: i16):
+    v1 = iconst.i16 301
+    v2 = icmp uge v0, v1  ; v1 = 301
+    brif v2, block7, block6
+
+block7:
+    v3 = iconst.i16 500
+    v4 = icmp.i16 eq v0, v3  ; v3 = 500
+    brif v4, block4, block8
+
+block8:
+    v5 = iconst.i16 404
+    v6 = icmp.i16 eq v0, v5  ; v5 = 404
+    brif v6, block3, block9
+
+block9:
+    v7 = iconst.i16 301
+    v8 = icmp.i16 uge v0, v7  ; v7 = 301
+    brif v8, block10, block5
+
+block10:
+    v9 = iconst.i16 -301
+    v10 = iadd.i16 v0, v9  ; v9 = -301
+    v11 = uextend.i32 v10
+    br_table v11, block5, [block2, block2]
+
+block6:
+    v12 = iconst.i16 204
+    v13 = icmp.i16 eq v0, v12  ; v12 = 204
+    brif v13, block1, block11
+
+block11:
+    v14 = iconst.i16 200
+    v15 = icmp.i16 uge v0, v14  ; v14 = 200
+    brif v15, block12, block5
+
+block12:
+    v16 = iconst.i16 -200
+    v17 = iadd.i16 v0, v16  ; v16 = -200
+    v18 = uextend.i32 v17
+    br_table v18, block5, [block1, block1]
+
+block1:
+    v19 = iconst.i8 1
+    return v19  ; v19 = 1
+
+block2:
+    v20 = iconst.i8 2
+    return v20  ; v20 = 2
+
+block3:
+    v21 = iconst.i8 3
+    return v21  ; v21 = 3
+
+block4:
+    v22 = iconst.i8 4
+    return v22  ; v22 = 4
+
+block5:
+    v23 = iconst.i8 0
+    return v23  ; v23 = 0
+}
+";
+
+/// The function of the switch with four ranges.
+pub const SWITCH_MANY_TEXT: &str = "\
+function u0:0() fast {
+block0:
+    v0 = iconst.i8 0
+    v1 = iconst.i8 7
+    v2 = icmp uge v0, v1  ; v0 = 0, v1 = 7
+    brif v2, block9, block8
+
+block9:
+    v3 = iconst.i8 10
+    v4 = icmp.i8 uge v0, v3  ; v0 = 0, v3 = 10
+    brif v4, block11, block10
+
+block11:
+    v5 = iconst.i8 -10
+    v6 = iadd.i8 v0, v5  ; v0 = 0, v5 = -10
+    v7 = uextend.i32 v6
+    br_table v7, block0, [block5, block6, block7]
+
+block10:
+    v8 = iconst.i8 7
+    v9 = icmp.i8 eq v0, v8  ; v0 = 0, v8 = 7
+    brif v9, block4, block0
+
+block8:
+    v10 = iconst.i8 5
+    v11 = icmp.i8 eq v0, v10  ; v0 = 0, v10 = 5
+    brif v11, block3, block12
+
+block12:
+    v12 = uextend.i32 v0  ; v0 = 0
+    br_table v12, block0, [block1, block2]
+}
+";
+
+const SWITCH_128BIT_MAX_U64_TEXT: &str = "\
+function %switch_128bit_max_u64() system_v {
+block0:
+    v0 = iconst.i64 0
+    v1 = uextend.i128 v0  ; v0 = 0
+    v2 = iconst.i64 -1
+    v3 = iconst.i64 0
+    v4 = iconcat v2, v3  ; v2 = -1, v3 = 0
+    v5 = icmp eq v1, v4
+    brif v5, block1, block4
+
+block4:
+    brif.i128 v1, block3, block2
+}
+";
+
+const SWITCH_HIGH_TEXT: &str = "\
+function %switch_high() system_v {
+block0:
+    v0 = iconst.i64 0x8000_0000_0000_0001
+    v1 = iconst.i64 0
+    v2 = iconcat v0, v1  ; v0 = 0x8000_0000_0000_0001, v1 = 0
+    v3 = iconst.i64 0x8000_0000_0000_0001
+    v4 = iconst.i64 0
+    v5 = iconcat v3, v4  ; v3 = 0x8000_0000_0000_0001, v4 = 0
+    v6 = icmp uge v2, v5
+    brif v6, block4, block3
+
+block4:
+    v7 = iconst.i64 0x8000_0000_0000_0001
+    v8 = iconst.i64 0
+    v9 = iconcat v7, v8  ; v7 = 0x8000_0000_0000_0001, v8 = 0
+    v10 = isub.i128 v2, v9
+    v11 = iconst.i64 0xffff_ffff
+    v12 = sextend.i128 v11  ; v11 = 0xffff_ffff
+    v13 = icmp ugt v10, v12
+    brif v13, block3, block5
+
+block5:
+    v14 = ireduce.i32 v10
+    br_table v14, block3, [block1, block2]
+
+block1:
+    trap user1
+
+block2:
+    trap user2
+
+block3:
+    trap user3
+}
+";
+
+const SWITCH_BORDER_TEXT: &str = "\
+function %switch_border() system_v {
+block0:
+    v0 = iconst.i64 0x8000_0000_0000_0001
+    v1 = iconst.i64 0
+    v2 = iconcat v0, v1  ; v0 = 0x8000_0000_0000_0001, v1 = 0
+    v3 = iconst.i64 0x8000_0000_0000_0000
+    v4 = iconst.i64 0
+    v5 = iconcat v3, v4  ; v3 = 0x8000_0000_0000_0000, v4 = 0
+    v6 = icmp uge v2, v5
+    brif v6, block4, block3
+
+block4:
+    v7 = iconst.i64 0x8000_0000_0000_0000
+    v8 = sextend.i128 v7  ; v7 = 0x8000_0000_0000_0000
+    v9 = iadd.i128 v2, v8
+    v10 = iconst.i64 0xffff_ffff
+    v11 = sextend.i128 v10  ; v10 = 0xffff_ffff
+    v12 = icmp ugt v9, v11
+    brif v12, block3, block5
+
+block5:
+    v13 = ireduce.i32 v9
+    br_table v13, block3, [block1, block2]
+
+block1:
+    trap user1
+
+block2:
+    trap user2
+
+block3:
+    trap user3
+}
+";
 
 const CHANGE_BOTH_TEXT: &str = "\
 function %change_both() -> i32 system_v {

@@ -192,7 +192,10 @@ fn of_header_lines(rt: HostRuntime) -> Result<(), Fail> {
     gives(&rt, rt.alloc(), twice.as_bytes(), 2, "", err)
 }
 
-const CALLS_TO_COME: [(&str, &str); 1] = [("switch x b 1:c", "not supported yet: switch")];
+const CALLS_TO_COME: [(&str, &str); 1] = [(
+    "call_memcpy $0.0 $0.0 $0.0",
+    "not supported yet: call_memcpy",
+)];
 
 // A call of the format that isn't understood so far.
 #[test]

@@ -33,6 +33,8 @@ mod steps;
 #[cfg(test)]
 mod support;
 #[cfg(test)]
+mod switches;
+#[cfg(test)]
 mod tables;
 #[cfg(test)]
 mod texts;

@@ -26,7 +26,7 @@ fn run_with(
 }
 
 const NAMES: &str =
-    "first\nreordering\nsample\nsample_late\nboth_arms\nundef_vectors\nchange_both\nchange_one\nempty\n";
+    "first\nreordering\nsample\nsample_late\nboth_arms\nundef_vectors\nswitch_many\nswitch_128bit_max_u64\nswitch_high\nswitch_border\nchange_both\nchange_one\nempty\n";
 
 // One run with these arguments gives this status and these texts.
 fn gives(

@@ -7,7 +7,7 @@ use std::alloc::Global;
 use std::process::Abort;
 use std::test::Fail;
 
-const EXAMPLES: [(&str, &str); 9] = [
+const EXAMPLES: [(&str, &str); 10] = [
     (data::DIAMOND, data::DIAMOND_TEXT),
     (data::NESTED_LOOPS, data::NESTED_LOOPS_TEXT),
     (data::SUM_OF_BYTES, data::SUM_OF_BYTES_TEXT),
@@ -16,6 +16,7 @@ const EXAMPLES: [(&str, &str); 9] = [
     (data::SLOTS, data::SLOTS_TEXT),
     (data::PLACED, data::PLACED_TEXT),
     (data::TABLE, data::TABLE_TEXT),
+    (data::SWITCH, data::SWITCH_TEXT),
     ("\n# nothing is called\n \t\r\n,", data::EMPTY_TEXT),
 ];
 

@@ -19,7 +19,7 @@ use Rattle.clif_calls.specs.declared.table.ThrowingCall.TheVariants as throwing
 use Rattle.clif_calls.specs.Plan.{plan_of}
 use Rattle.clif_calls.specs.declared.plan.Plan.{Plan}
 use Rattle.clif_calls.specs.declared.plan.Plan.TheVariants as plan
-use Rattle.clif_arguments.specs.Arguments.{AreAnswers, AreClosed, AreItems, AreLast, IsAnswer, IsEdge, IsExceptionTable, IsExternalName, IsFunctionRef, IsInst, IsJumpTable, IsLastEdge, IsLastOffset, IsSignatureName, IsSlot, IsTableEdge, IsVariable, Names}
+use Rattle.clif_arguments.specs.Arguments.{AreAnswers, AreClosed, AreItems, AreLast, AreSwitchCases, IsAnswer, IsEdge, IsExceptionTable, IsExternalName, IsFunctionRef, IsInst, IsJumpTable, IsLastEdge, IsLastOffset, IsSignatureName, IsSlot, IsTableEdge, IsVariable, Names}
 use Rattle.clif_arguments.specs.Header.{IsSignature}
 
 -- The words stand for an instruction of this plan, which neither branches nor ends its block.
@@ -128,6 +128,9 @@ IsCall names words (call.Vconst ty bytes) = (t n : List ℕ) × (words ≡ (code
 IsCall names words (call.Jump edge) = (e : List (List ℕ)) × (words ≡ codes "jump" ∷ e) × IsLastEdge names e edge
 IsCall names words (call.Brif condition first second) = (a : List ℕ) × (e f : List (List ℕ)) × (words ≡ codes "brif" ∷ a ∷ (e ++ f)) × IsAnswer names a condition × IsEdge names e first × IsLastEdge names f second
 IsCall names words (call.BrTable index table) = (a t : List ℕ) × (words ≡ codes "br_table" ∷ a ∷ t ∷ []) × IsAnswer names a index × IsJumpTable names t table
+IsCall names words (call.Switch entries value otherwise) =
+    (v o : List ℕ) × (cases : List (List ℕ)) × (words ≡ codes "switch" ∷ v ∷ o ∷ cases)
+    × IsAnswer names v value × IsAnswer names o otherwise × AreSwitchCases names cases entries.items
 IsCall names words (call.Throwing called) = IsThrowing names words called
 IsCall names words (call.Return values) = (v : List (List ℕ)) × (words ≡ codes "return" ∷ v) × AreLast names v values.items
 IsCall names words (call.Trap code) = (reason : List ℕ) × (words ≡ codes "trap" ∷ reason ∷ []) × IsTrapCode reason code

@@ -14,6 +14,7 @@ use Rattle.clif_types.specs.declared.target.TargetFrontendConfig.{TargetFrontend
 use Rattle.clif_words.specs.Spelling.{pointer_text}
 use Rattle.clif_calls.specs.declared.call.Name.{Name}
 use Rattle.clif_calls.specs.declared.call.Edge.{Edge}
+use Rattle.clif_calls.specs.declared.switch.SwitchEntry.{SwitchEntry}
 use Rattle.clif_calls.specs.declared.call.Call.{Call}
 use Rattle.clif_calls.specs.declared.call.Call.TheVariants as call
 use Rattle.clif_calls.specs.declared.entry.EntryCall.{EntryCall}
@@ -68,6 +69,14 @@ item_text (item.Context value) = codes "context " ++ answer_text value
 -- ` tag7 $8.0 default $9.0`
 abbrev pub items_text : List TableItem → List ℕ
 items_text items = flat_map (λ one. codes " " ++ item_text one) items
+
+-- `7:$1.0`
+abbrev pub switch_case_text : SwitchEntry → List ℕ
+switch_case_text entry = decimal entry.key ++ (codes ":" ++ answer_text entry.block)
+
+-- ` 7:$1.0 9:$2.0`
+abbrev pub switch_cases_text : List SwitchEntry → List ℕ
+switch_cases_text entries = flat_map (λ one. codes " " ++ switch_case_text one) entries
 
 -- `var0`
 abbrev pub variable_text : ℕ → List ℕ
@@ -184,6 +193,8 @@ call_text (call.Vconst ty bytes) = codes "vconst." ++ (type_text ty ++ (codes " 
 call_text (call.Jump edge) = codes "jump " ++ edge_text edge
 call_text (call.Brif condition first second) = codes "brif " ++ (answer_text condition ++ (codes " " ++ (edge_text first ++ (codes " " ++ edge_text second))))
 call_text (call.BrTable index table) = codes "br_table " ++ (answer_text index ++ (codes " jt" ++ decimal table))
+call_text (call.Switch entries value otherwise) =
+    codes "switch " ++ (answer_text value ++ (codes " " ++ (answer_text otherwise ++ switch_cases_text entries.items)))
 call_text (call.Throwing called) = throwing_text called
 call_text (call.Return values) = codes "return" ++ answers_text values.items
 call_text (call.Trap code) = codes "trap " ++ trap_code_text code

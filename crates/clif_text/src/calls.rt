@@ -16,6 +16,7 @@ use crate::instructions::{
     stack_named, unary_named,
 };
 use crate::outside::read_outside_call;
+use crate::switch::read_switch_call;
 use crate::throwing::read_throwing_call;
 use clif_arguments::args::Args;
 use clif_arguments::refusals::unknown_type;
@@ -27,10 +28,9 @@ use clif_words::types::type_named;
 use std::alloc::Global;
 
 // The calls of the format that aren't understood so far, without the type that may follow their name.
-const NOT_SUPPORTED: [&str; 10] = [
+const NOT_SUPPORTED: [&str; 9] = [
     "declare_var_needs_stack_map",
     "declare_value_needs_stack_map",
-    "switch",
     "call_memcpy",
     "call_memmove",
     "call_memset",
@@ -96,6 +96,7 @@ fn read_call<'a>(
         }),
         "call" | "call_indirect" => read_outside_call(alloc, head, args),
         "iadd_imm_s" | "icmp_imm_s" => read_immediate_call(head, args),
+        "switch" => read_switch_call(alloc, head, args),
         "create_exception_table" | "try_call" | "try_call_indirect" => {
             read_throwing_call(alloc, head, args)
         }
@@ -365,7 +366,8 @@ pub(crate) fn answers_of(call: &Call) -> Answers
         | Call::SetSrcloc { .. }
         | Call::CollectDebugInfo
         | Call::SetValLabel { .. }
-        | Call::ChangeJumpDestination { .. } => (false, 0),
+        | Call::ChangeJumpDestination { .. }
+        | Call::Switch { .. } => (false, 0),
         Call::Plain(instruction) | Call::Cursor(instruction) => (true, result_count(instruction)),
         Call::Jump { .. }
         | Call::Brif { .. }

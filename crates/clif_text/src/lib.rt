@@ -7,6 +7,7 @@ mod immediate;
 mod instructions;
 mod outside;
 mod reader;
+mod switch;
 mod throwing;
 mod writer;
 

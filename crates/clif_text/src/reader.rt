@@ -2,14 +2,14 @@
 ghost use Rattle.std.specs.Prelude.{◌≡◌, ◌≢◌, ◌++◌, ◌∷◌, [], ℕ, List, IfOk, IfErr, IfNone, IfSome, OnOk, codes, true};
 ghost use Rattle.std.specs.List.{All};
 ghost use Rattle.clif_words.specs.Cursor.{texts};
-ghost use Rattle.clif_arguments.specs.Given.{numbered_kind};
+ghost use Rattle.clif_arguments.specs.Given.{numbered_kind, unnamed_tables};
 ghost use Rattle.clif_text.specs.Reader.{NamesAnswers};
 ghost use Rattle.clif_text.specs.Script as script;
 
 use crate::calls::{Answers, answers_of, call_of};
 use clif_arguments::header::{Header, is_header};
 use clif_arguments::scope::{Kind, Scope, is_name};
-use clif_calls::{Call, EntryCall, Name, OutsideAnswer};
+use clif_calls::{Call, EntryCall, Name, OutsideAnswer, table_count};
 use clif_types::{Signature, TargetFrontendConfig, UserFuncName};
 use clif_words::error::{Expected, Fault, LineError, ReadError};
 use clif_words::words::words_of;
@@ -114,7 +114,9 @@ impl<'a> Reader<'a> {
     {
         let call = call_of(self.alloc, words, &self.scope)?;
         let answers = answers_of(&call);
+        let tables = tables_made(self.alloc, &call)?;
         self.scope.count(kind_answered(&call))?;
+        self.scope.add_tables(tables)?;
         give_names(&mut self.scope, self.calls.len(), names, answers)?;
         self.calls.push(call)?;
         self.lines.push(number)?;
@@ -134,6 +136,16 @@ fn kind_answered(call: &Call) -> Option<Kind>
         Call::CreateJumpTable { .. } => Some(Kind::JumpTable),
         Call::CreateExceptionTable { .. } => Some(Kind::ExceptionTable),
         _ => None,
+    }
+}
+
+// How many jump tables the call makes that no name leads to.
+fn tables_made(alloc: Global, call: &Call) -> Result<usize, AllocError>
+    ensures { IfOk result (λ count. count ≡ unnamed_tables call.now) }
+{
+    match call {
+        Call::Switch { entries, .. } => table_count(alloc, entries.as_slice()),
+        _ => Ok(0),
     }
 }
 

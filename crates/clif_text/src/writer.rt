@@ -1,11 +1,11 @@
 //! Scripts as text, written.
 ghost use Rattle.std.specs.Prelude.{◌≡◌, ◌++◌, Some, IfOk, string_bytes};
-ghost use Rattle.clif_text.specs.Texts.{answer_text, answers_text, argument_text, passed_text, edge_text, entry_text, global_text, immediate_text, imported_name_text, imported_text, item_text, items_text, offset_text, outside_text, arguments_text, plan_text, table_edge_text, throwing_text, call_text, calls_text, header_text};
+ghost use Rattle.clif_text.specs.Texts.{answer_text, answers_text, argument_text, passed_text, edge_text, entry_text, global_text, immediate_text, imported_name_text, imported_text, item_text, items_text, offset_text, outside_text, arguments_text, plan_text, switch_case_text, switch_cases_text, table_edge_text, throwing_text, call_text, calls_text, header_text};
 ghost use Rattle.clif_text.specs.Operands.{operands_text};
 
 use clif_calls::{
-    Call, Edge, EntryCall, ImmediateCall, Name, OutsideCall, Passed, Plan, TableEdge, TableItem,
-    ThrowingCall,
+    Call, Edge, EntryCall, ImmediateCall, Name, OutsideCall, Passed, Plan, SwitchEntry, TableEdge,
+    TableItem, ThrowingCall,
 };
 use clif_records::Variable;
 use clif_types::{
@@ -131,6 +131,35 @@ impl fmt::Display for ItemsText<'_> {
         for one in self.0 {
             let item = ItemText(*one);
             write!(f, " {item}")?;
+        }
+        Ok(())
+    }
+}
+
+// A case of a switch, as `7:$P.K`.
+#[derive(Clone, Copy)]
+struct SwitchCaseText(SwitchEntry);
+
+impl fmt::Display for SwitchCaseText {
+    ghost output = { λ text. Some (switch_case_text text.0) };
+
+    fn fmt<W: fmt::Write>(&self, f: &mut fmt::Formatter<W>) -> fmt::Result {
+        let SwitchEntry { key, block } = self.0;
+        write!(f, "{key}:{}", AnswerText(block))
+    }
+}
+
+// Cases, each behind a space.
+#[derive(Clone, Copy)]
+struct SwitchCasesText<'a>(&'a [SwitchEntry]);
+
+impl fmt::Display for SwitchCasesText<'_> {
+    ghost output = { λ text. Some (switch_cases_text text.0.now) };
+
+    fn fmt<W: fmt::Write>(&self, f: &mut fmt::Formatter<W>) -> fmt::Result {
+        for one in self.0 {
+            let case = SwitchCaseText(*one);
+            write!(f, " {case}")?;
         }
         Ok(())
     }
@@ -404,6 +433,7 @@ enum Operands<'a> {
     Branch(Name, JumpTable),
     Outside(&'a OutsideCall),
     Immediate(ImmediateCall),
+    Switch(Name, Name, &'a [SwitchEntry]),
     Throwing(&'a ThrowingCall),
     Number(u32),
     Label(Name, u32),
@@ -440,6 +470,10 @@ impl fmt::Display for Operands<'_> {
             Operands::Branch(index, table) => write!(f, " {} {table}", AnswerText(*index)),
             Operands::Outside(called) => write!(f, "{}", OutsideText(called)),
             Operands::Immediate(called) => write!(f, "{}", ImmediateText(*called)),
+            Operands::Switch(value, otherwise, entries) => {
+                let (value, otherwise) = (AnswerText(*value), AnswerText(*otherwise));
+                write!(f, " {value} {otherwise}{}", SwitchCasesText(entries))
+            }
             Operands::Throwing(called) => write!(f, "{}", ThrowingText(called)),
             Operands::Number(number) => write!(f, " {number}"),
             Operands::Label(x, label) => write!(f, " {} {label}", AnswerText(*x)),
@@ -528,6 +562,14 @@ fn parts(call: &Call) -> (&'static str, Operands<'_>)
             ("", Operands::Instruction(plan))
         }
         Call::BrTable { index, table } => ("br_table", Operands::Branch(*index, *table)),
+        Call::Switch {
+            entries,
+            value,
+            otherwise,
+        } => (
+            "switch",
+            Operands::Switch(*value, *otherwise, entries.as_slice()),
+        ),
         Call::Throwing(called) => ("", Operands::Throwing(called)),
         Call::Return { values } => {
             let args = values.as_slice();

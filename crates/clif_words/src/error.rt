@@ -34,6 +34,10 @@ pub enum Expected {
     ExceptionTable,
     /// An item of an exception table.
     TableItem,
+    /// A case of a switch: a key and a block, as `7:b1`.
+    SwitchCase,
+    /// A key of a switch, in 128 bits.
+    SwitchKey,
     /// A signature that was imported.
     Signature,
     /// A function that was imported.
@@ -109,6 +113,8 @@ impl fmt::Display for Expected {
             Expected::JumpTable => "a jump table",
             Expected::ExceptionTable => "an exception table",
             Expected::TableItem => "tag7, default or context",
+            Expected::SwitchCase => "a key, a colon and a block",
+            Expected::SwitchKey => "a key of 128 bits",
             Expected::Signature => "a signature",
             Expected::Function => "a function",
             Expected::SlotSize => "a size of 32 bits",

@@ -25,7 +25,7 @@ pub fn short_decimal(digits: &str) -> Option<u32>
 }
 
 // The value of a digit in a base.
-fn digit_in(byte: u8, radix: u64) -> Option<u64>
+fn digit_in(byte: u8, radix: u128) -> Option<u128>
     ensures { IfSome result (λ value. (value ≡ digit_value byte) × (value < radix)) }
 {
     let value = match byte {
@@ -34,15 +34,15 @@ fn digit_in(byte: u8, radix: u64) -> Option<u64>
         b'A'..=b'F' => byte - b'A' + 10,
         _ => return None,
     };
-    let value = u64::from(value);
+    let value = u128::from(value);
     (value < radix).then_some(value)
 }
 
-// The number that digits write in a base, below 2^64; `_` may stand anywhere beside a digit.
-fn digits_in(digits: &str, radix: u64) -> Option<u64>
+// The number that digits write in a base, below 2^128; `_` may stand anywhere beside a digit.
+fn digits_in(digits: &str, radix: u128) -> Option<u128>
     ensures { IfSome result (λ value. IsNumeral radix (figures digits.now) × (digits_value radix (figures digits.now) ≡ value)) }
 {
-    let mut value: Option<u64> = None;
+    let mut value: Option<u128> = None;
     for byte in digits.as_bytes() {
         if *byte == b'_' {
             continue;
@@ -53,14 +53,21 @@ fn digits_in(digits: &str, radix: u64) -> Option<u64>
     value
 }
 
-/// A number without a sign, below 2^64: digits in base 10, or in base 16 after `0x`.
-pub fn magnitude(word: &str) -> Option<u64>
+/// A number without a sign, below 2^128: digits in base 10, or in base 16 after `0x`.
+pub fn wide_magnitude(word: &str) -> Option<u128>
     ensures { IfSome result (IsMagnitude word.now) }
 {
     match word.strip_prefix("0x") {
         Some(digits) => digits_in(digits, 16),
         None => digits_in(word, 10),
     }
+}
+
+/// The same, below 2^64.
+pub fn magnitude(word: &str) -> Option<u64>
+    ensures { IfSome result (IsMagnitude word.now) }
+{
+    u64::try_from(wide_magnitude(word)?).ok()
 }
 
 /// A number of 64 bits: digits in base 10, or in base 16 after `0x`, and `-` before it. Up to 2^64 - 1 it

@@ -5,7 +5,7 @@ use clif_types::types::Type;
 use clif_types::{CallConv, IntCC, PointerWidth, TrapCode, types};
 use clif_words::bytes::bytes;
 use clif_words::error::{Expected, Fault, LineError};
-use clif_words::number::{decimal, magnitude, number, offset, short_decimal};
+use clif_words::number::{decimal, magnitude, number, offset, short_decimal, wide_magnitude};
 use clif_words::types::{
     call_conv_named, condition_named, pointer_width_named, trap_code_named, type_named,
 };
@@ -61,6 +61,31 @@ fn magnitudes(rt: HostRuntime) {
     ];
     for (word, expected) in rows.iter() {
         is_magnitude(&rt, word, *expected);
+    }
+}
+
+fn is_wide(rt: &impl Abort, word: &str, expected: Option<u128>) {
+    assert!(rt; wide_magnitude(word) == expected);
+}
+
+/// The same, up to 128 bits.
+#[test]
+fn wide_magnitudes(rt: HostRuntime) {
+    let rows = [
+        ("0", Some(0)),
+        ("4683743612477887600", Some(4_683_743_612_477_887_600)),
+        ("18446744073709551616", Some(1 << 64)),
+        ("0x0001_0000_0000_0000_0000_0000_0000_0000", Some(1 << 112)),
+        ("0xffff_ffff_ffff_ffff_ffff_ffff_ffff_ffff", Some(u128::MAX)),
+        ("340282366920938463463374607431768211455", Some(u128::MAX)),
+        ("340282366920938463463374607431768211456", None),
+        ("0x1_0000_0000_0000_0000_0000_0000_0000_0000", None),
+        ("-1", None),
+        ("0x", None),
+        ("", None),
+    ];
+    for (word, expected) in rows.iter() {
+        is_wide(&rt, word, *expected);
     }
 }
 

@@ -4,6 +4,7 @@
 //! assigns at random. A block names its parameter and what was given in it. A block isn't sealed before the last block
 //! is filled that may lead to it.
 mod steps;
+mod switches;
 mod terminators;
 
 use clif_calls::{Call, EntryCall, Name, PlainInstruction};
@@ -49,7 +50,7 @@ struct Generator {
     first: Name,
     // the target that is sealed behind all blocks
     open: Name,
-    // how many tables there are, one at most for each block
+    // how many tables there are, a few at most for each block
     jump_tables: u8,
     exception_tables: u8,
 }

@@ -15,11 +15,12 @@ enum Terminator {
     BrTable,
     TryCall,
     TryCallIndirect,
+    Switch,
     Return,
 }
 
 // Each as often as it stands here.
-const TERMINATORS: [Terminator; 9] = [
+const TERMINATORS: [Terminator; 11] = [
     Terminator::Jump,
     Terminator::Brif,
     Terminator::Brif,
@@ -28,6 +29,8 @@ const TERMINATORS: [Terminator; 9] = [
     Terminator::TryCall,
     Terminator::TryCall,
     Terminator::TryCallIndirect,
+    Terminator::Switch,
+    Terminator::Switch,
     Terminator::Return,
 ];
 
@@ -57,6 +60,7 @@ impl Generator {
                 args: self.operands()?,
                 table: self.exception_table(number)?,
             }),
+            Terminator::Switch => return self.end_by_switch(number),
             Terminator::Return => Call::Return {
                 values: self.operands()?,
             },
@@ -73,7 +77,7 @@ impl Generator {
         }
     }
 
-    fn edge(&mut self, number: usize) -> Result<Edge, AllocError> {
+    pub(super) fn edge(&mut self, number: usize) -> Result<Edge, AllocError> {
         let block = self.target(number);
         let value = self.value();
         let args = vec![in self.alloc; value]?;
