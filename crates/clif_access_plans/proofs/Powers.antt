@@ -8,7 +8,8 @@ use Rattle.std.proofs.lemmas.Bool.{cases_lt}
 use Rattle.std.proofs.lemmas.Nat.{mod-pow-add, pow_pos}
 use Rattle.std.proofs.lemmas.Nat.Bits.{bit_at-trailing_zeros}
 use Rattle.clif_types.specs.Types.{bits_of}
-use Rattle.clif_access_plans.specs.Plans.{AccessesAreTheSize, IsGreatestPower, PlansAreExact, access_size, greatest_power, type_of_bytes}
+use Rattle.clif_meaning.specs.ByteOperation.{access_size, greatest_power}
+use Rattle.clif_access_plans.specs.Plans.{AccessesAreTheSize, IsGreatestPower, PlansAreExact, type_of_bytes}
 
 -- one bit more
 next_bit : (n k : ℕ) → n % 2 ^ suc k ≡ bit_at n k * 2 ^ k + n % 2 ^ k

@@ -1,25 +1,20 @@
 -- How copies, fills and comparisons of a known size are made: by which loads and stores, or by a call of a function of the C
 -- library. After the documentation of Cranelift's `emit_small_memory_copy`, `emit_small_memset` and
 -- `emit_small_memory_compare`.
-use Rattle.std.specs.Prelude.{◌≡◌, ℕ, pos, ◌*◌, ◌/◌, ◌%◌, ◌^◌, ◌<◌, ◌≤◌, ◌==◌, ◌&&◌, ◌||◌, nat_le, nat_lt, min, if◌then◌else◌, Bool, true, false, is_some, unwrap_or}
-use Rattle.std.specs.Int.{trailing_zeros, w64}
+use Rattle.std.specs.Prelude.{◌≡◌, ℕ, pos, ◌*◌, ◌/◌, ◌%◌, ◌^◌, ◌<◌, ◌≤◌, ◌==◌, ◌&&◌, ◌||◌, nat_le, nat_lt, if◌then◌else◌, Bool, true, unwrap_or}
 use Rattle.std.specs.declared.cmp.Ordering.TheVariants.{Equal as SameBytes}
 use Rattle.clif_types.specs.Target.{pointer_type_of}
 use Rattle.clif_types.specs.Types.{bits_of, int_of}
 use Rattle.clif_types.specs.declared.condcodes.IntCC.{IntCC}
-use Rattle.clif_types.specs.declared.condcodes.IntCC.TheVariants as cc
 use Rattle.clif_types.specs.declared.target.PointerWidth.{PointerWidth}
 use Rattle.clif_types.specs.declared.types.«Type».{«Type»}
 use Rattle.clif_types.specs.declared.types.«Type».TheVariants as type
-use Rattle.clif_byte_laws.specs.Comparing.{order_meets, sign_condition}
+use Rattle.clif_meaning.specs.ByteOperation.{access_size, greatest_power, is_by_accesses, is_by_loads, order_meets, tells_equality}
+use Rattle.clif_byte_laws.specs.Comparing.{sign_condition}
 use Rattle.clif_access_plans.specs.declared.comparing.ComparePlan.{ComparePlan}
 use Rattle.clif_access_plans.specs.declared.comparing.ComparePlan.TheVariants as compare
 use Rattle.clif_access_plans.specs.declared.moving.MovePlan.{MovePlan}
 use Rattle.clif_access_plans.specs.declared.moving.MovePlan.TheVariants as move
-
--- the greatest power of two that divides a size of 64 bits, which isn't 0
-abbrev pub greatest_power : ℕ → ℕ
-greatest_power size = 2 ^ trailing_zeros w64 size
 
 -- the integer type of so many bytes; the invalid type where there is none
 abbrev pub type_of_bytes : ℕ → «Type»
@@ -27,15 +22,11 @@ type_of_bytes bytes = unwrap_or (int_of (8 * bytes)) type.Invalid
 
 -- COPIES AND FILLS --------------------------------------------------------------------------------------------------------
 
--- how many bytes one access moves
-abbrev pub access_size : ℕ → ℕ
-access_size size = min (greatest_power size) 8
-
 -- no bytes, at most four accesses, or a call
 abbrev pub move_plan : (size : ℕ) → MovePlan
 move_plan size =
     if size == 0 then move.Nothing
-    else (if nat_le (size / access_size size) 4
+    else (if is_by_accesses size
     then move.Inline (record { ty = type_of_bytes (access_size size); bytes = access_size size; count = size / access_size size })
     else move.LibraryCall)
 
@@ -49,16 +40,6 @@ abbrev pub may_move : PointerWidth → (size alignment : ℕ) → Bool
 may_move width size alignment = (size == 0) || (nat_le alignment (greatest_power size) && fits_pointer width size)
 
 -- COMPARISONS -------------------------------------------------------------------------------------------------------------
-
--- the condition tells whether two lists of bytes are the same
-abbrev pub tells_equality : IntCC → Bool
-tells_equality cc.Equal = true
-tells_equality cc.NotEqual = true
-tells_equality condition = false
-
--- it is decided by one load of each side: whether bytes are the same where an integer has as many, the order where there is one
-abbrev pub is_by_loads : IntCC → (size : ℕ) → Bool
-is_by_loads condition size = if tells_equality condition then is_some (int_of (8 * size)) else (size == 1)
 
 -- a constant where there are no bytes, loads, or a call whose number is compared with zero
 abbrev pub compare_plan : IntCC → (size : ℕ) → ComparePlan

@@ -4,8 +4,9 @@
 ghost use Rattle.std.specs.Prelude.{◌≡◌, IsTrue};
 ghost use Rattle.std.specs.Prelude.{◌*◌};
 ghost use Rattle.clif_types.specs.Types.{int_of};
-ghost use Rattle.clif_byte_laws.specs.Comparing.{is_unsigned, order_meets, sign_condition};
-ghost use Rattle.clif_access_plans.specs.Plans.{compare_plan, is_aligned_load, is_by_loads, tells_equality};
+ghost use Rattle.clif_byte_laws.specs.Comparing.{sign_condition};
+ghost use Rattle.clif_meaning.specs.ByteOperation.{is_by_loads, is_unsigned, order_meets, tells_equality};
+ghost use Rattle.clif_access_plans.specs.Plans.{compare_plan, is_aligned_load};
 ghost use Rattle.std.specs.declared.cmp.Ordering.TheVariants.{Equal};
 
 use clif_types::types::{I8, I16, I32, I64, I128};

@@ -3,7 +3,8 @@
 
 ghost use Rattle.std.specs.Prelude.{◌≡◌, ◌<◌, nat_le};
 ghost use Rattle.clif_access_plans.specs.Constants.{RepeatsByte};
-ghost use Rattle.clif_access_plans.specs.Plans.{IsAccess, fits_pointer, greatest_power, may_move, move_plan};
+ghost use Rattle.clif_access_plans.specs.Plans.{IsAccess, fits_pointer, may_move, move_plan};
+ghost use Rattle.clif_meaning.specs.ByteOperation.{greatest_power};
 
 use clif_instructions::immediates::signed_at;
 use clif_types::types::INVALID;

@@ -8,10 +8,11 @@ use Rattle.std.proofs.lemmas.Bool.{cases_order, eq-eqb, eqb-false, eqb-true, le-
 use Rattle.clif_types.specs.declared.condcodes.IntCC.{IntCC}
 use Rattle.clif_types.specs.declared.condcodes.IntCC.TheVariants as cc
 use Rattle.clif_meaning.specs.Bits.{AreBytes, Bits, value_of_bytes}
+use Rattle.clif_meaning.specs.ByteOperation.{is_unsigned, order_meets}
 use Rattle.clif_meaning.specs.Memory.{byte_order}
 use Rattle.clif_meaning.specs.Outcome.{compares, signed_place}
 use Rattle.clif_meaning.specs.World.{HasSignOf}
-use Rattle.clif_byte_laws.specs.Comparing.{ComparisonsAgree, is_unsigned, order_meets, sign_condition}
+use Rattle.clif_byte_laws.specs.Comparing.{ComparisonsAgree, sign_condition}
 
 -- ONE PAIR OF NUMBERS -----------------------------------------------------------------------------------------------------
 

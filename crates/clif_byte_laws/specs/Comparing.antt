@@ -1,33 +1,15 @@
--- Comparisons of bytes: what a condition says of the order of two lists of bytes, and what decides it, be it integers that are
--- loaded or the number that `Memcmp` answers. From the C standard's `memcmp` and the documentation of Cranelift's
+-- Comparisons of bytes: what decides whether a condition holds of the order of two lists of bytes, be it integers that are loaded
+-- or the number that `Memcmp` answers. From the C standard's `memcmp` and the documentation of Cranelift's
 -- `emit_small_memory_compare`.
-use Rattle.std.specs.Prelude.{◌≡◌, ℕ, Bool, true, false, List, [], ◌∷◌, length, IsTrue}
+use Rattle.std.specs.Prelude.{◌≡◌, ℕ, true, false, List, [], ◌∷◌, length, IsTrue}
 use Rattle.std.specs.declared.cmp.Ordering.{Ordering}
-use Rattle.std.specs.Ordering.{is_eq, is_ge, is_gt, is_le, is_lt, is_ne}
 use Rattle.clif_types.specs.declared.condcodes.IntCC.{IntCC}
 use Rattle.clif_types.specs.declared.condcodes.IntCC.TheVariants as cc
 use Rattle.clif_meaning.specs.Bits.{AreBytes, Bits, value_of_bytes}
+use Rattle.clif_meaning.specs.ByteOperation.{is_unsigned, order_meets}
 use Rattle.clif_meaning.specs.Memory.{byte_order}
 use Rattle.clif_meaning.specs.Outcome.{compares}
 use Rattle.clif_meaning.specs.World.{HasSignOf}
-
--- the condition tells equality, or the order of unsigned numbers
-abbrev pub is_unsigned : IntCC → Bool
-is_unsigned cc.SignedLessThan = false
-is_unsigned cc.SignedGreaterThanOrEqual = false
-is_unsigned cc.SignedGreaterThan = false
-is_unsigned cc.SignedLessThanOrEqual = false
-is_unsigned _ = true
-
--- the condition holds of two lists in this order; bytes are unsigned, so that signed conditions say nothing of them
-abbrev pub order_meets : IntCC → Ordering → Bool
-order_meets cc.Equal order = is_eq order
-order_meets cc.NotEqual order = is_ne order
-order_meets cc.UnsignedLessThan order = is_lt order
-order_meets cc.UnsignedGreaterThanOrEqual order = is_ge order
-order_meets cc.UnsignedGreaterThan order = is_gt order
-order_meets cc.UnsignedLessThanOrEqual order = is_le order
-order_meets _ order = false
 
 -- the condition that compares a number, which has the sign of the order, with zero
 abbrev pub sign_condition : IntCC → IntCC
