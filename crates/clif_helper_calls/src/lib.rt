@@ -1,0 +1,10 @@
+//! Laws of the plain code of memory helpers: it performs copies and fills of scripts. The functions here have empty bodies, and
+//! their contracts are the laws of the definitions.
+#![tactic(auto)]
+
+ghost use Rattle.clif_helper_calls.specs.Performing.{PiecesArePerformed};
+
+/// Loads of all pieces and then stores of them perform a copy, and stores of a constant a fill.
+pub fn pieces_are_performed()
+    ensures { PiecesArePerformed }
+{}
