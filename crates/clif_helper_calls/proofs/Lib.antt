@@ -1,3 +1,4 @@
 pub mod Pieces
 pub mod Runs
 pub mod Performed
+pub mod Called

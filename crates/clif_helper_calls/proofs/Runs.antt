@@ -40,7 +40,7 @@ pub given_here : (name : Name) (bits : Bits) (old : Name → Bits) → assigned 
 given_here name bits old = ap (λ (c : Bool). if c then bits else old name) (equal_names name name refl)
 
 -- another name keeps what it has
-kept_by_other : (y name : Name) (bits : Bits) (old : Name → Bits) → y ≢ name → assigned same_name (name ∷ []) (bits ∷ []) old y ≡ old y
+pub kept_by_other : (y name : Name) (bits : Bits) (old : Name → Bits) → y ≢ name → assigned same_name (name ∷ []) (bits ∷ []) old y ≡ old y
 kept_by_other y name bits old other = by (same_name y name) refl
   where
     by : (c : Bool) → same_name y name ≡ c → (if c then bits else old y) ≡ old y

@@ -3,8 +3,14 @@
 #![tactic(auto)]
 
 ghost use Rattle.clif_helper_calls.specs.Performing.{PiecesArePerformed};
+ghost use Rattle.clif_helper_calls.specs.PerformingCalls.{CallsArePerformed};
 
 /// Loads of all pieces and then stores of them perform a copy, and stores of a constant a fill.
 pub fn pieces_are_performed()
     ensures { PiecesArePerformed }
+{}
+
+/// Calls of functions of the C library perform the operations of scripts that call them.
+pub fn calls_are_performed()
+    ensures { CallsArePerformed }
 {}
