@@ -139,7 +139,7 @@ generated_only : (reading : Reading) (answer : Name) → reading answer ≡ Gene
 generated_only reading answer generated values old y other = assigned_elsewhere reading (answer ∷ []) values old y (generated, tt) other
 
 -- `Memset` takes a byte that is widened: its low byte is the byte
-low_byte : (x : ℕ) → low_bits_at i32 x % 256 ≡ x % 256
+pub low_byte : (x : ℕ) → low_bits_at i32 x % 256 ≡ x % 256
 low_byte x = mod-mod-pow x 24 8
 
 module _ (pointer_width : ℕ) (reading : Reading) (types : NameTypes) (pointer : «Type») (signature : SignatureShape) (place : ℕ)
@@ -183,7 +183,7 @@ module _ (pointer_width : ℕ) (reading : Reading) (types : NameTypes) (pointer 
       kept y other = assigned_elsewhere reading (wide ∷ []) (widened ∷ []) plain y (wide_generated, tt) other
 
 -- the number that `Memcmp` answers is the row's
-number_is : (world : World) (width : ℕ) (first second size : Bits) (memory : Memory) → world.pointer_width ≡ width
+pub number_is : (world : World) (width : ℕ) (first second size : Bits) (memory : Memory) → world.pointer_width ≡ width
     → library_answer world Memcmp first second size memory ≡ world.memcmp_number (bytes_in memory (bytes_at width first size)) (bytes_in memory (bytes_at width second size))
 number_is world width first second size memory wide =
     ap (λ (w : ℕ). world.memcmp_number (bytes_in memory (bytes_at w first size)) (bytes_in memory (bytes_at w second size))) wide

@@ -2,3 +2,4 @@ pub mod Pieces
 pub mod Runs
 pub mod Performed
 pub mod Called
+pub mod Known

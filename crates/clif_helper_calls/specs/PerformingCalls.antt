@@ -1,11 +1,12 @@
 -- What code with a call of a function of the C library performs: the operation of a script. Own.
 use Rattle.std.specs.Prelude.{◌≡◌, ◌≢◌, ℕ, ℤ, [], ◌∷◌, IsTrue}
+use Rattle.std.specs.List.{AllByRecursion}
 use Rattle.clif_types.specs.Signature.{SignatureShape}
 use Rattle.clif_types.specs.Types.{bits_of}
 use Rattle.clif_types.specs.declared.libcall.LibCall.{LibCall}
 use Rattle.clif_types.specs.declared.libcall.LibCall.TheVariants.{Memcpy, Memmove, Memset, Memcmp}
 use Rattle.clif_types.specs.declared.types.«Type».{«Type»}
-use Rattle.clif_meaning.specs.ByteOperation.{CallLibrary, CompareBytes, CompareShape, Copy, CopyShape}
+use Rattle.clif_meaning.specs.ByteOperation.{CallLibrary, CompareBytes, CompareShape, Copy, CopyShape, Fill, FillShape}
 use Rattle.clif_meaning.specs.Instruction.{Bytes}
 use Rattle.clif_meaning.specs.Library.{pointer_of}
 use Rattle.clif_meaning.specs.Name.{Name}
@@ -14,7 +15,7 @@ use Rattle.clif_expansion.specs.Code.{NameTypes, Performs}
 use Rattle.clif_expansion.specs.Reading.{Generated, IsReadAs, Reading}
 use Rattle.clif_expansion.specs.ScriptCall.{can_emit}
 use Rattle.clif_helper_calls.specs.Codes.{doing}
-use Rattle.clif_helper_calls.specs.LibraryCodes.{IsConstant, call_code, compare_call_code, copy_call_code, copying_function, set_code}
+use Rattle.clif_helper_calls.specs.LibraryCodes.{IsConstant, call_code, compare_call_code, copy_call_code, copying_function, fill_call_code, i8, set_code}
 
 -- the signature is that of the function, with pointers of this width
 abbrev pub HasSignature : (pointer_width : ℕ) → LibCall → SignatureShape → Type 0
@@ -74,3 +75,10 @@ pub record KnownCallsArePerformed : Type 0 where
       → answer ≢ zero → IsReadAs reading result given_result
       → Performs pointer_width reading types (compare_call_code compare.condition signature pointer number place left right size answer zero result)
       (doing (Bytes (CompareBytes compare)) pointer (given_left ∷ given_right ∷ [])) (given_result ∷ [])
+  pub fills : (pointer_width : ℕ) (reading : Reading) (types : NameTypes) (pointer : «Type») (signature : SignatureShape) (fill : FillShape) (filling number : ℤ) (place : ℕ)
+      (target given_target byte size wide answer : Name)
+      → bits_of pointer ≡ pointer_width → HasSignature pointer_width Memset signature → IsConstant i8 filling fill.byte → IsConstant pointer number fill.size
+      → IsReadAs reading target given_target → AllByRecursion (λ name. reading name ≡ Generated) (byte ∷ size ∷ wide ∷ answer ∷ [])
+      → byte ≢ size → size ≢ wide
+      → Performs pointer_width reading types (fill_call_code signature pointer filling number place target byte size wide answer)
+      (doing (Bytes (Fill fill)) pointer (given_target ∷ [])) []

@@ -3,7 +3,7 @@
 #![tactic(auto)]
 
 ghost use Rattle.clif_helper_calls.specs.Performing.{PiecesArePerformed};
-ghost use Rattle.clif_helper_calls.specs.PerformingCalls.{CallsArePerformed};
+ghost use Rattle.clif_helper_calls.specs.PerformingCalls.{CallsArePerformed, KnownCallsArePerformed};
 
 /// Loads of all pieces and then stores of them perform a copy, and stores of a constant a fill.
 pub fn pieces_are_performed()
@@ -13,4 +13,9 @@ pub fn pieces_are_performed()
 /// Calls of functions of the C library perform the operations of scripts that call them.
 pub fn calls_are_performed()
     ensures { CallsArePerformed }
+{}
+
+/// Calls with a constant size perform copies, fills and comparisons.
+pub fn known_calls_are_performed()
+    ensures { KnownCallsArePerformed }
 {}
