@@ -3,3 +3,4 @@ pub mod Runs
 pub mod Performed
 pub mod Called
 pub mod Known
+pub mod Loads

@@ -35,7 +35,7 @@ use Rattle.clif_helper_calls.proofs.Runs.{given_here, runs_behind}
 
 -- SIZES -------------------------------------------------------------------------------------------------------------------
 
-pointer_bits : (ty : «Type») → is_pointer ty ≡ true → (16 ≤ bits_of ty) × (bits_of ty ≤ 64)
+pub pointer_bits : (ty : «Type») → is_pointer ty ≡ true → (16 ≤ bits_of ty) × (bits_of ty ≤ 64)
 pointer_bits type.Invalid is = cc
 pointer_bits (type.Vector l n) is = cc
 pointer_bits (type.Lane lane.I8) is = cc
@@ -75,7 +75,7 @@ sized pointer ty size count is has done =
       bytes = ap (λ (n : ℕ). n / 8) done.access.bits ∙ eighth;
     }
 
-at_start : (x bytes : ℕ) → x + 0 * bytes ≡ x
+pub at_start : (x bytes : ℕ) → x + 0 * bytes ≡ x
 at_start x bytes = let none = zero-mul bytes in omega arith
 
 -- CLAIMS ------------------------------------------------------------------------------------------------------------------
@@ -86,13 +86,13 @@ flagged world promised false apart one two is claims = let no_way : ⊥ = cc in 
 flagged world true true apart one two is claims = (claims.1.0, claims.1.1.0)
 flagged world false true apart one two is claims = (claims.0, claims.1.0)
 
-both : (a b : Bool) → a ≡ true → b ≡ true → (a && b) ≡ true
+pub both : (a b : Bool) → a ≡ true → b ≡ true → (a && b) ≡ true
 both a b first second = rw (first, second) refl
 
-in_first : (one two : Range) (address : ℕ) → lies_in one address ≡ true → list_any (λ other. lies_in other address) (one ∷ two ∷ []) ≡ true
+pub in_first : (one two : Range) (address : ℕ) → lies_in one address ≡ true → list_any (λ other. lies_in other address) (one ∷ two ∷ []) ≡ true
 in_first one two address there = rw there refl
 
-in_second : (one two : Range) (address : ℕ) → lies_in two address ≡ true → list_any (λ other. lies_in other address) (one ∷ two ∷ []) ≡ true
+pub in_second : (one two : Range) (address : ℕ) → lies_in two address ≡ true → list_any (λ other. lies_in other address) (one ∷ two ∷ []) ≡ true
 in_second one two address there = by (lies_in one address)
   where
     either : (c : Bool) → (c || (true || false)) ≡ true

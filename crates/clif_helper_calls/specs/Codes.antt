@@ -1,11 +1,13 @@
--- The code of copies and fills that are made by loads and stores: pieces of equal size, one behind another. All is loaded before
--- anything is stored. From the documentation of Cranelift's `emit_small_memory_copy` and `emit_small_memset`.
+-- The code of copies, fills and comparisons that are made by loads and stores: pieces of equal size, one behind another. All is loaded
+-- before anything is stored. From the documentation of Cranelift's `emit_small_memory_copy`, `emit_small_memset` and
+-- `emit_small_memory_compare`.
 use Rattle.std.specs.Prelude.{◌≢◌, ◌&&◌, ◌+◌, ◌*◌, ℕ, suc, ℤ, pos, nat_le, if◌then◌else◌, Bool, true, List, [], ◌∷◌, ◌++◌, length, replicate}
 use Rattle.std.specs.List.{AllByRecursion}
 use Rattle.clif_types.specs.MemFlags.{MemFlagsShape}
 use Rattle.clif_types.specs.declared.types.«Type».{«Type»}
-use Rattle.clif_meaning.specs.ByteOperation.{CopyShape, FillShape, access_size}
-use Rattle.clif_meaning.specs.Instruction.{Iconst, Instruction, Load, Operation, Store}
+use Rattle.clif_access_plans.specs.Plans.{is_aligned_load}
+use Rattle.clif_meaning.specs.ByteOperation.{CompareShape, CopyShape, FillShape, access_size}
+use Rattle.clif_meaning.specs.Instruction.{Compare, Iconst, Instruction, Load, Operation, Store}
 use Rattle.clif_meaning.specs.Name.{Name}
 use Rattle.clif_meaning.specs.Program.{Item, Instruct}
 use Rattle.clif_expansion.specs.Constants.{computing}
@@ -45,6 +47,16 @@ copy_code flags ty bytes target source place names =
 abbrev pub fill_code : MemFlagsShape → «Type» → (bytes : ℕ) (target : Name) (place : ℕ) (number : ℤ) (constant : Name) (count : ℕ) → List Item
 fill_code flags ty bytes target place number constant count =
     Instruct place (computing (Iconst number) ty []) (constant ∷ []) ∷ store_pieces flags ty bytes target (suc place) 0 (replicate count constant)
+
+-- a comparison of two loads; a load is said to be aligned as its flags say
+abbrev pub load_at_start : MemFlagsShape → «Type» → (address : Name) (place : ℕ) (name : Name) → List Item
+load_at_start flags ty address place name = Instruct place (doing (Load flags (pos 0)) ty (address ∷ [])) (name ∷ []) ∷ []
+
+abbrev pub compare_code : CompareShape → «Type» → (left right : Name) (place : ℕ) (one two result : Name) → List Item
+compare_code compare ty left right place one two result =
+    load_at_start (flags_where compare.flags (is_aligned_load compare.condition compare.size compare.left_alignment)) ty left place one
+    ++ (load_at_start (flags_where compare.flags (is_aligned_load compare.condition compare.size compare.right_alignment)) ty right (suc place) two
+    ++ Instruct (suc (suc place)) (computing (Compare compare.condition) ty (one ∷ two ∷ [])) (result ∷ []) ∷ [])
 
 -- no name occurs twice
 abbrev pub AreDistinct : List Name → Type 0

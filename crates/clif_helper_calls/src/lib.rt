@@ -2,7 +2,7 @@
 //! their contracts are the laws of the definitions.
 #![tactic(auto)]
 
-ghost use Rattle.clif_helper_calls.specs.Performing.{PiecesArePerformed};
+ghost use Rattle.clif_helper_calls.specs.Performing.{LoadsArePerformed, PiecesArePerformed};
 ghost use Rattle.clif_helper_calls.specs.PerformingCalls.{CallsArePerformed, KnownCallsArePerformed};
 
 /// Loads of all pieces and then stores of them perform a copy, and stores of a constant a fill.
@@ -18,4 +18,9 @@ pub fn calls_are_performed()
 /// Calls with a constant size perform copies, fills and comparisons.
 pub fn known_calls_are_performed()
     ensures { KnownCallsArePerformed }
+{}
+
+/// Loads of both sides, and the comparison of what they give, perform a comparison.
+pub fn loads_are_performed()
+    ensures { LoadsArePerformed }
 {}
