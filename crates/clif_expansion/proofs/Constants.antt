@@ -175,7 +175,7 @@ performs pointer_width reading types arithmetic with ty number place narrow cons
   begins = not_empty (constant_code ty number place narrow constant) (Instruct (place_behind ty place) (computing arithmetic ty (plain ∷ constant ∷ [])) (given ∷ []));
   given = given ∷ [];
   named = (gives, tt);
-  performs = λ world names script memory width agree sound.
+  performs = λ world names script memory width bytes agree sound.
       let did = yields reading types.plain arithmetic ty number place narrow constant plain given f does is small named (not_generated reading plain x operand) world names memory in
       record {
         values = f (names plain) (wrapped (bits_of ty) number) ∷ [];

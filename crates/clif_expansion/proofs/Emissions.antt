@@ -7,7 +7,7 @@ use Rattle.clif_types.specs.declared.types.«Type».{«Type»}
 use Rattle.clif_meaning.specs.Instruction.{Edge, Instruction, Operation, Switch}
 use Rattle.clif_meaning.specs.Ledger.{AValue, AnInstruction, Answered, BlockState, ExceptionTable, Ledger, answer_at, changed_by, is_inserted, is_terminator, ledger_with, with_begun, with_begun_at, with_filled_at, with_instruction, with_layout, with_predecessor, with_state, with_terminator}
 use Rattle.clif_meaning.specs.Name.{Name, answer_of, same_name}
-use Rattle.clif_expansion.specs.Emission.{EmittingKeepsJoins, StaysInLine, building, reading_emitted, reading_generated}
+use Rattle.clif_expansion.specs.Emission.{ActingKeepsJoins, EmittingKeepsJoins, StaysInLine, building, reading_acted, reading_emitted, reading_generated}
 use Rattle.clif_expansion.specs.Joining.{AreJoinedStates, IsJoined, IsReadAnswer, IsUnread, reading_with, results_at}
 use Rattle.clif_expansion.specs.Reading.{Generated, IsOneToOne, IsReadAs, Reading, ScriptName, StandsFor}
 use Rattle.clif_expansion.specs.ScriptCall.{Emit, emitted_types, ledger_behind, ledger_with_call}
@@ -218,6 +218,48 @@ module _ (reading : Reading) (plain ledger : Ledger) (midst : InMidst reading pl
     one_to_one_on : IsOneToOne generated
     one_to_one_on x y name first second = midst.one_to_one x y name (old x name first) (old y name second)
 
+    -- THE LAST ONE, IF IT IS GENERATED, TOO --------------------------------------------------------------------------------
+
+    module _ (whole : Instruction Name Name) (whole_stays : StaysInLine whole) where
+      abbrev acted : Ledger
+      acted = ledger_with_call ledger (Emit whole)
+
+      longer_acted : length acted.answers ≡ length ledger.answers + 1
+      longer_acted = one_longer ledger.answers (map AValue (emitted_types whole))
+
+      on_acted : GoesOn reading generated (length ledger.answers) (length acted.answers)
+      on_acted = record {
+        keeps = keeps (λ index. Generated);
+        generated = keeps_generated (λ index. Generated);
+        unread = λ name is. record { unread = λ x read. is.unread x (old x name read); before = let below = is.before in omega (arith, below, longer_acted) };
+      }
+
+      states_acted : AreJoinedStates generated (length acted.answers) after acted
+      states_acted =
+          subst (λ (l : Ledger). AreJoinedStates generated (length acted.answers) after (record l { answers = acted.answers }))
+          (sym (behind_line whole.operation (with_instruction ledger whole) whole_stays.goes_on ∙ in_line ledger whole whole_stays))
+          (other_answers generated (length acted.answers) after (with_begun ledger) after.answers acted.answers (states_on (λ index. Generated) (length acted.answers) on_acted))
+
+      answers_acted : (x name : Name) → IsReadAs generated x name → IsReadAnswer generated (answer_at after x) (answer_at acted name)
+      answers_acted x name is =
+          subst (λ (answer : Option Answered). IsReadAnswer generated (answer_at after x) answer)
+          (sym (answers_before ledger.answers (map AValue (emitted_types whole)) name.place name.index (midst.made x name (old x name is)).1))
+          (answer_before (λ index. Generated) x name (old x name is))
+
+      made_acted : (x name : Name) → IsReadAs generated x name → (x.place < length after.answers) × (name.place < length acted.answers)
+      made_acted x name is =
+          let below' : x.place < here' = (midst.made x name (old x name is)).0 in
+          let below : name.place < length ledger.answers = (midst.made x name (old x name is)).1 in
+          (omega (arith, below', longer), omega (arith, below, longer_acted))
+
+      acts : IsJoined generated after acted
+      acts = record {
+        ledgers = record { states = states_acted; answers = answers_acted };
+        one_to_one = one_to_one_on;
+        made = made_acted;
+        generated = generated_either (λ index. Generated) (length after.answers) longer;
+      }
+
     -- THE LAST ONE --------------------------------------------------------------------------------------------------------
 
     module _ (whole : Instruction Name Name) (whole_stays : StaysInLine whole) (types : emitted_types instruction ≡ emitted_types whole) where
@@ -345,6 +387,26 @@ emitting reading plain ledger [] last whole midst line stays whole_stays types =
 emitting reading plain ledger (first ∷ code) last whole midst line stays whole_stays types =
     emitting (reading_generated reading plain) (ledger_with plain (building first)) ledger code last whole
     (goes_on reading plain ledger midst first line.0 (one_to_one_on reading plain ledger midst first line.0)) line.1 stays whole_stays types
+
+acting : (reading : Reading) (plain ledger : Ledger) (first : Instruction Name Name) (code : List (Instruction Name Name)) (whole : Instruction Name Name)
+    → InMidst reading plain ledger → AllByRecursion StaysInLine (first ∷ code) → StaysInLine whole
+    → IsJoined (reading_acted reading plain (first ∷ code)) (fold ledger_with plain (map building (first ∷ code))) (ledger_with_call ledger (Emit whole))
+acting reading plain ledger first [] whole midst line whole_stays = acts reading plain ledger midst first line.0 whole whole_stays
+acting reading plain ledger first (second ∷ code) whole midst line whole_stays =
+    acting (reading_generated reading plain) (ledger_with plain (building first)) ledger second code whole
+    (goes_on reading plain ledger midst first line.0 (one_to_one_on reading plain ledger midst first line.0)) line.1 whole_stays
+
+pub acting_keeps_joins : ActingKeepsJoins
+acting_keeps_joins reading plain ledger first code whole joined line whole_stays =
+    acting reading plain ledger first code whole
+    (record {
+      begins = begun_read reading (length ledger.answers) joined.one_to_one plain ledger joined.ledgers.states;
+      answers = joined.ledgers.answers;
+      one_to_one = joined.one_to_one;
+      made = joined.made;
+      own = joined.generated;
+    })
+    line whole_stays
 
 pub emitting_keeps_joins : EmittingKeepsJoins
 emitting_keeps_joins reading plain ledger code last whole joined line stays whole_stays types =

@@ -108,7 +108,7 @@ module _ (world : World) (reading : Reading) where
   negated is =
       let performs = is.performs types (λ x ty there. ap or_invalid there) (λ x ty there. ap or_invalid there) in
       refused performs.given performs.named
-      (performs.performs world (λ x. 0) (λ x. 0) world.memory refl (λ x name read. refl) (record { operands = (omega arith, tt); claims = tt }))
+      (performs.performs world (λ x. 0) (λ x. 0) world.memory refl world.holds_bytes (λ x name read. refl) (record { operands = (omega arith, tt); claims = tt }))
 
 -- SOUND RUNS --------------------------------------------------------------------------------------------------------------
 

@@ -25,8 +25,8 @@ module _ (reading later : Reading) (keeps : KeepsReading reading later) (generat
     begins = is.begins;
     given = is.given;
     named = names_later reading later keeps is.given results is.named;
-    performs = λ world plain names memory width agree sound.
-        let did = is.performs world plain names memory width (λ x name read. agree x name (keeps x name read)) sound in
+    performs = λ world plain names memory width bytes agree sound.
+        let did = is.performs world plain names memory width bytes (λ x name read. agree x name (keeps x name read)) sound in
         record {
           values = did.values;
           after = did.after;

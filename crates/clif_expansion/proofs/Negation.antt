@@ -53,7 +53,7 @@ performs world = record {
   begins = λ empty. cc;
   given = result ∷ [];
   named = (refl, tt);
-  performs = λ other plain names memory width agree sound. does other plain names memory agree;
+  performs = λ other plain names memory width bytes agree sound. does other plain names memory agree;
 }
 
 -- A DIFFERENCE WITH ONE ---------------------------------------------------------------------------------------------------

@@ -18,6 +18,7 @@ use Rattle.clif_meaning.specs.Store.{shown_memory}
 use Rattle.clif_meaning.specs.World.{World}
 use Rattle.clif_meaning.proofs.Stuttering
 use Rattle.clif_meaning.proofs.Stuttering.{Matched, ShowsOnlyEnds, Simulates, always, steps_from}
+use Rattle.clif_typed_runs.proofs.HoldingBytes.{memory_holds_bytes}
 use Rattle.clif_expansion.specs.Code.{NameTypes}
 use Rattle.clif_expansion.specs.Expansion.{IsExpandedProgram, IsExpandedRun}
 use Rattle.clif_expansion.specs.Laws.{ExpandingKeepsPremises, ExpandingMeansTheSame, IsSoundRun}
@@ -135,7 +136,7 @@ module _ (reading : Reading) (one_to_one : IsOneToOne reading) (world : World) (
     turns : (n : ℕ) (t : ScriptState) → IsLike t (after n) → Turn t (after n)
     turns n t alike =
         Turns.turn reading one_to_one world hidden variable_type is_marked program' program type' type tracked' tracked expanded same_type same_tracked
-        t (after n) alike (record { values = sound.takes_values n; claims = sound.claims_true n })
+        t (after n) alike (record { values = sound.takes_values n; claims = sound.claims_true n; bytes = memory_holds_bytes run n })
 
     -- a state of the script's run, and a state that is alike
     abbrev Related : ScriptState → ScriptState → Type 0

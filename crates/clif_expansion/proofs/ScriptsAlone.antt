@@ -5,7 +5,7 @@ use Rattle.clif_instructions.specs.declared.instructions.InstructionData.TheVari
 use Rattle.clif_tables.specs.Lists.{TableLists}
 use Rattle.clif_types.specs.declared.types.«Type».{«Type»}
 use Rattle.clif_meaning.specs.Acceptance.{can_operate}
-use Rattle.clif_meaning.specs.Instruction.{AddConstant, CompareConstant, Compute, Operation, Switch}
+use Rattle.clif_meaning.specs.Instruction.{AddConstant, CompareConstant, Compute, Operation, Bytes, Switch}
 use Rattle.clif_meaning.specs.View.{operation_of}
 use Rattle.clif_expansion.specs.ScriptsAlone.{ScriptsAlone, is_of_scripts}
 
@@ -17,6 +17,7 @@ not_built : (operation : Operation) (ty : «Type») → is_of_scripts operation 
 not_built (Compute (AddConstant number)) ty is = refl
 not_built (Compute (CompareConstant condition number)) ty is = refl
 not_built (Switch keys) ty is = refl
+not_built (Bytes operation) ty is = refl
 not_built _ ty is = let none : ⊥ = cc in absurd none
 
 pub scripts_alone : ScriptsAlone

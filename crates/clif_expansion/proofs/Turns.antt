@@ -13,6 +13,7 @@ use Rattle.clif_meaning.specs.Program.{Program, Item, Instruct, Use, Assign}
 use Rattle.clif_meaning.specs.ScriptMachine.{ScriptRun, ScriptState, script_step}
 use Rattle.clif_meaning.specs.Store.{assigned}
 use Rattle.clif_meaning.specs.World.{World}
+use Rattle.clif_byte_laws.specs.Pieces.{HoldsBytes}
 use Rattle.clif_expansion.specs.Code.{Decides, DecidesIn, Does, IsItself, NameTypes, Performs, PerformsIn}
 use Rattle.clif_expansion.specs.Expansion.{IsExpandedProgram}
 use Rattle.clif_expansion.specs.Laws.{TakesValues}
@@ -30,10 +31,11 @@ next_ranges run state (At (Instruct place instruction results ∷ rest)) =
     touched_ranges run.world instruction.operation instruction.controlling (map run.name_type instruction.operands) (map state.names instruction.operands)
 next_ranges run state _ = []
 
--- the next item of a run takes values, and what it claims is true
+-- the next item of a run takes values, what it claims is true, and memory holds bytes
 pub record IsSoundAt (run : ScriptRun) (state : ScriptState) (control : Control Item) : Type 0 where
   pub values : OfNextItem (TakesValues run state) control
   pub claims : OfNextItem (ClaimsAreTrue run state) control
+  pub bytes : HoldsBytes state.memory
 
 -- what the premises ask of the next item of the script's run they ask of the plain one's
 pub record AsksTheSame (plain script : ScriptRun) (t s : ScriptState) : Type 0 where
@@ -121,7 +123,7 @@ module _ (reading : Reading) (one_to_one : IsOneToOne reading) (world : World) (
       → Turn (record t { control = At (code ++ rest') }) (record s { control = At (Instruct place instruction results ∷ rest) })
   performed t s place instruction results [] rest' rest performs left sound same = absurd (performs.begins refl)
   performed t s place instruction results (first ∷ code) rest' rest performs left sound same =
-      let did = performs.performs world t.names s.names t.memory refl same.names (record { operands = sound.values; claims = sound.claims }) in
+      let did = performs.performs world t.names s.names t.memory refl (subst HoldsBytes (sym same.memory) sound.bytes) same.names (record { operands = sound.values; claims = sound.claims }) in
       let outcome : outcome_of world instruction.operation instruction.controlling (map type instruction.operands) (map s.names instruction.operands) s.memory ≡ Gives did.values did.after.memory =
       ap (λ (memory : Memory). outcome_of world instruction.operation instruction.controlling (map type instruction.operands) (map s.names instruction.operands) memory) (sym same.memory)
       ∙ did.outcome in

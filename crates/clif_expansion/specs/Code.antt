@@ -12,6 +12,7 @@ use Rattle.clif_meaning.specs.Outcome.{Gives, Goes, outcome_of}
 use Rattle.clif_meaning.specs.Program.{Program, Item, Instruct, Use, Assign}
 use Rattle.clif_meaning.specs.Store.{assigned}
 use Rattle.clif_meaning.specs.World.{World}
+use Rattle.clif_byte_laws.specs.Pieces.{HoldsBytes}
 use Rattle.clif_expansion.specs.Line.{Contents, RunsTo}
 use Rattle.clif_expansion.specs.Reading.{Agree, Generated, IsReadAs, IsReadItem, Reading}
 use Rattle.clif_expansion.specs.Walk.{Surroundings, Walk}
@@ -49,13 +50,13 @@ pub record PerformsIn (world : World) (reading : Reading) (types : NameTypes) (i
   pub kept : (x : Name) → reading x ≢ Generated → after.names x ≡ assigned same_name given values plain x
 
 -- The code, which isn't empty, performs an instruction with these results: it does so in every world with pointers of this
--- width, from all names that agree, where the instruction is sound, and all memory.
+-- width, from all names that agree, where the instruction is sound, and all memory of bytes.
 pub record Performs (pointer_width : ℕ) (reading : Reading) (types : NameTypes) (code : List Item) (instruction : Instruction Name Name) (results : List Name) : Type 0 where
   pub begins : code ≢ []
   pub given : List Name
   pub named : AllZip (IsReadAs reading) given results
   pub performs : (world : World) (plain names : Name → Bits) (memory : Memory)
-      → world.pointer_width ≡ pointer_width → Agree reading plain names → IsSound world types.script instruction names
+      → world.pointer_width ≡ pointer_width → HoldsBytes memory → Agree reading plain names → IsSound world types.script instruction names
       → PerformsIn world reading types instruction given code plain names memory
 
 abbrev pub PerformsItem : ℕ → Reading → NameTypes → List Item → Item → Type 0

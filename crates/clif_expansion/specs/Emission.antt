@@ -28,6 +28,11 @@ abbrev pub reading_emitted : Reading → (plain ledger : Ledger) → List (Instr
 reading_emitted reading plain ledger [] = reading_with reading (length plain.answers) (results_at (length ledger.answers))
 reading_emitted reading plain ledger (first ∷ code) = reading_emitted (reading_generated reading plain) (ledger_with plain (building first)) ledger code
 
+-- the reading behind code in a line all of whose results are generated
+abbrev pub reading_acted : Reading → (plain : Ledger) → List (Instruction Name Name) → Reading
+reading_acted reading plain [] = reading
+reading_acted reading plain (first ∷ code) = reading_acted (reading_generated reading plain) (ledger_with plain (building first)) code
+
 -- the reading, in which the answers to so many calls from this place on were generated
 abbrev pub reading_across : Reading → (place count : ℕ) → Reading
 reading_across reading place count x = if nat_lt x.place place then reading x else (if nat_lt x.place (place + count) then Generated else reading x)
@@ -41,3 +46,11 @@ EmittingKeepsJoins =
     → emitted_types last ≡ emitted_types instruction
     → IsJoined (reading_emitted reading plain ledger code) (fold ledger_with plain (map building code ++ building last ∷ []))
     (ledger_with_call ledger (Emit instruction))
+
+-- Code in a line, of one instruction or more, keeps the join with an instruction that is emitted, whatever the code gives: all of it is
+-- generated, and no name of the plain program stands for what the instruction gives, if it gives something.
+abbrev pub ActingKeepsJoins : Type 0
+ActingKeepsJoins =
+    (reading : Reading) (plain ledger : Ledger) (first : Instruction Name Name) (code : List (Instruction Name Name)) (instruction : Instruction Name Name)
+    → IsJoined reading plain ledger → AllByRecursion StaysInLine (first ∷ code) → StaysInLine instruction
+    → IsJoined (reading_acted reading plain (first ∷ code)) (fold ledger_with plain (map building (first ∷ code))) (ledger_with_call ledger (Emit instruction))

@@ -15,6 +15,7 @@ pub mod Keys
 pub mod ScriptCall
 pub mod Joining
 pub mod ScriptCallExamples
+pub mod ByteEmissionExamples
 pub mod SwitchExamples
 pub mod Emission
 pub mod LedgerTypes

@@ -2,12 +2,15 @@
 -- answers are the instruction's results alone, and its change of the ledger and of the program is that of an instruction that is
 -- built. Without one, all is as it is for the builder's own calls. What may be emitted is from the documentation of Cranelift's
 -- `InstBuilder`; the rest is own.
-use Rattle.std.specs.Prelude.{◌≡◌, ℕ, suc, ◌&&◌, ◌^◌, Bool, false, List, [], ◌∷◌, ◌++◌, map, fold, replicate, Option, None, option_map, nat_lt, ℤ, pos, negsuc}
+use Rattle.std.specs.Prelude.{◌≡◌, ℕ, suc, ◌&&◌, ◌^◌, Bool, false, List, [], ◌∷◌, ◌++◌, map, fold, replicate, Option, None, true, option_map, min, nat_le, nat_lt, ℤ, pos, negsuc}
 use Rattle.std.specs.List.{list_all}
+use Rattle.clif_types.specs.declared.types.LaneType.TheVariants as lane
 use Rattle.clif_types.specs.declared.types.«Type».{«Type»}
-use Rattle.clif_types.specs.Types.{is_int}
+use Rattle.clif_types.specs.declared.types.«Type».TheVariants as type
+use Rattle.clif_types.specs.Types.{bits_of, is_int}
 use Rattle.clif_meaning.specs.Acceptance.{Refusal, allows, can_lead, is_open, refusal_of}
-use Rattle.clif_meaning.specs.Instruction.{AddConstant, CompareConstant, Compute, Instruction, Operation, Switch}
+use Rattle.clif_meaning.specs.ByteOperation.{ByteOperation, Copy, Fill, CompareBytes, CallLibrary, greatest_power, is_unsigned}
+use Rattle.clif_meaning.specs.Instruction.{AddConstant, CompareConstant, Compute, Instruction, Operation, Bytes, Switch}
 use Rattle.clif_meaning.specs.Ledger.{AValue, Answered, Ledger, answers_to, changed_by, empty_ledger, has_value, ledger_after, with_instruction}
 use Rattle.clif_meaning.specs.Name.{Name}
 use Rattle.clif_meaning.specs.Program.{Item, Instruct, Program, answers_from, empty_program, program_of, result_types, with_call, with_inserted, with_item}
@@ -74,11 +77,31 @@ abbrev pub has_64_bits : ℤ → Bool
 has_64_bits (pos n) = nat_lt n (2 ^ 63)
 has_64_bits (negsuc n) = nat_lt n (2 ^ 63)
 
+-- the type is that of pointers on some target
+abbrev pub is_pointer : «Type» → Bool
+is_pointer (type.Lane lane.I16) = true
+is_pointer (type.Lane lane.I32) = true
+is_pointer (type.Lane lane.I64) = true
+is_pointer ty = false
+
+-- There are some bytes, and no more than a pointer of this type can count.
+abbrev pub has_size : «Type» → (size : ℕ) → Bool
+has_size ty size = nat_lt 0 size && nat_lt size (2 ^ bits_of ty)
+
+-- Alignments of copies and fills are at most the greatest power of two that divides the size, for a copy the smaller one;
+-- comparisons aren't of signed numbers. Of no bytes nothing is emitted.
+abbrev pub can_emit_bytes : ByteOperation → «Type» → Bool
+can_emit_bytes (Copy copy) ty = has_size ty copy.size && nat_le (min copy.target_alignment copy.source_alignment) (greatest_power copy.size)
+can_emit_bytes (Fill fill) ty = nat_lt fill.byte 256 && has_size ty fill.size && nat_le fill.alignment (greatest_power fill.size)
+can_emit_bytes (CompareBytes compare) ty = is_unsigned compare.condition && has_size ty compare.size
+can_emit_bytes (CallLibrary callee) ty = true
+
 -- What may be emitted, at which type, beside operands that are there: the table of what only scripts have.
 abbrev pub can_emit : Operation → «Type» → Bool
 can_emit (Compute (AddConstant number)) ty = is_int ty && has_64_bits number
 can_emit (Compute (CompareConstant condition number)) ty = is_int ty && has_64_bits number
 can_emit (Switch keys) ty = is_int ty
+can_emit (Bytes operation) ty = is_pointer ty && can_emit_bytes operation ty
 can_emit _ ty = false
 
 -- the condition of each kind of call

@@ -4,7 +4,7 @@ use Rattle.clif_instructions.specs.declared.instructions.InstructionData.{Instru
 use Rattle.clif_tables.specs.Lists.{TableLists}
 use Rattle.clif_types.specs.declared.types.«Type».{«Type»}
 use Rattle.clif_meaning.specs.Acceptance.{can_operate}
-use Rattle.clif_meaning.specs.Instruction.{AddConstant, CompareConstant, Compute, Operation, Switch}
+use Rattle.clif_meaning.specs.Instruction.{AddConstant, CompareConstant, Compute, Operation, Bytes, Switch}
 use Rattle.clif_meaning.specs.View.{operation_of}
 
 -- only scripts have it
@@ -12,6 +12,7 @@ abbrev pub is_of_scripts : Operation → Bool
 is_of_scripts (Compute (AddConstant number)) = true
 is_of_scripts (Compute (CompareConstant condition number)) = true
 is_of_scripts (Switch keys) = true
+is_of_scripts (Bytes operation) = true
 is_of_scripts _ = false
 
 pub record ScriptsAlone : Type 0 where

@@ -5,6 +5,7 @@ ghost use Rattle.clif_expansion.specs.Examples.{ExpansionExamples};
 ghost use Rattle.clif_expansion.specs.HeadlineExamples.{HeadlineExamples};
 ghost use Rattle.clif_expansion.specs.JoinedRunExamples.{JoinedRunExamples};
 ghost use Rattle.clif_expansion.specs.LayingExamples.{LayingExamples};
+ghost use Rattle.clif_expansion.specs.ByteEmissionExamples.{ByteEmissionExamples};
 ghost use Rattle.clif_expansion.specs.ScriptCallExamples.{ScriptCallExamples};
 ghost use Rattle.clif_expansion.specs.SwitchExamples.{SwitchExamples};
 ghost use Rattle.clif_expansion.specs.WalkExamples.{WalkExamples};
@@ -57,4 +58,9 @@ pub fn headline_examples()
 /// with it; the branch with its edges turned round isn't.
 pub fn switch_examples()
     ensures { SwitchExamples }
+{}
+
+/// Which copies, fills and comparisons may be emitted.
+pub fn byte_emission_examples()
+    ensures { ByteEmissionExamples }
 {}

@@ -6,7 +6,7 @@ use Rattle.clif_types.specs.declared.types.«Type».{«Type»}
 use Rattle.clif_meaning.specs.Access.{touched_ranges, claims_of}
 use Rattle.clif_meaning.specs.Bits.{Bits}
 use Rattle.clif_meaning.specs.Event.{Answer, Results, Exception}
-use Rattle.clif_meaning.specs.Instruction.{Edge, Operation, Load, Store, Stack, StackStore, Call, TryCall}
+use Rattle.clif_meaning.specs.Instruction.{Edge, Operation, Load, Store, Bytes, Stack, StackStore, Call, TryCall}
 use Rattle.clif_meaning.specs.Machine.{Control, At, HasReturned, HasTrapped, IsStuck, state_after}
 use Rattle.clif_meaning.specs.Name.{Name}
 use Rattle.clif_meaning.specs.Outcome.{Outcome, Gives, Goes, Returns, Traps, Calls, NoStep, outcome_of}
@@ -79,6 +79,7 @@ IsQuiet (Load flags offset) = ⊥
 IsQuiet (Store flags offset) = ⊥
 IsQuiet (Stack opcode slot offset) = ⊥
 IsQuiet (StackStore slot offset) = ⊥
+IsQuiet (Bytes operation) = ⊥
 IsQuiet (Call name signature) = ⊥
 IsQuiet (TryCall name call) = ⊥
 IsQuiet _ = Unit {0}
@@ -93,6 +94,7 @@ none_touched world (Load flags offset) ty types bits quiet = absurd quiet
 none_touched world (Store flags offset) ty types bits quiet = absurd quiet
 none_touched world (Stack opcode slot offset) ty types bits quiet = absurd quiet
 none_touched world (StackStore slot offset) ty types bits quiet = absurd quiet
+none_touched world (Bytes operation) ty types bits quiet = absurd quiet
 none_touched world (Call name signature) ty types bits quiet = absurd quiet
 none_touched world (TryCall name call) ty types bits quiet = absurd quiet
 none_touched world _ ty types bits quiet = refl
@@ -100,6 +102,7 @@ none_touched world _ ty types bits quiet = refl
 none_claimed : (world : World) (operation : Operation) (ty : «Type») (types : List «Type») (bits : List ℕ) → IsQuiet operation → claims_of world operation ty types bits ≡ []
 none_claimed world (Load flags offset) ty types bits quiet = absurd quiet
 none_claimed world (Store flags offset) ty types bits quiet = absurd quiet
+none_claimed world (Bytes operation) ty types bits quiet = absurd quiet
 none_claimed world (Call name signature) ty types bits quiet = absurd quiet
 none_claimed world (TryCall name call) ty types bits quiet = absurd quiet
 none_claimed world _ ty types bits quiet = refl

@@ -14,6 +14,7 @@ use Rattle.clif_types.specs.MemFlags.{MemFlagsShape}
 use Rattle.clif_types.specs.declared.extname.ExternalName.{ExternalName}
 use Rattle.clif_types.specs.declared.extname.ExternalName.TheVariants as name
 use Rattle.clif_types.specs.declared.libcall.LibCall.{LibCall}
+use Rattle.clif_types.specs.declared.libcall.LibCall.TheVariants.{Memcpy, Memmove, Memset, Memcmp}
 use Rattle.clif_types.specs.Signature.{SignatureShape}
 use Rattle.clif_tables.specs.Callees.{types_of}
 use Rattle.clif_opcodes.specs.declared.opcodes.FloatConstOpcode.TheVariants.{F16const, F32const, F64const}
@@ -24,17 +25,19 @@ use Rattle.clif_opcodes.specs.declared.kinds.OperandKind.TheVariants as kind
 use Rattle.clif_opcodes.specs.Typing.{AreOfKinds, binary_second, convert_operand}
 use Rattle.clif_meaning.specs.Bits.{Bits, HasWidth, IsValue, AreValues, value_bytes, value_of_bytes, wrapped}
 use Rattle.clif_opcodes.specs.declared.opcodes.StackOpcode.TheVariants.{StackAddr, StackLoad}
-use Rattle.clif_meaning.specs.Instruction.{Iconst, FloatConst, PooledConst, Unary, Binary, Compare, Concat, Split, Convert, Select, AddConstant, CompareConstant, Operation, Compute, Load, Store, Stack, StackStore, Trap, CondTrap, Jump, Brif, BrTable, Switch, Return, Call, CallIndirect, TryCall, TryCallIndirect}
-use Rattle.clif_meaning.specs.Memory.{Memory, Range, bytes_in, written}
-use Rattle.clif_meaning.specs.Access.{Accessible, Aligned, Holds, access_claims, call_claims, claims_if, claims_of, library_named}
-use Rattle.clif_meaning.specs.Outcome.{Outcome, Gives, Goes, NoStep, Traps, access_outcome, accessed, are_accessible, compares, converted_number, low_bits_at, no_claim, slot_accessed, slot_address, traps_on, unary_number, binary_fault, binary_number, call_outcome, library_outcome, outcome_of, outcome_of_computed, unless_fault}
+use Rattle.clif_meaning.specs.Instruction.{Iconst, FloatConst, PooledConst, Unary, Binary, Compare, Concat, Split, Convert, Select, AddConstant, CompareConstant, Operation, Compute, Load, Store, Stack, StackStore, Trap, CondTrap, Jump, Brif, BrTable, Switch, Bytes, Return, Call, CallIndirect, TryCall, TryCallIndirect}
+use Rattle.clif_meaning.specs.ByteOperation.{ByteOperation, Copy, Fill, CompareBytes, CallLibrary, order_meets}
+use Rattle.clif_meaning.specs.Memory.{Memory, Range, byte_order, bytes_in, written}
+use Rattle.clif_meaning.specs.Access.{Accessible, Aligned, Holds, access_claims, byte_claims, call_claims, claims_if, promised_claims, claims_of, library_named}
+use Rattle.clif_meaning.specs.Outcome.{Outcome, Gives, Goes, NoStep, Traps, access_outcome, accessed, are_accessible, byte_outcome, byte_ranges, byte_results, bytes_in_order, compares, converted_number, low_bits_at, no_claim, slot_accessed, slot_address, traps_on, unary_number, binary_fault, binary_number, call_outcome, library_outcome, outcome_of, outcome_of_computed, unless_fault}
 use Rattle.clif_meaning.specs.Laws.{FitsTypes, OutcomesFit}
 use Rattle.clif_meaning.specs.Program.{result_types}
-use Rattle.clif_meaning.specs.Library.{library_answer, library_memory, pointer_of}
+use Rattle.clif_meaning.specs.Library.{bytes_at, library_answer, library_apart, library_memory, pointer_of}
+use Rattle.clif_meaning.specs.Typing.{TakesOperands}
 use Rattle.clif_meaning.specs.Premises.{HasLibrarySignature, IfLibraryCall}
 use Rattle.clif_meaning.specs.Event.{CallShape, plain_call}
 use Rattle.clif_meaning.specs.World.{World}
-use Rattle.clif_meaning.proofs.LibraryCalls.{answer_fits, claimed_runs, each_accessible, three_arguments}
+use Rattle.clif_meaning.proofs.LibraryCalls.{answer_fits, claimed_accessible, claimed_apart, claimed_runs, each_accessible, sign_fits, three_arguments}
 use Rattle.clif_meaning.proofs.SampleWorld.{pow_pos}
 
 low_fits : (ty : «Type») (number : ℕ) → IsValue ty (low_bits_at ty number)
@@ -56,7 +59,7 @@ fits_unless ty returns memory None bits is_value = (is_value, tt)
 fits_unless ty returns memory (Some reason) bits is_value = tt
 
 -- a bit is an I8
-bit_fits : (b : Bool) → HasWidth 8 (if b then 1 else 0)
+pub bit_fits : (b : Bool) → HasWidth 8 (if b then 1 else 0)
 bit_fits true = omega arith
 bit_fits false = omega arith
 
@@ -141,6 +144,74 @@ named_fits world goes_on results returns (name.User reference) call types operan
 named_fits world goes_on results returns (name.TestCase text) call types operands memory has takes values claims fit = tt
 named_fits world goes_on results returns (name.LibCall callee) call types operands memory has takes values claims fit =
     library_fits world goes_on results returns callee call.signature types operands memory has takes values claims fit
+
+-- OPERATIONS ON BYTES -----------------------------------------------------------------------------------------------------
+
+-- what runs gives
+runs_by : (world : World) (operation : ByteOperation) (width : ℕ) (results returns : List «Type») (operands : List Bits) (memory : Memory)
+    → bytes_in_order operation width operands ≡ true → AllByRecursion (Holds world) (byte_claims operation width operands)
+    → AreValues results (byte_results world operation width operands memory) → FitsTypes results returns (byte_outcome world operation width operands memory)
+runs_by world operation width results returns operands memory in_order claims fit =
+    let accessible = claimed_accessible world (byte_ranges operation width operands) (promised_claims operation width operands) claims in
+    rw (in_order, accessible) fit
+
+-- what a function of the C library claims not to overlap doesn't
+library_in_order : (world : World) (callee : LibCall) (width : ℕ) (first second size : Bits)
+    → AllByRecursion (Holds world) (byte_claims (CallLibrary callee) width (first ∷ second ∷ size ∷ [])) → library_apart width callee first second size ≡ true
+library_in_order world Memcpy width first second size claims =
+    claimed_apart (bytes_at width first size) (bytes_at width second size) (mod-lt first (pow_pos width)) claims.1.1.0
+library_in_order world Memmove width first second size claims = refl
+library_in_order world Memset width first second size claims = refl
+library_in_order world Memcmp width first second size claims = refl
+
+library_gives : (world : World) (callee : LibCall) (ty : «Type») (width : ℕ) (first second size : Bits) (memory : Memory)
+    → AreValues (result_types (Bytes (CallLibrary callee)) ty) (byte_results world (CallLibrary callee) width (first ∷ second ∷ size ∷ []) memory)
+library_gives world Memcpy ty width first second size memory = tt
+library_gives world Memmove ty width first second size memory = tt
+library_gives world Memset ty width first second size memory = tt
+library_gives world Memcmp ty width first second size memory =
+    let left : List ℕ = bytes_in memory (bytes_at width first size) in
+    let right : List ℕ = bytes_in memory (bytes_at width second size) in
+    (sign_fits (byte_order left right) (world.memcmp_number left right) (world.memcmp_sign left right), tt)
+
+module _ (world : World) (ty : «Type») (returns : List «Type») (memory : Memory) where
+  abbrev ByteFits : ByteOperation → List Bits → Type 0
+  ByteFits operation operands =
+      AllByRecursion (Holds world) (byte_claims operation (bits_of ty) operands)
+      → FitsTypes (result_types (Bytes operation) ty) returns (byte_outcome world operation (bits_of ty) operands memory)
+
+  library_fit : (callee : LibCall) (first second size : Bits) → ByteFits (CallLibrary callee) (first ∷ second ∷ size ∷ [])
+  library_fit callee first second size claims =
+      runs_by world (CallLibrary callee) (bits_of ty) (result_types (Bytes (CallLibrary callee)) ty) returns (first ∷ second ∷ size ∷ []) memory
+      (library_in_order world callee (bits_of ty) first second size claims) claims (library_gives world callee ty (bits_of ty) first second size memory)
+
+  bytes_fit : (operation : ByteOperation) (types : List «Type») (operands : List Bits) → TakesOperands returns (Bytes operation) ty types → AreValues types operands
+      → ByteFits operation operands
+  bytes_fit (Copy copy) types operands fits values =
+      two_operands (λ ts xs. ByteFits (Copy copy) xs) ty kind.Controlling kind.Controlling types operands fits values
+      (λ t u x y first second x_is y_is claims. runs_by world (Copy copy) (bits_of ty) [] returns (x ∷ y ∷ []) memory refl claims tt)
+  bytes_fit (Fill fill) types operands fits values =
+      one_operand (λ ts xs. ByteFits (Fill fill) xs) ty kind.Controlling types operands fits values
+      (λ t x is_kind is_value claims. runs_by world (Fill fill) (bits_of ty) [] returns (x ∷ []) memory refl claims tt)
+  bytes_fit (CompareBytes compare) types operands fits values =
+      two_operands (λ ts xs. ByteFits (CompareBytes compare) xs) ty kind.Controlling kind.Controlling types operands fits values
+      (λ t u x y first second x_is y_is claims.
+      let left : List ℕ = bytes_in memory (bytes_at (bits_of ty) x compare.size) in
+      let right : List ℕ = bytes_in memory (bytes_at (bits_of ty) y compare.size) in
+      runs_by world (CompareBytes compare) (bits_of ty) (type.Lane lane.I8 ∷ []) returns (x ∷ y ∷ []) memory refl claims
+      (bit_fits (order_meets compare.condition (byte_order left right)), tt))
+  bytes_fit (CallLibrary Memcpy) types operands fits values =
+      three_operands (λ ts xs. ByteFits (CallLibrary Memcpy) xs) ty kind.Controlling kind.Controlling kind.Controlling types operands fits values
+      (λ t u v x y z second third y_is z_is. library_fit Memcpy x y z)
+  bytes_fit (CallLibrary Memmove) types operands fits values =
+      three_operands (λ ts xs. ByteFits (CallLibrary Memmove) xs) ty kind.Controlling kind.Controlling kind.Controlling types operands fits values
+      (λ t u v x y z second third y_is z_is. library_fit Memmove x y z)
+  bytes_fit (CallLibrary Memset) types operands fits values =
+      three_operands (λ ts xs. ByteFits (CallLibrary Memset) xs) ty kind.Controlling (kind.Exactly (type.Lane lane.I8)) kind.Controlling types operands fits values
+      (λ t u v x y z second third y_is z_is. library_fit Memset x y z)
+  bytes_fit (CallLibrary Memcmp) types operands fits values =
+      three_operands (λ ts xs. ByteFits (CallLibrary Memcmp) xs) ty kind.Controlling kind.Controlling kind.Controlling types operands fits values
+      (λ t u v x y z second third y_is z_is. library_fit Memcmp x y z)
 
 -- ACCESSES --------------------------------------------------------------------------------------------------------------
 
@@ -266,6 +337,8 @@ outcomes_fit world (BrTable entries) ty returns types operands memory outside at
     one_operand (Fits world (BrTable entries) ty returns memory) ty (kind.Exactly (type.Lane lane.I32)) types operands fits values (λ t x is_kind is_value claims. tt)
 outcomes_fit world (Switch keys) ty returns types operands memory outside at fits values =
     one_operand (Fits world (Switch keys) ty returns memory) ty kind.Controlling types operands fits values (λ t x is_kind is_value claims. tt)
+outcomes_fit world (Bytes operation) ty returns types operands memory outside at fits values =
+    bytes_fit world ty returns memory operation types operands fits values
 outcomes_fit world Return ty returns types operands memory outside at fits values =
     λ claims. subst (λ (ts : List «Type»). AreValues ts operands) fits values
 outcomes_fit world (Call name signature) ty returns types operands memory outside at fits values =

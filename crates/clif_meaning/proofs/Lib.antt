@@ -2,6 +2,7 @@ pub mod BitLists
 pub mod Simulation
 pub mod Endings
 pub mod Fitting
+pub mod ByteOperations
 pub mod Stuttering
 pub mod WorkedExamples
 pub mod StraightLine

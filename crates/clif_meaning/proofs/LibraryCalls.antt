@@ -55,7 +55,7 @@ first_fits pointer Memcmp first others fit = fit.0
 -- WHAT IS ANSWERED --------------------------------------------------------------------------------------------------------
 
 -- a number with the sign of an order has 32 bits
-sign_fits : (order : Ordering) (bits : Bits) → HasSignOf order bits → bits < 2 ^ 32
+pub sign_fits : (order : Ordering) (bits : Bits) → HasSignOf order bits → bits < 2 ^ 32
 sign_fits Less bits signed = signed.1
 sign_fits Equal bits signed = let is : bits ≡ 0 = signed in omega (arith, is)
 sign_fits Greater bits signed = let little = signed.1 in omega (arith, little)
@@ -116,7 +116,7 @@ each_accessible world range (suc count) each =
     ap (λ (b : Bool). b && are_accessible world range count) (each count (omega arith))
     ∙ each_accessible world range count (λ k below. each k (omega (arith, below)))
 
-claimed_accessible : (world : World) (ranges : List Range) (claims : List Claim) → AllByRecursion (Holds world) (map Accessible ranges ++ claims)
+pub claimed_accessible : (world : World) (ranges : List Range) (claims : List Claim) → AllByRecursion (Holds world) (map Accessible ranges ++ claims)
     → ranges_accessible world ranges ≡ true
 claimed_accessible world [] claims hold = refl
 claimed_accessible world (range ∷ ranges) claims hold =

@@ -26,7 +26,7 @@ use Rattle.clif_tables.specs.Entries.{TableEntry, AStackSlot, AFunction}
 use Rattle.clif_tables.specs.Lists.{TableLists}
 use Rattle.clif_meaning.specs.Event.{CallShape}
 use Rattle.clif_meaning.specs.SameType.{same_type}
-use Rattle.clif_meaning.specs.Instruction.{Iconst, FloatConst, PooledConst, Unary, Binary, Compare, Concat, Split, Convert, Select, AddConstant, CompareConstant, Operation, operation_entries, Instruction, Compute, Load, Store, Stack, StackStore, Trap, CondTrap, Jump, Brif, BrTable, Switch, Return, Call, CallIndirect, TryCall, TryCallIndirect, Argument, Known, CallResult, CallPayload, Edge}
+use Rattle.clif_meaning.specs.Instruction.{Iconst, FloatConst, PooledConst, Unary, Binary, Compare, Concat, Split, Convert, Select, AddConstant, CompareConstant, Operation, operation_entries, Instruction, Compute, Load, Store, Stack, StackStore, Trap, CondTrap, Jump, Brif, BrTable, Switch, Bytes, Return, Call, CallIndirect, TryCall, TryCallIndirect, Argument, Known, CallResult, CallPayload, Edge}
 use Rattle.clif_meaning.specs.Name.{Name}
 use Rattle.clif_meaning.specs.Request.{Request, CreateBlock, SwitchToBlock, SealBlock, SealAllBlocks, InsertBlockAfter, SetColdBlock, EnsureInsertedBlock, AppendBlockParams, AppendFunctionParams, DeclareVar, DefVar, UseVar, MakeEntry, MakeEdge, MakeJumpTable, MakeExceptionTable, Annotate, GivenEntry, ServedBy, TriedBy, Imported, TableItem, TagTo, DefaultTo, InContext, Build, ChangeJumpDestination, Finalize, Script, Attempt, outright}
 use Rattle.clif_meaning.specs.Ledger.{BlockState, ExceptionTable, Ledger, empty_ledger, unserved_exceptions, type_of, or_invalid, has_value, has_block, has_instruction, leads_to, edge_named, unserved_edges, is_filled, is_sealed, is_inserted, is_pristine, has_predecessors, is_unreachable, variable_type, ledger_with}
@@ -71,6 +71,7 @@ can_operate (Compute Split) ty = is_met AHalved ty
 can_operate (Compute (AddConstant number)) ty = false
 can_operate (Compute (CompareConstant condition number)) ty = false
 can_operate (Switch keys) ty = false
+can_operate (Bytes operation) ty = false
 can_operate (Load flags offset) ty = is_type ty
 can_operate (Stack StackAddr slot offset) ty = is_int ty
 can_operate (Stack StackLoad slot offset) ty = is_type ty

@@ -4,15 +4,17 @@ use Rattle.std.specs.Prelude.{◌≡◌, ℕ, ◌%◌, ◌^◌, ◌<◌, ◌++�
 use Rattle.clif_opcodes.specs.declared.opcodes.StackOpcode.TheVariants.{StackLoad}
 use Rattle.clif_types.specs.declared.types.«Type».{«Type»}
 use Rattle.clif_types.specs.MemFlags.{MemFlagsShape}
+use Rattle.clif_types.specs.Types.{bits_of}
 use Rattle.clif_types.specs.Signature.{SignatureShape}
 use Rattle.clif_types.specs.declared.libcall.LibCall.{LibCall}
 use Rattle.clif_types.specs.declared.libcall.LibCall.TheVariants.{Memcpy}
 use Rattle.clif_types.specs.declared.extname.ExternalName.{ExternalName}
 use Rattle.clif_types.specs.declared.extname.ExternalName.TheVariants as name
 use Rattle.clif_meaning.specs.Bits.{Bits}
+use Rattle.clif_meaning.specs.ByteOperation.{ByteOperation, Copy, Fill, CompareBytes, CallLibrary, access_size, is_by_accesses, is_by_loads}
 use Rattle.clif_meaning.specs.Memory.{Range, address_in, lies_in}
-use Rattle.clif_meaning.specs.Instruction.{Operation, Load, Store, Stack, StackStore, Call, TryCall}
-use Rattle.clif_meaning.specs.Outcome.{accessed, slot_accessed, operand_type}
+use Rattle.clif_meaning.specs.Instruction.{Operation, Bytes, Load, Store, Stack, StackStore, Call, TryCall}
+use Rattle.clif_meaning.specs.Outcome.{accessed, byte_ranges, slot_accessed, operand_type}
 use Rattle.clif_meaning.specs.Library.{bytes_at, library_ranges}
 use Rattle.clif_meaning.specs.World.{World}
 
@@ -40,6 +42,7 @@ touched_ranges world (Load flags offset) ty types (address ∷ []) = accessed ty
 touched_ranges world (Store flags offset) ty types (stored ∷ address ∷ []) = accessed ty (operand_type types 1) address offset ∷ []
 touched_ranges world (Stack StackLoad slot offset) ty types [] = slot_accessed world ty slot offset ∷ []
 touched_ranges world (StackStore slot offset) ty types (stored ∷ []) = slot_accessed world ty slot offset ∷ []
+touched_ranges world (Bytes operation) ty types operands = byte_ranges operation (bits_of ty) operands
 touched_ranges world (Call name signature) ty types arguments = call_ranges world name arguments
 touched_ranges world (TryCall name call) ty types arguments = call_ranges world name arguments
 touched_ranges world _ ty types operands = []
@@ -63,10 +66,31 @@ call_claims world (name.LibCall callee) (first ∷ second ∷ size ∷ []) =
     ++ overlap_claims world.pointer_width callee first second size
 call_claims world _ arguments = []
 
+-- what the alignments, the flags and the promises of an operation on bytes claim: flags speak of its accesses, where it is by any
+abbrev pub promised_claims : ByteOperation → (width : ℕ) → List Bits → List Claim
+promised_claims (Copy copy) width (target ∷ source ∷ []) =
+    Aligned target copy.target_alignment ∷ Aligned source copy.source_alignment
+    ∷ claims_if copy.no_overlap (Apart (bytes_at width target copy.size) (bytes_at width source copy.size))
+    ++ claims_if (copy.flags.aligned && is_by_accesses copy.size) (Aligned target (access_size copy.size))
+    ++ claims_if (copy.flags.aligned && is_by_accesses copy.size) (Aligned source (access_size copy.size))
+promised_claims (Fill fill) width (target ∷ []) =
+    Aligned target fill.alignment ∷ claims_if (fill.flags.aligned && is_by_accesses fill.size) (Aligned target (access_size fill.size))
+promised_claims (CompareBytes compare) width (left ∷ right ∷ []) =
+    Aligned left compare.left_alignment ∷ Aligned right compare.right_alignment
+    ∷ claims_if (compare.flags.aligned && is_by_loads compare.condition compare.size) (Aligned left compare.size)
+    ++ claims_if (compare.flags.aligned && is_by_loads compare.condition compare.size) (Aligned right compare.size)
+promised_claims (CallLibrary callee) width (first ∷ second ∷ size ∷ []) = overlap_claims width callee first second size
+promised_claims _ width operands = []
+
+-- beside them that each byte that is touched is accessible
+abbrev pub byte_claims : ByteOperation → (width : ℕ) → List Bits → List Claim
+byte_claims operation width operands = map Accessible (byte_ranges operation width operands) ++ promised_claims operation width operands
+
 -- The table of operations: what the instruction claims.
 abbrev pub claims_of : World → Operation → «Type» → List «Type» → List Bits → List Claim
 claims_of world (Load flags offset) ty types (address ∷ []) = access_claims flags (accessed ty (operand_type types 0) address offset)
 claims_of world (Store flags offset) ty types (stored ∷ address ∷ []) = access_claims flags (accessed ty (operand_type types 1) address offset)
+claims_of world (Bytes operation) ty types operands = byte_claims operation (bits_of ty) operands
 claims_of world (Call name signature) ty types arguments = call_claims world name arguments
 claims_of world (TryCall name call) ty types arguments = call_claims world name arguments
 claims_of world _ ty types operands = []

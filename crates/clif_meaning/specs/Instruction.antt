@@ -25,6 +25,7 @@ use Rattle.clif_types.specs.Signature.{SignatureShape}
 use Rattle.clif_types.specs.declared.extfunc.AbiParam.{AbiParam}
 use Rattle.clif_types.specs.declared.extname.ExternalName.{ExternalName}
 use Rattle.clif_instructions.specs.Instruction.{EntryRef, ASlot}
+use Rattle.clif_meaning.specs.ByteOperation.{ByteOperation, byte_opcode, byte_typing}
 use Rattle.clif_meaning.specs.Event.{CallShape}
 
 -- operations that compute bits from bits, without memory, world or control
@@ -79,6 +80,8 @@ pub data Operation : Type 0 where
   -- Of scripts alone; tests and tables of a function stand for it. Goes along the edge of the key that its operand is, and else
   -- along the one behind those of its keys.
   Switch : (keys : List ℕ) → Operation
+  -- Of scripts alone; accesses or a call stand for it. Copies, fills or compares bytes.
+  Bytes : ByteOperation → Operation
   -- ends the run with the operands
   Return : Operation
   -- calls a function by its name, with its operands
@@ -113,6 +116,7 @@ operation_opcode Jump = opcode.Jump
 operation_opcode Brif = opcode.Brif
 operation_opcode (BrTable entries) = opcode.BrTable
 operation_opcode (Switch keys) = opcode.BrTable
+operation_opcode (Bytes operation) = byte_opcode operation
 operation_opcode Return = opcode.Return
 operation_opcode (Call name signature) = opcode.Call
 operation_opcode (CallIndirect signature) = opcode.CallIndirect
@@ -124,6 +128,7 @@ abbrev pub operation_typing : Operation → Row
 operation_typing (Compute (AddConstant number)) = unary_row
 operation_typing (Compute (CompareConstant condition number)) = like_first AnInteger (Controlling ∷ []) (kind.Exactly (type.Lane lane.I8) ∷ [])
 operation_typing (Switch keys) = row_of opcode.Brif
+operation_typing (Bytes operation) = byte_typing operation
 operation_typing operation = row_of (operation_opcode operation)
 
 -- what a plain call gives. A try call gives nothing itself: what it gets is passed along its first edge.

@@ -1,6 +1,7 @@
 pub mod Bits
 pub mod Memory
 pub mod Switch
+pub mod ByteOperation
 pub mod Instruction
 pub mod Event
 pub mod World

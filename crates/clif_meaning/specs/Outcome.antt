@@ -29,13 +29,15 @@ use Rattle.clif_opcodes.specs.declared.opcodes.ConvertOpcode.{ConvertOpcode}
 use Rattle.clif_opcodes.specs.declared.opcodes.ConvertOpcode.TheVariants.{Splat, Uextend, Sextend, Ireduce}
 use Rattle.clif_types.specs.Types.{bits_of, bytes_of, lane_count_of, lane_type_of}
 use Rattle.clif_meaning.specs.Bits.{Bits, value_bytes, value_of_bytes, wrapped}
-use Rattle.clif_meaning.specs.Memory.{Memory, Range, address_in, bytes_in, written}
-use Rattle.clif_meaning.specs.Instruction.{Arithmetic, Iconst, FloatConst, PooledConst, Unary, Binary, Compare, Concat, Split, Convert, Select, AddConstant, CompareConstant, Operation, Compute, Load, Store, Stack, StackStore, Trap, CondTrap, Jump, Brif, BrTable, Switch, Return, Call, CallIndirect, TryCall, TryCallIndirect}
+use Rattle.clif_meaning.specs.ByteOperation.{ByteOperation, Copy, Fill, CompareBytes, CallLibrary, order_meets}
+use Rattle.clif_meaning.specs.Memory.{Memory, Range, address_in, byte_order, bytes_in, copied, filled, written}
+use Rattle.clif_meaning.specs.Instruction.{Arithmetic, Iconst, FloatConst, PooledConst, Unary, Binary, Compare, Concat, Split, Convert, Select, AddConstant, CompareConstant, Operation, Compute, Load, Store, Stack, StackStore, Trap, CondTrap, Jump, Brif, BrTable, Switch, Bytes, Return, Call, CallIndirect, TryCall, TryCallIndirect}
 use Rattle.clif_meaning.specs.Event.{Callee, Named, AtAddress, CallShape, plain_call}
 use Rattle.clif_meaning.specs.Switch.{edge_of_key}
 use Rattle.clif_meaning.specs.World.{World}
-use Rattle.clif_meaning.specs.Library.{has_library_types, library_answer, library_apart, library_memory, library_ranges, pointer_of}
+use Rattle.clif_meaning.specs.Library.{bytes_at, has_library_types, library_answer, library_apart, library_memory, library_ranges, pointer_of}
 use Rattle.clif_types.specs.declared.libcall.LibCall.{LibCall as LibraryFunction}
+use Rattle.clif_types.specs.declared.libcall.LibCall.TheVariants.{Memcmp}
 
 pub data Outcome : Type 0 where
   -- the results get these bits, memory is this, and control goes to the next place
@@ -266,6 +268,45 @@ abbrev pub call_outcome : World → (List Bits → Memory → Outcome) → Exter
 call_outcome world goes_on (LibCall callee) call arguments memory = library_outcome world goes_on callee call.signature arguments memory
 call_outcome world goes_on name call arguments memory = Calls (Named name) call arguments
 
+-- Operations on bytes, at addresses of a width, by their operands: the ranges that they touch,
+abbrev pub byte_ranges : ByteOperation → (width : ℕ) → List Bits → List Range
+byte_ranges (Copy copy) width (target ∷ source ∷ []) = bytes_at width target copy.size ∷ bytes_at width source copy.size ∷ []
+byte_ranges (Fill fill) width (target ∷ []) = bytes_at width target fill.size ∷ []
+byte_ranges (CompareBytes compare) width (left ∷ right ∷ []) = bytes_at width left compare.size ∷ bytes_at width right compare.size ∷ []
+byte_ranges (CallLibrary callee) width (first ∷ second ∷ size ∷ []) = library_ranges width callee first second size
+byte_ranges _ width operands = []
+
+-- whether there are as many operands as there should be, and what mustn't overlap doesn't,
+abbrev pub bytes_in_order : ByteOperation → (width : ℕ) → List Bits → Bool
+bytes_in_order (Copy copy) width (target ∷ source ∷ []) = true
+bytes_in_order (Fill fill) width (target ∷ []) = true
+bytes_in_order (CompareBytes compare) width (left ∷ right ∷ []) = true
+bytes_in_order (CallLibrary callee) width (first ∷ second ∷ size ∷ []) = library_apart width callee first second size
+bytes_in_order _ width operands = false
+
+-- what they give,
+abbrev pub byte_results : World → ByteOperation → (width : ℕ) → List Bits → Memory → List Bits
+byte_results world (CompareBytes compare) width (left ∷ right ∷ []) memory =
+    (if order_meets compare.condition (byte_order (bytes_in memory (bytes_at width left compare.size)) (bytes_in memory (bytes_at width right compare.size)))
+    then 1 else 0) ∷ []
+byte_results world (CallLibrary Memcmp) width (left ∷ right ∷ size ∷ []) memory =
+    world.memcmp_number (bytes_in memory (bytes_at width left size)) (bytes_in memory (bytes_at width right size)) ∷ []
+byte_results world _ width operands memory = []
+
+-- and memory after them
+abbrev pub byte_memory : ByteOperation → (width : ℕ) → List Bits → Memory → Memory
+byte_memory (Copy copy) width (target ∷ source ∷ []) memory = copied memory (bytes_at width target copy.size) source
+byte_memory (Fill fill) width (target ∷ []) memory = filled memory (bytes_at width target fill.size) (fill.byte % 256)
+byte_memory (CallLibrary callee) width (first ∷ second ∷ size ∷ []) memory = library_memory width callee first second size memory
+byte_memory _ width operands memory = memory
+
+-- Such an operation, in one step. Where a byte isn't accessible, or what mustn't overlap does, there is no meaning.
+abbrev pub byte_outcome : World → ByteOperation → (width : ℕ) → List Bits → Memory → Outcome
+byte_outcome world operation width operands memory =
+    if bytes_in_order operation width operands && ranges_accessible world (byte_ranges operation width operands)
+    then Gives (byte_results world operation width operands memory) (byte_memory operation width operands memory)
+    else NoStep
+
 -- the table of operations: world, controlling type, the operands' types and bits, memory
 abbrev pub outcome_of : World → Operation → «Type» → List «Type» → List Bits → Memory → Outcome
 outcome_of world (Compute arithmetic) ty types operands memory = outcome_of_computed (computed arithmetic ty types operands) memory
@@ -289,6 +330,7 @@ outcome_of world Jump ty types [] memory = Goes 0 [] memory
 outcome_of world Brif ty types (condition ∷ []) memory = Goes (edge_by condition) [] memory
 outcome_of world (BrTable entries) ty types (index ∷ []) memory = Goes (edge_in_table entries index) [] memory
 outcome_of world (Switch keys) ty types (key ∷ []) memory = Goes (edge_of_key keys key) [] memory
+outcome_of world (Bytes operation) ty types operands memory = byte_outcome world operation (bits_of ty) operands memory
 outcome_of world Return ty types operands memory = Returns operands
 outcome_of world (Call name signature) ty types arguments memory = call_outcome world Gives name (plain_call signature) arguments memory
 outcome_of world (CallIndirect signature) ty types (address ∷ arguments) memory = Calls (AtAddress address signature) (plain_call signature) arguments

@@ -1,10 +1,11 @@
 -- What an instruction does depends on the ranges that it may touch alone, and changes those alone.
-use Rattle.std.proofs.Common.{◌≡◌, ◌+◌, ◌-◌, ◌%◌, ◌^◌, ◌<◌, ◌==◌, ◌&&◌, ◌||◌, ℕ, zero, suc, List, [], ◌∷◌, Bool, true, false, not, if◌then◌else◌, refl, sym, ◌∙◌, ap, ap₂, subst, arith}
+use Rattle.std.proofs.Common.{◌≡◌, ◌+◌, ◌%◌, ◌^◌, ◌<◌, ◌==◌, ◌&&◌, ◌||◌, ℕ, zero, suc, List, [], ◌∷◌, Bool, true, false, not, if◌then◌else◌, refl, sym, ◌∙◌, ap, ap₂, subst, arith}
 use Rattle.std.specs.Prelude.{ℤ, nat_lt}
 use Rattle.std.proofs.Math.Nat.{mod-lt, mod-add-mod}
 use Rattle.std.proofs.lemmas.Bool.{and_parts, ltb-true}
 use Rattle.std.proofs.lemmas.Nat.{pow_pos}
 use Rattle.clif_types.specs.declared.types.«Type».{«Type»}
+use Rattle.clif_types.specs.Types.{bits_of}
 use Rattle.clif_types.specs.MemFlags.{MemFlagsShape}
 use Rattle.clif_types.specs.declared.trapcode.TrapCode.TheVariants.{HeapOutOfBounds}
 use Rattle.clif_types.specs.declared.extname.ExternalName.{ExternalName}
@@ -12,13 +13,14 @@ use Rattle.clif_types.specs.declared.extname.ExternalName.TheVariants.{LibCall, 
 use Rattle.clif_types.specs.declared.libcall.LibCall.{LibCall as LibraryFunction}
 use Rattle.clif_types.specs.declared.libcall.LibCall.TheVariants.{Memcpy, Memmove, Memset, Memcmp}
 use Rattle.clif_meaning.specs.Bits.{Bits, value_bytes, value_of_bytes}
-use Rattle.clif_meaning.specs.Memory.{Memory, Range, address_in, index_in, lies_in, bytes_from, bytes_in, copied, filled, written}
+use Rattle.clif_meaning.specs.ByteOperation.{ByteOperation, Copy, Fill, CompareBytes, CallLibrary, order_meets}
+use Rattle.clif_meaning.specs.Memory.{Memory, Range, address_in, byte_order, index_in, lies_in, bytes_from, bytes_in, copied, filled, written}
 use Rattle.clif_meaning.specs.Access.{call_ranges}
 use Rattle.clif_meaning.specs.Library.{bytes_at, library_answer, library_memory, library_ranges}
 use Rattle.clif_opcodes.specs.declared.opcodes.StackOpcode.TheVariants.{StackAddr, StackLoad}
-use Rattle.clif_meaning.specs.Instruction.{Compute, Load, Store, Stack, StackStore, Trap, CondTrap, Jump, Brif, BrTable, Switch, Return, Call, CallIndirect, TryCall, TryCallIndirect}
+use Rattle.clif_meaning.specs.Instruction.{Compute, Load, Store, Stack, StackStore, Trap, CondTrap, Jump, Brif, BrTable, Switch, Bytes, Return, Call, CallIndirect, TryCall, TryCallIndirect}
 use Rattle.clif_meaning.specs.Event.{CallShape, plain_call}
-use Rattle.clif_meaning.specs.Outcome.{Outcome, Computed, Values, Fault, Undefined, Gives, Goes, Traps, NoStep, access_outcome, accessed, call_outcome, library_runs, no_claim, slot_accessed, are_accessible, computed, outcome_of_computed, low_bits_at, operand_type}
+use Rattle.clif_meaning.specs.Outcome.{Outcome, Computed, Values, Fault, Undefined, Gives, Goes, Traps, NoStep, access_outcome, accessed, byte_outcome, byte_ranges, byte_results, bytes_in_order, ranges_accessible, call_outcome, library_runs, no_claim, slot_accessed, are_accessible, computed, outcome_of_computed, low_bits_at, operand_type}
 use Rattle.clif_meaning.specs.World.{World}
 use Rattle.clif_meaning.proofs.Ranges.{lies_there}
 use Rattle.clif_outcome_laws.specs.Locality.{ChangeAlike, SameInside, Agree, OutcomesAreLocal, lies_in_one}
@@ -206,6 +208,58 @@ call_agrees world goes_on alike (TestCase text) call arguments left right same =
 begins : (access address_type : «Type») (address : Bits) (offset : ℤ) → (accessed access address_type address offset).start < 2 ^ (accessed access address_type address offset).width
 begins access address_type address offset = mod-lt _ (pow_pos _)
 
+-- OPERATIONS ON BYTES -----------------------------------------------------------------------------------------------------
+
+either_agrees : (ranges : List Range) (left right : Memory) (runs : Bool) (outcome other : Outcome) → Agree ranges left right outcome other
+    → Agree ranges left right (if runs then outcome else NoStep) (if runs then other else NoStep)
+either_agrees ranges left right true outcome other agree = agree
+either_agrees ranges left right false outcome other agree = tt
+
+-- what is answered of bytes that are the same in both
+library_results_alike : (world : World) (callee : LibraryFunction) (width first second size : ℕ) (left right : Memory)
+    → SameInside (library_ranges width callee first second size) left right
+    → byte_results world (CallLibrary callee) width (first ∷ second ∷ size ∷ []) left ≡ byte_results world (CallLibrary callee) width (first ∷ second ∷ size ∷ []) right
+library_results_alike world Memcpy width first second size left right same = refl
+library_results_alike world Memmove width first second size left right same = refl
+library_results_alike world Memset width first second size left right same = refl
+library_results_alike world Memcmp width first second size left right same =
+    let one : Range = bytes_at width first size in
+    let two : Range = bytes_at width second size in
+    ap₂ (λ (xs ys : List ℕ). world.memcmp_number xs ys ∷ [])
+    (same_bytes left right one (mod-lt first (pow_pos width)) (first_same one two left right same))
+    (same_bytes left right two (mod-lt second (pow_pos width)) (second_same one two left right same))
+
+bytes_agree : (world : World) (operation : ByteOperation) (width : ℕ) (operands : List Bits) (left right : Memory) → SameInside (byte_ranges operation width operands) left right
+    → Agree (byte_ranges operation width operands) left right (byte_outcome world operation width operands left) (byte_outcome world operation width operands right)
+bytes_agree world (Copy copy) width [] left right same = tt
+bytes_agree world (Copy copy) width (x ∷ []) left right same = tt
+bytes_agree world (Copy copy) width (target ∷ source ∷ []) left right same =
+    either_agrees _ left right (ranges_accessible world (byte_ranges (Copy copy) width (target ∷ source ∷ []))) _ _ (refl, copies left right width target source copy.size same)
+bytes_agree world (Copy copy) width (x ∷ y ∷ z ∷ operands) left right same = tt
+bytes_agree world (Fill fill) width [] left right same = tt
+bytes_agree world (Fill fill) width (target ∷ []) left right same =
+    either_agrees _ left right (ranges_accessible world (byte_ranges (Fill fill) width (target ∷ []))) _ _ (refl, fills left right (bytes_at width target fill.size) (fill.byte % 256))
+bytes_agree world (Fill fill) width (x ∷ y ∷ operands) left right same = tt
+bytes_agree world (CompareBytes compare) width [] left right same = tt
+bytes_agree world (CompareBytes compare) width (x ∷ []) left right same = tt
+bytes_agree world (CompareBytes compare) width (x ∷ y ∷ []) left right same =
+    let one : Range = bytes_at width x compare.size in
+    let two : Range = bytes_at width y compare.size in
+    either_agrees _ left right (ranges_accessible world (byte_ranges (CompareBytes compare) width (x ∷ y ∷ []))) _ _ (
+      ap₂ (λ (xs ys : List ℕ). (if order_meets compare.condition (byte_order xs ys) then 1 else 0) ∷ [])
+          (same_bytes left right one (mod-lt x (pow_pos width)) (first_same one two left right same))
+          (same_bytes left right two (mod-lt y (pow_pos width)) (second_same one two left right same)),
+      stays (one ∷ two ∷ []) left right same,
+    )
+bytes_agree world (CompareBytes compare) width (x ∷ y ∷ z ∷ operands) left right same = tt
+bytes_agree world (CallLibrary callee) width [] left right same = tt
+bytes_agree world (CallLibrary callee) width (x ∷ []) left right same = tt
+bytes_agree world (CallLibrary callee) width (x ∷ y ∷ []) left right same = tt
+bytes_agree world (CallLibrary callee) width (first ∷ second ∷ size ∷ []) left right same =
+    either_agrees _ left right (bytes_in_order (CallLibrary callee) width (first ∷ second ∷ size ∷ []) && ranges_accessible world (library_ranges width callee first second size)) _ _
+    (library_results_alike world callee width first second size left right same, changed_alike width callee first second size left right same)
+bytes_agree world (CallLibrary callee) width (x ∷ y ∷ z ∷ w ∷ operands) left right same = tt
+
 pub outcomes_are_local : OutcomesAreLocal
 outcomes_are_local world (Compute arithmetic) ty types operands left right same = computed_agrees left right (computed arithmetic ty types operands)
 outcomes_are_local world (Load flags offset) ty types [] left right same = tt
@@ -252,6 +306,7 @@ outcomes_are_local world (BrTable entries) ty types (index ∷ x ∷ operands) l
 outcomes_are_local world (Switch keys) ty types [] left right same = tt
 outcomes_are_local world (Switch keys) ty types (key ∷ []) left right same = (refl, refl, stays [] left right same)
 outcomes_are_local world (Switch keys) ty types (key ∷ x ∷ operands) left right same = tt
+outcomes_are_local world (Bytes operation) ty types operands left right same = bytes_agree world operation (bits_of ty) operands left right same
 outcomes_are_local world Return ty types operands left right same = refl
 outcomes_are_local world (Call name signature) ty types operands left right same =
     call_agrees world Gives (λ ranges one two after other bits others equal changed. (equal, changed)) name (plain_call signature) operands left right same

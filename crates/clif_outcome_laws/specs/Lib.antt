@@ -5,3 +5,4 @@ pub mod Integers
 pub mod Orders
 pub mod Divisions
 pub mod Lanes
+pub mod ByteOperationExamples

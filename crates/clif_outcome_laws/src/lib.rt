@@ -2,6 +2,7 @@
 //! contracts are the laws of the definitions.
 #![tactic(auto)]
 
+ghost use Rattle.clif_outcome_laws.specs.ByteOperationExamples.{BytesWorkedOut};
 ghost use Rattle.clif_outcome_laws.specs.Divisions.{SignedDivisionIsMathematical};
 ghost use Rattle.clif_outcome_laws.specs.Integers.{ConversionsKeepNumbers, HalvesAreParts, PartsMakeWhole};
 ghost use Rattle.clif_outcome_laws.specs.Lanes.{LaneExamples, VectorsAreLanes};
@@ -18,6 +19,11 @@ pub fn memory_examples()
 /// Calls of functions of the C library, worked out.
 pub fn library_examples()
     ensures { LibraryExamples }
+{}
+
+/// Copies, fills and comparisons as operations of scripts, worked out.
+pub fn byte_operation_examples()
+    ensures { BytesWorkedOut }
 {}
 
 /// An instruction depends on the bytes that it may touch alone, and changes those alone.

@@ -2,3 +2,4 @@ pub mod Holding
 pub mod Outcomes
 pub mod ScriptSteps
 pub mod FunctionSteps
+pub mod HoldingBytes

@@ -1,6 +1,7 @@
 -- What a well-typed instruction gives fits, whatever its access claims, and its results are for what its call returns.
 use Rattle.std.specs.Prelude.{◌≡◌, ℕ, ◌⊎◌, Option, Some, None, Bool, true, false, ◌%◌, ◌==◌, ◌&&◌, not, if◌then◌else◌, List, [], ◌∷◌, map, IsTrue}
 use Rattle.std.proofs.Common.{inl, inr, refl, subst, sym, ◌∙◌}
+use Rattle.clif_types.specs.Types.{bits_of}
 use Rattle.clif_types.specs.declared.types.«Type».{«Type»}
 use Rattle.clif_types.specs.declared.trapcode.TrapCode.{TrapCode}
 use Rattle.clif_types.specs.declared.trapcode.TrapCode.TheVariants.{HeapOutOfBounds}
@@ -12,11 +13,13 @@ use Rattle.clif_types.specs.declared.extname.ExternalName.TheVariants.{LibCall}
 use Rattle.clif_tables.specs.Callees.{types_of}
 use Rattle.clif_meaning.specs.Event.{CallShape, plain_call}
 use Rattle.clif_meaning.specs.Bits.{Bits, AreValues, IsValue}
-use Rattle.clif_meaning.specs.Instruction.{Instruction, Operation, Compute, Load, Store, Stack, StackStore, Trap, CondTrap, Jump, Brif, BrTable, Switch, Return, Call, CallIndirect, TryCall, TryCallIndirect, operation_typing}
+use Rattle.clif_meaning.specs.Instruction.{Instruction, Operation, Compute, Load, Store, Stack, StackStore, Trap, CondTrap, Jump, Brif, BrTable, Switch, Bytes, Return, Call, CallIndirect, TryCall, TryCallIndirect, operation_typing}
 use Rattle.clif_meaning.specs.Laws.{FitsTypes}
 use Rattle.clif_meaning.specs.Library.{library_answer, pointer_of}
 use Rattle.clif_meaning.specs.Memory.{Memory, Range}
-use Rattle.clif_meaning.specs.Outcome.{Outcome, Gives, Goes, Returns, Traps, Calls, NoStep, Computed, Values, Fault, Undefined, access_outcome, are_accessible, call_outcome, computed, no_claim, outcome_of, outcome_of_computed, traps_on}
+use Rattle.clif_meaning.specs.ByteOperation.{ByteOperation}
+use Rattle.clif_meaning.proofs.ByteOperations.{byte_cases, byte_values}
+use Rattle.clif_meaning.specs.Outcome.{Outcome, Gives, Goes, Returns, Traps, Calls, NoStep, Computed, Values, Fault, Undefined, access_outcome, are_accessible, byte_outcome, call_outcome, computed, no_claim, outcome_of, outcome_of_computed, traps_on}
 use Rattle.clif_meaning.specs.Program.{result_types}
 use Rattle.clif_meaning.specs.Typing.{TakesOperands, call_shape}
 use Rattle.clif_meaning.specs.World.{World}
@@ -82,6 +85,13 @@ named_values world goes_on results returns (LibCall callee) call types operands 
     (answer_fits world pointer callee first second size memory is_pointer))) values
 named_values world goes_on results returns _ call types operands memory takes values goes are = (refl, are)
 
+-- an operation on bytes
+bytes_values : (world : World) (operation : ByteOperation) (ty : «Type») (returns : List «Type») (operands : List Bits) (memory : Memory)
+    → GivesValues (result_types (Bytes operation) ty) returns None (byte_outcome world operation (bits_of ty) operands memory)
+bytes_values world operation ty returns operands memory =
+    byte_cases (GivesValues (result_types (Bytes operation) ty) returns None) world operation (bits_of ty) operands memory tt
+    (byte_values world operation ty (bits_of ty) operands memory)
+
 pub outcome_values : (world : World) (operation : Operation) (ty : «Type») (returns types : List «Type») (operands : List Bits) (memory : Memory)
     → IsTrue (is_met (operation_typing operation).demand ty) → TakesOperands returns operation ty types → AreValues types operands
     → GivesValues (result_types operation ty) returns (call_shape operation) (outcome_of world operation ty types operands memory)
@@ -124,6 +134,7 @@ outcome_values world (BrTable entries) ty returns types (x ∷ y ∷ operands) m
 outcome_values world (Switch keys) ty returns types [] memory met takes values = tt
 outcome_values world (Switch keys) ty returns types (x ∷ []) memory met takes values = tt
 outcome_values world (Switch keys) ty returns types (x ∷ y ∷ operands) memory met takes values = tt
+outcome_values world (Bytes operation) ty returns types operands memory met takes values = bytes_values world operation ty returns operands memory
 outcome_values world Return ty returns types operands memory met takes values =
     outcomes_fit world Return ty returns types operands memory tt met takes values tt
 outcome_values world (Call name signature) ty returns types operands memory met takes values =

@@ -8,6 +8,7 @@ use Rattle.clif_meaning.specs.Premises.{OfNextItem}
 use Rattle.clif_meaning.specs.FunctionView.{Placed}
 use Rattle.clif_meaning.specs.ScriptMachine.{ScriptRun, ScriptState, script_step, script_machine}
 use Rattle.clif_meaning.specs.FunctionMachine.{FunctionRun, FunctionState, function_step, function_machine}
+use Rattle.clif_byte_laws.specs.Pieces.{HoldsBytes}
 use Rattle.clif_typed_runs.specs.ValuesFit.{AliasesTyped, FunctionFits, IsFunctionTyped, IsItemTyped, IsPlacedTyped, IsScriptTyped, ScriptFits}
 
 -- what is asked of the instruction that a state of the function's machine stands before
@@ -42,3 +43,7 @@ abbrev pub FunctionRunsFit : Type 0
 FunctionRunsFit =
     (run : FunctionRun) → IsFunctionTyped run
     → (n : ℕ) → FunctionFits run (state_after (function_machine run) n)
+
+-- In each state of a script's run memory holds bytes, typed or not.
+abbrev pub MemoryHoldsBytes : Type 0
+MemoryHoldsBytes = (run : ScriptRun) (n : ℕ) → HoldsBytes (state_after (script_machine run) n).memory

@@ -2,7 +2,7 @@
 //! type. The functions here have empty bodies, and their contracts are the laws of the definitions.
 #![tactic(auto)]
 
-ghost use Rattle.clif_typed_runs.specs.Laws.{FunctionRunsFit, FunctionStepsFit, ScriptRunsFit, ScriptStepsFit};
+ghost use Rattle.clif_typed_runs.specs.Laws.{FunctionRunsFit, FunctionStepsFit, MemoryHoldsBytes, ScriptRunsFit, ScriptStepsFit};
 
 /// A step of the script's machine from a state whose values fit their types leads to another one.
 pub fn script_steps_fit()
@@ -22,4 +22,9 @@ pub fn function_steps_fit()
 /// In each state of the run of a typed function the values fit their types.
 pub fn function_runs_fit()
     ensures { FunctionRunsFit }
+{}
+
+/// In each state of a script's run memory holds bytes.
+pub fn memory_holds_bytes()
+    ensures { MemoryHoldsBytes }
 {}

@@ -15,13 +15,16 @@ use Rattle.clif_meaning.specs.ScriptMachine.{ScriptRun, ScriptState}
 use Rattle.clif_meaning.specs.FunctionMachine as function_machine_of
 use Rattle.clif_meaning.specs.FunctionMachine.{FunctionRun, FunctionState}
 use Rattle.clif_opcodes.specs.declared.opcodes.StackOpcode.TheVariants.{StackAddr, StackLoad}
-use Rattle.clif_meaning.specs.Instruction.{Instruction, Operation, Compute, Load, Store, Stack, StackStore, Trap, CondTrap, Jump, Brif, BrTable, Switch, Return, Call, CallIndirect, TryCall, TryCallIndirect}
+use Rattle.clif_meaning.specs.Instruction.{Instruction, Operation, Compute, Load, Store, Stack, StackStore, Trap, CondTrap, Jump, Brif, BrTable, Switch, Bytes, Return, Call, CallIndirect, TryCall, TryCallIndirect}
 use Rattle.clif_types.specs.declared.trapcode.TrapCode.{TrapCode}
 use Rattle.clif_types.specs.declared.trapcode.TrapCode.TheVariants.{HeapOutOfBounds}
 use Rattle.clif_types.specs.MemFlags.{MemFlagsShape}
+use Rattle.clif_types.specs.Types.{bits_of}
 use Rattle.clif_types.specs.declared.types.«Type».{«Type»}
 use Rattle.clif_meaning.specs.World.{World}
-use Rattle.clif_meaning.specs.Outcome.{Outcome, Gives, Goes, Returns, Traps, Calls, NoStep, Computed, Values, Fault, Undefined, access_outcome, no_claim, are_accessible, computed, outcome_of_computed, outcome_of, traps_on}
+use Rattle.clif_meaning.specs.ByteOperation.{ByteOperation}
+use Rattle.clif_meaning.proofs.ByteOperations.{byte_cases}
+use Rattle.clif_meaning.specs.Outcome.{Outcome, Gives, Goes, Returns, Traps, Calls, NoStep, Computed, Values, Fault, Undefined, access_outcome, no_claim, are_accessible, byte_outcome, computed, outcome_of_computed, outcome_of, traps_on}
 use Rattle.clif_meaning.proofs.Stuttering.{Matched, ShowsOnlyEnds, steps_from}
 use Rattle.std.specs.List.{AllByRecursion}
 use Rattle.clif_simulation.specs.Carries.{CallsNothing}
@@ -156,6 +159,10 @@ trap_plain : (traps : Bool) (reason : TrapCode) (memory : Memory) → IsPlain (i
 trap_plain true reason memory = tt
 trap_plain false reason memory = tt
 
+-- an operation on bytes
+bytes_plain : (world : World) (operation : ByteOperation) (width : ℕ) (operands : List Bits) (memory : Memory) → IsPlain (byte_outcome world operation width operands memory)
+bytes_plain world operation width operands memory = byte_cases IsPlain world operation width operands memory tt (λ in_order. tt)
+
 -- what calls nothing
 pub outcome_plain : (world : World) (operation : Operation) → call_shape operation ≡ None → (ty : «Type») (types : List «Type») (operands : List Bits) (memory : Memory)
     → IsPlain (outcome_of world operation ty types operands memory)
@@ -190,6 +197,7 @@ outcome_plain world (BrTable entries) no_call ty types (x ∷ y ∷ operands) me
 outcome_plain world (Switch keys) no_call ty types [] memory = tt
 outcome_plain world (Switch keys) no_call ty types (x ∷ []) memory = tt
 outcome_plain world (Switch keys) no_call ty types (x ∷ y ∷ operands) memory = tt
+outcome_plain world (Bytes operation) no_call ty types operands memory = bytes_plain world operation (bits_of ty) operands memory
 outcome_plain world Return no_call ty types operands memory = tt
 outcome_plain world (Call name signature) no_call ty types operands memory = cc
 outcome_plain world (CallIndirect signature) no_call ty types operands memory = cc

@@ -22,7 +22,7 @@ use Rattle.clif_ir.specs.Body.{Body}
 use Rattle.clif_meaning.specs.Bits.{Bits}
 use Rattle.clif_tables.specs.Callees.{types_of}
 use Rattle.clif_opcodes.specs.declared.opcodes.StackOpcode.TheVariants.{StackAddr, StackLoad}
-use Rattle.clif_meaning.specs.Instruction.{Iconst, FloatConst, PooledConst, Unary, Binary, Compare, Concat, Split, Convert, Select, AddConstant, CompareConstant, Operation, Compute, Load, Store, Stack, StackStore, Trap, CondTrap, Jump, Brif, BrTable, Switch, Return, Call, CallIndirect, TryCall, TryCallIndirect, Instruction, operation_typing}
+use Rattle.clif_meaning.specs.Instruction.{Iconst, FloatConst, PooledConst, Unary, Binary, Compare, Concat, Split, Convert, Select, AddConstant, CompareConstant, Operation, Compute, Load, Store, Stack, StackStore, Trap, CondTrap, Jump, Brif, BrTable, Switch, Bytes, Return, Call, CallIndirect, TryCall, TryCallIndirect, Instruction, operation_typing}
 use Rattle.clif_meaning.specs.Ledger.{ledger_after, or_invalid, type_of}
 use Rattle.clif_meaning.specs.Memory.{Memory}
 use Rattle.clif_meaning.specs.Name.{Name}
@@ -166,6 +166,7 @@ outcome_by_types world operation ty returns types others operands memory at fits
     by Brif at fits = alike Brif (kinds_valid ty (int_valid ty at) (kind.Controlling ∷ []) tt types fits)
     by (BrTable entries) at fits = alike (BrTable entries) (index_valid ty types fits)
     by (Switch keys) at fits = alike (Switch keys) (kinds_valid ty (int_valid ty at) (kind.Controlling ∷ []) tt types fits)
+    by (Bytes operation) at fits = refl
     by Return at fits = refl
     by (Call name signature) at fits = refl
     by (CallIndirect signature) at fits = at_address operands

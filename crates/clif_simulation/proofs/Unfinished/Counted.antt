@@ -22,13 +22,15 @@ use Rattle.clif_opcodes.specs.declared.opcodes.FloatConstOpcode.TheVariants.{F16
 use Rattle.clif_types.specs.MemFlags.{MemFlagsShape}
 use Rattle.clif_opcodes.specs.declared.opcodes.PooledConstOpcode.TheVariants.{F128const, Vconst}
 use Rattle.clif_opcodes.specs.declared.opcodes.StackOpcode.TheVariants.{StackAddr, StackLoad}
-use Rattle.clif_meaning.specs.Instruction.{Instruction, Operation, Compute, Load, Store, Stack, StackStore, Trap, CondTrap, Jump, Brif, BrTable, Switch, Return, Call, CallIndirect, TryCall, TryCallIndirect, Arithmetic, Iconst, FloatConst, PooledConst, Unary, Binary, Compare, Concat, Split, Convert, Select, AddConstant, CompareConstant}
+use Rattle.clif_meaning.specs.Instruction.{Instruction, Operation, Compute, Load, Store, Stack, StackStore, Trap, CondTrap, Jump, Brif, BrTable, Switch, Bytes, Return, Call, CallIndirect, TryCall, TryCallIndirect, Arithmetic, Iconst, FloatConst, PooledConst, Unary, Binary, Compare, Concat, Split, Convert, Select, AddConstant, CompareConstant}
 use Rattle.clif_meaning.specs.Request.{Request, Script}
 use Rattle.clif_meaning.specs.Program.{Program, Item, Instruct, Use, Assign, result_types, result_names, answers_from, with_item_at, with_inserted, extended, with_call, empty_program, program_of}
 use Rattle.clif_meaning.specs.Ledger.{is_terminator}
 use Rattle.clif_meaning.specs.Typing.{call_shape}
 use Rattle.clif_meaning.specs.World.{World}
-use Rattle.clif_meaning.specs.Outcome.{Outcome, Gives, Goes, Returns, Traps, Calls, NoStep, access_outcome, no_claim, are_accessible, binary_fault, binary_number, call_outcome, computed, traps_on, low_bits_at, outcome_of_computed, outcome_of, unless_fault}
+use Rattle.clif_meaning.specs.ByteOperation.{ByteOperation, Copy, Fill, CompareBytes, CallLibrary}
+use Rattle.clif_meaning.proofs.ByteOperations.{byte_cases, byte_values}
+use Rattle.clif_meaning.specs.Outcome.{Outcome, Gives, Goes, Returns, Traps, Calls, NoStep, access_outcome, no_claim, are_accessible, binary_fault, binary_number, byte_outcome, byte_results, call_outcome, computed, traps_on, low_bits_at, outcome_of_computed, outcome_of, unless_fault}
 use Rattle.clif_simulation.proofs.Finished.Matching.{IsPlain, outcome_plain}
 use Rattle.clif_simulation.proofs.Redirections.EachRedirected.{all_redirected}
 use Rattle.clif_simulation.proofs.Effects.{ProgramEffect, program_effect, Leaves, Inserts, Takes, Switches, Assigns, Uses, Builds, Redirects}
@@ -198,6 +200,21 @@ counted_try_call world (LibCall callee) call arguments memory =
     library_cases (λ (xs : List Bits) (o : Outcome). GivesCount 0 o) world (Goes 0) callee call.signature arguments memory (λ xs. tt) (λ first second size runs. tt)
 counted_try_call world _ call arguments memory = tt
 
+-- values of some types are as many as these
+pub as_many_values : (types : List «Type») (values : List Bits) → AreValues types values → length values ≡ length types
+as_many_values [] [] are = refl
+as_many_values [] (bits ∷ values) are = absurd are
+as_many_values (ty ∷ types) [] are = absurd are
+as_many_values (ty ∷ types) (bits ∷ values) are = ap suc (as_many_values types values are.1)
+
+-- an operation on bytes
+counted_bytes : (world : World) (operation : ByteOperation) (ty : «Type») (operands : List Bits) (memory : Memory)
+    → GivesCount (length (result_types (Bytes operation) ty)) (byte_outcome world operation (bits_of ty) operands memory)
+counted_bytes world operation ty operands memory =
+    byte_cases (GivesCount (length (result_types (Bytes operation) ty))) world operation (bits_of ty) operands memory tt
+    (λ in_order. as_many_values (result_types (Bytes operation) ty) (byte_results world operation (bits_of ty) operands memory)
+    (byte_values world operation ty (bits_of ty) operands memory in_order))
+
 counted_outcome : (world : World) (operation : Operation) (ty : «Type») (types : List «Type») (operands : List Bits) (memory : Memory)
     → GivesCount (length (result_types operation ty)) (outcome_of world operation ty types operands memory)
 counted_outcome world (Compute arithmetic) ty types operands memory =
@@ -233,6 +250,7 @@ counted_outcome world (BrTable entries) ty types (x ∷ y ∷ operands) memory =
 counted_outcome world (Switch keys) ty types [] memory = tt
 counted_outcome world (Switch keys) ty types (x ∷ []) memory = tt
 counted_outcome world (Switch keys) ty types (x ∷ y ∷ operands) memory = tt
+counted_outcome world (Bytes operation) ty types operands memory = counted_bytes world operation ty operands memory
 counted_outcome world Return ty types operands memory = tt
 counted_outcome world (Call name signature) ty types operands memory = counted_call world name signature operands memory
 counted_outcome world (CallIndirect signature) ty types [] memory = tt
@@ -251,13 +269,6 @@ as_many world place instruction results named types operands memory after bits i
     ∙ sym (as_many_names place 1 (result_types instruction.operation instruction.controlling)) ∙ ap length (sym named)
 
 -- OUTSIDE CALLS -----------------------------------------------------------------------------------------------------------
-
--- values of some types are as many as these
-pub as_many_values : (types : List «Type») (values : List Bits) → AreValues types values → length values ≡ length types
-as_many_values [] [] are = refl
-as_many_values [] (bits ∷ values) are = absurd are
-as_many_values (ty ∷ types) [] are = absurd are
-as_many_values (ty ∷ types) (bits ∷ values) are = ap suc (as_many_values types values are.1)
 
 -- a call that is made returns as much as there are results, or there are none
 abbrev CallsCount : List «Type» → Outcome → Type 0
@@ -309,6 +320,7 @@ calls_count world (Jump) ty types operands memory = no_call_counts world (Jump) 
 calls_count world (Brif) ty types operands memory = no_call_counts world (Brif) refl ty types operands memory
 calls_count world (BrTable entries) ty types operands memory = no_call_counts world (BrTable entries) refl ty types operands memory
 calls_count world (Switch keys) ty types operands memory = no_call_counts world (Switch keys) refl ty types operands memory
+calls_count world (Bytes operation) ty types operands memory = no_call_counts world (Bytes operation) refl ty types operands memory
 calls_count world (Return) ty types operands memory = no_call_counts world (Return) refl ty types operands memory
 
 pub call_count : (world : World) (place : ℕ) (instruction : Instruction Name Name) (results : List Name) → results ≡ result_names place instruction
@@ -347,6 +359,13 @@ terminator_gives_none place instruction ends = ap (answers_from place 1) (none i
     none Brif ends = refl
     none (BrTable entries) ends = refl
     none (Switch keys) ends = refl
+    none (Bytes (Copy copy)) ends = cc
+    none (Bytes (Fill fill)) ends = cc
+    none (Bytes (CompareBytes compare)) ends = cc
+    none (Bytes (CallLibrary Memcpy)) ends = cc
+    none (Bytes (CallLibrary Memmove)) ends = cc
+    none (Bytes (CallLibrary Memset)) ends = cc
+    none (Bytes (CallLibrary Memcmp)) ends = cc
     none Return ends = refl
     none (Call name signature) ends = cc
     none (CallIndirect signature) ends = cc

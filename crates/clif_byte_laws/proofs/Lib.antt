@@ -1,0 +1,4 @@
+pub mod Indices
+pub mod Whole
+pub mod Within
+pub mod Compared

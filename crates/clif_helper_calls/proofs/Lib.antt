@@ -1,0 +1,6 @@
+pub mod Pieces
+pub mod Runs
+pub mod Performed
+pub mod Called
+pub mod Known
+pub mod Loads

@@ -1,0 +1,4 @@
+pub mod Codes
+pub mod Performing
+pub mod LibraryCodes
+pub mod PerformingCalls

@@ -1,0 +1,26 @@
+//! Laws of the plain code of memory helpers: it performs copies and fills of scripts. The functions here have empty bodies, and
+//! their contracts are the laws of the definitions.
+#![tactic(auto)]
+
+ghost use Rattle.clif_helper_calls.specs.Performing.{LoadsArePerformed, PiecesArePerformed};
+ghost use Rattle.clif_helper_calls.specs.PerformingCalls.{CallsArePerformed, KnownCallsArePerformed};
+
+/// Loads of all pieces and then stores of them perform a copy, and stores of a constant a fill.
+pub fn pieces_are_performed()
+    ensures { PiecesArePerformed }
+{}
+
+/// Calls of functions of the C library perform the operations of scripts that call them.
+pub fn calls_are_performed()
+    ensures { CallsArePerformed }
+{}
+
+/// Calls with a constant size perform copies, fills and comparisons.
+pub fn known_calls_are_performed()
+    ensures { KnownCallsArePerformed }
+{}
+
+/// Loads of both sides, and the comparison of what they give, perform a comparison.
+pub fn loads_are_performed()
+    ensures { LoadsArePerformed }
+{}
