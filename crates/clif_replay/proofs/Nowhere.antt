@@ -195,11 +195,15 @@ module _ (wide reading : Reading) (plain ledger : Ledger)
           → IsReadEdge reading a b ⊎ BothDenied (can_lead plain a) (can_lead ledger b)
       by (inl read) = inl read
       by (inr (inl denied)) =
-          inr (parts (has_block plain a.target) (not (is_sealed plain a.target)) (list_all (has_argument plain) a.arguments) denied.0,
-          parts (has_block ledger b.target) (not (is_sealed ledger b.target)) (list_all (has_argument ledger) b.arguments) denied.1)
+          inr (
+            parts (has_block plain a.target) (not (is_sealed plain a.target)) (list_all (has_argument plain) a.arguments) denied.0,
+            parts (has_block ledger b.target) (not (is_sealed ledger b.target)) (list_all (has_argument ledger) b.arguments) denied.1,
+          )
       by (inr (inr denied)) =
-          inr (right-denied (has_block plain a.target && not (is_sealed plain a.target)) (list_all (has_argument plain) a.arguments) denied.0,
-          right-denied (has_block ledger b.target && not (is_sealed ledger b.target)) (list_all (has_argument ledger) b.arguments) denied.1)
+          inr (
+            right-denied (has_block plain a.target && not (is_sealed plain a.target)) (list_all (has_argument plain) a.arguments) denied.0,
+            right-denied (has_block ledger b.target && not (is_sealed ledger b.target)) (list_all (has_argument ledger) b.arguments) denied.1,
+          )
 
   item : (a b : TableItem) → IsReadTableItem wide a b → IsReadTableItem reading a b ⊎ BothDenied (has_item plain a) (has_item ledger b)
   item (TagTo k x) (TagTo tag edge) is = by (named-edge x edge is.1)
@@ -359,9 +363,11 @@ module _ (reading : Reading) (made : ℕ) where
       by : (here : Bool) → same_name state.block name ≡ here → is_some (if here then Some state else find (λ (s : BlockState). same_name s.block name) states) ≡ true
           → (is_some (find (λ (s : BlockState). same_name s.block name) states) ≡ true → (x : Name) × IsReadAs reading x name × (is_some (find (λ (s : BlockState). same_name s.block x) states') ≡ true))
           → (x : Name) × IsReadAs reading x name × (is_some (find (λ (s : BlockState). same_name s.block x) (state' ∷ states')) ≡ true)
-      by true same found later =
-          (state'.block, subst (IsReadAs reading state'.block) (names_equal state.block name same) is.block,
-          ap (λ (c : Bool). is_some (if c then Some state' else find (λ (s : BlockState). same_name s.block state'.block) states')) (equal_names state'.block state'.block refl))
+      by true same found later = (
+        state'.block,
+        subst (IsReadAs reading state'.block) (names_equal state.block name same) is.block,
+        ap (λ (c : Bool). is_some (if c then Some state' else find (λ (s : BlockState). same_name s.block state'.block) states')) (equal_names state'.block state'.block refl),
+      )
       by false same found later = let rest = later found in (rest.0, rest.1, found-later state' states' rest.0 rest.2)
   read-block (state' ∷ states') states name (Own a zs ws is are) found = let rest = read-block states' states name are found in (rest.0, rest.1, found-later state' states' rest.0 rest.2)
 

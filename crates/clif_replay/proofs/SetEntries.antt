@@ -69,8 +69,8 @@ module _ (answers : List Answer) (entries : List SwitchEntry) (k : ℕ) (none : 
       → new ≡ finite.insert old entry.key block → (new ≡ cases_at answers (take (k + 1) entries)) × (are_twice (take (k + 1) entries) ≡ false)
   set-more block new once named fresh inserted = (
     inserted
-    ∙ ap₂ (λ (m : CaseMap) (number : ℕ). finite.insert m entry.key number) cases (sym (ap (λ (o : Option ℕ). unwrap_or o 0) named))
-    ∙ sym (cases-more answers (take k entries) entry (sym key-same ∙ fresh)) ∙ ap (cases_at answers) (sym front),
+        ∙ ap₂ (λ (m : CaseMap) (number : ℕ). finite.insert m entry.key number) cases (sym (ap (λ (o : Option ℕ). unwrap_or o 0) named))
+        ∙ sym (cases-more answers (take k entries) entry (sym key-same ∙ fresh)) ∙ ap (cases_at answers) (sym front),
     ap are_twice front ∙ twice-more (take k entries) entry ∙ ap₂ (λ (a b : Bool). a || b) once (sym key-same ∙ fresh),
   )
 

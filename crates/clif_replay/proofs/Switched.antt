@@ -282,13 +282,13 @@ module _ (entries : List SwitchEntry) (answers : List Answer) (once : are_twice 
       (targets : are_targets b answers entries ≡ true) (otherwise : Name) (s : Switched) (named-by : s.named ≡ names-of calls b answers ready) (other-is : s.otherwise ≡ naming otherwise) where
     pub edges-are : edges_to naming entries otherwise ≡ case_edges s (cases_at answers entries)
     edges-are = sym (
-      ap₂ (λ (named-to : ℕ → named.Name) (list : List (ℕ × ℕ)). map (λ case. bare_edge (named-to case.1)) list ++ bare_edge s.otherwise ∷ []) named-by entries-are
-      ∙ ap (λ (n : named.Name). map (λ (case : ℕ × ℕ). bare_edge (names-of calls b answers ready case.1)) (map renumber (cases_of entries)) ++ bare_edge n ∷ []) other-is
-      ∙ ap (λ (front : List (meaning.Edge named.Name named.Name)). front ++ bare_edge (naming otherwise) ∷ [])
-      (mapped-twice (λ k. bare_edge (names-of calls b answers ready k)) (cases_of entries)
-      ∙ maps-alike (λ (name : Name). is_target b (block_of answers name)) (λ (name : Name). bare_edge (names-of calls b answers ready (number_at answers name))) (λ (name : Name). bare_edge (naming name))
-      (λ name is. ap bare_edge (name-is calls b answers ready name is)) (cases_of entries)
-      (all-cases calls b answers ready entries ∙ targets)))
+        ap₂ (λ (named-to : ℕ → named.Name) (list : List (ℕ × ℕ)). map (λ case. bare_edge (named-to case.1)) list ++ bare_edge s.otherwise ∷ []) named-by entries-are
+        ∙ ap (λ (n : named.Name). map (λ (case : ℕ × ℕ). bare_edge (names-of calls b answers ready case.1)) (map renumber (cases_of entries)) ++ bare_edge n ∷ []) other-is
+        ∙ ap (λ (front : List (meaning.Edge named.Name named.Name)). front ++ bare_edge (naming otherwise) ∷ [])
+        (mapped-twice (λ k. bare_edge (names-of calls b answers ready k)) (cases_of entries)
+        ∙ maps-alike (λ (name : Name). is_target b (block_of answers name)) (λ (name : Name). bare_edge (names-of calls b answers ready (number_at answers name))) (λ (name : Name). bare_edge (naming name))
+        (λ name is. ap bare_edge (name-is calls b answers ready name is)) (cases_of entries)
+        (all-cases calls b answers ready entries ∙ targets)))
 
 -- where no key comes twice, the keys are refused as the builder's cases are
 module _ (law : RefusalsAreOfKeys) (entries : List SwitchEntry) (answers : List Answer) (once : are_twice entries ≡ false) (ty : «Type») where
@@ -394,7 +394,7 @@ module _ (law : RefusalsAreOfKeys) (entries : List SwitchEntry) (value otherwise
     judged = λ naming declared calls ready. inr (
       judges naming declared calls ready,
       ap (λ (t : Option «Type»). is_some (option_map OfSwitch (keys_refusal (or_invalid t) (keys_of entries)))) (value-type-same calls old answers ready value val found)
-      ∙ refused-keys law entries answers once (value_at old.func.now val).ty e is told,
+          ∙ refused-keys law entries answers once (value_at old.func.now val).ty e is told,
     );
     sound = tt;
     variables = tt;
