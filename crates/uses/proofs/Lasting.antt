@@ -19,6 +19,8 @@ use Rattle.clif_builder.specs.Context.{ContextState, FillsNone, status_of}
 use Rattle.clif_builder.specs.Growth.{Grows, TypesStay}
 use Rattle.clif_builder.specs.Order.{IsUntouched}
 use Rattle.clif_inst_builder.specs.Shapes.{edge_to}
+use Rattle.clif_switch.specs.Emission.{MayLead}
+use Rattle.uses.specs.Choosing.{Chooses}
 
 -- CALLS -----------------------------------------------------------------------------------------------------------------
 
@@ -115,6 +117,9 @@ carries_ended {lent} ends came =
 pub carries_moved : {old new : FunctionBuilder} (to : ℕ) → new ≡ with_position old to → Carries old new
 carries_moved {old} to is = subst (λ (b : FunctionBuilder). Carries old b) (sym is) (record { values = omega arith; types = λ v here. refl; variables = refl })
 
+pub carries_chosen : {old new : FunctionBuilder} → Chooses old new → Carries old new
+carries_chosen chooses = record { values = chooses.values; types = chooses.types; variables = chooses.variables }
+
 -- BLOCKS ----------------------------------------------------------------------------------------------------------------
 
 -- a block that a branch may lead to
@@ -169,11 +174,28 @@ open_moved {old} {new} {block} to is was = subst (λ (b : FunctionBuilder). IsOp
 pub unfilled_moved : {old new : FunctionBuilder} {block : ℕ} (to : ℕ) → new ≡ with_position old to → IsUnfilled old block → IsUnfilled new block
 unfilled_moved {old} {new} {block} to is was = subst (λ (b : FunctionBuilder). IsUnfilled b block) (sym is) (record { unfilled = was.unfilled })
 
+-- a switch ends the current block
+pub open_chosen : {old new : FunctionBuilder} {block : ℕ} → Chooses old new → IsOpen old block → IsOpen new block
+open_chosen {block = block} chooses was = record { exists = omega (arith, was.exists, chooses.blocks); unsealed = chooses.leaves.seals block was.exists ∙ was.unsealed }
+
+pub unfilled_chosen : {old new : FunctionBuilder} {block : ℕ} → Chooses old new → block < length old.func.now.blocks → (current : ℕ) → old.position ≡ Some current → block ≢ current
+    → IsUnfilled old block → IsUnfilled new block
+unfilled_chosen {block = block} chooses here current at apart was = record {
+  unfilled = λ filled. was.unfilled (chooses.leaves.fills block here (λ now. apart (other (sym now ∙ at))) filled);
+}
+  where
+    other : Some block ≡ Some current → block ≡ current
+    other same = cc
+
 -- WHAT CALLS ASK FOR ----------------------------------------------------------------------------------------------------
 
 -- a branch may lead to an open block, with no arguments
 pub leads : {b : FunctionBuilder} {block : ℕ} → IsOpen b block → CanLead b (edge_to block [])
 leads open_block = ((open_block.exists, λ k arg below. absurd (omega (arith, below))), open_block.unsealed)
+
+-- so may a switch
+pub switched : {b : FunctionBuilder} {block : ℕ} → IsOpen b block → MayLead b block
+switched open_block = record { exists = open_block.exists; unsealed = open_block.unsealed }
 
 -- a block that was made earlier has a lower number
 pub made_before : {count earlier later : ℕ} → earlier < count → later ≡ count → earlier < later

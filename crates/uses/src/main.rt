@@ -4,19 +4,23 @@
 ghost use Rattle.std.specs.Prelude.{IfOk};
 ghost use Rattle.clif_builder.specs.Context.{IsClear, IsFresh};
 
+mod choose;
 mod count_down;
 mod diamond;
+mod error;
 mod forward;
 mod straight_line;
 
+use crate::choose::choose;
 use crate::count_down::count_down;
 use crate::diamond::diamond;
+use crate::error::UseError;
 use crate::forward::forward;
 use crate::straight_line::straight_line;
 use clif_types::types::I32;
 use cranelift_frontend::{
-    AbiParam, BuildError, CallConv, FinalizeError, Function, FunctionBuilderContext, PointerWidth,
-    Signature, TargetFrontendConfig, UserFuncName,
+    AbiParam, BuildError, CallConv, Function, FunctionBuilderContext, PointerWidth, Signature,
+    TargetFrontendConfig, UserFuncName,
 };
 use std::alloc::Global;
 use std::process::ExitCode;
@@ -34,6 +38,7 @@ enum Example {
     CountDown,
     Diamond,
     Forward,
+    Choose,
 }
 
 impl Example {
@@ -43,31 +48,30 @@ impl Example {
             Example::CountDown => "count_down",
             Example::Diamond => "diamond",
             Example::Forward => "forward",
+            Example::Choose => "choose",
         }
     }
 
     fn param_count(self) -> usize {
         match self {
             Example::StraightLine => 0,
-            Example::CountDown | Example::Forward => 1,
+            Example::CountDown | Example::Forward | Example::Choose => 1,
             Example::Diamond => 3,
         }
     }
 
-    fn build(
-        self,
-        func: &mut Function,
-        ctx: &mut FunctionBuilderContext,
-    ) -> Result<(), FinalizeError>
+    fn build(self, func: &mut Function, ctx: &mut FunctionBuilderContext) -> Result<(), UseError>
         requires fresh { IsFresh func.old }
         requires empty { IsClear ctx.old }
     {
         match self {
-            Example::StraightLine => straight_line(func, ctx, CONFIG),
-            Example::CountDown => count_down(func, ctx, CONFIG),
-            Example::Diamond => diamond(func, ctx, CONFIG),
-            Example::Forward => forward(func, ctx, CONFIG),
+            Example::StraightLine => straight_line(func, ctx, CONFIG)?,
+            Example::CountDown => count_down(func, ctx, CONFIG)?,
+            Example::Diamond => diamond(func, ctx, CONFIG)?,
+            Example::Forward => forward(func, ctx, CONFIG)?,
+            Example::Choose => choose(func, ctx, CONFIG)?,
         }
+        Ok(())
     }
 }
 
@@ -77,6 +81,7 @@ fn main(rt: HostRuntime) -> ExitCode {
         Example::CountDown,
         Example::Diamond,
         Example::Forward,
+        Example::Choose,
     ] {
         if let Err(error) = print(&rt, rt.alloc(), example) {
             let _ = eprintln!(rt; "{error}");
@@ -87,7 +92,7 @@ fn main(rt: HostRuntime) -> ExitCode {
 }
 
 // Builds a function and prints it.
-fn print(rt: &HostRuntime, alloc: Global, example: Example) -> Result<(), FinalizeError> {
+fn print(rt: &HostRuntime, alloc: Global, example: Example) -> Result<(), UseError> {
     let mut func = function(alloc, example)?;
     let mut ctx = FunctionBuilderContext::new(alloc);
     let built = example.build(&mut func, &mut ctx);
