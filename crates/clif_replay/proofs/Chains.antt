@@ -1,5 +1,5 @@
 -- How far a builder comes with the instructions of an emission: what it keeps, how many entries it makes, and where it fails.
-use Rattle.std.proofs.Common.{◌≡◌, ◌⊎◌, ◌+◌, ◌-◌, ◌^◌, ◌<◌, ℕ, ℤ, suc, List, [], ◌∷◌, ◌++◌, length, inl, inr, refl, ap, sym, ◌∙◌, subst, arith, length-append, Bool, true, false}
+use Rattle.std.proofs.Common.{◌≡◌, ◌+◌, ◌<◌, ℕ, ℤ, suc, List, [], ◌∷◌, length, inl, inr, refl, ap, ◌∙◌, subst, arith, length-append, Bool, true, false}
 use Rattle.std.specs.Prelude.{Option, Some, IfSome, IfOk, Result, Ok, Err, if◌then◌else◌}
 use Rattle.clif_types.specs.declared.error.BuildError.{BuildError}
 use Rattle.clif_types.specs.declared.types.«Type».{«Type»}
@@ -15,7 +15,7 @@ use Rattle.clif_ir.specs.Body.{Body}
 use Rattle.clif_ir.specs.Changes.{inserted_in, with_layout}
 use Rattle.clif_calls.specs.declared.immediate.ImmediateCall.{ImmediateCall}
 use Rattle.clif_calls.specs.declared.immediate.ImmediateCall.TheVariants as immediate
-use Rattle.clif_constant_calls.specs.Stands.{BuildsLike, type_in}
+use Rattle.clif_constant_calls.specs.Stands.{type_in}
 use Rattle.clif_constant_operands.specs.Chains.{BuildsConstant, i64}
 use Rattle.clif_builder.specs.declared.builder.FunctionBuilder.{FunctionBuilder}
 use Rattle.clif_builder.specs.Builder.{AppendsValue, SameLoans, with_appended}

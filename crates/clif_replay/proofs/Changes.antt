@@ -1,5 +1,5 @@
 -- The tests before a branch is changed are the condition of that request in the ledger.
-use Rattle.std.proofs.Common.{ℕ, List, refl, sym, ◌∙◌}
+use Rattle.std.proofs.Common.{ℕ, List, refl, sym}
 use Rattle.std.specs.Prelude.{◌≡◌, ◌↔◌, ◌&&◌, Bool, IsTrue, None, Some, false, not, true}
 use Rattle.std.specs.List.{list_any}
 use Rattle.std.proofs.lemmas.Bool.{and_parts, false_from_ne_true, false≢true, not-true}

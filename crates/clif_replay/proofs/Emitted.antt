@@ -33,7 +33,7 @@ use Rattle.clif_resolution.specs.declared.answers.Answer.{Answer}
 use Rattle.clif_resolution.specs.declared.answers.Answer.TheVariants as answer
 use Rattle.clif_replay.specs.Emits.{BuildsEmission, IsReadyBehind, constant_in, plain_calls_under, plain_in, shape_in}
 use Rattle.clif_replay.specs.Ready.{AreResults, IsAnswered, IsReady, KeepsTables, TablesAgree}
-use Rattle.clif_replay.specs.Requests.{Naming, operand_in, operand_type}
+use Rattle.clif_replay.specs.Requests.{Naming, operand_in}
 use Rattle.clif_replay.proofs.Emissions.{operand-typed}
 use Rattle.clif_builder.proofs.Lasting.{answer-stays, answers-stay, edge-stays, ledger-behind}
 use Rattle.clif_replay.proofs.Lasting.{LeavesTables, exceptions-kept, exceptions-stay, tables-kept, tables-stay}

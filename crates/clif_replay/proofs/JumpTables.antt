@@ -1,5 +1,5 @@
 -- Edges, jump tables and branches by them: when they are allowed, and what a builder stands for afterwards.
-use Rattle.std.proofs.Common.{◌≡◌, ℕ, zero, suc, ◌<◌, List, [], ◌∷◌, ◌++◌, length, refl, ap, arith, sym, ◌∙◌, subst, ◌⊎◌, inl, inr}
+use Rattle.std.proofs.Common.{◌≡◌, ℕ, zero, suc, List, [], ◌∷◌, ◌++◌, length, refl, ap, arith, sym, ◌∙◌, subst, inl, inr}
 use Rattle.std.specs.Prelude.{◌↔◌, IsTrue, map, slice_get, slice_set, Option, Some, None, is_some, option_and_then, option_map, Bool, true, false, ◌&&◌, Result, Ok, Err}
 use Rattle.std.specs.List.{All, cons_option, list_all}
 use Rattle.std.proofs.lemmas.Bool.{and_from, and_parts, and_right, not-true}

@@ -1,6 +1,6 @@
 -- How the names of a list's answers are known to a builder that was asked plain calls, from one call of the script to the next.
-use Rattle.std.proofs.Common.{◌≡◌, ◌<◌, ◌≤◌, ◌⊎◌, inl, inr, ℕ, suc, ◌+◌, ◌-◌, List, [], ◌∷◌, ◌++◌, length, ap, arith, refl, sym, ◌∙◌, subst}
-use Rattle.std.specs.Prelude.{◌&&◌, ◌==◌, nat_lt, Bool, true, false, if◌then◌else◌, is_some, map, option_and_then, option_map, slice_get, Option, Some}
+use Rattle.std.proofs.Common.{◌≡◌, ◌<◌, ◌≤◌, ◌⊎◌, inl, inr, ℕ, suc, ◌+◌, ◌-◌, List, [], ◌∷◌, ◌++◌, length, ap, arith, sym, ◌∙◌, subst}
+use Rattle.std.specs.Prelude.{◌==◌, nat_lt, Bool, true, false, if◌then◌else◌, is_some, map, option_and_then, option_map, slice_get, Some}
 use Rattle.std.proofs.lemmas.Bool.{cases_lt, false≢true, le-ltb, lt-ltb}
 use Rattle.std.proofs.lemmas.List.{length-append, length-map}
 use Rattle.std.proofs.lemmas.Option.{slice_get_past}
@@ -13,7 +13,6 @@ use Rattle.clif_meaning.specs.Name as named
 use Rattle.clif_meaning.specs.Name.{answer_of}
 use Rattle.clif_meaning.specs.Request.{Request, Script}
 use Rattle.clif_expansion.specs.ConstantCalls.{constant_calls, constant_instructions, constant_last, IsPerformedByConstant}
-use Rattle.clif_expansion.specs.Constants.{computing}
 use Rattle.clif_expansion.specs.Emission.{building, reading_across, reading_emitted}
 use Rattle.clif_expansion.specs.JoinedCalls.{Asking, Switching}
 use Rattle.clif_expansion.specs.Joining.{AreJoinedLedgers, IsJoined, IsReadException, IsReadRequest, IsReadTable, answers_at, reading_after, reading_with}

@@ -1,20 +1,18 @@
 -- What names lead to goes on being what they lead to as calls follow; and what calls do to edges and jump tables.
-use Rattle.std.proofs.Common.{◌≡◌, ℕ, zero, suc, List, [], ◌∷◌, ◌++◌, length, refl, ap, sym, ◌∙◌, subst}
-use Rattle.std.specs.Prelude.{fold, map, slice_get, slice_set, Option, Some, None, option_and_then, is_some, Bool, true, false, if◌then◌else◌}
-use Rattle.std.proofs.lemmas.Option.{none-some}
+use Rattle.std.proofs.Common.{◌≡◌, ℕ, zero, suc, List, [], ◌∷◌, ◌++◌, length, refl, ap}
+use Rattle.std.specs.Prelude.{map, slice_get, slice_set, Option, Some, None, option_and_then, Bool, true, false, if◌then◌else◌}
 use Rattle.clif_types.specs.declared.types.«Type».{«Type»}
 use Rattle.clif_types.specs.Signature.{SignatureShape}
-use Rattle.clif_instructions.specs.declared.block_call.BlockArg.{BlockArg}
 use Rattle.clif_instructions.specs.declared.block_call.BlockArg.TheVariants as arg
 use Rattle.clif_instructions.specs.declared.block_call.BlockCall.{BlockCall}
 use Rattle.clif_instructions.specs.ExceptionTables.{ExceptionShape, contexts_of}
 use Rattle.clif_tables.specs.Lists.{unserved}
-use Rattle.clif_meaning.specs.Instruction.{Argument, CallPayload, CallResult, Edge, Known}
+use Rattle.clif_meaning.specs.Instruction.{Edge, Known}
 use Rattle.clif_meaning.specs.Name.{Name}
-use Rattle.clif_meaning.specs.Request.{AnsweredCall, Annotate, AppendBlockParams, AppendFunctionParams, Build, GivenEntry, ServedBy, TriedBy, Imported, ChangeJumpDestination, CreateBlock, DeclareVar, DefVar, EnsureInsertedBlock, Finalize, InsertBlockAfter, MakeEdge, MakeEntry, MakeJumpTable, MakeExceptionTable, Request, Script, SealAllBlocks, SealBlock, SetColdBlock, SwitchToBlock, UseVar, number_of, script_of}
-use Rattle.clif_meaning.specs.Ledger.{ABlock, AnEdge, AValue, Answered, ExceptionTable, Ledger, answer_at, answers_to, empty_ledger, has_value, is_inserted, ledger_with, value_answer_type, with_begun_at, with_layout, with_served, with_state, with_tried}
+use Rattle.clif_meaning.specs.Request.{AnsweredCall, Annotate, AppendBlockParams, AppendFunctionParams, Build, GivenEntry, ServedBy, TriedBy, Imported, ChangeJumpDestination, CreateBlock, DeclareVar, DefVar, EnsureInsertedBlock, Finalize, InsertBlockAfter, MakeEdge, MakeEntry, MakeJumpTable, MakeExceptionTable, Request, SealAllBlocks, SealBlock, SetColdBlock, SwitchToBlock, UseVar}
+use Rattle.clif_meaning.specs.Ledger.{AnEdge, AValue, ExceptionTable, Ledger, answers_to, is_inserted, ledger_with, with_begun_at, with_served, with_tried}
 use Rattle.clif_builder.specs.declared.builder.FunctionBuilder.{FunctionBuilder}
-use Rattle.clif_builder.specs.Ledger.{NamesArgument, NamesArguments, NamesBlock, NamesEdge, NamesEdges, NamesExceptions, NamesValue, block_name, ledger_of}
+use Rattle.clif_builder.specs.Ledger.{NamesEdges, NamesExceptions}
 use Rattle.clif_builder.specs.LedgerLaws.{LedgerIsReadByNumber}
 use Rattle.clif_builder.specs.StandsFor.{StandsFor}
 use Rattle.clif_builder.proofs.Lasting.{arguments-stay, edges-stay}

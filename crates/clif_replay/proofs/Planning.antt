@@ -1,8 +1,8 @@
 -- What an instruction of a plan is, by numbers, and when it may be made.
 use Rattle.std.proofs.Common.{◌≡◌, ℕ, zero, suc, ◌<◌, ◌≤◌, List, [], ◌∷◌, length, refl, ap, arith, sym, ◌∙◌, subst}
-use Rattle.std.specs.Prelude.{◌↔◌, drop, map, Option, Some, None, is_some, Bool, true, false, ◌&&◌, slice_index}
+use Rattle.std.specs.Prelude.{drop, map, Option, Some, None, is_some, Bool, true, false, ◌&&◌, slice_index}
 use Rattle.std.specs.List.{All, list_all}
-use Rattle.std.proofs.lemmas.Bool.{and_parts, false≢true}
+use Rattle.std.proofs.lemmas.Bool.{and_parts}
 use Rattle.clif_types.specs.declared.types.«Type».{«Type»}
 use Rattle.clif_types.specs.declared.types.«Type».TheVariants.{Invalid}
 use Rattle.clif_types.specs.Signature.{SignatureShape}

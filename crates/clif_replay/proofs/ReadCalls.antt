@@ -1,20 +1,18 @@
 -- Each call of a list asks the builder for what the list's own request asks, with its names read, where each name is read as its own.
-use Rattle.std.proofs.Common.{◌≡◌, ℕ, zero, suc, ◌<◌, ◌+◌, ◌-◌, List, [], ◌∷◌, ◌++◌, length, refl, ap, arith, sym, ◌∙◌, subst, ◌⊎◌, inl, inr}
-use Rattle.std.specs.Prelude.{map, find, slice_get, option_and_then, unwrap_or, is_some, not, ◌&&◌, ◌||◌, Bool, true, false, Option, Some, None, if◌then◌else◌}
-use Rattle.std.specs.List.{AllZip, list_all, list_any}
-use Rattle.std.proofs.lemmas.Bool.{and_parts, cases_lt, false≢true}
-use Rattle.std.proofs.lemmas.Option.{slice_get_past, slice_get_within, none-some}
+use Rattle.std.proofs.Common.{◌≡◌, ℕ, zero, suc, ◌-◌, List, [], ◌∷◌, ◌++◌, length, refl, ap, ◌∙◌}
+use Rattle.std.specs.Prelude.{map, slice_get, option_and_then, unwrap_or, Option, Some, None}
+use Rattle.std.specs.List.{AllZip}
 use Rattle.clif_types.specs.declared.types.«Type».{«Type»}
 use Rattle.clif_types.specs.Signature.{SignatureShape}
 use Rattle.clif_tables.specs.Lists.{TableLists}
-use Rattle.clif_meaning.specs.Acceptance.{allows, can_assign, can_lead, exceptions_at, has_argument, has_item, no_exceptions}
+use Rattle.clif_meaning.specs.Acceptance.{exceptions_at, no_exceptions}
 use Rattle.clif_instructions.specs.Instruction.{AFunctionRef, ASignatureRef}
 use Rattle.clif_tables.specs.Callees.{function_at, signature_at}
 use Rattle.clif_meaning.specs.Request.{Imported, TriedBy}
 use Rattle.clif_meaning.specs.Event.{CallItem}
 use Rattle.clif_meaning.specs.Instruction as meaning
 use Rattle.clif_meaning.specs.Instruction.{Argument, BrTable, CallIndirect, TryCall, TryCallIndirect, Known, CallResult, CallPayload, Edge}
-use Rattle.clif_meaning.specs.Ledger.{ABlock, AVariable, AValue, AnInstruction, AnEntry, AnEdge, AJumpTable, AnExceptionTable, Answered, BlockState, ExceptionTable, Ledger, answer_at, answered_edge, block_state, edge_named, has_block, has_value, is_inserted, is_instruction_answer, or_invalid, state_has, type_of, unserved_edges, unserved_exceptions, value_answer_type, has_instruction, leads_to, variable_type}
+use Rattle.clif_meaning.specs.Ledger.{ABlock, AVariable, AValue, AnInstruction, AnEntry, AnEdge, AJumpTable, AnExceptionTable, Answered, ExceptionTable, Ledger, answer_at, or_invalid, type_of, value_answer_type}
 use Rattle.clif_meaning.specs.Name as named
 use Rattle.clif_meaning.specs.Name.{same_name}
 use Rattle.clif_calls.specs.declared.call.Call.{Call}
@@ -31,14 +29,12 @@ use Rattle.clif_calls.specs.declared.table.TableItem.{TableItem}
 use Rattle.clif_calls.specs.declared.table.TableItem.TheVariants as item
 use Rattle.clif_calls.specs.declared.table.ThrowingCall.TheVariants as throwing
 use Rattle.clif_calls.specs.Plan.{edges_in, operands_in, plan_of}
-use Rattle.clif_expansion.specs.Joining.{IsReadAnswer, IsReadException, IsReadExceptionTable, IsReadRequest, IsReadState, IsReadTable, IsReadTableItem}
+use Rattle.clif_expansion.specs.Joining.{IsReadAnswer, IsReadException, IsReadExceptionTable, IsReadRequest, IsReadTable, IsReadTableItem}
 use Rattle.clif_expansion.specs.Reading.{IsReadArgument, IsReadAs, IsReadEdge, IsReadInstruction, Reading}
 use Rattle.clif_switch_calls.specs.SwitchCalls.{bare_edge}
 use Rattle.clif_replay.specs.Cases.{cases_of, switch_under}
-use Rattle.clif_replay.specs.Requests.{Naming, edge_of, emission_under, item_of, operand_in, name_of, passed_of, request_in, request_of, request_under, table_edge_of}
+use Rattle.clif_replay.specs.Requests.{Naming, edge_of, emission_under, item_of, operand_in, name_of, passed_of, request_in, request_of, request_under}
 use Rattle.clif_replay.proofs.Planning.{controlling-same}
-use Rattle.clif_replay.proofs.Options.{some-is}
-use Rattle.clif_builder.proofs.LedgerLists.{and-then-some}
 
 -- what is read as an answer has its type
 pub type-read : (reading : Reading) (a b : Option Answered) → IsReadAnswer reading a b → value_answer_type a ≡ value_answer_type b

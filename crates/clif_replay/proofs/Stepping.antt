@@ -1,13 +1,13 @@
 -- One step of a replay: a call of the list is made, and the builder that stood for the plain calls of the script's calls stands for
 -- those of one call more.
-use Rattle.std.proofs.Common.{◌≡◌, ◌≢◌, ◌<◌, ◌⊎◌, inl, inr, ℕ, suc, ◌+◌, List, [], ◌∷◌, ◌++◌, length, ap, arith, refl, sym, ◌∙◌, subst}
-use Rattle.std.specs.Prelude.{◌&&◌, ◌||◌, Bool, true, false, Option, Some, None, is_some, option_map, map, fold, slice_get, Result, Ok, Err, OnOk, IfOk}
+use Rattle.std.proofs.Common.{◌≡◌, ◌<◌, ◌⊎◌, inl, inr, ℕ, suc, ◌+◌, List, [], ◌∷◌, ◌++◌, length, ap, arith, refl, sym, ◌∙◌, subst}
+use Rattle.std.specs.Prelude.{◌&&◌, ◌||◌, Bool, true, false, Option, Some, None, is_some, option_map, map, slice_get, Result, Ok, Err, OnOk, IfOk}
 use Rattle.std.specs.List.{list_any}
 use Rattle.std.specs.Global.{Vec}
 use Rattle.std.proofs.lemmas.Bool.{false≢true}
 use Rattle.std.proofs.lemmas.List.{map_push, map-append, length-append, length-map}
 use Rattle.clif_types.specs.Signature.{SignatureShape}
-use Rattle.clif_meaning.specs.Acceptance.{Refusal, allows, blames_variable, refusal_of}
+use Rattle.clif_meaning.specs.Acceptance.{Refusal, refusal_of}
 use Rattle.clif_meaning.specs.Ledger.{Ledger, empty_ledger, ledger_after}
 use Rattle.clif_meaning.specs.Name as named
 use Rattle.clif_meaning.specs.Name.{answer_of, same_name}
@@ -34,7 +34,7 @@ use Rattle.clif_resolution.specs.declared.answers.Answer.{Answer}
 use Rattle.clif_resolution.specs.declared.answers.CallError.{CallError}
 use Rattle.clif_resolution.specs.declared.answers.CallError.TheVariants as error
 use Rattle.clif_replay.specs.Cases.{switch_under}
-use Rattle.clif_replay.specs.Emits.{IsReadyBehind, IsReadyBehindSwitch, IsSwitchJudged, MakesEmission, MakesScriptCall, MakesSwitch, plain_calls_under}
+use Rattle.clif_replay.specs.Emits.{IsSwitchJudged, MakesEmission, MakesScriptCall, MakesSwitch, plain_calls_under}
 use Rattle.clif_replay.specs.Limits.{MeetsFullTable}
 use Rattle.clif_replay.specs.Makes.{MakesCall}
 use Rattle.clif_replay.specs.Ready.{IsCallJudged, IsJudged, IsReady, types_after}

@@ -21,13 +21,13 @@ use Rattle.clif_ir.specs.Body.{value_at}
 use Rattle.clif_ranges.specs.declared.ranges.CaseRange.{CaseRange}
 use Rattle.clif_ranges.specs.declared.error.SwitchError.{SwitchError}
 use Rattle.clif_ranges.specs.declared.error.SwitchError.TheVariants as switch_error
-use Rattle.clif_ranges.specs.Cases.{AreRangesFor, CaseMap, IsRefusal}
+use Rattle.clif_ranges.specs.Cases.{AreRangesFor, IsRefusal}
 use Rattle.clif_records.specs.Tables.{is_yes}
 use Rattle.clif_ssa.specs.Ssa.{sealed_of}
 use Rattle.clif_meaning.specs.Acceptance as acceptance
 use Rattle.clif_meaning.specs.Acceptance.{can_lead}
 use Rattle.clif_meaning.specs.Instruction as meaning
-use Rattle.clif_meaning.specs.Ledger.{Answered, ExceptionTable, Ledger, has_value, is_inserted, ledger_after, ledger_with, or_invalid, type_of, with_begun_at, with_tried}
+use Rattle.clif_meaning.specs.Ledger.{Answered, ExceptionTable, Ledger, has_value, ledger_after, ledger_with, or_invalid, type_of, with_tried}
 use Rattle.clif_meaning.specs.Name as named
 use Rattle.clif_meaning.specs.Request.{AnsweredCall, GivenEntry, Imported, Request, CreateBlock, SwitchToBlock, SealBlock, MakeEdge, MakeJumpTable, MakeExceptionTable, Build, ServedBy, Script, TriedBy, script_of}
 use Rattle.clif_meaning.specs.Request as asked
@@ -55,14 +55,14 @@ use Rattle.clif_switch.specs.Emission.{MayLead}
 use Rattle.clif_switch.specs.Switches.{Emits, IsCodeOf, MayEmit, NamesSwitch}
 use Rattle.clif_replay.specs.Cases.{are_targets, are_twice, can_switch_on, cases_at, cases_of, edges_to, keys_of, number_at, set_entries, switch_told, switch_under}
 use Rattle.clif_replay.specs.Emits.{IsReadyBehindSwitch, MakesSwitch}
-use Rattle.clif_replay.specs.Ready.{IsAnswered, IsReady, TablesAgree, no_answer}
+use Rattle.clif_replay.specs.Ready.{IsAnswered, IsReady, TablesAgree}
 use Rattle.clif_replay.specs.Requests.{Naming}
 use Rattle.clif_replay.proofs.Conditions.{has-current, open-same, target-same, value-type-same}
 use Rattle.clif_replay.proofs.Emitted.{extended, extended-earlier, extended-here, ready-with}
 use Rattle.clif_replay.proofs.Lasting.{exceptions-stay, tables-stay}
 use Rattle.clif_replay.proofs.Making.{loans-stay}
 use Rattle.clif_replay.proofs.ReadyLaws.{block-found, read, value-exists, value-found, value-missing}
-use Rattle.clif_replay.proofs.SwitchCases.{all-entries, keys_in, map-mapped, maps-alike, same-keys}
+use Rattle.clif_replay.proofs.SwitchCases.{all-entries, map-mapped, maps-alike, same-keys}
 
 -- THE CONDITION -----------------------------------------------------------------------------------------------------------
 

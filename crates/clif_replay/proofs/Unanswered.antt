@@ -1,13 +1,13 @@
 -- Names that were made and that no answer has: those behind a switch, which answers nothing.
-use Rattle.std.proofs.Common.{◌≡◌, ◌<◌, ◌⊎◌, inl, inr, ℕ, suc, ◌+◌, List, [], ◌∷◌, ◌++◌, length, ap, arith, sym, ◌∙◌, subst}
-use Rattle.std.specs.Prelude.{Bool, true, false, fold, Option, None, if◌then◌else◌, ◌==◌}
+use Rattle.std.proofs.Common.{◌≡◌, ◌<◌, ◌⊎◌, inl, inr, List, [], ◌∷◌, ◌++◌, length, arith, sym, ◌∙◌, subst}
+use Rattle.std.specs.Prelude.{Bool, true, false, fold, None, if◌then◌else◌, ◌==◌}
 use Rattle.clif_meaning.specs.Instruction.{Instruction}
-use Rattle.clif_meaning.specs.Ledger.{Answered, Ledger, answer_at, empty_ledger, ledger_after, ledger_with}
+use Rattle.clif_meaning.specs.Ledger.{Ledger, answer_at, empty_ledger, ledger_after, ledger_with}
 use Rattle.clif_meaning.specs.Name as named
 use Rattle.clif_meaning.specs.Request.{Script}
 use Rattle.clif_expansion.specs.Emission.{building, reading_emitted, reading_generated}
 use Rattle.clif_expansion.specs.Joining.{results_at}
-use Rattle.clif_expansion.specs.Reading.{Generated, IsReadAs, Reading, ScriptName, StandsFor}
+use Rattle.clif_expansion.specs.Reading.{Generated, IsReadAs, Reading, ScriptName}
 use Rattle.clif_expansion.specs.ScriptCall.{ScriptCall, call_answers, ledger_of, ledger_with_call}
 use Rattle.clif_expansion.proofs.EmittedPrograms.{one_longer}
 use Rattle.clif_expansion.proofs.JoinedCalls.{fold_on}

@@ -15,7 +15,6 @@ use Rattle.clif_meaning.specs.Request.{AnsweredCall, Script, script_of}
 use Rattle.clif_constant_calls.specs.Stands.{BuildsLike, type_in}
 use Rattle.clif_constant_operands.specs.Chains.{BuildsWithConstant}
 use Rattle.clif_expansion.specs.ConstantCalls.{constant_calls}
-use Rattle.clif_expansion.specs.Constants.{computing}
 use Rattle.clif_expansion.specs.ScriptCall.{Emit, call_allowed, call_refusal}
 use Rattle.clif_expansion.specs.Switching.{IsSwitchCode, switching}
 use Rattle.clif_builder.specs.declared.builder.FunctionBuilder.{FunctionBuilder}

@@ -1,5 +1,5 @@
 -- What the functions that make calls do. Own.
-use Rattle.std.specs.Prelude.{◌≡◌, ◌≢◌, ◌<◌, ◌-◌, ◌^◌, ℕ, ◌&&◌, length, List, [], ◌∷◌, map, Bool, true, false, Some, OnOk, IfOk, Result, Err}
+use Rattle.std.specs.Prelude.{◌≡◌, ◌-◌, ◌^◌, ℕ, ◌&&◌, length, List, map, Bool, true, false, Some, OnOk, IfOk, Result, Err}
 use Rattle.clif_types.specs.Signature.{SignatureShape}
 use Rattle.clif_types.specs.declared.types.«Type».{«Type»}
 use Rattle.clif_ir.specs.Changes.{with_tables}

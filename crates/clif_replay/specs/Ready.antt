@@ -1,11 +1,10 @@
 -- What holds between the calls of a list: the builder stands for the calls that were made, and by a naming their answers are
 -- those of the list. Own.
-use Rattle.std.specs.Prelude.{◌≡◌, ℕ, suc, ◌<◌, ◌⊎◌, List, [], ◌∷◌, ◌++◌, length, map, slice_get, is_some, not, ◌&&◌, ◌+◌, ◌-◌, ◌==◌, Bool, true, false, Option, Some, None, if◌then◌else◌, Result, Ok, Err}
+use Rattle.std.specs.Prelude.{◌≡◌, ℕ, suc, ◌⊎◌, List, [], ◌∷◌, ◌++◌, length, map, slice_get, is_some, not, ◌&&◌, ◌+◌, ◌-◌, Bool, true, false, Option, Some, None, Result, Ok, Err}
 use Rattle.clif_types.specs.declared.types.«Type».{«Type»}
 use Rattle.clif_ir.specs.Body.{value_at}
 use Rattle.clif_instructions.specs.Members.{stands_in}
 use Rattle.clif_instructions.specs.declared.block_call.BlockCall.{BlockCall}
-use Rattle.clif_inst_builder.specs.Served.{exception_tables}
 use Rattle.clif_tables.specs.Entries.{TableEntry}
 use Rattle.clif_meaning.specs.SameType.{same_type}
 use Rattle.clif_meaning.specs.Request.{AnsweredCall, Request}
@@ -21,7 +20,6 @@ use Rattle.clif_types.specs.Signature.{SignatureShape}
 use Rattle.clif_builder.specs.Ledger.{NamesEdge, NamesEdges, NamesExceptions, ledger_of}
 use Rattle.clif_builder.specs.StandsFor.{StandsFor}
 use Rattle.clif_builder.specs.LedgerLaws.{LedgerIsReadByNumber}
-use Rattle.clif_calls.specs.declared.call.Edge.{Edge}
 use Rattle.clif_calls.specs.declared.call.Name.{Name}
 use Rattle.clif_calls.specs.declared.call.Call.{Call}
 use Rattle.clif_calls.specs.declared.call.Call.TheVariants as call

@@ -3,7 +3,7 @@ use Rattle.std.specs.Prelude.{◌≡◌, ◌⊎◌, ℕ, List, [], ◌∷◌, �
 use Rattle.clif_ir.specs.Body.{Body}
 use Rattle.clif_tables.specs.Callees.{types_of}
 use Rattle.clif_meaning.specs.Name.{Name}
-use Rattle.clif_meaning.specs.Instruction.{AddConstant, Argument, Arithmetic, CallPayload, CallResult, CompareConstant, Brif, Edge, Instruction, Jump, Known, Return, Trap}
+use Rattle.clif_meaning.specs.Instruction.{AddConstant, Argument, Arithmetic, CallPayload, CallResult, CompareConstant, Edge, Instruction, Known}
 use Rattle.clif_meaning.specs.Request.{Request, CreateBlock, SwitchToBlock, SealBlock, SealAllBlocks, InsertBlockAfter, SetColdBlock, EnsureInsertedBlock, AppendBlockParams, AppendFunctionParams, DeclareVar, DefVar, UseVar, MakeEntry, MakeEdge, MakeExceptionTable, MakeJumpTable, Annotate, Build, ChangeJumpDestination, Finalize, Script, AnsweredCall, script_of}
 use Rattle.clif_meaning.specs.Request as asked
 use Rattle.clif_meaning.specs.Ledger.{Ledger, empty_ledger, or_invalid, type_of}

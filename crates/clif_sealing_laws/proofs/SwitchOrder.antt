@@ -1,5 +1,5 @@
 -- Entries in another order are one finite map, so the switch is the same.
-use Rattle.std.proofs.Common.{◌≡◌, ◌⊎◌, inl, inr, ℕ, List, [], ◌∷◌, ◌++◌, cond, refl, ap, ap₂, sym, ◌∙◌, subst}
+use Rattle.std.proofs.Common.{◌≡◌, ◌⊎◌, inl, inr, ℕ, List, [], ◌∷◌, ◌++◌, cond, refl, ap, sym, ◌∙◌, subst}
 use Rattle.std.specs.Prelude.{◌||◌, Bool, true, false, Option, Some, None, is_some, map, Contains, if◌then◌else◌}
 use Rattle.std.specs.Cmp.{nat_cmp_total, tied_itself}
 use Rattle.std.specs.FinMap as finite
@@ -26,7 +26,7 @@ use Rattle.clif_switch_calls.specs.SwitchCalls.{bare_edge}
 use Rattle.clif_replay.specs.Cases.{are_twice, cases_of, set_entries, switch_under}
 use Rattle.clif_replay.specs.Requests.{attempt_of, attempts_from, call_of, calls_from, name_of}
 use Rattle.clif_replay.proofs.SwitchCases.{found-key, keys_in}
-use Rattle.clif_sealing_laws.specs.SwitchOrder.{AreOneScript, HaveSameEntries, SwitchOrderIsFree}
+use Rattle.clif_sealing_laws.specs.SwitchOrder.{HaveSameEntries, SwitchOrderIsFree}
 
 -- FINDING -----------------------------------------------------------------------------------------------------------------
 

@@ -1,6 +1,6 @@
 -- The order in which the entries of a switch are set is free: `replay` takes both lists of calls for one script. That the entries
 -- are a finite map is from the documentation of cranelift-frontend's `Switch`.
-use Rattle.std.specs.Prelude.{◌≡◌, ◌↔◌, List, [], ◌∷◌, ◌++◌, false, Contains}
+use Rattle.std.specs.Prelude.{◌≡◌, ◌↔◌, List, ◌∷◌, ◌++◌, false, Contains}
 use Rattle.std.specs.Global.{Vec}
 use Rattle.clif_types.specs.Signature.{SignatureShape}
 use Rattle.clif_calls.specs.declared.call.Call.{Call}

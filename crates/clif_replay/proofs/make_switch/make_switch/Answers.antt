@@ -1,14 +1,14 @@
-use Rattle.std.proofs.Common.{◌≡◌, ◌∙◌, ap, subst, sym}
-use Rattle.std.specs.Prelude.{Err, Ok, Result, Some, false, slice_index_or, true}
+use Rattle.std.proofs.Common.{◌∙◌, ap, subst, sym}
+use Rattle.std.specs.Prelude.{Err, Ok, Result, false, slice_index_or, true}
 use Rattle.clif_ir.specs.Body.{Body}
-use Rattle.clif_resolution.specs.Answers.{AnswerExists, block_of, value_of}
+use Rattle.clif_resolution.specs.Answers.{AnswerExists, value_of}
 use Rattle.clif_resolution.specs.declared.answers.Answer.{Answer}
 use Rattle.clif_resolution.specs.declared.answers.Answer.TheVariants as answer
 use Rattle.clif_resolution.specs.declared.answers.CallError.{CallError}
 use Rattle.std.proofs.lemmas.Result.{err_from_is_err_and}
 use Rattle.clif_switch.specs.Switches.{Emits, MayEmit}
 use Rattle.clif_ranges.specs.Cases.{CaseMap}
-use Rattle.clif_replay.specs.Cases.{are_targets, can_switch_on, cases_at}
+use Rattle.clif_replay.specs.Cases.{can_switch_on}
 use Rattle.clif_replay.specs.Emits.{MakesSwitch}
 use Rattle.clif_replay.proofs.ReadyLaws.{answers-exist, value-exists}
 use Rattle.clif_replay.proofs.Switched.{all-judged, block-judged, judged-as, may-emit, switch-made, switch-misused, switch-unemitted, switch-unset, value-judged}

@@ -1,15 +1,13 @@
-use Rattle.std.proofs.Common.{◌≡◌, ◌⊎◌, inl, inr, ap, sym, ◌∙◌, subst}
-use Rattle.std.specs.Prelude.{true, Ok, Err, Result, Option, None, get_or}
+use Rattle.std.proofs.Common.{◌≡◌, inl, inr, ap, sym, ◌∙◌}
+use Rattle.std.specs.Prelude.{Ok, Err, Result, get_or}
 use Rattle.std.specs.FinMap as finite
-use Rattle.std.proofs.lemmas.Bool.{false_from_ne_true, false≢true}
+use Rattle.std.proofs.lemmas.Bool.{false_from_ne_true}
 use Rattle.clif_types.specs.declared.error.BuildError.TheVariants.{Memory}
 use Rattle.clif_ranges.specs.declared.error.SwitchError.{SwitchError}
 use Rattle.clif_ranges.specs.declared.error.SwitchError.TheVariants as switch_error
 use Rattle.clif_calls.specs.declared.switch.SwitchEntry.{SwitchEntry}
-use Rattle.clif_resolution.specs.Answers.{block_of}
-use Rattle.clif_resolution.specs.Conditions.{is_target}
 use Rattle.clif_replay.specs.Cases.{switch_told}
-use Rattle.clif_replay.proofs.SetEntries.{all-at, set-more, set-twice}
+use Rattle.clif_replay.proofs.SetEntries.{set-more, set-twice}
 use Rattle.clif_replay.proofs.make_switch.switch_of.Goals as goal
 
 abbrev none : SwitchEntry

@@ -1,6 +1,5 @@
 use Rattle.std.proofs.Common.{◌≡◌, ◌<◌, List, [], ◌∷◌, ◌++◌, rules, arith, ap, refl, sym, ◌∙◌, subst, inl}
 use Rattle.std.proofs.lemmas.Grind.{common_steps}
-use Rattle.clif_meaning.specs.Request.{AnsweredCall}
 use Rattle.clif_calls.specs.declared.call.Call.{Call}
 use Rattle.clif_expansion.specs.ScriptCall.{ScriptCall}
 use Rattle.clif_builder.specs.declared.builder.FunctionBuilder.{FunctionBuilder}
