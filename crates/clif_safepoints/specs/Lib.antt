@@ -1,0 +1,6 @@
+pub mod Liveness
+pub mod Analysis
+pub mod Transfer
+pub mod Sets
+pub mod Graph
+pub mod Tables

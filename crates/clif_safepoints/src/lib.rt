@@ -1,0 +1,14 @@
+//! Safepoints: which recorded values are live across the calls of a function.
+//!
+//! A call is a safepoint: a collector may run there, and may move what the recorded values hold. [`liveness`] finds, for each
+//! call that is reached, the recorded values that are live across it. Its contract speaks of paths alone (`specs/Liveness.antt`,
+//! `specs/Analysis.antt`); how sets are kept is its own affair.
+#![tactic(auto)]
+
+mod graph;
+mod lists;
+mod live_set;
+pub mod liveness;
+mod reading;
+mod scan;
+mod work_list;
