@@ -1,5 +1,5 @@
 -- Sets as marks, one for each place. Source: own.
-use Rattle.std.specs.Prelude.{◌≡◌, ◌<◌, ◌||◌, ℕ, Bool, true, false, List, length, slice_index_or}
+use Rattle.std.specs.Prelude.{◌≡◌, ◌<◌, ◌||◌, ℕ, Bool, true, false, List, [], length, slice_index_or}
 use Rattle.std.specs.List.{count_by}
 
 -- the place is a member
@@ -10,20 +10,24 @@ is_in set place = slice_index_or set place false
 abbrev pub member_count : List Bool → ℕ
 member_count set = count_by (λ mark. mark) set
 
--- the third set has the members of both
-pub record IsUnion (first second both : List Bool) : Type 0 where
-  pub size : length both ≡ length first
-  pub members : (place : ℕ) → place < length first → is_in both place ≡ (is_in first place || is_in second place)
+-- of so many places the members are those for which the test holds
+pub record IsSet (places : ℕ) (test : ℕ → Bool) (set : List Bool) : Type 0 where
+  pub size : length set ≡ places
+  pub members : (place : ℕ) → place < places → is_in set place ≡ test place
 
 -- it has more members than before
 abbrev pub Grows : List Bool → List Bool → Type 0
 Grows old new = member_count old < member_count new
 
 -- the members of the first set are in the second
-abbrev pub AddsNone : List Bool → List Bool → Type 0
-AddsNone set old = (place : ℕ) → is_in set place ≡ true → is_in old place ≡ true
+abbrev pub IsWithin : List Bool → List Bool → Type 0
+IsWithin set other = (place : ℕ) → is_in set place ≡ true → is_in other place ≡ true
 
--- a set of values by their places in a list: those for which the test holds
-pub record IsSetOf (values : List ℕ) (test : ℕ → Bool) (set : List Bool) : Type 0 where
-  pub size : length set ≡ length values
-  pub members : (place : ℕ) → place < length values → is_in set place ≡ test (slice_index_or values place 0)
+-- so many sets of so many places
+pub record AreSets (blocks places : ℕ) (sets : List (List Bool)) : Type 0 where
+  pub count : length sets ≡ blocks
+  pub each : (block : ℕ) → block < blocks → length (slice_index_or sets block []) ≡ places
+
+-- whether a place is a member of the set of a block
+abbrev pub in_set_of : List (List Bool) → ℕ → ℕ → Bool
+in_set_of sets place block = is_in (slice_index_or sets block []) place

@@ -28,13 +28,18 @@ argument_passes f value (arg.TryCallExn index) = false
 abbrev pub edge_needs : Body → (live_at : ℕ → Bool) → ℕ → BlockCall → Bool
 edge_needs f live_at value edge = live_at edge.block || list_any (argument_passes f value) edge.args
 
+-- live across an instruction: needed along one of its edges or live before what follows, and no result of it
+abbrev pub is_live_behind : Body → (live_at : ℕ → Bool) → ℕ → ℕ → (next : Bool) → Bool
+is_live_behind f live_at value inst next =
+    not (stands_in value (inst_at f inst).results)
+    && (list_any (edge_needs f live_at value) (destinations (inst_at f inst).shape) || next)
+
 -- live before the instructions, where `live_at` tells the blocks at whose front it is live
 abbrev pub is_live_before : Body → (live_at : ℕ → Bool) → ℕ → List ℕ → Bool
 is_live_before f live_at value [] = false
 is_live_before f live_at value (inst ∷ insts) =
     names f (operands (inst_at f inst).shape) value
-    || (not (stands_in value (inst_at f inst).results)
-        && (list_any (edge_needs f live_at value) (destinations (inst_at f inst).shape) || is_live_before f live_at value insts))
+    || is_live_behind f live_at value inst (is_live_before f live_at value insts)
 
 -- live at the front of a block
 abbrev pub is_live_in : Body → (live_at : ℕ → Bool) → ℕ → ℕ → Bool

@@ -10,5 +10,6 @@ mod lists;
 mod live_set;
 pub mod liveness;
 mod reading;
+mod recorded;
 mod scan;
 mod work_list;

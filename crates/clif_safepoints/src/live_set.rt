@@ -1,6 +1,6 @@
 //! Sets of recorded values, by their places among these.
-ghost use Rattle.std.specs.Prelude.{◌≡◌, ◌<◌, ℕ, ◌||◌, false, true, length, replicate, slice_set, IsTrue, IfOk, IsOkUnless};
-ghost use Rattle.clif_safepoints.specs.Sets.{AddsNone, Grows, is_in, IsUnion};
+ghost use Rattle.std.specs.Prelude.{◌≡◌, ◌<◌, ◌||◌, false, true, length, replicate, slice_set, IsTrue, IfOk, IsOkUnless};
+ghost use Rattle.clif_safepoints.specs.Sets.{Grows, is_in, IsSet, IsWithin};
 
 use clif_types::BuildError;
 use std::alloc::Global;
@@ -63,27 +63,44 @@ impl LiveSet {
 
     /// Leaves no member.
     pub(crate) fn clear(&mut self)
-        ensures { self.new ≡ replicate (length self.old) false }
+        ensures { IsSet (length self.old) (λ place. false) self.new }
     {
-        for mark in self.marks.iter_mut() {
-            *mark = false;
-        }
+        clear_marks(self.marks.as_mut_slice());
     }
 
     /// Adds the members of another set, and tells whether any of them is new.
     pub(crate) fn add_all(&mut self, other: &LiveSet) -> bool
         requires { length self.old ≡ length other.now }
-        ensures union { IsUnion self.old other.now self.new }
+        ensures union { IsSet (length self.old) (λ place. is_in other.now place || is_in self.old place) self.new }
         ensures grown { IsTrue result → Grows self.old self.new }
-        ensures none { result ≡ false → AddsNone other.now self.old }
+        ensures unchanged { result ≡ false → self.new ≡ self.old }
     {
-        let mut grown = false;
-        for place in 0..self.marks.len() {
-            if other.marks[place] && !self.marks[place] {
-                self.marks[place] = true;
-                grown = true;
-            }
-        }
-        grown
+        add_marks(self.marks.as_mut_slice(), other.marks.as_slice())
     }
+}
+
+// Sets no mark.
+fn clear_marks(marks: &mut [bool])
+    ensures { IsSet (length marks.old) (λ place. false) marks.new }
+{
+    for mark in marks.iter_mut() {
+        *mark = false;
+    }
+}
+
+// Sets what others are set, and tells whether any of them is new.
+fn add_marks(marks: &mut [bool], others: &[bool]) -> bool
+    requires { length marks.old ≡ length others.now }
+    ensures union { IsSet (length marks.old) (λ place. is_in others.now place || is_in marks.old place) marks.new }
+    ensures grown { IsTrue result → Grows marks.old marks.new }
+    ensures unchanged { result ≡ false → marks.new ≡ marks.old }
+{
+    let mut grown = false;
+    for place in 0..others.len() {
+        if others[place] && !marks[place] {
+            marks[place] = true;
+            grown = true;
+        }
+    }
+    grown
 }

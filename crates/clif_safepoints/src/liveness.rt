@@ -6,7 +6,8 @@ use crate::graph::{post_order, predecessors};
 use crate::lists::InstList;
 use crate::live_set::LiveSet;
 use crate::reading::{insts_by_block, successors_by_block};
-use crate::scan::{Recorded, step_before, step_behind};
+use crate::recorded::Recorded;
+use crate::scan::{step_before, step_behind};
 use crate::work_list::live_ins;
 use clif_ir::{Function, InstructionData, ValueList};
 use clif_types::{Block, BuildError, EntityRef, EntitySet, Inst, Value};
@@ -87,14 +88,7 @@ fn analyse(func: &Function, recorded: &EntitySet<Value>) -> Result<LivenessAnaly
     let successors = successors_by_block(func, &insts)?;
     let order = post_order(alloc, func.entry_block(), &successors)?;
     let sources = predecessors(alloc, &order, &successors)?;
-    let mut values = Vec::new(alloc);
-    for value in recorded.iter() {
-        values.push(value)?;
-    }
-    let recorded = Recorded {
-        set: recorded,
-        values: &values,
-    };
+    let recorded = Recorded::new(alloc, recorded)?;
     let live = live_ins(func, &recorded, &insts, &order, &sources)?;
     let across = across_by_inst(func, &recorded, &live.sets, &insts, &order)?;
     Ok(LivenessAnalysis {
@@ -117,7 +111,7 @@ fn across_by_inst(
     for _ in 0..func.inst_count() {
         across.push(ValueList::new(alloc))?;
     }
-    let mut live = LiveSet::new(alloc, recorded.values.len())?;
+    let mut live = LiveSet::new(alloc, recorded.len())?;
     for block in order {
         live.clear();
         record_block(func, recorded, live_ins, insts[block.index()].as_slice(), &mut live, &mut across)?;
@@ -152,9 +146,9 @@ fn members(
     live: &LiveSet,
 ) -> Result<ValueList, BuildError> {
     let mut values = ValueList::new(alloc);
-    for place in 0..recorded.values.len() {
+    for place in 0..recorded.len() {
         if live.contains(place) {
-            values.push(recorded.values[place])?;
+            values.push(recorded.at(place))?;
         }
     }
     Ok(values)

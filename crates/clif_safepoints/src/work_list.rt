@@ -3,7 +3,8 @@ ghost use Rattle.std.specs.Prelude.{◌≡◌, ◌<◌, length};
 
 use crate::lists::{BlockList, InstList};
 use crate::live_set::LiveSet;
-use crate::scan::{Recorded, scan_block};
+use crate::recorded::Recorded;
+use crate::scan::scan_block;
 use clif_ir::Function;
 use clif_types::{Block, BuildError, EntityRef};
 use std::alloc::Global;
@@ -58,7 +59,7 @@ pub(crate) fn live_ins(
     predecessors: &[BlockList],
 ) -> Result<LiveIns, BuildError> {
     let alloc = func.allocator();
-    let count = recorded.values.len();
+    let count = recorded.len();
     let mut sets = Vec::new(alloc);
     for _ in 0..insts.len() {
         sets.push(LiveSet::new(alloc, count)?)?;
