@@ -1,3 +1,5 @@
 pub mod Marks
-pub mod Scanning
 pub mod Paths
+pub mod Rows
+pub mod Scanning
+pub mod Visits

@@ -1,6 +1,6 @@
 -- A graph as the lists of the blocks to which each block leads. Source: own; the usual words of graphs.
-use Rattle.std.specs.Prelude.{◌≡◌, ◌<◌, ◌≤◌, ◌==◌, ℕ, List, [], ◌∷◌, length, flat_map, Option, Some, All, Contains, slice_index_or}
-use Rattle.std.specs.List.{count_by}
+use Rattle.std.specs.Prelude.{◌≡◌, ◌<◌, ◌==◌, ℕ, List, [], ◌∷◌, length, map, flat_map, Option, Some, All, Contains, slice_index_or}
+use Rattle.std.specs.List.{filter}
 use Rattle.clif_instructions.specs.Members.{Once}
 
 -- the blocks to which a block leads
@@ -24,13 +24,10 @@ pub record IsOrder (graph : List (List ℕ)) (entry : Option ℕ) (order : List 
   pub reached : (block : ℕ) → Contains order block → (way : List ℕ) × IsWay graph entry (block ∷ way)
   pub all : (block : ℕ) (way : List ℕ) → IsWay graph entry (block ∷ way) → Contains order block
 
--- how often blocks of the list lead to this one
-abbrev pub times_led_to : List (List ℕ) → List ℕ → ℕ → ℕ
-times_led_to graph order target = count_by (λ x. x == target) (flat_map (leads_to graph) order)
+-- the block, as often as it leads to the target
+abbrev pub arcs : List (List ℕ) → ℕ → ℕ → List ℕ
+arcs graph target block = map (λ x. block) (filter (λ x. x == target) (leads_to graph block))
 
--- for each block those blocks of `order` that lead to it, no more of them than edges
-pub record IsPredecessors (graph : List (List ℕ)) (order : List ℕ) (sources : List (List ℕ)) : Type 0 where
-  pub size : length sources ≡ length graph
-  pub exist : (target : ℕ) → All (λ block. block < length graph) (leads_to sources target)
-  pub known : (block target : ℕ) → Contains order block → Contains (leads_to graph block) target → Contains (leads_to sources target) block
-  pub few : (target : ℕ) → length (leads_to sources target) ≤ times_led_to graph order target
+-- the blocks of `order` that lead to the target, each as often as it does
+abbrev pub sources_of : List (List ℕ) → List ℕ → ℕ → List ℕ
+sources_of graph order target = flat_map (arcs graph target) order

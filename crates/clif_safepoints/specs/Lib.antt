@@ -4,3 +4,4 @@ pub mod Transfer
 pub mod Sets
 pub mod Graph
 pub mod Tables
+pub mod Visits

@@ -1,6 +1,9 @@
 //! The blocks that are reached, in post-order, and from where.
-ghost use Rattle.std.specs.Prelude.{◌≡◌, ◌<◌, length, IfSome, IfOk, IsOkUnless};
-ghost use Rattle.clif_safepoints.specs.Graph.{IsClosed, IsOrder, IsPredecessors};
+ghost use Rattle.std.specs.Prelude.{◌≡◌, ◌<◌, ◌==◌, ◌++◌, [], length, map, All, IfSome, IfOk, OnOk, IsOkUnless};
+ghost use Rattle.std.specs.List.{filter};
+ghost use Rattle.clif_safepoints.specs.Graph.{IsClosed, IsOrder, leads_to, sources_of};
+ghost use Rattle.clif_safepoints.specs.Tables.{AreRows};
+ghost use Rattle.clif_safepoints.specs.Visits.{entered};
 
 use crate::lists::BlockList;
 use clif_types::{Block, BuildError, EntityRef};
@@ -50,7 +53,10 @@ pub(crate) fn post_order(
 }
 
 // Puts the visit of each of these blocks on the stack.
-fn enter_each(blocks: &[Block], visits: &mut Vec<Visit>) -> Result<(), BuildError> {
+fn enter_each(blocks: &[Block], visits: &mut Vec<Visit>) -> Result<(), BuildError>
+    ensures ok { OnOk result (visits.new.items ≡ visits.old.items ++ entered blocks.now) }
+    ensures memory_alone { IsOkUnless result BuildError.Memory }
+{
     for block in blocks {
         visits.push(Visit::Enter(*block))?;
     }
@@ -62,25 +68,45 @@ pub(crate) fn predecessors(
     alloc: Global,
     order: &[Block],
     successors: &[BlockList],
-) -> Result<Vec<BlockList>, BuildError> {
-    let mut known = Vec::new(alloc);
-    for _ in 0..successors.len() {
-        known.push(BlockList::new(alloc))?;
-    }
+) -> Result<Vec<BlockList>, BuildError>
+    requires exist { All (λ block. block < length successors.now) order.now }
+    requires closed { IsClosed successors.now }
+    ensures ok { IfOk result (λ sources. AreRows (length successors.now) (sources_of successors.now order.now) sources.items) }
+    ensures memory_alone { IsOkUnless result BuildError.Memory }
+{
+    let mut sources = empty_lists(alloc, successors.len())?;
     for block in order {
-        add_source(*block, successors[block.index()].as_slice(), &mut known)?;
+        let targets = successors[block.index()].as_slice();
+        add_source(*block, targets, &mut sources)?;
     }
-    Ok(known)
+    Ok(sources)
 }
 
-// Puts a block among the predecessors of each of these blocks.
+// So many empty lists.
+fn empty_lists(alloc: Global, count: usize) -> Result<Vec<BlockList>, BuildError>
+    ensures ok { IfOk result (λ lists. AreRows count (λ number. []) lists.items) }
+    ensures memory_alone { IsOkUnless result BuildError.Memory }
+{
+    let mut lists = Vec::new(alloc);
+    for _number in 0..count {
+        lists.push(BlockList::new(alloc))?;
+    }
+    Ok(lists)
+}
+
+// Puts a block at the end of the list of each of these blocks, as often as that is one of them.
 fn add_source(
     block: Block,
     targets: &[Block],
-    known: &mut [BlockList],
-) -> Result<(), BuildError> {
+    sources: &mut Vec<BlockList>,
+) -> Result<(), BuildError>
+    requires { All (λ target. target < length sources.old.items) targets.now }
+    ensures ok { OnOk result (AreRows (length sources.old.items)
+        (λ target. leads_to sources.old.items target ++ map (λ x. block) (filter (λ x. x == target) targets.now)) sources.new.items) }
+    ensures memory_alone { IsOkUnless result BuildError.Memory }
+{
     for target in targets {
-        known[target.index()].push(block)?;
+        sources[target.index()].push(block)?;
     }
     Ok(())
 }

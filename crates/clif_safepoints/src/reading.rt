@@ -1,18 +1,19 @@
 //! The instructions of a function's blocks, and the blocks to which these lead.
-ghost use Rattle.std.specs.Prelude.{◌≡◌, ◌<◌, length, IfOk, IsOkUnless, EachIndex, slice_index, slice_index_or, [], ℕ};
+ghost use Rattle.std.specs.Prelude.{◌≡◌, ◌<◌, ◌++◌, length, IfOk, OnOk, IsOkUnless, EachIndex, slice_index};
+ghost use Rattle.clif_instructions.specs.Edges.{targets};
+ghost use Rattle.clif_safepoints.specs.Tables.{AreRows};
 ghost use Rattle.clif_safepoints.specs.Transfer.{insts_of, successors_of, targets_from};
-ghost use Rattle.clif_safepoints.specs.Tables.{HasInsts, HasSuccessors};
 
 use crate::lists::{BlockList, InstList};
-use clif_ir::Function;
+use clif_ir::{BlockCall, Function};
 use clif_types::{Block, BuildError, EntityRef, Inst};
-use std::alloc::Global;
 
 /// The instructions of each block, by its number. The only error is `Memory`.
 pub(crate) fn insts_by_block(func: &Function) -> Result<Vec<InstList>, BuildError>
-    ensures ok { IfOk result (λ table. HasInsts func.now table.items) }
+    ensures ok { IfOk result (λ table. AreRows (length func.now.blocks) (insts_of func.now) table.items) }
     ensures memory_alone { IsOkUnless result BuildError.Memory }
 {
+    func.law_consistent();
     let mut table = Vec::new(func.allocator());
     for index in 0..func.block_count() {
         table.push(block_insts(func, Block::new(index))?)?;
@@ -26,11 +27,11 @@ fn block_insts(func: &Function, block: Block) -> Result<InstList, BuildError>
     ensures ok { IfOk result (λ insts. insts ≡ insts_of func.now block) }
     ensures memory_alone { IsOkUnless result BuildError.Memory }
 {
+    func.law_consistent();
     let mut insts = InstList::new(func.allocator());
     if !func.is_block_inserted(block) {
         return Ok(insts);
     }
-    func.law_consistent();
     let mut next = func.first_inst(block);
     while let Some(inst) = next {
         insts.push(inst)?;
@@ -44,10 +45,11 @@ pub(crate) fn successors_by_block(
     func: &Function,
     insts: &[InstList],
 ) -> Result<Vec<BlockList>, BuildError>
-    requires { HasInsts func.now insts.now }
-    ensures ok { IfOk result (λ table. HasSuccessors func.now table.items) }
+    requires { AreRows (length func.now.blocks) (insts_of func.now) insts.now }
+    ensures ok { IfOk result (λ table. AreRows (length func.now.blocks) (successors_of func.now) table.items) }
     ensures memory_alone { IsOkUnless result BuildError.Memory }
 {
+    func.law_consistent();
     let mut table = Vec::new(func.allocator());
     for row in insts {
         table.push(targets_of(func, row.as_slice())?)?;
@@ -63,9 +65,18 @@ fn targets_of(func: &Function, insts: &[Inst]) -> Result<BlockList, BuildError>
 {
     let mut blocks = BlockList::new(func.allocator());
     for inst in insts {
-        for edge in func.inst_data(*inst).branch_destination() {
-            blocks.push(edge.block)?;
-        }
+        push_targets(func.inst_data(*inst).branch_destination(), &mut blocks)?;
     }
     Ok(blocks)
+}
+
+// Puts the targets of edges at the end.
+fn push_targets(edges: &[BlockCall], blocks: &mut BlockList) -> Result<(), BuildError>
+    ensures ok { OnOk result (blocks.new ≡ blocks.old ++ targets edges.now) }
+    ensures memory_alone { IsOkUnless result BuildError.Memory }
+{
+    for edge in edges {
+        blocks.push(edge.block)?;
+    }
+    Ok(())
 }

@@ -1,17 +1,11 @@
 use Rattle.std.proofs.Common.{◌≡◌, ◌<◌, ◌||◌, ◌∙◌, ℕ, Bool, List, [], ap, sym, subst, length, slice_index, slice_index_or}
 use Rattle.std.specs.List.{list_any}
-use Rattle.std.proofs.lemmas.List.{get_or_default}
 use Rattle.clif_instructions.specs.declared.block_call.BlockArg.{BlockArg}
 use Rattle.clif_safepoints.specs.Sets.{IsSet, in_set_of, is_in}
 use Rattle.clif_safepoints.specs.Transfer.{argument_passes}
 use Rattle.clif_safepoints.proofs.Marks.{added_twice}
+use Rattle.clif_safepoints.proofs.Rows.{row_at}
 use Rattle.clif_safepoints.proofs.scan.add_edge.Goals as goal
-
--- a row of a table, by the number that an index has
-row_at : {X : Type 0} (rows : List X) (index number : ℕ) (row default : X) → row ≡ slice_index_or rows index row → index ≡ number → number < length rows
-    → row ≡ slice_index_or rows number default
-row_at rows index number row default is same inside =
-    is ∙ ap (λ k. slice_index_or rows k row) same ∙ get_or_default rows number row default inside
 
 pub returns : goal.returns
 returns c =
