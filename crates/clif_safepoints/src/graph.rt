@@ -6,6 +6,7 @@ ghost use Rattle.clif_safepoints.specs.Tables.{AreRows};
 ghost use Rattle.clif_safepoints.specs.Visits.{entered};
 
 use crate::lists::BlockList;
+use crate::number_set::NumberSet;
 use clif_types::{Block, BuildError, EntityRef};
 use std::alloc::Global;
 
@@ -34,17 +35,18 @@ pub(crate) fn post_order(
     let Some(entry) = entry else {
         return Ok(order);
     };
-    let mut seen = vec![in alloc; false; successors.len()]?;
+    let mut seen = NumberSet::new(alloc, successors.len())?;
     let mut visits = Vec::new(alloc);
     visits.push(Visit::Enter(entry))?;
     while let Some(visit) = visits.pop() {
         match visit {
             Visit::Leave(block) => order.push(block)?,
             Visit::Enter(block) => {
-                if !seen[block.index()] {
-                    seen[block.index()] = true;
+                let number = block.index();
+                if !seen.contains(number) {
+                    seen.insert(number);
                     visits.push(Visit::Leave(block))?;
-                    enter_each(successors[block.index()].as_slice(), &mut visits)?;
+                    enter_each(successors[number].as_slice(), &mut visits)?;
                 }
             }
         }

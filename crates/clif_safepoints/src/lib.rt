@@ -7,7 +7,8 @@
 
 mod graph;
 mod lists;
-mod live_set;
+mod number_set;
+
 pub mod liveness;
 mod reading;
 mod recorded;

@@ -4,7 +4,7 @@ ghost use Rattle.clif_safepoints.specs.Analysis.{Findings, IsAnalysis, found_acr
 
 use crate::graph::{post_order, predecessors};
 use crate::lists::InstList;
-use crate::live_set::LiveSet;
+use crate::number_set::NumberSet;
 use crate::reading::{insts_by_block, successors_by_block};
 use crate::recorded::Recorded;
 use crate::scan::{step_before, step_behind};
@@ -102,7 +102,7 @@ fn analyse(func: &Function, recorded: &EntitySet<Value>) -> Result<LivenessAnaly
 fn across_by_inst(
     func: &Function,
     recorded: &Recorded<'_>,
-    live_ins: &[LiveSet],
+    live_ins: &[NumberSet],
     insts: &[InstList],
     order: &[Block],
 ) -> Result<Vec<ValueList>, BuildError> {
@@ -111,7 +111,7 @@ fn across_by_inst(
     for _ in 0..func.inst_count() {
         across.push(ValueList::new(alloc))?;
     }
-    let mut live = LiveSet::new(alloc, recorded.len())?;
+    let mut live = NumberSet::new(alloc, recorded.len())?;
     for block in order {
         live.clear();
         record_block(func, recorded, live_ins, insts[block.index()].as_slice(), &mut live, &mut across)?;
@@ -123,9 +123,9 @@ fn across_by_inst(
 fn record_block(
     func: &Function,
     recorded: &Recorded<'_>,
-    live_ins: &[LiveSet],
+    live_ins: &[NumberSet],
     insts: &[Inst],
-    live: &mut LiveSet,
+    live: &mut NumberSet,
     across: &mut [ValueList],
 ) -> Result<(), BuildError> {
     for place in (0..insts.len()).rev() {
@@ -143,7 +143,7 @@ fn record_block(
 fn members(
     alloc: Global,
     recorded: &Recorded<'_>,
-    live: &LiveSet,
+    live: &NumberSet,
 ) -> Result<ValueList, BuildError> {
     let mut values = ValueList::new(alloc);
     for place in 0..recorded.len() {

@@ -8,13 +8,13 @@ ghost use Rattle.clif_ir.specs.Consistent.{EdgeExists, PassedExists};
 ghost use Rattle.clif_safepoints.specs.Sets.{AreSets, IsSet, in_set_of, is_in};
 ghost use Rattle.clif_safepoints.specs.Transfer.{argument_passes, edge_needs, insts_of, is_live_behind, is_live_in, names};
 
-use crate::live_set::LiveSet;
+use crate::number_set::NumberSet;
 use crate::recorded::Recorded;
 use clif_ir::{BlockArg, BlockCall, Function};
 use clif_types::{Block, EntityRef, Inst, Value};
 
 // Adds what a value resolves to, if that is recorded.
-fn add_use(func: &Function, recorded: &Recorded<'_>, value: Value, live: &mut LiveSet)
+fn add_use(func: &Function, recorded: &Recorded<'_>, value: Value, live: &mut NumberSet)
     requires exists { value < length func.now.values }
     requires size { length live.old ≡ length recorded.now }
     ensures { IsSet (length recorded.now) (λ place. (resolved func.now value == slice_index recorded.now place) || is_in live.old place) live.new }
@@ -26,7 +26,7 @@ fn add_use(func: &Function, recorded: &Recorded<'_>, value: Value, live: &mut Li
 }
 
 // Adds what these values resolve to, as far as it is recorded.
-fn add_uses(func: &Function, recorded: &Recorded<'_>, values: &[Value], live: &mut LiveSet)
+fn add_uses(func: &Function, recorded: &Recorded<'_>, values: &[Value], live: &mut NumberSet)
     requires exist { EachIndex values.now (λ k. slice_index values.now k < length func.now.values) }
     requires size { length live.old ≡ length recorded.now }
     ensures { IsSet (length recorded.now) (λ place. names func.now values.now (slice_index recorded.now place) || is_in live.old place) live.new }
@@ -37,7 +37,7 @@ fn add_uses(func: &Function, recorded: &Recorded<'_>, values: &[Value], live: &m
 }
 
 // Takes a value away.
-fn remove_def(recorded: &Recorded<'_>, value: Value, live: &mut LiveSet)
+fn remove_def(recorded: &Recorded<'_>, value: Value, live: &mut NumberSet)
     requires size { length live.old ≡ length recorded.now }
     ensures { IsSet (length recorded.now) (λ place. not (value == slice_index recorded.now place) && is_in live.old place) live.new }
 {
@@ -48,7 +48,7 @@ fn remove_def(recorded: &Recorded<'_>, value: Value, live: &mut LiveSet)
 }
 
 // Takes these values away.
-fn remove_defs(recorded: &Recorded<'_>, values: &[Value], live: &mut LiveSet)
+fn remove_defs(recorded: &Recorded<'_>, values: &[Value], live: &mut NumberSet)
     requires size { length live.old ≡ length recorded.now }
     ensures { IsSet (length recorded.now) (λ place. not (stands_in (slice_index recorded.now place) values.now) && is_in live.old place) live.new }
 {
@@ -58,7 +58,7 @@ fn remove_defs(recorded: &Recorded<'_>, values: &[Value], live: &mut LiveSet)
 }
 
 // Adds what an argument of an edge passes.
-fn add_argument(func: &Function, recorded: &Recorded<'_>, arg: &BlockArg, live: &mut LiveSet)
+fn add_argument(func: &Function, recorded: &Recorded<'_>, arg: &BlockArg, live: &mut NumberSet)
     requires exists { PassedExists func.now arg.now }
     requires size { length live.old ≡ length recorded.now }
     ensures { IsSet (length recorded.now) (λ place. argument_passes func.now (slice_index recorded.now place) arg.now || is_in live.old place) live.new }
@@ -70,7 +70,7 @@ fn add_argument(func: &Function, recorded: &Recorded<'_>, arg: &BlockArg, live: 
 }
 
 // Adds what the arguments of an edge pass.
-fn add_arguments(func: &Function, recorded: &Recorded<'_>, args: &[BlockArg], live: &mut LiveSet)
+fn add_arguments(func: &Function, recorded: &Recorded<'_>, args: &[BlockArg], live: &mut NumberSet)
     requires exist { All (PassedExists func.now) args.now }
     requires size { length live.old ≡ length recorded.now }
     ensures { IsSet (length recorded.now) (λ place. list_any (argument_passes func.now (slice_index recorded.now place)) args.now || is_in live.old place) live.new }
@@ -84,9 +84,9 @@ fn add_arguments(func: &Function, recorded: &Recorded<'_>, args: &[BlockArg], li
 fn add_edge(
     func: &Function,
     recorded: &Recorded<'_>,
-    live_ins: &[LiveSet],
+    live_ins: &[NumberSet],
     edge: &BlockCall,
-    live: &mut LiveSet,
+    live: &mut NumberSet,
 )
     requires exists { EdgeExists func.now edge.now }
     requires sets { AreSets (length func.now.blocks) (length recorded.now) live_ins.now }
@@ -101,9 +101,9 @@ fn add_edge(
 fn add_edges(
     func: &Function,
     recorded: &Recorded<'_>,
-    live_ins: &[LiveSet],
+    live_ins: &[NumberSet],
     edges: &[BlockCall],
-    live: &mut LiveSet,
+    live: &mut NumberSet,
 )
     requires exist { All (EdgeExists func.now) edges.now }
     requires sets { AreSets (length func.now.blocks) (length recorded.now) live_ins.now }
@@ -120,9 +120,9 @@ fn add_edges(
 pub(crate) fn step_behind(
     func: &Function,
     recorded: &Recorded<'_>,
-    live_ins: &[LiveSet],
+    live_ins: &[NumberSet],
     inst: Inst,
-    live: &mut LiveSet,
+    live: &mut NumberSet,
 )
     requires exists { inst < length func.now.insts }
     requires sets { AreSets (length func.now.blocks) (length recorded.now) live_ins.now }
@@ -139,7 +139,7 @@ pub(crate) fn step_before(
     func: &Function,
     recorded: &Recorded<'_>,
     inst: Inst,
-    live: &mut LiveSet,
+    live: &mut NumberSet,
 )
     requires exists { inst < length func.now.insts }
     requires size { length live.old ≡ length recorded.now }
@@ -152,10 +152,10 @@ pub(crate) fn step_before(
 pub(crate) fn scan_block(
     func: &Function,
     recorded: &Recorded<'_>,
-    live_ins: &[LiveSet],
+    live_ins: &[NumberSet],
     block: Block,
     insts: &[Inst],
-    live: &mut LiveSet,
+    live: &mut NumberSet,
 )
     requires exists { block < length func.now.blocks }
     requires insts { insts.now ≡ insts_of func.now block }

@@ -2,7 +2,7 @@
 ghost use Rattle.std.specs.Prelude.{◌≡◌, ◌<◌, length};
 
 use crate::lists::{BlockList, InstList};
-use crate::live_set::LiveSet;
+use crate::number_set::NumberSet;
 use crate::recorded::Recorded;
 use crate::scan::scan_block;
 use clif_ir::Function;
@@ -45,7 +45,7 @@ impl Waiting {
 /// What is live at the front of each block, by its number, and how many blocks were handled.
 #[derive(Drop)]
 pub(crate) struct LiveIns {
-    pub(crate) sets: Vec<LiveSet>,
+    pub(crate) sets: Vec<NumberSet>,
     pub(crate) handled: u128,
 }
 
@@ -62,13 +62,13 @@ pub(crate) fn live_ins(
     let count = recorded.len();
     let mut sets = Vec::new(alloc);
     for _ in 0..insts.len() {
-        sets.push(LiveSet::new(alloc, count)?)?;
+        sets.push(NumberSet::new(alloc, count)?)?;
     }
     let mut waiting = Waiting::new(alloc, insts.len())?;
     for block in order.iter().rev() {
         waiting.push(*block)?;
     }
-    let mut live = LiveSet::new(alloc, count)?;
+    let mut live = NumberSet::new(alloc, count)?;
     let mut handled: u128 = 0;
     while let Some(block) = waiting.pop() {
         scan_block(func, recorded, &sets, block, insts[block.index()].as_slice(), &mut live);

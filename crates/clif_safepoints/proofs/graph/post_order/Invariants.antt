@@ -3,7 +3,7 @@ use Rattle.clif_safepoints.proofs.Visits.{IsVisiting, unseen}
 use Rattle.clif_safepoints.proofs.graph.post_order.Given as goal
 
 abbrev pub invariant-loop-visit : goal.invariant-loop-visit
-invariant-loop-visit l = IsVisiting l.successors l.fn.entry l.seen.items l.visits.items l.order.items
+invariant-loop-visit l = IsVisiting l.successors l.fn.entry l.seen l.visits.items l.order.items
 
 abbrev pub decreases-loop-visit : goal.decreases-loop-visit
-decreases-loop-visit l = unseen l.successors l.seen.items + length l.visits.items
+decreases-loop-visit l = unseen l.successors l.seen + length l.visits.items

@@ -1,8 +1,8 @@
 use Rattle.std.proofs.Common.{◌≡◌, ◌+◌, ◌<◌, ◌∙◌, Bool, true, false, ◌||◌, length, get_or, subst, sym, ap, refl, arith, slice_set}
 use Rattle.clif_safepoints.specs.Sets.{is_in}
 use Rattle.clif_safepoints.proofs.Marks.{added_all, added_as, added_kept, added_none, added_one}
-use Rattle.clif_safepoints.proofs.live_set.add_marks.Goals as goal
-use Rattle.clif_safepoints.proofs.live_set.add_marks.Goals.{then-others-place+then-not-marks-place, else-others-place, else-others-place-via-then-others-place+else-not-marks-place, else-others-place-via-else-others-place}
+use Rattle.clif_safepoints.proofs.number_set.add_marks.Goals as goal
+use Rattle.clif_safepoints.proofs.number_set.add_marks.Goals.{then-others-place+then-not-marks-place, else-others-place, else-others-place-via-then-others-place+else-not-marks-place, else-others-place-via-else-others-place}
 
 pub loop-place-init : goal.loop-place-init
 loop-place-init c = added_none c.args.others.now c.args.marks.now

@@ -1,4 +1,4 @@
-//! Sets of recorded values, by their places among these.
+//! Sets of numbers below a bound: places of recorded values, or blocks.
 ghost use Rattle.std.specs.Prelude.{◌≡◌, ◌<◌, ◌||◌, false, true, length, replicate, slice_set, IsTrue, IfOk, IsOkUnless};
 ghost use Rattle.clif_safepoints.specs.Sets.{Grows, is_in, IsSet, IsWithin};
 
@@ -6,13 +6,13 @@ use clif_types::BuildError;
 use std::alloc::Global;
 use std::marker::Model;
 
-/// A set of places below a number: a mark for each.
+/// A set of numbers below a bound: a mark for each of them.
 #[derive(Drop)]
-pub(crate) struct LiveSet {
+pub(crate) struct NumberSet {
     marks: Vec<bool>,
 }
 
-impl Model for LiveSet {
+impl Model for NumberSet {
     ghost use Rattle.std.specs.Prelude.{Bool, List};
 
     ghost Value = { List Bool };
@@ -20,24 +20,24 @@ impl Model for LiveSet {
     ghost view = { λ s. s.marks.items };
 }
 
-impl LiveSet {
-    /// The empty set of places below `size`. The only error is `Memory`.
+impl NumberSet {
+    /// The empty set of numbers below `size`. The only error is `Memory`.
     pub(crate) fn new(alloc: Global, size: usize) -> Result<Self, BuildError>
         ensures ok { IfOk result (λ set. set ≡ replicate size false) }
         ensures memory_alone { IsOkUnless result BuildError.Memory }
     {
         let marks = vec![in alloc; false; size]?;
-        Ok(LiveSet { marks })
+        Ok(NumberSet { marks })
     }
 
-    /// How many places there are, members or not.
+    /// How many numbers there are, members or not.
     pub(crate) fn size(&self) -> usize
         ensures { result ≡ length self.now }
     {
         self.marks.len()
     }
 
-    /// Whether a place is a member.
+    /// Whether a number is a member.
     pub(crate) fn contains(&self, place: usize) -> bool
         requires { place < length self.now }
         ensures { result ≡ is_in self.now place }
@@ -45,7 +45,7 @@ impl LiveSet {
         self.marks[place]
     }
 
-    /// Makes a place a member.
+    /// Makes a number a member.
     pub(crate) fn insert(&mut self, place: usize)
         requires { place < length self.old }
         ensures { self.new ≡ slice_set self.old place true }
@@ -53,7 +53,7 @@ impl LiveSet {
         self.marks[place] = true;
     }
 
-    /// Makes a place no member.
+    /// Makes a number no member.
     pub(crate) fn remove(&mut self, place: usize)
         requires { place < length self.old }
         ensures { self.new ≡ slice_set self.old place false }
@@ -69,7 +69,7 @@ impl LiveSet {
     }
 
     /// Adds the members of another set, and tells whether any of them is new.
-    pub(crate) fn add_all(&mut self, other: &LiveSet) -> bool
+    pub(crate) fn add_all(&mut self, other: &NumberSet) -> bool
         requires { length self.old ≡ length other.now }
         ensures union { IsSet (length self.old) (λ place. is_in other.now place || is_in self.old place) self.new }
         ensures grown { IsTrue result → Grows self.old self.new }
