@@ -3,3 +3,4 @@ pub mod Paths
 pub mod Rows
 pub mod Scanning
 pub mod Visits
+pub mod Working

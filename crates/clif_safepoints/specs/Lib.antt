@@ -5,3 +5,4 @@ pub mod Sets
 pub mod Graph
 pub mod Tables
 pub mod Visits
+pub mod Progress
