@@ -2,5 +2,6 @@ pub mod Marks
 pub mod Paths
 pub mod Rows
 pub mod Scanning
+pub mod Settling
 pub mod Visits
 pub mod Working

@@ -1,0 +1,1 @@
+use Rattle.clif_safepoints.proofs.Settling.{fills_grow}
