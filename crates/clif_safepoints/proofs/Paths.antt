@@ -20,6 +20,7 @@ use Rattle.clif_meaning.specs.Path.{IsPath, IsReachable, Leads, Place}
 use Rattle.clif_meaning.specs.View.{argument_of, edge_of, items_of, placed_of, view_of}
 use Rattle.clif_meaning.specs.WellPlaced.{function_code, function_flow, given_on_entry, placed_at, placed_gives, placed_targets}
 use Rattle.clif_safepoints.specs.Analysis.{IsReached}
+use Rattle.clif_safepoints.specs.Fronts.{IsLiveAt, IsLiveFront, at}
 use Rattle.clif_safepoints.specs.Liveness.{IsPassed, IsUsedAhead, every_argument, used_operands}
 use Rattle.clif_safepoints.specs.Transfer.{argument_passes, edge_needs, insts_of, is_live_before, is_live_behind, is_live_in, names}
 
@@ -111,9 +112,6 @@ names_to f xs v h =
 
 -- INSTRUCTIONS ----------------------------------------------------------------------------------------------------------
 
-abbrev pub at : ℕ → ℕ → Place ℕ
-at b k = record { block = b; index = k }
-
 items_are : (f : Body) (b : ℕ) → items_of f b ≡ map (placed_of f) (insts_of f b)
 items_are f b = by (stands_in b f.layout)
   where
@@ -147,19 +145,6 @@ pub goes_on : (f : Body) (b k : ℕ) → suc k < length (insts_of f b) → Leads
 goes_on f b k inside = inl (refl, sym (add-one k), subst (λ n. suc k < n) (sym (size_is f b)) inside)
 
 -- FROM THE EQUATIONS TO PATHS -------------------------------------------------------------------------------------------
-
--- used here, or not defined here and used ahead
-abbrev pub IsLiveAt : Body → ℕ → Place ℕ → List (Place ℕ) → Type 0
-IsLiveAt f v q path =
-    Contains (used_operands (resolved f) (placed_at (view_of f) q)) v
-    ⊎ ((¬ Contains (placed_gives (placed_at (view_of f) q)) v) × IsUsedAhead every_argument (view_of f) v q path)
-
--- live at the front of a block
-pub record IsLiveFront (f : Body) (v block : ℕ) : Type 0 where
-  pub no_parameter : Contains (block_at f block).params v → ⊥
-  pub some : 0 < length (insts_of f block)
-  pub path : List (Place ℕ)
-  pub live : IsLiveAt f v (at block 0) path
 
 -- an edge passes it
 argument_to : (f : Body) (v : ℕ) (edge : BlockCall) (k : ℕ) (x : BlockArg) → slice_get edge.args k ≡ Some x → argument_passes f v x ≡ true

@@ -20,7 +20,8 @@ use Rattle.clif_safepoints.specs.Progress.{IsHandled, IsTaken, Progress, one_mor
 use Rattle.clif_safepoints.specs.Sets.{AreSets, Grows, IsSet, in_set_of, is_in, member_count}
 use Rattle.clif_safepoints.specs.Tables.{AreRows}
 use Rattle.clif_safepoints.specs.Transfer.{argument_passes, edge_needs, insts_of, is_live_before, is_live_behind, is_live_in, names, successors_of, targets_from}
-use Rattle.clif_safepoints.proofs.Paths.{IsLiveFront, front_to, or_cases, or_left, or_right, stands_from, stands_to}
+use Rattle.clif_safepoints.specs.Fronts.{IsFinished, IsLiveFront, IsStart}
+use Rattle.clif_safepoints.proofs.Paths.{front_to, or_cases, or_left}
 use Rattle.clif_safepoints.proofs.Visits.{bit, times, times_append}
 use Rattle.clif_safepoints.proofs.Working.{IsPushed, IsQueue, push_each}
 
@@ -350,3 +351,111 @@ kept_grown f values order graph p block rest row small there graph_is sources_th
         idle_before q now apart =
             false_from (is_in p.waits q)
             (λ h. false≢true (sym now ∙ after.0.kept q (get_or-set_other p.waits block q false false apart ∙ h)))
+
+-- ONE ROUND -------------------------------------------------------------------------------------------------------------
+
+pub progress_step : (f : Body) (values order : List ℕ) (graph : List (List ℕ)) (p mid new : Progress) (block : ℕ) (sources : List ℕ) → length order ≤ 2 ^ 128 - 1
+    → ((b : ℕ) → Contains order b → b < length f.blocks) → ((b : ℕ) → b < length f.blocks → leads_to graph b ≡ successors_of f b)
+    → ((b : ℕ) → Contains sources b → b < length f.blocks) → sources ≡ sources_of graph order block
+    → IsProgress f values order graph p → IsTaken p (Some block) mid → IsHandled f values sources block mid new
+    → IsProgress f values order graph new × (to_do values order graph new < to_do values order graph p)
+progress_step f values order graph p mid new block sources small there graph_is sources_there sources_is so_far take handled =
+    by (subst (λ (m : Progress). IsHandled f values (sources_of graph order block) block m new) (taken_is p block mid take)
+        (subst (λ xs. IsHandled f values xs block mid new) sources_is handled))
+  where
+    long : length p.stack ≡ length mid.stack + 1
+    long = ap length take.0 ∙ length-append mid.stack (block ∷ [])
+
+    block_there : block < length p.sets
+    block_there = subst (λ n. block < n) (sym so_far.sized.count) (so_far.queue.there block
+        (subst (λ xs. Contains xs block) (sym take.0) (Contains-append_right mid.stack (block ∷ []) block (0, omega arith, refl))))
+
+    which : (h : IsHandled f values (sources_of graph order block) block (taken p block mid.stack) new)
+        → ((h.set ≡ slice_index_or p.sets block []) × (new ≡ record (taken p block mid.stack) { handled = one_more p.handled }))
+        ⊎ (Grows (slice_index_or p.sets block []) h.set × (new ≡ pushed_all (record (taken p block mid.stack) { sets = set p.sets block h.set; handled = one_more p.handled }) (sources_of graph order block)))
+        → IsProgress f values order graph new × (to_do values order graph new < to_do values order graph p)
+    which h (inl same) =
+        let kept = kept_same f values order graph p block mid.stack h.set small take.0 so_far h.union same.0 in
+        (subst (λ (q : Progress). IsProgress f values order graph q) (sym same.1) kept,
+            subst (λ (q : Progress). to_do values order graph q < to_do values order graph p) (sym same.1) (let e = long in omega (arith, e)))
+    which h (inr grown) =
+        let kept = kept_grown f values order graph p block mid.stack h.set small there graph_is (λ b m. sources_there b (subst (λ xs. Contains xs b) (sym sources_is) m)) take.0 so_far h.union grown.0 in
+        (subst (λ (q : Progress). IsProgress f values order graph q) (sym grown.1) kept,
+            subst (λ (q : Progress). to_do values order graph q < to_do values order graph p) (sym grown.1)
+            (less h kept grown.0))
+      where
+        less : (h : IsHandled f values (sources_of graph order block) block (taken p block mid.stack) new)
+            → IsProgress f values order graph (pushed_all (record (taken p block mid.stack) { sets = set p.sets block h.set; handled = one_more p.handled }) (sources_of graph order block))
+            → Grows (slice_index_or p.sets block []) h.set
+            → to_do values order graph (pushed_all (record (taken p block mid.stack) { sets = set p.sets block h.set; handled = one_more p.handled }) (sources_of graph order block))
+            < to_do values order graph p
+        less h kept grows =
+            let queue = let q = taken_queue (length f.blocks) p block mid.stack take.0 so_far.queue in q in
+            let after = push_each (length f.blocks) (sources_of graph order block) (record (taken p block mid.stack) { sets = set p.sets block h.set; handled = one_more p.handled })
+                (λ b m. sources_there b (subst (λ xs. Contains xs b) (sym sources_is) m)) (record { marks = queue.marks; there = queue.there; waiting = queue.waiting }) in
+            let pay = fills_grow p.sets block h.set (all_targets graph order) block_there grows in
+            let count = sources_count graph order block in
+            let most : fills (set p.sets block h.set) (all_targets graph order) ≤ length (all_targets graph order) * length values =
+                subst (λ sets. fills sets (all_targets graph order) ≤ length (all_targets graph order) * length values) after.0.sets
+                (fills_most (pushed_all (record (taken p block mid.stack) { sets = set p.sets block h.set; handled = one_more p.handled }) (sources_of graph order block)).sets
+                    (length f.blocks) (length values) (all_targets graph order) kept.sized) in
+            let sets : fills (pushed_all (record (taken p block mid.stack) { sets = set p.sets block h.set; handled = one_more p.handled }) (sources_of graph order block)).sets (all_targets graph order)
+                ≡ fills (set p.sets block h.set) (all_targets graph order) = ap (λ sets. fills sets (all_targets graph order)) after.0.sets in
+            let pushes = after.0.most in let e = long in
+            arithmetic (length (all_targets graph order) * length values) (fills p.sets (all_targets graph order)) (fills (set p.sets block h.set) (all_targets graph order))
+            (fills (pushed_all (record (taken p block mid.stack) { sets = set p.sets block h.set; handled = one_more p.handled }) (sources_of graph order block)).sets (all_targets graph order))
+            (length mid.stack) (length p.stack) (length (pushed_all (record (taken p block mid.stack) { sets = set p.sets block h.set; handled = one_more p.handled }) (sources_of graph order block)).stack)
+            (times block (all_targets graph order)) (length (sources_of graph order block)) pay most sets count pushes e
+          where
+            arithmetic : (bound before after now rest old new' some count : ℕ) → before + some ≤ after → after ≤ bound → now ≡ after → count ≡ some → new' ≤ rest + count → old ≡ rest + 1
+                → (bound - now) + new' < (bound - before) + old
+            arithmetic bound before after now rest old new' some count a b c d e g = omega arith
+
+    by : IsHandled f values (sources_of graph order block) block (taken p block mid.stack) new
+        → IsProgress f values order graph new × (to_do values order graph new < to_do values order graph p)
+    by h = which h h.after
+
+-- the start, and the end
+pub progress_start : (f : Body) (values order : List ℕ) (graph : List (List ℕ)) (sets : List (List Bool)) (stack : List ℕ) (waits : List Bool)
+    → IsStart (length f.blocks) (length values) order sets stack waits → IsProgress f values order graph (record { sets = sets; stack = stack; waits = waits; handled = 0 })
+progress_start f values order graph sets stack waits start = record {
+  sized = start.sized;
+  queue = record { marks = start.marks; there = start.there; waiting = start.waiting };
+  sound = λ k b below inside h. absurd (start.empty k b h);
+  settled = λ b member idle k below live. absurd (false≢true (sym idle ∙ start.all b member));
+  most = let e = start.long in omega (arith, e);
+  least = let e = start.long in omega (arith, e);
+}
+
+targets_alike : (f : Body) (graph : List (List ℕ)) (order : List ℕ) → ((k : ℕ) → k < length order → leads_to graph (get_or order k 0) ≡ successors_of f (get_or order k 0))
+    → all_targets graph order ≡ flat_map (successors_of f) order
+targets_alike f graph [] same = refl
+targets_alike f graph (b ∷ order) same =
+    ap (λ xs. xs ++ all_targets graph order) (same 0 (omega arith))
+    ∙ ap (λ xs. successors_of f b ++ xs) (targets_alike f graph order (λ k inside. same (suc k) (omega (arith, inside))))
+
+pub progress_end : (f : Body) (values order : List ℕ) (graph : List (List ℕ)) (p : Progress) → ((b : ℕ) → Contains order b → b < length f.blocks)
+    → ((b : ℕ) → b < length f.blocks → leads_to graph b ≡ successors_of f b) → IsProgress f values order graph p → p.stack ≡ [] → IsFinished f values order p.sets p.handled
+progress_end f values order graph p there graph_is done empty = record {
+  sized = done.sized;
+  sound = λ k b below h. fronts f values order graph p done k below b h;
+  settled = λ b member. done.settled b member (idle b);
+  most =
+    let most = done.most in let full = fills_most p.sets (length f.blocks) (length values) (all_targets graph order) done.sized in let none : length p.stack ≡ 0 = ap length empty in
+    let same : length (all_targets graph order) * length values ≡ length (flat_map (successors_of f) order) * length values = ap (λ ts. length ts * length values) alike in
+    omega (arith, most, full, none, same);
+  least = let least = done.least in let none : length p.stack ≡ 0 = ap length empty in omega (arith, least, none);
+}
+  where
+    alike : all_targets graph order ≡ flat_map (successors_of f) order
+    alike = targets_alike f graph order (λ k inside. graph_is (get_or order k 0) (there (get_or order k 0) (k, inside, get_or_default order k (get_or order k 0) 0 inside)))
+
+    false_from : (x : Bool) → (x ≡ true → ⊥) → x ≡ false
+    false_from true h = absurd (h refl)
+    false_from false h = refl
+
+    idle : (b : ℕ) → is_in p.waits b ≡ false
+    idle b = false_from (is_in p.waits b) (λ h. no (subst (λ xs. Contains xs b) empty (done.queue.waiting b h)))
+      where
+        no : Contains [] b → ⊥
+        no h = absurd (omega (arith, h.1))

@@ -18,7 +18,6 @@ use Rattle.clif_safepoints.specs.Graph.{arcs, leads_to, sources_of}
 use Rattle.clif_safepoints.specs.Progress.{IsHandled, IsTaken, Progress, one_more, pushed, pushed_all}
 use Rattle.clif_safepoints.specs.Sets.{AreSets, Grows, IsSet, in_set_of, is_in, member_count}
 use Rattle.clif_safepoints.specs.Transfer.{argument_passes, edge_needs, insts_of, is_live_before, is_live_behind, is_live_in, names, successors_of, targets_from}
-use Rattle.clif_safepoints.proofs.Paths.{IsLiveFront, front_to, or_cases, or_left, stands_from, stands_to}
 use Rattle.clif_safepoints.proofs.Visits.{times, times_append}
 
 -- one more block is pushed

@@ -5,4 +5,5 @@ pub mod Sets
 pub mod Graph
 pub mod Tables
 pub mod Visits
+pub mod Fronts
 pub mod Progress

@@ -1,1 +1,0 @@
-use Rattle.clif_safepoints.proofs.Settling.{fills_grow}
