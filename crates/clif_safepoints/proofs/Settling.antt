@@ -1,10 +1,10 @@
 -- What the work list keeps: all that it holds live is so by paths, each block that doesn't wait is settled, and each block that was
 -- handled is paid for.
 use Rattle.std.proofs.Common.{◌≡◌, ◌≢◌, ◌+◌, ◌-◌, ◌*◌, ◌^◌, ◌<◌, ◌≤◌, ◌⊎◌, ◌||◌, ◌&&◌, ◌==◌, not, ℕ, zero, suc, Bool, true, false, cond, List, [], ◌∷◌, ◌++◌, length, get_or, map, take, drop, set, min, refl, sym, ap, subst, ◌∙◌, arith, inl, inr, Option, Some, None, eqb, slice_index, slice_index_or, length-append, append-nil}
-use Rattle.std.specs.Prelude.{Contains, slice_get}
+use Rattle.std.specs.Prelude.{All, Contains, slice_get}
 use Rattle.std.specs.List.{filter, flat_map, list_any}
 use Rattle.std.proofs.lemmas.List.{get_or-set_other, get_or_default, length-map}
-use Rattle.std.proofs.lemmas.List.Elements.{Contains-append_cases, Contains-append_left, Contains-append_right, Contains-push_cases}
+use Rattle.std.proofs.lemmas.List.Elements.{Contains-append_cases, Contains-append_left, Contains-append_right, Contains-get_or, Contains-push_cases}
 use Rattle.std.proofs.lemmas.List.Sums.{count_by-le-length}
 use Rattle.std.proofs.lemmas.Grind.{get_or-set_at}
 use Rattle.std.proofs.lemmas.Bool.{eq-eqb, eqb-true, false≢true}
@@ -21,7 +21,7 @@ use Rattle.clif_safepoints.specs.Sets.{AreSets, Grows, IsSet, in_set_of, is_in, 
 use Rattle.clif_safepoints.specs.Tables.{AreRows}
 use Rattle.clif_safepoints.specs.Transfer.{argument_passes, edge_needs, insts_of, is_live_before, is_live_behind, is_live_in, names, successors_of, targets_from}
 use Rattle.clif_safepoints.specs.Fronts.{IsFinished, IsLiveFront, IsStart}
-use Rattle.clif_safepoints.proofs.Paths.{front_to, or_cases, or_left}
+use Rattle.clif_safepoints.proofs.Paths.{contained_in_map, front_to, or_cases, or_left}
 use Rattle.clif_safepoints.proofs.Visits.{bit, times, times_append}
 use Rattle.clif_safepoints.proofs.Working.{IsPushed, IsQueue, push_each}
 
@@ -459,3 +459,31 @@ progress_end f values order graph p there graph_is done empty = record {
       where
         no : Contains [] b → ⊥
         no h = absurd (omega (arith, h.1))
+
+-- the sources of a block are of the order
+pub source_of : (graph : List (List ℕ)) (order : List ℕ) (t x : ℕ) → Contains (sources_of graph order t) x → Contains order x
+source_of graph [] t x h = absurd (omega (arith, h.1))
+source_of graph (b ∷ order) t x h = by (source_of graph order t x) (Contains-append_cases (arcs graph t b) (sources_of graph order t) x h)
+  where
+    by : (Contains (sources_of graph order t) x → Contains order x) → Contains (arcs graph t b) x ⊎ Contains (sources_of graph order t) x → Contains (b ∷ order) x
+    by rest (inl here) = (0, omega arith, (contained_in_map (λ (y : ℕ). b) (filter (λ y. y == t) (leads_to graph b)) x here).2)
+    by rest (inr later) = let at = rest later in (suc at.0, omega (arith, at.1), at.2)
+
+-- what holds as a block was taken
+pub round_block : (f : Body) (values order : List ℕ) (graph : List (List ℕ)) (p : Progress) (block : ℕ) (mid : Progress) → IsProgress f values order graph p → IsTaken p (Some block) mid
+    → block < length f.blocks
+round_block f values order graph p block mid so_far take =
+    so_far.queue.there block (subst (λ xs. Contains xs block) (sym take.0) (Contains-append_right mid.stack (block ∷ []) block (0, omega arith, refl)))
+
+pub round_sets : (f : Body) (values order : List ℕ) (graph : List (List ℕ)) (p : Progress) (block : ℕ) (mid : Progress) → IsProgress f values order graph p → IsTaken p (Some block) mid
+    → AreSets (length f.blocks) (length values) mid.sets
+round_sets f values order graph p block mid so_far take = subst (λ sets. AreSets (length f.blocks) (length values) sets) (sym take.2) so_far.sized
+
+pub round_marks : (f : Body) (values order : List ℕ) (graph : List (List ℕ)) (p : Progress) (block : ℕ) (mid : Progress) → IsProgress f values order graph p → IsTaken p (Some block) mid
+    → length mid.waits ≡ length f.blocks
+round_marks f values order graph p block mid so_far take = ap length take.1 ∙ length-set p.waits block false ∙ so_far.queue.marks
+
+-- the blocks that wait have marks
+pub stack_marked : (f : Body) (values order : List ℕ) (graph : List (List ℕ)) (p : Progress) → IsProgress f values order graph p → All (λ b. b < length p.waits) p.stack
+stack_marked f values order graph p so_far k d inside =
+    subst (λ n. get_or p.stack k d < n) (sym so_far.queue.marks) (so_far.queue.there (get_or p.stack k d) (Contains-get_or p.stack k d inside))

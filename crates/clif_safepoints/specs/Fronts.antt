@@ -1,5 +1,5 @@
 -- Liveness at the fronts of blocks, by paths, and what a solution of the equations has to be. Source: the usual ones.
-use Rattle.std.specs.Prelude.{◌≡◌, ◌<◌, ◌≤◌, ◌+◌, ◌*◌, ◌⊎◌, ℕ, Bool, true, List, length, flat_map, Contains, slice_index}
+use Rattle.std.specs.Prelude.{◌≡◌, ◌<◌, ◌≤◌, ◌+◌, ◌*◌, ◌⊎◌, ℕ, Bool, true, List, [], length, flat_map, replicate, false, Contains, slice_index, slice_index_or}
 use Rattle.clif_ir.specs.Body.{Body, block_at, resolved}
 use Rattle.clif_meaning.specs.Path.{Place}
 use Rattle.clif_meaning.specs.View.{view_of}
@@ -32,6 +32,10 @@ pub record IsFinished (f : Body) (values order : List ℕ) (sets : List (List Bo
       → is_live_in f (in_set_of sets k) b (slice_index values k) ≡ true → in_set_of sets k b ≡ true
   pub most : handled ≤ length order + length (flat_map (successors_of f) order) * length values
   pub least : length order ≤ handled
+
+-- so many sets without a member
+abbrev pub AreEmpty : ℕ → ℕ → List (List Bool) → Type 0
+AreEmpty blocks places sets = (length sets ≡ blocks) × ((b : ℕ) → b < blocks → slice_index_or sets b [] ≡ replicate places false)
 
 -- nothing is live yet, and these blocks wait
 pub record IsStart (blocks places : ℕ) (order : List ℕ) (sets : List (List Bool)) (stack : List ℕ) (waits : List Bool) : Type 0 where

@@ -27,7 +27,7 @@ pushed_all p (block ∷ blocks) = pushed_all (pushed p block) blocks
 
 -- the next block is taken, if one waits
 abbrev pub IsTaken : Progress → Option ℕ → Progress → Type 0
-IsTaken old None new = old.stack ≡ []
+IsTaken old None new = (old.stack ≡ []) × (new ≡ old)
 IsTaken old (Some block) new =
     (old.stack ≡ new.stack ++ block ∷ []) × (new.waits ≡ slice_set old.waits block false) × (new.sets ≡ old.sets) × (new.handled ≡ old.handled)
 

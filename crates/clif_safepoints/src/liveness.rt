@@ -2,7 +2,7 @@
 ghost use Rattle.std.specs.Prelude.{◌≡◌, OnOk, OnErr, IsOkUnless};
 ghost use Rattle.clif_safepoints.specs.Analysis.{Findings, IsAnalysis, found_across, nothing_found};
 
-use crate::graph::{post_order, predecessors};
+use crate::graph::post_order;
 use crate::lists::InstList;
 use crate::number_set::NumberSet;
 use crate::reading::{insts_by_block, successors_by_block};
@@ -87,9 +87,8 @@ fn analyse(func: &Function, recorded: &EntitySet<Value>) -> Result<LivenessAnaly
     let insts = insts_by_block(func)?;
     let successors = successors_by_block(func, &insts)?;
     let order = post_order(alloc, func.entry_block(), &successors)?;
-    let sources = predecessors(alloc, &order, &successors)?;
     let recorded = Recorded::new(alloc, recorded)?;
-    let live = live_ins(func, &recorded, &insts, &order, &sources)?;
+    let live = live_ins(func, &recorded, &insts, &successors, &order)?;
     let across = across_by_inst(func, &recorded, &live.sets, &insts, &order)?;
     Ok(LivenessAnalysis {
         alloc,

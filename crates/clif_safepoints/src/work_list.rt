@@ -1,9 +1,12 @@
 //! The work list: the sets of what is live at the fronts of blocks grow until none has to.
 ghost use Rattle.std.specs.Prelude.{◌≡◌, ◌<◌, length, All, OnOk, IfOk, IsOkUnless};
-ghost use Rattle.clif_ir.specs.Body.{block_at};
+ghost use Rattle.clif_safepoints.specs.Fronts.{AreEmpty, IsFinished, IsStart};
+ghost use Rattle.clif_safepoints.specs.Graph.{IsClosed};
 ghost use Rattle.clif_safepoints.specs.Sets.{AreSets};
-ghost use Rattle.clif_safepoints.specs.Transfer.{insts_of};
+ghost use Rattle.clif_safepoints.specs.Tables.{AreRows};
+ghost use Rattle.clif_safepoints.specs.Transfer.{insts_of, successors_of};
 
+use crate::graph::predecessors;
 use crate::lists::{BlockList, InstList};
 use crate::number_set::NumberSet;
 use crate::recorded::Recorded;
@@ -102,35 +105,43 @@ pub(crate) fn live_ins(
     func: &Function,
     recorded: &Recorded<'_>,
     insts: &[InstList],
+    successors: &[BlockList],
     order: &[Block],
-    sources: &[BlockList],
-) -> Result<WorkList, BuildError> {
-    let mut work = start(func, recorded, order)?;
-    let mut live = NumberSet::new(func.allocator(), recorded.len())?;
+) -> Result<WorkList, BuildError>
+    requires insts { AreRows (length func.now.blocks) (insts_of func.now) insts.now }
+    requires successors { AreRows (length func.now.blocks) (successors_of func.now) successors.now }
+    requires closed { IsClosed successors.now }
+    requires order { All (λ block. block < length func.now.blocks) order.now }
+    ensures ok { IfOk result (λ work. IsFinished func.now recorded.now order.now work.sets.items work.handled) }
+    ensures memory_alone { IsOkUnless result BuildError.Memory }
+{
+    let alloc = func.allocator();
+    let source_lists = predecessors(alloc, order, successors)?;
+    let sources = source_lists.as_slice();
+    let mut work = start(alloc, func.block_count(), recorded.len(), order)?;
+    let mut live = NumberSet::new(alloc, recorded.len())?;
     while let Some(block) = work.pop() {
         let number = block.index();
-        work.handle(
-            func,
-            recorded,
-            block,
-            insts[number].as_slice(),
-            sources[number].as_slice(),
-            &mut live,
-        )?;
+        let own_insts = insts[number].as_slice();
+        let own_sources = sources[number].as_slice();
+        work.handle(func, recorded, block, own_insts, own_sources, &mut live)?;
     }
     Ok(work)
 }
 
-// The work list in which these blocks wait, the first one as the next, and nothing is live.
+// The work list of so many blocks in which these wait, the first one as the next, and nothing is live.
 fn start(
-    func: &Function,
-    recorded: &Recorded<'_>,
+    alloc: Global,
+    blocks: usize,
+    places: usize,
     order: &[Block],
-) -> Result<WorkList, BuildError> {
-    let alloc = func.allocator();
-    let count = func.block_count();
-    let sets = empty_sets(alloc, count, recorded.len())?;
-    let mut waits = NumberSet::new(alloc, count)?;
+) -> Result<WorkList, BuildError>
+    requires { All (λ block. block < blocks) order.now }
+    ensures ok { IfOk result (λ work. IsStart blocks places order.now work.sets.items work.stack.items work.waits × (work.handled ≡ 0)) }
+    ensures memory_alone { IsOkUnless result BuildError.Memory }
+{
+    let sets = empty_sets(alloc, blocks, places)?;
+    let mut waits = NumberSet::new(alloc, blocks)?;
     let mut stack = Vec::new(alloc);
     for place in (0..order.len()).rev() {
         let block = order[place];
@@ -145,11 +156,14 @@ fn start(
     })
 }
 
-// So many empty sets of numbers below `size`.
-fn empty_sets(alloc: Global, count: usize, size: usize) -> Result<Vec<NumberSet>, BuildError> {
+// So many empty sets of so many places.
+fn empty_sets(alloc: Global, count: usize, places: usize) -> Result<Vec<NumberSet>, BuildError>
+    ensures ok { IfOk result (λ sets. AreEmpty count places sets.items) }
+    ensures memory_alone { IsOkUnless result BuildError.Memory }
+{
     let mut sets = Vec::new(alloc);
     for _number in 0..count {
-        sets.push(NumberSet::new(alloc, size)?)?;
+        sets.push(NumberSet::new(alloc, places)?)?;
     }
     Ok(sets)
 }
