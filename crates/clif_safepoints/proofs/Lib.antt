@@ -1,5 +1,6 @@
 pub mod Marks
 pub mod Paths
+pub mod Recording
 pub mod Rows
 pub mod Scanning
 pub mod Settling

@@ -53,3 +53,24 @@ at_front f sets values insts block live new is before now = record {
     ∙ ap (λ (b : Bool). not (stands_in (slice_index values k) (block_at f block).params) && b)
         (before.members k below ∙ ap (is_live_before f (sets k) (slice_index values k)) is);
 }
+
+-- the same where both steps are told at once
+pub one_before_at_once : (f : Body) (sets : ℕ → ℕ → Bool) (values insts : List ℕ) (above inst : ℕ) (live new : List Bool) → 0 < above → above ≤ length insts
+    → inst ≡ get_or insts (above - 1) inst → IsLiveFrom f sets values insts above live
+    → IsSet (length values) (λ k. names f (operands (inst_at f inst).shape) (slice_index values k) || is_live_behind f (sets k) (slice_index values k) inst (is_in live k)) new
+    → IsLiveFrom f sets values insts (above - 1) new
+one_before_at_once f sets values insts above inst live new some inside is before now = record {
+  size = now.size;
+  members = λ k below.
+    now.members k below
+    ∙ ap (λ (b : Bool). names f (operands (inst_at f inst).shape) (slice_index values k) || is_live_behind f (sets k) (slice_index values k) inst b) (before.members k below)
+    ∙ sym (ap (is_live_before f (sets k) (slice_index values k)) ahead);
+}
+  where
+    last : above - 1 < length insts
+    last = omega arith
+
+    ahead : drop (above - 1) insts ≡ inst ∷ drop above insts
+    ahead =
+        drop-cons insts (above - 1) inst last ∙ ap (λ x. x ∷ drop (suc (above - 1)) insts) (sym is)
+        ∙ ap (λ n. inst ∷ drop n insts) (let e : suc (above - 1) ≡ above = omega arith in e)

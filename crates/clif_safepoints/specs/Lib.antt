@@ -5,5 +5,6 @@ pub mod Sets
 pub mod Graph
 pub mod Tables
 pub mod Visits
+pub mod LastPass
 pub mod Fronts
 pub mod Progress

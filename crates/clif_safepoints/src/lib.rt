@@ -6,10 +6,10 @@
 #![tactic(auto)]
 
 mod graph;
+mod last_pass;
 mod lists;
-mod number_set;
-
 pub mod liveness;
+mod number_set;
 mod reading;
 mod recorded;
 mod scan;

@@ -1,16 +1,14 @@
 //! Exact liveness of recorded values across calls.
-ghost use Rattle.std.specs.Prelude.{◌≡◌, OnOk, OnErr, IsOkUnless};
+ghost use Rattle.std.specs.Prelude.{◌≡◌, IfOk, OnOk, OnErr, IsOkUnless};
 ghost use Rattle.clif_safepoints.specs.Analysis.{Findings, IsAnalysis, found_across, nothing_found};
 
 use crate::graph::post_order;
-use crate::lists::InstList;
-use crate::number_set::NumberSet;
+use crate::last_pass::across_by_inst;
 use crate::reading::{insts_by_block, successors_by_block};
 use crate::recorded::Recorded;
-use crate::scan::{step_before, step_behind};
 use crate::work_list::live_ins;
-use clif_ir::{Function, InstructionData, ValueList};
-use clif_types::{Block, BuildError, EntityRef, EntitySet, Inst, Value};
+use clif_ir::{Function, ValueList};
+use clif_types::{BuildError, EntityRef, EntitySet, Inst, Value};
 use std::alloc::Global;
 use std::marker::Model;
 
@@ -81,85 +79,22 @@ impl LivenessAnalysis {
     }
 }
 
-// The analysis of a function.
-fn analyse(func: &Function, recorded: &EntitySet<Value>) -> Result<LivenessAnalysis, BuildError> {
+// The analysis of a function. The only error is `Memory`.
+fn analyse(func: &Function, recorded: &EntitySet<Value>) -> Result<LivenessAnalysis, BuildError>
+    ensures ok { IfOk result (λ found. IsAnalysis func.now recorded.now found) }
+    ensures memory_alone { IsOkUnless result BuildError.Memory }
+{
+    func.law_consistent();
     let alloc = func.allocator();
     let insts = insts_by_block(func)?;
     let successors = successors_by_block(func, &insts)?;
     let order = post_order(alloc, func.entry_block(), &successors)?;
     let recorded = Recorded::new(alloc, recorded)?;
-    let live = live_ins(func, &recorded, &insts, &successors, &order)?;
-    let across = across_by_inst(func, &recorded, &live.sets, &insts, &order)?;
+    let work = live_ins(func, &recorded, &insts, &successors, &order)?;
+    let across = across_by_inst(func, &recorded, &work.sets, &insts, &order)?;
     Ok(LivenessAnalysis {
         alloc,
         across,
-        handled: live.handled,
+        handled: work.handled,
     })
-}
-
-// The last pass: the values for each instruction, by its number.
-fn across_by_inst(
-    func: &Function,
-    recorded: &Recorded<'_>,
-    live_ins: &[NumberSet],
-    insts: &[InstList],
-    order: &[Block],
-) -> Result<Vec<ValueList>, BuildError> {
-    let alloc = func.allocator();
-    let mut across = Vec::new(alloc);
-    for _ in 0..func.inst_count() {
-        across.push(ValueList::new(alloc))?;
-    }
-    let mut live = NumberSet::new(alloc, recorded.len())?;
-    for block in order {
-        live.clear();
-        record_block(func, recorded, live_ins, insts[block.index()].as_slice(), &mut live, &mut across)?;
-    }
-    Ok(across)
-}
-
-// Puts down the values for each call of a block, where `live` is empty.
-fn record_block(
-    func: &Function,
-    recorded: &Recorded<'_>,
-    live_ins: &[NumberSet],
-    insts: &[Inst],
-    live: &mut NumberSet,
-    across: &mut [ValueList],
-) -> Result<(), BuildError> {
-    for place in (0..insts.len()).rev() {
-        let inst = insts[place];
-        step_behind(func, recorded, live_ins, inst, live);
-        if is_safepoint(func.inst_data(inst)) {
-            across[inst.index()] = members(func.allocator(), recorded, live)?;
-        }
-        step_before(func, recorded, inst, live);
-    }
-    Ok(())
-}
-
-// The members of a set of recorded values, by rising number.
-fn members(
-    alloc: Global,
-    recorded: &Recorded<'_>,
-    live: &NumberSet,
-) -> Result<ValueList, BuildError> {
-    let mut values = ValueList::new(alloc);
-    for place in 0..recorded.len() {
-        if live.contains(place) {
-            values.push(recorded.at(place))?;
-        }
-    }
-    Ok(values)
-}
-
-// Whether a collector may run at an instruction.
-fn is_safepoint(shape: &InstructionData) -> bool {
-    matches!(
-        shape,
-        InstructionData::Call { .. }
-            | InstructionData::CallIndirect { .. }
-            | InstructionData::TryCall { .. }
-            | InstructionData::TryCallIndirect { .. }
-    )
 }
