@@ -1,3 +1,4 @@
+pub mod Concluding
 pub mod Marks
 pub mod Paths
 pub mod Recording
