@@ -112,7 +112,7 @@ names_to f xs v h =
 
 -- INSTRUCTIONS ----------------------------------------------------------------------------------------------------------
 
-items_are : (f : Body) (b : ℕ) → items_of f b ≡ map (placed_of f) (insts_of f b)
+pub items_are : (f : Body) (b : ℕ) → items_of f b ≡ map (placed_of f) (insts_of f b)
 items_are f b = by (stands_in b f.layout)
   where
     by : (c : Bool) → (if c then map (placed_of f) (block_at f b).insts else []) ≡ map (placed_of f) (if c then (block_at f b).insts else [])
@@ -121,6 +121,10 @@ items_are f b = by (stands_in b f.layout)
 
 pub placed_is : (f : Body) (b k inst : ℕ) → slice_get (insts_of f b) k ≡ Some inst → placed_at (view_of f) (at b k) ≡ Some (placed_of f inst)
 placed_is f b k inst is =
+    ap (λ (items : List Placed). slice_get items k) (items_are f b) ∙ slice_get-map (placed_of f) (insts_of f b) k ∙ ap (option_map (placed_of f)) is
+
+pub placed_none : (f : Body) (b k : ℕ) → slice_get (insts_of f b) k ≡ None → placed_at (view_of f) (at b k) ≡ None
+placed_none f b k is =
     ap (λ (items : List Placed). slice_get items k) (items_are f b) ∙ slice_get-map (placed_of f) (insts_of f b) k ∙ ap (option_map (placed_of f)) is
 
 pub size_is : (f : Body) (b : ℕ) → (function_flow (view_of f)).size b ≡ length (insts_of f b)

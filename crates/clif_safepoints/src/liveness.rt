@@ -86,12 +86,16 @@ fn analyse(func: &Function, recorded: &EntitySet<Value>) -> Result<LivenessAnaly
 {
     func.law_consistent();
     let alloc = func.allocator();
-    let insts = insts_by_block(func)?;
-    let successors = successors_by_block(func, &insts)?;
-    let order = post_order(alloc, func.entry_block(), &successors)?;
+    let inst_lists = insts_by_block(func)?;
+    let insts = inst_lists.as_slice();
+    let successor_lists = successors_by_block(func, insts)?;
+    let successors = successor_lists.as_slice();
+    let blocks = post_order(alloc, func.entry_block(), successors)?;
+    let order = blocks.as_slice();
     let recorded = Recorded::new(alloc, recorded)?;
-    let work = live_ins(func, &recorded, &insts, &successors, &order)?;
-    let across = across_by_inst(func, &recorded, &work.sets, &insts, &order)?;
+    recorded.law_rising();
+    let work = live_ins(func, &recorded, insts, successors, order)?;
+    let across = across_by_inst(func, &recorded, work.sets.as_slice(), insts, order)?;
     Ok(LivenessAnalysis {
         alloc,
         across,
