@@ -1,12 +1,12 @@
 -- The analysis of a function, from its parts.
-use Rattle.std.proofs.Common.{◌≡◌, ◌≢◌, ◌+◌, ◌*◌, ◌<◌, ◌≤◌, ◌⊎◌, ◌↔◌, ◌&&◌, ℕ, zero, suc, Bool, true, false, cond, List, [], ◌∷◌, ◌++◌, length, map, get_or, drop, refl, sym, ap, subst, ◌∙◌, arith, inl, inr, eqb, Option, Some, None, slice_index, slice_index_or, length-append, IsTrue}
-use Rattle.std.specs.Prelude.{All, Contains, slice_get, if◌then◌else◌, sum_by}
+use Rattle.std.proofs.Common.{◌≡◌, ◌+◌, ◌*◌, ◌<◌, ◌≤◌, ◌⊎◌, ℕ, zero, suc, Bool, true, false, List, [], ◌∷◌, ◌++◌, length, map, get_or, refl, sym, ap, subst, ◌∙◌, arith, inl, inr, Option, Some, None, slice_index}
+use Rattle.std.specs.Prelude.{Contains, slice_get, if◌then◌else◌, sum_by}
 use Rattle.std.specs.List.{flat_map}
 use Rattle.std.specs.Option.{option_map}
 use Rattle.std.specs.List.Sorted.{IsStrictlyIncreasing}
 use Rattle.std.proofs.lemmas.Bool.{false≢true}
 use Rattle.std.proofs.lemmas.List.{get_or_default}
-use Rattle.std.proofs.lemmas.Option.{get_or_from_slice_get, slice_get-get_or, slice_get-map, slice_get_within}
+use Rattle.std.proofs.lemmas.Option.{get_or_from_slice_get, slice_get-map, slice_get_within}
 use Rattle.std.proofs.Math.ListN.{get_or-eq_default}
 use Rattle.std.proofs.lemmas.List.Concat.{length-flat_map}
 use Rattle.std.proofs.lemmas.List.Elements.{All-contains, Contains-append_cases, Contains-append_left, Contains-append_right, Contains-get_or}
@@ -15,9 +15,9 @@ use Rattle.clif_instructions.specs.declared.block_call.BlockArg.TheVariants as a
 use Rattle.clif_instructions.specs.declared.block_call.BlockCall.{BlockCall}
 use Rattle.clif_instructions.specs.Edges.{targets}
 use Rattle.clif_instructions.specs.Instruction.{destinations, is_call, operands}
-use Rattle.clif_instructions.specs.Members.{Once, place_of, stands_in}
+use Rattle.clif_instructions.specs.Members.{stands_in}
 use Rattle.clif_instructions.proofs.Members.{place_of-first}
-use Rattle.clif_ir.specs.Body.{Body, alias_of, block_at, inst_at, resolved}
+use Rattle.clif_ir.specs.Body.{Body, block_at, inst_at, resolved}
 use Rattle.clif_ir.specs.Consistent.{EdgeExists, IsConsistent, PassedExists}
 use Rattle.clif_ir.specs.Reading.{place_in_block}
 use Rattle.clif_ir.proofs.Aliases.{follow_end, resolved-no_alias}
@@ -26,16 +26,16 @@ use Rattle.clif_meaning.specs.Instruction.{Edge, Known}
 use Rattle.clif_meaning.specs.Path.{IsPath, IsReachable, Leads, Place}
 use Rattle.clif_meaning.specs.View.{argument_of, edge_of, placed_of, view_of}
 use Rattle.clif_meaning.specs.WellPlaced.{edge_targets, function_flow, placed_at, placed_gives, placed_targets}
-use Rattle.clif_safepoints.specs.Analysis.{Findings, IsAnalysis, IsExact, IsHandledCount, IsReached, IsTracedAcross, edges_from, place_of_inst}
-use Rattle.clif_safepoints.specs.Fronts.{IsFinished, IsLiveFront, at}
+use Rattle.clif_safepoints.specs.Analysis.{IsAnalysis, IsExact, IsReached, IsTracedAcross, edges_from, place_of_inst}
+use Rattle.clif_safepoints.specs.Fronts.{IsFinished, at}
 use Rattle.clif_safepoints.specs.Graph.{IsClosed, IsOrder, IsWay, leads_to}
 use Rattle.clif_safepoints.specs.LastPass.{IsListedBy, IsRow, is_live_across, row_at}
 use Rattle.clif_safepoints.specs.Liveness.{IsLiveAcross, IsPassed, IsUsedAhead, every_argument, used_operands}
 use Rattle.clif_safepoints.specs.Sets.{in_set_of}
 use Rattle.clif_safepoints.specs.Tables.{AreRows}
-use Rattle.clif_safepoints.specs.Transfer.{insts_of, is_live_before, is_live_behind, successors_of, targets_from}
-use Rattle.clif_safepoints.proofs.Paths.{IsSettled, across_from, across_to, block_reached, contained_in_map, contains_at, contains_map, place_of_member, items_are, placed_is, placed_none, reached_inside, size_is, stands_from, stands_to, targets_are}
-use Rattle.clif_safepoints.proofs.Recording.{inst_home, insts_once}
+use Rattle.clif_safepoints.specs.Transfer.{insts_of, successors_of, targets_from}
+use Rattle.clif_safepoints.proofs.Paths.{across_from, across_to, block_reached, contained_in_map, contains_at, contains_map, place_of_member, items_are, placed_is, placed_none, reached_inside, size_is, stands_from, stands_to, targets_are}
+use Rattle.clif_safepoints.proofs.Recording.{inst_home}
 
 -- REACHED BLOCKS --------------------------------------------------------------------------------------------------------
 
@@ -83,7 +83,7 @@ successor_from f b k t h =
     let edge = targets_are f b k inst.0 t inst.1 h in
     target_from f (insts_of f b) k inst.0 t inst.1
     (subst (λ x. Contains (targets (destinations (inst_at f inst.0).shape)) x) edge.2
-        (contains_map (λ (e : BlockCall). e.block) (destinations (inst_at f inst.0).shape) edge.0 edge.1))
+    (contains_map (λ (e : BlockCall). e.block) (destinations (inst_at f inst.0).shape) edge.0 edge.1))
 
 -- the lists of a graph are those of the function
 pub record IsGraphOf (f : Body) (graph : List (List ℕ)) : Type 0 where
@@ -154,7 +154,7 @@ edges_are f b =
     ap (flat_map (λ (placed : Placed). edge_targets placed.instruction)) (items_are f b)
     ∙ flat_of_map (λ (placed : Placed). edge_targets placed.instruction) (placed_of f) (insts_of f b)
     ∙ flat_alike (λ inst. edge_targets (placed_of f inst).instruction) (λ inst. targets (destinations (inst_at f inst).shape)) (insts_of f b)
-        (λ inst. edge_targets_are (destinations (inst_at f inst).shape))
+    (λ inst. edge_targets_are (destinations (inst_at f inst).shape))
 
 edge_count : (f : Body) (order : List ℕ) → length (flat_map (successors_of f) order) ≡ sum_by (edges_from (view_of f)) order
 edge_count f order =
@@ -174,7 +174,7 @@ used_unaliased f kept v b k h = by (slice_get (insts_of f b) k) refl
     named inst m =
         let from = contained_in_map (resolved f) (operands (inst_at f inst).shape) v m in
         let exists : from.0 < length f.values =
-            subst (λ x. x < length f.values) (get_or_default (operands (inst_at f inst).shape) from.1.0 0 from.0 from.1.1 ∙ from.1.2) (kept.operands_exist inst from.1.0 from.1.1) in
+        subst (λ x. x < length f.values) (get_or_default (operands (inst_at f inst).shape) from.1.0 0 from.0 from.1.1 ∙ from.1.2) (kept.operands_exist inst from.1.0 from.1.1) in
         subst (λ x. resolved f x ≡ x) from.2 (resolved_twice f kept from.0 exists)
 
     by : (o : Option ℕ) → slice_get (insts_of f b) k ≡ o → resolved f v ≡ v
@@ -197,7 +197,7 @@ passed_unaliased f kept v b k h = by (slice_get (insts_of f b) k) refl
     named inst given =
         let call = contained_in_map edge_of (destinations (inst_at f inst).shape) given.0 given.3 in
         let argument = unmap argument_of (slice_get call.0.args given.1) (Known given.2)
-            (sym (slice_get-map argument_of call.0.args given.1) ∙ ap (λ (e : Edge ℕ ℕ). slice_get e.arguments given.1) call.2 ∙ given.4) in
+        (sym (slice_get-map argument_of call.0.args given.1) ∙ ap (λ (e : Edge ℕ ℕ). slice_get e.arguments given.1) call.2 ∙ given.4) in
         let edge : EdgeExists f call.0 = All-contains (λ e. EdgeExists f e) (destinations (inst_at f inst).shape) call.0 (kept.edges_exist inst) call.1 in
         let exists : PassedExists f argument.0 = All-contains (λ x. PassedExists f x) call.0.args argument.0 edge.1 (contains_at call.0.args given.1 argument.0 argument.1) in
         subst (λ x. resolved f x ≡ x) given.5 (resolved_twice f kept given.2 (argument_exists f argument.0 given.2 argument.2 exists))
@@ -275,16 +275,18 @@ traced_found : (f : Body) → IsConsistent f → (recorded : List ℕ) (graph : 
     → IsTracedAcross f recorded inst v → (place : ℕ) × IsFoundAt f order inst place
 traced_found f kept recorded graph order is ordered inst v h =
     let size : (place_of_inst f inst).index < length (insts_of f (inst_at f inst).block) =
-        subst (λ n. (place_of_inst f inst).index < n) (size_is f (inst_at f inst).block) (path_size f h.reachable.0 (place_of_inst f inst) h.reachable.1) in
+    subst (λ n. (place_of_inst f inst).index < n) (size_is f (inst_at f inst).block) (path_size f h.reachable.0 (place_of_inst f inst) h.reachable.1) in
     let stands = (kept.insts_stand inst h.exists).1 in
     let own : Contains (block_at f (inst_at f inst).block).insts inst = (stands.0, stands.1, get_or_default (block_at f (inst_at f inst).block).insts stands.0 inst 0 stands.1 ∙ stands.2) in
     let there = place_of_member (insts_of f (inst_at f inst).block) inst
-        (subst (λ xs. Contains xs inst) (sym (layout_has f (inst_at f inst).block (place_of_inst f inst).index size)) own) in
-    (there.0, record {
-      member = reached_order f graph order is ordered (inst_at f inst).block (block_reached f h.reachable.0 (place_of_inst f inst) h.reachable.1);
-      here = there.1;
-      call = h.call;
-    })
+    (subst (λ xs. Contains xs inst) (sym (layout_has f (inst_at f inst).block (place_of_inst f inst).index size)) own) in (
+      there.0,
+      record {
+        member = reached_order f graph order is ordered (inst_at f inst).block (block_reached f h.reachable.0 (place_of_inst f inst) h.reachable.1);
+        here = there.1;
+        call = h.call;
+      },
+    )
 
 -- THE ANALYSIS ----------------------------------------------------------------------------------------------------------
 
@@ -338,12 +340,15 @@ exact_found f recorded graph order sets rows handled parts inst place found = re
         let k = h.member.0 in
         let is : slice_index recorded h.member.0 ≡ v = get_or_default recorded h.member.0 0 v h.member.1 ∙ h.member.2 in
         let live : IsLiveAcross every_argument (view_of f) (at (inst_at f inst).block place) (slice_index recorded h.member.0) =
-            subst (λ p. IsLiveAcross every_argument (view_of f) p (slice_index recorded h.member.0)) told
-            (subst (λ x. IsLiveAcross every_argument (view_of f) (place_of_inst f inst) x) (sym is) h.live) in
-        (h.member.0, h.member.1, is,
-            across_from f (in_set_of sets h.member.0) (slice_index recorded h.member.0)
-                (λ t r l. parts.finished.settled t (reached_order f graph order parts.graph_is parts.ordered t r) h.member.0 h.member.1 l)
-                live.1 (inst_at f inst).block place inst reached found.here live.0 live.2)
+        subst (λ p. IsLiveAcross every_argument (view_of f) p (slice_index recorded h.member.0)) told
+        (subst (λ x. IsLiveAcross every_argument (view_of f) (place_of_inst f inst) x) (sym is) h.live) in (
+          h.member.0,
+          h.member.1,
+          is,
+          across_from f (in_set_of sets h.member.0) (slice_index recorded h.member.0)
+              (λ t r l. parts.finished.settled t (reached_order f graph order parts.graph_is parts.ordered t r) h.member.0 h.member.1 l)
+              live.1 (inst_at f inst).block place inst reached found.here live.0 live.2,
+        )
 
 exact_none : (f : Body) (recorded : List ℕ) (graph : List (List ℕ)) (order : List ℕ) (sets : List (List Bool)) (rows : List (List ℕ)) (handled : ℕ) → Parts f recorded graph order sets rows handled
     → (inst : ℕ) → ((place : ℕ) → IsFoundAt f order inst place → ⊥) → IsExact f recorded inst (row_at rows inst)

@@ -1,6 +1,6 @@
 -- Sets as marks: one more member, and tests over lists one element at a time.
-use Rattle.std.proofs.Common.{◌≡◌, ◌≢◌, ◌+◌, ◌<◌, ◌≤◌, ℕ, zero, suc, Bool, true, false, not, ◌||◌, ◌&&◌, ◌==◌, List, [], ◌∷◌, ◌++◌, length, get_or, set, take, replicate, refl, sym, ap, subst, ◌∙◌, arith, eqb, slice_index, slice_index_or, slice_set, ◌⊎◌, inl, inr, cond}
-use Rattle.std.specs.List.{list_any, count_by}
+use Rattle.std.proofs.Common.{◌≡◌, ◌≢◌, ◌+◌, ◌<◌, ◌≤◌, ℕ, Bool, true, false, not, ◌||◌, ◌&&◌, List, [], ◌∷◌, length, get_or, set, take, refl, sym, ap, subst, ◌∙◌, arith, eqb, slice_index, slice_set, ◌⊎◌, inl, inr, cond}
+use Rattle.std.specs.List.{list_any}
 use Rattle.std.proofs.lemmas.List.Sums.{sum_by-set}
 use Rattle.std.specs.List.Sorted.{IsStrictlyIncreasing}
 use Rattle.std.proofs.Math.ListN.{length-set}
@@ -11,7 +11,6 @@ use Rattle.std.proofs.lemmas.Bool.Decides.{eqb_tells}
 use Rattle.std.proofs.lemmas.Map.Keys.{below_from_sorted, sorted_from_strictly_increasing}
 use Rattle.std.proofs.lemmas.List.{take_more, take_all}
 use Rattle.std.proofs.lemmas.List.Folds.{list_any-append}
-use Rattle.clif_instructions.specs.Members.{stands_in}
 use Rattle.clif_safepoints.specs.Sets.{Grows, IsSet, is_in, member_count}
 
 or_false : (a : Bool) → (a || false) ≡ a
@@ -41,9 +40,9 @@ pub add_step : {X : Type 0} (n : ℕ) (p : ℕ → X → Bool) (xs : List X) (i 
 add_step n p xs i x old mid new inside here before now = record {
   size = now.size;
   members = λ k below.
-    now.members k below ∙ ap (λ (b : Bool). p k x || b) (before.members k below)
-    ∙ regroup (p k x) (list_any (p k) (take i xs)) (is_in old k)
-    ∙ ap (λ (b : Bool). b || is_in old k) (sym (any_more (p k) xs i x inside here));
+      now.members k below ∙ ap (λ (b : Bool). p k x || b) (before.members k below)
+      ∙ regroup (p k x) (list_any (p k) (take i xs)) (is_in old k)
+      ∙ ap (λ (b : Bool). b || is_in old k) (sym (any_more (p k) xs i x inside here));
 }
 
 pub add_end : {X : Type 0} (n : ℕ) (p : ℕ → X → Bool) (xs : List X) (i : ℕ) (old new : List Bool) → length xs ≤ i
@@ -69,9 +68,9 @@ pub drop_step : {X : Type 0} (n : ℕ) (p : ℕ → X → Bool) (xs : List X) (i
 drop_step n p xs i x old mid new inside here before now = record {
   size = now.size;
   members = λ k below.
-    now.members k below ∙ ap (λ (b : Bool). not (p k x) && b) (before.members k below)
-    ∙ and_regroup (p k x) (list_any (p k) (take i xs)) (is_in old k)
-    ∙ ap (λ (b : Bool). not b && is_in old k) (sym (any_more (p k) xs i x inside here));
+      now.members k below ∙ ap (λ (b : Bool). not (p k x) && b) (before.members k below)
+      ∙ and_regroup (p k x) (list_any (p k) (take i xs)) (is_in old k)
+      ∙ ap (λ (b : Bool). not b && is_in old k) (sym (any_more (p k) xs i x inside here));
 }
 
 pub drop_end : {X : Type 0} (n : ℕ) (p : ℕ → X → Bool) (xs : List X) (i : ℕ) (old new : List Bool) → length xs ≤ i
@@ -158,7 +157,7 @@ pub added_twice : (n : ℕ) (f g : ℕ → Bool) (old mid new : List Bool) → I
 added_twice n f g old mid new before now = record {
   size = now.size ∙ before.size;
   members = λ k below.
-    now.members k (subst (λ m. k < m) (sym before.size) below) ∙ ap (λ (b : Bool). f k || b) (before.members k below) ∙ or_assoc (f k) (g k) (is_in old k);
+      now.members k (subst (λ m. k < m) (sym before.size) below) ∙ ap (λ (b : Bool). f k || b) (before.members k below) ∙ or_assoc (f k) (g k) (is_in old k);
 }
   where
     or_assoc : (a b c : Bool) → (a || (b || c)) ≡ ((a || b) || c)

@@ -1,6 +1,6 @@
 -- The equations of a block and paths. What the equations tell is live by some path, where that is so of the fronts of blocks
 -- that they rest on; and what is live by a path they tell, where the fronts of blocks that are reached have all that they tell.
-use Rattle.std.proofs.Common.{◌≡◌, ◌≢◌, ◌+◌, ◌<◌, ◌≤◌, ◌⊎◌, ℕ, zero, suc, Bool, true, false, not, ◌||◌, ◌&&◌, ◌==◌, List, [], ◌∷◌, length, map, get_or, drop, refl, sym, ap, subst, ◌∙◌, arith, eqb, inl, inr, Option, Some, None, slice_index_or, add-one}
+use Rattle.std.proofs.Common.{◌≡◌, ◌<◌, ◌⊎◌, ℕ, zero, suc, Bool, true, false, not, ◌||◌, ◌&&◌, List, [], ◌∷◌, length, map, get_or, drop, refl, sym, ap, subst, ◌∙◌, arith, eqb, inl, inr, Option, Some, None, add-one}
 use Rattle.std.specs.Prelude.{Contains, slice_get, if◌then◌else◌}
 use Rattle.std.specs.List.{list_any}
 use Rattle.std.specs.Option.{option_map}
@@ -14,8 +14,8 @@ use Rattle.clif_instructions.specs.declared.block_call.BlockCall.{BlockCall}
 use Rattle.clif_instructions.specs.Instruction.{destinations, operands}
 use Rattle.clif_instructions.specs.Members.{stands_in}
 use Rattle.clif_ir.specs.Body.{Body, block_at, inst_at, resolved}
-use Rattle.clif_meaning.specs.FunctionView.{Placed, FunctionView}
-use Rattle.clif_meaning.specs.Instruction.{Argument, Edge, Known}
+use Rattle.clif_meaning.specs.FunctionView.{Placed}
+use Rattle.clif_meaning.specs.Instruction.{Edge, Known}
 use Rattle.clif_meaning.specs.Path.{IsPath, IsReachable, Leads, Place}
 use Rattle.clif_meaning.specs.View.{argument_of, edge_of, items_of, placed_of, view_of}
 use Rattle.clif_meaning.specs.WellPlaced.{function_code, function_flow, given_on_entry, placed_at, placed_gives, placed_targets}
@@ -139,9 +139,9 @@ pub enters : (f : Body) (b k inst : ℕ) (edge : BlockCall) → slice_get (insts
 enters f b k inst edge is member some =
     inr (
       subst (λ (o : Option Placed). Contains (placed_targets o) edge.block) (sym (placed_is f b k inst is))
-        (contains_map (λ (e : Edge ℕ ℕ). e.target) (map edge_of (destinations (inst_at f inst).shape)) (edge_of edge)
-            (contains_map edge_of (destinations (inst_at f inst).shape) edge member)),
-      (refl, subst (λ n. 0 < n) (sym (size_is f edge.block)) some)
+          (contains_map (λ (e : Edge ℕ ℕ). e.target) (map edge_of (destinations (inst_at f inst).shape)) (edge_of edge)
+          (contains_map edge_of (destinations (inst_at f inst).shape) edge member)),
+      (refl, subst (λ n. 0 < n) (sym (size_is f edge.block)) some),
     )
 
 -- control goes on to the next instruction
@@ -175,11 +175,11 @@ pub behind_to : (f : Body) (live_at : ℕ → Bool) (v b k inst : ℕ) (insts : 
     → (¬ Contains (placed_gives (placed_at (view_of f) (at b k))) v) × (path : List (Place ℕ)) × IsUsedAhead every_argument (view_of f) v (at b k) path
 behind_to f live_at v b k inst insts front is next live =
     let parts = and_cases (not (stands_in v (inst_at f inst).results)) (list_any (edge_needs f live_at v) (destinations (inst_at f inst).shape) || is_live_before f live_at v insts) live in
-    let ahead = by (or_cases (list_any (edge_needs f live_at v) (destinations (inst_at f inst).shape)) (is_live_before f live_at v insts) parts.1) in
-    (
+    let ahead = by (or_cases (list_any (edge_needs f live_at v) (destinations (inst_at f inst).shape)) (is_live_before f live_at v insts) parts.1) in (
       λ given. not_cases (stands_in v (inst_at f inst).results) parts.0
-        (stands_from v (inst_at f inst).results (subst (λ (o : Option Placed). Contains (placed_gives o) v) (placed_is f b k inst is) given)),
-      ahead.0, ahead.1
+          (stands_from v (inst_at f inst).results (subst (λ (o : Option Placed). Contains (placed_gives o) v) (placed_is f b k inst is) given)),
+      ahead.0,
+      ahead.1,
     )
   where
     along : (edge : BlockCall) → Contains (destinations (inst_at f inst).shape) edge → (live_at edge.block ≡ true) ⊎ (list_any (argument_passes f v) edge.args ≡ true)
@@ -195,7 +195,7 @@ behind_to f live_at v b k inst insts front is next live =
     by (inl edges) =
         let which = found (edge_needs f live_at v) (destinations (inst_at f inst).shape) edges in
         along which.1 (contains_at (destinations (inst_at f inst).shape) which.0 which.1 which.2)
-            (or_cases (live_at which.1.block) (list_any (argument_passes f v) which.1.args) which.3)
+        (or_cases (live_at which.1.block) (list_any (argument_passes f v) which.1.args) which.3)
     by (inr more) =
         let later = next more in
         (at b (suc k) ∷ later.1, (goes_on f b k later.0, (λ given. no_member v given), later.2))
@@ -312,7 +312,7 @@ passed_from f live_at v b k inst is passed =
     by given =
         let call = contained_in_map edge_of (destinations (inst_at f inst).shape) given.0 given.3 in
         let argument = unmap argument_of (slice_get call.0.args given.1) (Known given.2)
-            (sym (slice_get-map argument_of call.0.args given.1) ∙ ap (λ (e : Edge ℕ ℕ). slice_get e.arguments given.1) call.2 ∙ given.4) in
+        (sym (slice_get-map argument_of call.0.args given.1) ∙ ap (λ (e : Edge ℕ ℕ). slice_get e.arguments given.1) call.2 ∙ given.4) in
         edges_need f live_at v inst call.0 call.1
         (or_right (live_at call.0.block) (list_any (argument_passes f v) call.0.args)
         (passes_at (argument_passes f v) call.0.args given.1 argument.0 argument.1 (argument_from f v argument.0 given.2 argument.2 given.5)))
@@ -320,7 +320,7 @@ passed_from f live_at v b k inst is passed =
 -- before an instruction, from what holds behind it
 before_from : (f : Body) (live_at : ℕ → Bool) (v b k inst : ℕ) (path : List (Place ℕ)) → slice_get (insts_of f b) k ≡ Some inst
     → ((¬ Contains (placed_gives (placed_at (view_of f) (at b k))) v) → IsUsedAhead every_argument (view_of f) v (at b k) path
-        → is_live_behind f live_at v inst (is_live_before f live_at v (drop (suc k) (insts_of f b))) ≡ true)
+    → is_live_behind f live_at v inst (is_live_before f live_at v (drop (suc k) (insts_of f b))) ≡ true)
     → IsLiveAt f v (at b k) path → is_live_before f live_at v (drop k (insts_of f b)) ≡ true
 before_from f live_at v b k inst path is behind live =
     subst (λ insts. is_live_before f live_at v insts ≡ true) (sym ahead) (by live)
@@ -387,10 +387,10 @@ step_from f live_at v settled path tells b k inst c m reached is no_parameter li
     let fresh : ¬ Contains (block_at f c).params v = subst (λ n. ¬ Contains (given_on_entry (function_code (view_of f)) c n) v) enters.1.0 no_parameter in
     let taken : live_at c ≡ true = settled c target
     (and_both (not (stands_in v (block_at f c).params)) (is_live_before f live_at v (insts_of f c))
-        (not_true (stands_in v (block_at f c).params) (λ h. fresh (stands_to v (block_at f c).params h))) front) in
+    (not_true (stands_in v (block_at f c).params) (λ h. fresh (stands_to v (block_at f c).params h))) front) in
     let edge = targets_are f b k inst c is enters.0 in
     inl (edges_need f live_at v inst edge.0 edge.1
-        (or_left (live_at edge.0.block) (list_any (argument_passes f v) edge.0.args) (subst (λ x. live_at x ≡ true) (sym edge.2) taken)))
+    (or_left (live_at edge.0.block) (list_any (argument_passes f v) edge.0.args) (subst (λ x. live_at x ≡ true) (sym edge.2) taken)))
 
 pub across_from : (f : Body) (live_at : ℕ → Bool) (v : ℕ) → IsSettled f v live_at → (path : List (Place ℕ)) → Tells f live_at v path
 across_from f live_at v settled [] b k inst reached is none passed = behind_from f live_at v b k inst is none (inl (passed_from f live_at v b k inst is passed))

@@ -1,9 +1,9 @@
 -- The last pass, step by step.
-use Rattle.std.proofs.Common.{◌≡◌, ◌≢◌, ◌+◌, ◌-◌, ◌<◌, ◌≤◌, ◌⊎◌, ◌↔◌, ◌||◌, ℕ, zero, suc, Bool, true, false, List, [], ◌∷◌, ◌++◌, length, get_or, drop, take, set, refl, sym, ap, subst, ◌∙◌, arith, inl, inr, eqb, slice_index, slice_index_or, slice_set, length-append, Some, None}
+use Rattle.std.proofs.Common.{◌≡◌, ◌≢◌, ◌+◌, ◌-◌, ◌<◌, ◌≤◌, ◌⊎◌, ℕ, suc, Bool, true, false, List, [], ◌∷◌, ◌++◌, length, get_or, drop, refl, sym, ap, subst, ◌∙◌, arith, inl, inr, eqb, slice_index, slice_set, length-append, Some, None}
 use Rattle.std.specs.Prelude.{Contains, EachIndex, slice_get, if◌then◌else◌}
 use Rattle.std.specs.List.Sorted.{IsStrictlyIncreasing}
-use Rattle.std.proofs.lemmas.List.{get_or-set_other, get_or_default, get_or_append_left}
-use Rattle.std.proofs.lemmas.List.Elements.{Contains-append_left, Contains-append_right, Contains-get_or, Contains-push, Contains-push_cases}
+use Rattle.std.proofs.lemmas.List.{get_or-set_other, get_or_append_left}
+use Rattle.std.proofs.lemmas.List.Elements.{Contains-append_left, Contains-get_or, Contains-push, Contains-push_cases}
 use Rattle.std.proofs.Math.Seq.{get_or-append_seam}
 use Rattle.std.proofs.lemmas.Grind.{get_or-set_at}
 use Rattle.std.proofs.lemmas.Bool.{false≢true, true≢false}
@@ -16,7 +16,7 @@ use Rattle.clif_instructions.specs.Members.{Once, stands_in}
 use Rattle.clif_ir.specs.Body.{Body, block_at, inst_at}
 use Rattle.clif_ir.specs.Consistent.{IsConsistent}
 use Rattle.clif_safepoints.specs.LastPass.{IsListedBy, IsPut, IsRecorded, IsRow, is_live_across, row_at}
-use Rattle.clif_safepoints.specs.Sets.{IsSet, in_set_of, is_in}
+use Rattle.clif_safepoints.specs.Sets.{in_set_of, is_in}
 use Rattle.clif_safepoints.specs.Transfer.{insts_of, is_live_before, is_live_behind}
 use Rattle.clif_safepoints.specs.Tables.{AreRows}
 use Rattle.clif_safepoints.proofs.Paths.{place_of_member, stands_from, stands_to}
@@ -101,7 +101,7 @@ row_alike values p q row same is = record {
   rising = is.rising;
   members = λ v. (
     λ h. (let old = (is.members v).0 h in (old.0, old.1, old.2, sym (same old.0 old.1) ∙ old.3)),
-    λ h. (is.members v).1 (h.0, h.1, h.2, same h.0 h.1 ∙ h.3)
+    λ h. (is.members v).1 (h.0, h.1, h.2, same h.0 h.1 ∙ h.3),
   );
 }
 
@@ -203,7 +203,7 @@ recorded_more f values sets insts above inst live old mid new once some inside i
         let e : above - 1 ≡ k = once_place insts (above - 1) k inst once here (at ∙ ap (λ x. Some x) same.1) in
         subst (λ x. IsRow values (is_live_across f values sets insts k x) (row_at new x)) (sym same.1)
         (row_alike values (λ place. is_live_behind f (in_set_of sets place) (slice_index values place) inst (is_in live place)) (is_live_across f values sets insts k inst) (row_at new inst)
-            (tests k e) (put.call (subst (λ x. is_call (inst_at f x).shape ≡ true) same.1 call)))
+        (tests k e) (put.call (subst (λ x. is_call (inst_at f x).shape ≡ true) same.1 call)))
     called k i from at call (inr apart) =
         subst (λ row. IsRow values (is_live_across f values sets insts k i) row) (sym (put.others i apart.1)) (so_far.calls k i (behind k i from at apart.1) at call)
 
@@ -212,7 +212,7 @@ recorded_more f values sets insts above inst live old mid new once some inside i
     not_called k i from at none (inl same) =
         let e : above - 1 ≡ k = once_place insts (above - 1) k inst once here (at ∙ ap (λ x. Some x) same.1) in
         let put_is : row_at new i ≡ row_at mid i =
-            ap (row_at new) same.1 ∙ put.other (subst (λ x. is_call (inst_at f x).shape ≡ false) same.1 none) ∙ ap (row_at mid) (sym same.1) in
+        ap (row_at new) same.1 ∙ put.other (subst (λ x. is_call (inst_at f x).shape ≡ false) same.1 none) ∙ ap (row_at mid) (sym same.1) in
         put_is ∙ so_far.others i (λ j from' at'. let g : j ≡ k = once_place insts j k i once at' at in omega (arith, from', g, e, some))
     not_called k i from at none (inr apart) = put.others i apart.1 ∙ so_far.other k i (behind k i from at apart.1) at none
 

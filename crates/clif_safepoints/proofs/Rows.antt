@@ -1,5 +1,5 @@
 -- Tables row by row, and walks along a list by what follows each entry.
-use Rattle.std.proofs.Common.{◌≡◌, ◌≢◌, ◌+◌, ◌-◌, ◌<◌, ◌≤◌, ◌⊎◌, ℕ, zero, suc, List, [], ◌∷◌, ◌++◌, length, get_or, take, map, refl, sym, ap, subst, ◌∙◌, arith, inl, inr, Option, Some, None, slice_index_or, slice_index, length-append}
+use Rattle.std.proofs.Common.{◌≡◌, ◌+◌, ◌<◌, ◌≤◌, ◌⊎◌, ℕ, zero, suc, List, [], ◌∷◌, ◌++◌, length, get_or, take, refl, sym, ap, subst, ◌∙◌, arith, inl, inr, Option, Some, None, slice_index_or, slice_index, length-append}
 use Rattle.std.specs.Prelude.{slice_get}
 use Rattle.std.specs.List.{flat_map}
 use Rattle.std.proofs.lemmas.List.{append-nil, take_more, take_all, get_or_append_left, get_or_default}
@@ -80,6 +80,6 @@ pub sources_more : (graph : List (List ℕ)) (order : List ℕ) (i block : ℕ) 
 sources_more graph order i block before after inside is so_far now = record {
   size = now.size ∙ so_far.size;
   rows = λ target below.
-    now.rows target (subst (λ n. target < n) (sym so_far.size) below) ∙ ap (λ xs. xs ++ arcs graph target block) (so_far.rows target below)
-    ∙ sym (flat_more (arcs graph target) order i block inside (sym is));
+      now.rows target (subst (λ n. target < n) (sym so_far.size) below) ∙ ap (λ xs. xs ++ arcs graph target block) (so_far.rows target below)
+      ∙ sym (flat_more (arcs graph target) order i block inside (sym is));
 }

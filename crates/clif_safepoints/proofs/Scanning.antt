@@ -1,5 +1,5 @@
 -- The scan of a block, one instruction at a time.
-use Rattle.std.proofs.Common.{◌≡◌, ◌-◌, ◌<◌, ◌≤◌, ℕ, zero, suc, Bool, true, false, not, ◌||◌, ◌&&◌, List, [], ◌∷◌, length, get_or, drop, refl, sym, ap, subst, ◌∙◌, arith, slice_index}
+use Rattle.std.proofs.Common.{◌≡◌, ◌-◌, ◌<◌, ◌≤◌, ℕ, suc, Bool, false, not, ◌||◌, ◌&&◌, List, ◌∷◌, length, get_or, drop, sym, ap, ◌∙◌, arith, slice_index}
 use Rattle.std.proofs.Math.Seq.{drop-cons}
 use Rattle.std.proofs.lemmas.List.{drop_all}
 use Rattle.clif_instructions.specs.Instruction.{operands}
@@ -28,10 +28,10 @@ pub one_before : (f : Body) (sets : ℕ → ℕ → Bool) (values insts : List �
 one_before f sets values insts above inst live across new some inside is before behind now = record {
   size = now.size;
   members = λ k below.
-    now.members k below
-    ∙ ap (λ (b : Bool). names f (operands (inst_at f inst).shape) (slice_index values k) || b)
-        (behind.members k below ∙ ap (is_live_behind f (sets k) (slice_index values k) inst) (before.members k below))
-    ∙ sym (ap (is_live_before f (sets k) (slice_index values k)) ahead);
+      now.members k below
+      ∙ ap (λ (b : Bool). names f (operands (inst_at f inst).shape) (slice_index values k) || b)
+      (behind.members k below ∙ ap (is_live_behind f (sets k) (slice_index values k) inst) (before.members k below))
+      ∙ sym (ap (is_live_before f (sets k) (slice_index values k)) ahead);
 }
   where
     last : above - 1 < length insts
@@ -49,9 +49,9 @@ pub at_front : (f : Body) (sets : ℕ → ℕ → Bool) (values insts : List ℕ
 at_front f sets values insts block live new is before now = record {
   size = now.size;
   members = λ k below.
-    now.members k below
-    ∙ ap (λ (b : Bool). not (stands_in (slice_index values k) (block_at f block).params) && b)
-        (before.members k below ∙ ap (is_live_before f (sets k) (slice_index values k)) is);
+      now.members k below
+      ∙ ap (λ (b : Bool). not (stands_in (slice_index values k) (block_at f block).params) && b)
+      (before.members k below ∙ ap (is_live_before f (sets k) (slice_index values k)) is);
 }
 
 -- the same where both steps are told at once
@@ -62,9 +62,9 @@ pub one_before_at_once : (f : Body) (sets : ℕ → ℕ → Bool) (values insts 
 one_before_at_once f sets values insts above inst live new some inside is before now = record {
   size = now.size;
   members = λ k below.
-    now.members k below
-    ∙ ap (λ (b : Bool). names f (operands (inst_at f inst).shape) (slice_index values k) || is_live_behind f (sets k) (slice_index values k) inst b) (before.members k below)
-    ∙ sym (ap (is_live_before f (sets k) (slice_index values k)) ahead);
+      now.members k below
+      ∙ ap (λ (b : Bool). names f (operands (inst_at f inst).shape) (slice_index values k) || is_live_behind f (sets k) (slice_index values k) inst b) (before.members k below)
+      ∙ sym (ap (is_live_before f (sets k) (slice_index values k)) ahead);
 }
   where
     last : above - 1 < length insts

@@ -1,13 +1,13 @@
 -- What the work list keeps: all that it holds live is so by paths, each block that doesn't wait is settled, and each block that was
 -- handled is paid for.
-use Rattle.std.proofs.Common.{◌≡◌, ◌≢◌, ◌+◌, ◌-◌, ◌*◌, ◌^◌, ◌<◌, ◌≤◌, ◌⊎◌, ◌||◌, ◌&&◌, ◌==◌, not, ℕ, zero, suc, Bool, true, false, cond, List, [], ◌∷◌, ◌++◌, length, get_or, map, take, drop, set, min, refl, sym, ap, subst, ◌∙◌, arith, inl, inr, Option, Some, None, eqb, slice_index, slice_index_or, length-append, append-nil}
-use Rattle.std.specs.Prelude.{All, Contains, slice_get}
+use Rattle.std.proofs.Common.{◌≡◌, ◌≢◌, ◌+◌, ◌-◌, ◌*◌, ◌^◌, ◌<◌, ◌≤◌, ◌⊎◌, ◌||◌, ◌&&◌, ◌==◌, not, ℕ, zero, suc, Bool, true, false, cond, List, [], ◌∷◌, ◌++◌, length, get_or, map, take, set, refl, sym, ap, subst, ◌∙◌, arith, inl, inr, Some, eqb, slice_index, slice_index_or, length-append}
+use Rattle.std.specs.Prelude.{All, Contains}
 use Rattle.std.specs.List.{filter, flat_map, list_any}
 use Rattle.std.proofs.lemmas.List.{get_or-set_other, get_or_default, length-map}
 use Rattle.std.proofs.lemmas.List.Elements.{Contains-append_cases, Contains-append_left, Contains-append_right, Contains-get_or, Contains-push_cases}
 use Rattle.std.proofs.lemmas.List.Sums.{count_by-le-length}
 use Rattle.std.proofs.lemmas.Grind.{get_or-set_at}
-use Rattle.std.proofs.lemmas.Bool.{eq-eqb, eqb-true, false≢true}
+use Rattle.std.proofs.lemmas.Bool.{eq-eqb, false≢true}
 use Rattle.std.proofs.lemmas.Bool.Decides.{eqb_tells}
 use Rattle.std.proofs.Math.ListN.{get_or-eq_default, length-set}
 use Rattle.clif_instructions.specs.declared.block_call.BlockCall.{BlockCall}
@@ -16,10 +16,9 @@ use Rattle.clif_instructions.specs.Instruction.{destinations, operands}
 use Rattle.clif_instructions.specs.Members.{stands_in}
 use Rattle.clif_ir.specs.Body.{Body, block_at, inst_at}
 use Rattle.clif_safepoints.specs.Graph.{arcs, leads_to, sources_of}
-use Rattle.clif_safepoints.specs.Progress.{IsHandled, IsTaken, Progress, one_more, pushed, pushed_all}
+use Rattle.clif_safepoints.specs.Progress.{IsHandled, IsTaken, Progress, one_more, pushed_all}
 use Rattle.clif_safepoints.specs.Sets.{AreSets, Grows, IsSet, in_set_of, is_in, member_count}
-use Rattle.clif_safepoints.specs.Tables.{AreRows}
-use Rattle.clif_safepoints.specs.Transfer.{argument_passes, edge_needs, insts_of, is_live_before, is_live_behind, is_live_in, names, successors_of, targets_from}
+use Rattle.clif_safepoints.specs.Transfer.{argument_passes, edge_needs, insts_of, is_live_before, is_live_in, names, successors_of, targets_from}
 use Rattle.clif_safepoints.specs.Fronts.{IsFinished, IsLiveFront, IsStart}
 use Rattle.clif_safepoints.proofs.Paths.{contained_in_map, front_to, or_cases, or_left}
 use Rattle.clif_safepoints.proofs.Visits.{bit, times, times_append}
@@ -48,13 +47,13 @@ before_alike f l m v (inst ∷ insts) same =
     let edges : list_any (edge_needs f l v) (destinations (inst_at f inst).shape) ≡ list_any (edge_needs f m v) (destinations (inst_at f inst).shape) =
     any_alike (edge_needs f l v) (edge_needs f m v) (destinations (inst_at f inst).shape)
     (λ edge h. ap (λ (b : Bool). b || list_any (argument_passes f v) edge.args)
-        (same edge.block (Contains-append_left (targets (destinations (inst_at f inst).shape)) (targets_from f insts) edge.block
-            (target_of (destinations (inst_at f inst).shape) edge h)))) in
+    (same edge.block (Contains-append_left (targets (destinations (inst_at f inst).shape)) (targets_from f insts) edge.block
+    (target_of (destinations (inst_at f inst).shape) edge h)))) in
     let rest : is_live_before f l v insts ≡ is_live_before f m v insts = before_alike f l m v insts
     (λ t h. same t (Contains-append_right (targets (destinations (inst_at f inst).shape)) (targets_from f insts) t h)) in
     ap (λ (b : Bool). names f (operands (inst_at f inst).shape) v || (not (stands_in v (inst_at f inst).results) && (b || is_live_before f l v insts))) edges
     ∙ ap (λ (b : Bool). names f (operands (inst_at f inst).shape) v
-        || (not (stands_in v (inst_at f inst).results) && (list_any (edge_needs f m v) (destinations (inst_at f inst).shape) || b))) rest
+    || (not (stands_in v (inst_at f inst).results) && (list_any (edge_needs f m v) (destinations (inst_at f inst).shape) || b))) rest
 
 pub in_alike : (f : Body) (l m : ℕ → Bool) (b v : ℕ) → ((t : ℕ) → Contains (successors_of f b) t → l t ≡ m t) → is_live_in f l b v ≡ is_live_in f m b v
 in_alike f l m b v same = ap (λ (c : Bool). not (stands_in v (block_at f b).params) && c) (before_alike f l m v (insts_of f b) same)
@@ -240,7 +239,7 @@ kept_same f values order graph p block rest new small is so_far union same = rec
         subst (λ x. in_set_of p.sets k x ≡ true) (sym here.1)
         (ap (λ (marks : List Bool). is_in marks k) (sym same) ∙ union.members k below
         ∙ or_left (is_live_in f (in_set_of p.sets k) block (slice_index values k)) (in_set_of p.sets k block)
-            (subst (λ x. is_live_in f (in_set_of p.sets k) x (slice_index values k) ≡ true) here.1 live))
+        (subst (λ x. is_live_in f (in_set_of p.sets k) x (slice_index values k) ≡ true) here.1 live))
     by b member idle k below live (inr other) =
         so_far.settled b member (sym (get_or-set_other p.waits block b false false other.1) ∙ idle) k below live
 
@@ -257,18 +256,18 @@ kept_grown f values order graph p block rest row small there graph_is sources_th
   queue = after.0.queue;
   sound = λ k b below inside h. sound k b below inside (subst (λ sets. in_set_of sets k b ≡ true) after.0.sets h) (eqb_tells b block);
   settled = λ b member idle k below live.
-    subst (λ sets. in_set_of sets k b ≡ true) (sym after.0.sets)
-    (settles b member idle k below (subst (λ sets. is_live_in f (in_set_of sets k) b (slice_index values k) ≡ true) after.0.sets live) (eqb_tells b block));
+      subst (λ sets. in_set_of sets k b ≡ true) (sym after.0.sets)
+      (settles b member idle k below (subst (λ sets. is_live_in f (in_set_of sets k) b (slice_index values k) ≡ true) after.0.sets live) (eqb_tells b block));
   most =
-    let up = one_more_is p.handled (length order) small in let old = so_far.most in let pushes = after.0.most in
-    let pay = fills_grow p.sets block row (all_targets graph order) within grows in let count = sources_count graph order block in
-    let sets : fills new.sets (all_targets graph order) ≡ fills (set p.sets block row) (all_targets graph order) = ap (λ sets. fills sets (all_targets graph order)) after.0.sets in
-    let same = after.0.handled in
-    omega (arith, up.0, old, long, pushes, pay, count, sets, same);
+      let up = one_more_is p.handled (length order) small in let old = so_far.most in let pushes = after.0.most in
+      let pay = fills_grow p.sets block row (all_targets graph order) within grows in let count = sources_count graph order block in
+      let sets : fills new.sets (all_targets graph order) ≡ fills (set p.sets block row) (all_targets graph order) = ap (λ sets. fills sets (all_targets graph order)) after.0.sets in
+      let same = after.0.handled in
+      omega (arith, up.0, old, long, pushes, pay, count, sets, same);
   least =
-    let up = one_more_is p.handled (length order) small in let old = so_far.least in
-    let now : length order ≤ one_more p.handled + length rest = up.1 (length rest) (omega (arith, old, long)) in
-    let same = after.0.handled in let pushes = after.0.least in omega (arith, now, same, pushes);
+      let up = one_more_is p.handled (length order) small in let old = so_far.least in
+      let now : length order ≤ one_more p.handled + length rest = up.1 (length rest) (omega (arith, old, long)) in
+      let same = after.0.handled in let pushes = after.0.least in omega (arith, now, same, pushes);
 }
   where
     base : Progress
@@ -334,13 +333,13 @@ kept_grown f values order graph p block rest row small there graph_is sources_th
         → ((eqb b block ≡ true) × (b ≡ block)) ⊎ ((eqb b block ≡ false) × (b ≢ block)) → in_set_of (set p.sets block row) k b ≡ true
     settles b member idle k below live (inl here) =
         let before : is_live_in f (in_set_of p.sets k) b (slice_index values k) ≡ true =
-            sym (in_alike f (in_set_of (set p.sets block row) k) (in_set_of p.sets k) b (slice_index values k) (alike b member idle k)) ∙ live in
+        sym (in_alike f (in_set_of (set p.sets block row) k) (in_set_of p.sets k) b (slice_index values k) (alike b member idle k)) ∙ live in
         here_is k b here.1 ∙ union.members k below
         ∙ or_left (is_live_in f (in_set_of p.sets k) block (slice_index values k)) (in_set_of p.sets k block)
-            (subst (λ x. is_live_in f (in_set_of p.sets k) x (slice_index values k) ≡ true) here.1 before)
+        (subst (λ x. is_live_in f (in_set_of p.sets k) x (slice_index values k) ≡ true) here.1 before)
     settles b member idle k below live (inr other) =
         let before : is_live_in f (in_set_of p.sets k) b (slice_index values k) ≡ true =
-            sym (in_alike f (in_set_of (set p.sets block row) k) (in_set_of p.sets k) b (slice_index values k) (alike b member idle k)) ∙ live in
+        sym (in_alike f (in_set_of (set p.sets block row) k) (in_set_of p.sets k) b (slice_index values k) (alike b member idle k)) ∙ live in
         other_is k b other.1 ∙ so_far.settled b member (idle_before b idle other.1) k below before
       where
         false_from : (x : Bool) → (x ≡ true → ⊥) → x ≡ false
@@ -361,7 +360,7 @@ pub progress_step : (f : Body) (values order : List ℕ) (graph : List (List ℕ
     → IsProgress f values order graph new × (to_do values order graph new < to_do values order graph p)
 progress_step f values order graph p mid new block sources small there graph_is sources_there sources_is so_far take handled =
     by (subst (λ (m : Progress). IsHandled f values (sources_of graph order block) block m new) (taken_is p block mid take)
-        (subst (λ xs. IsHandled f values xs block mid new) sources_is handled))
+    (subst (λ xs. IsHandled f values xs block mid new) sources_is handled))
   where
     long : length p.stack ≡ length mid.stack + 1
     long = ap length take.0 ∙ length-append mid.stack (block ∷ [])
@@ -375,14 +374,16 @@ progress_step f values order graph p mid new block sources small there graph_is 
         ⊎ (Grows (slice_index_or p.sets block []) h.set × (new ≡ pushed_all (record (taken p block mid.stack) { sets = set p.sets block h.set; handled = one_more p.handled }) (sources_of graph order block)))
         → IsProgress f values order graph new × (to_do values order graph new < to_do values order graph p)
     which h (inl same) =
-        let kept = kept_same f values order graph p block mid.stack h.set small take.0 so_far h.union same.0 in
-        (subst (λ (q : Progress). IsProgress f values order graph q) (sym same.1) kept,
-            subst (λ (q : Progress). to_do values order graph q < to_do values order graph p) (sym same.1) (let e = long in omega (arith, e)))
+        let kept = kept_same f values order graph p block mid.stack h.set small take.0 so_far h.union same.0 in (
+          subst (λ (q : Progress). IsProgress f values order graph q) (sym same.1) kept,
+          subst (λ (q : Progress). to_do values order graph q < to_do values order graph p) (sym same.1) (let e = long in omega (arith, e)),
+        )
     which h (inr grown) =
-        let kept = kept_grown f values order graph p block mid.stack h.set small there graph_is (λ b m. sources_there b (subst (λ xs. Contains xs b) (sym sources_is) m)) take.0 so_far h.union grown.0 in
-        (subst (λ (q : Progress). IsProgress f values order graph q) (sym grown.1) kept,
-            subst (λ (q : Progress). to_do values order graph q < to_do values order graph p) (sym grown.1)
-            (less h kept grown.0))
+        let kept = kept_grown f values order graph p block mid.stack h.set small there graph_is (λ b m. sources_there b (subst (λ xs. Contains xs b) (sym sources_is) m)) take.0 so_far h.union grown.0 in (
+          subst (λ (q : Progress). IsProgress f values order graph q) (sym grown.1) kept,
+          subst (λ (q : Progress). to_do values order graph q < to_do values order graph p) (sym grown.1)
+              (less h kept grown.0),
+        )
       where
         less : (h : IsHandled f values (sources_of graph order block) block (taken p block mid.stack) new)
             → IsProgress f values order graph (pushed_all (record (taken p block mid.stack) { sets = set p.sets block h.set; handled = one_more p.handled }) (sources_of graph order block))
@@ -392,15 +393,15 @@ progress_step f values order graph p mid new block sources small there graph_is 
         less h kept grows =
             let queue = let q = taken_queue (length f.blocks) p block mid.stack take.0 so_far.queue in q in
             let after = push_each (length f.blocks) (sources_of graph order block) (record (taken p block mid.stack) { sets = set p.sets block h.set; handled = one_more p.handled })
-                (λ b m. sources_there b (subst (λ xs. Contains xs b) (sym sources_is) m)) (record { marks = queue.marks; there = queue.there; waiting = queue.waiting }) in
+            (λ b m. sources_there b (subst (λ xs. Contains xs b) (sym sources_is) m)) (record { marks = queue.marks; there = queue.there; waiting = queue.waiting }) in
             let pay = fills_grow p.sets block h.set (all_targets graph order) block_there grows in
             let count = sources_count graph order block in
             let most : fills (set p.sets block h.set) (all_targets graph order) ≤ length (all_targets graph order) * length values =
-                subst (λ sets. fills sets (all_targets graph order) ≤ length (all_targets graph order) * length values) after.0.sets
-                (fills_most (pushed_all (record (taken p block mid.stack) { sets = set p.sets block h.set; handled = one_more p.handled }) (sources_of graph order block)).sets
-                    (length f.blocks) (length values) (all_targets graph order) kept.sized) in
+            subst (λ sets. fills sets (all_targets graph order) ≤ length (all_targets graph order) * length values) after.0.sets
+            (fills_most (pushed_all (record (taken p block mid.stack) { sets = set p.sets block h.set; handled = one_more p.handled }) (sources_of graph order block)).sets
+            (length f.blocks) (length values) (all_targets graph order) kept.sized) in
             let sets : fills (pushed_all (record (taken p block mid.stack) { sets = set p.sets block h.set; handled = one_more p.handled }) (sources_of graph order block)).sets (all_targets graph order)
-                ≡ fills (set p.sets block h.set) (all_targets graph order) = ap (λ sets. fills sets (all_targets graph order)) after.0.sets in
+            ≡ fills (set p.sets block h.set) (all_targets graph order) = ap (λ sets. fills sets (all_targets graph order)) after.0.sets in
             let pushes = after.0.most in let e = long in
             arithmetic (length (all_targets graph order) * length values) (fills p.sets (all_targets graph order)) (fills (set p.sets block h.set) (all_targets graph order))
             (fills (pushed_all (record (taken p block mid.stack) { sets = set p.sets block h.set; handled = one_more p.handled }) (sources_of graph order block)).sets (all_targets graph order))
@@ -441,9 +442,9 @@ progress_end f values order graph p there graph_is done empty = record {
   sound = λ k b below h. fronts f values order graph p done k below b h;
   settled = λ b member. done.settled b member (idle b);
   most =
-    let most = done.most in let full = fills_most p.sets (length f.blocks) (length values) (all_targets graph order) done.sized in let none : length p.stack ≡ 0 = ap length empty in
-    let same : length (all_targets graph order) * length values ≡ length (flat_map (successors_of f) order) * length values = ap (λ ts. length ts * length values) alike in
-    omega (arith, most, full, none, same);
+      let most = done.most in let full = fills_most p.sets (length f.blocks) (length values) (all_targets graph order) done.sized in let none : length p.stack ≡ 0 = ap length empty in
+      let same : length (all_targets graph order) * length values ≡ length (flat_map (successors_of f) order) * length values = ap (λ ts. length ts * length values) alike in
+      omega (arith, most, full, none, same);
   least = let least = done.least in let none : length p.stack ≡ 0 = ap length empty in omega (arith, least, none);
 }
   where

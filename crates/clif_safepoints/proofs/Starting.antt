@@ -8,7 +8,7 @@ use Rattle.std.proofs.lemmas.Bool.{false≢true}
 use Rattle.std.proofs.lemmas.Bool.Decides.{eqb_tells}
 use Rattle.std.proofs.Math.ListN.{length-set, get_or-eq_default}
 use Rattle.clif_safepoints.specs.Fronts.{AreEmpty, IsStart}
-use Rattle.clif_safepoints.specs.Sets.{AreSets, in_set_of, is_in}
+use Rattle.clif_safepoints.specs.Sets.{in_set_of, is_in}
 
 -- the blocks from a place of the order on wait
 pub record Waits (blocks : ℕ) (order : List ℕ) (place : ℕ) (stack : List ℕ) (waits : List Bool) : Type 0 where
@@ -64,7 +64,7 @@ waits_more blocks order above block number stack waits some inside is same there
     stands k from inside' (inl last) =
         let e : k ≡ above - 1 = omega (arith, from, last) in
         let at : get_or order k 0 ≡ number =
-            ap (λ n. get_or order n 0) e ∙ get_or_default order (above - 1) 0 block (omega (arith, some, inside)) ∙ sym is ∙ sym same in
+        ap (λ n. get_or order n 0) e ∙ get_or_default order (above - 1) 0 block (omega (arith, some, inside)) ∙ sym is ∙ sym same in
         get_or-set_at waits number (get_or order k 0) true false at within
     stands k from inside' (inr later) = kept (get_or order k 0) (so_far.all k later inside') (eqb_tells (get_or order k 0) number)
 

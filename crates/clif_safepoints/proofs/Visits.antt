@@ -1,6 +1,6 @@
 -- The way through a graph in post-order.
-use Rattle.std.proofs.Common.{◌≡◌, ◌≢◌, ◌+◌, ◌-◌, ◌<◌, ◌≤◌, ◌⊎◌, ◌==◌, ℕ, zero, suc, Bool, true, false, cond, List, [], ◌∷◌, ◌++◌, length, get_or, map, refl, sym, ap, subst, ◌∙◌, arith, inl, inr, Option, Some, None, eqb, set, replicate, slice_index_or, zero-add, length-append}
-use Rattle.std.specs.Prelude.{Contains, All, slice_get}
+use Rattle.std.proofs.Common.{◌≡◌, ◌≢◌, ◌+◌, ◌<◌, ◌≤◌, ◌⊎◌, ◌==◌, ℕ, zero, suc, Bool, true, false, cond, List, [], ◌∷◌, ◌++◌, length, get_or, refl, sym, ap, subst, ◌∙◌, arith, inl, inr, Option, Some, eqb, set, replicate, zero-add, length-append}
+use Rattle.std.specs.Prelude.{Contains}
 use Rattle.std.specs.List.{flat_map}
 use Rattle.std.proofs.lemmas.List.{append-nil, get_or-set_other, get_or_default, length-map, length-replicate}
 use Rattle.std.proofs.lemmas.List.Elements.{Contains-append_cases, Contains-append_left, Contains-append_right, Contains-push_cases}
@@ -185,8 +185,8 @@ pub visits_leave : (graph : List (List ℕ)) (entry : Option ℕ) (seen : List B
 visits_leave graph entry seen rest order b so_far = record {
   size = so_far.size;
   placed = λ q.
-    let left : times q (leaving (rest ++ Leave b ∷ [])) ≡ times q (leaving rest) + times q (b ∷ []) = ap (times q) (last_leave rest (Leave b)) ∙ times_append q (leaving rest) (b ∷ []) in
-    let done = times_append q order (b ∷ []) in let all = so_far.placed q in omega (arith, left, done, all);
+      let left : times q (leaving (rest ++ Leave b ∷ [])) ≡ times q (leaving rest) + times q (b ∷ []) = ap (times q) (last_leave rest (Leave b)) ∙ times_append q (leaving rest) (b ∷ []) in
+      let done = times_append q order (b ∷ []) in let all = so_far.placed q in omega (arith, left, done, all);
   seen_way = so_far.seen_way;
   enter_way = λ q h. so_far.enter_way q (in_rest rest (Leave b) q h);
   enter_there = λ q h. so_far.enter_there q (in_rest rest (Leave b) q h);
@@ -316,9 +316,9 @@ pub visits_end : (graph : List (List ℕ)) (entry : Option ℕ) (seen : List Boo
 visits_end graph entry seen order done = record {
   once = once_from_times order (λ b. most b (is_in seen b) (done.placed b));
   exist = λ k d inside.
-    let at : get_or order k d ≡ get_or order k 0 = get_or_default order k d 0 inside in
-    subst (λ x. x < length graph) (sym at)
-    (subst (λ n. get_or order k 0 < n) done.size (marked_within seen (get_or order k 0) (is_seen (get_or order k 0) k inside refl)));
+      let at : get_or order k d ≡ get_or order k 0 = get_or_default order k d 0 inside in
+      subst (λ x. x < length graph) (sym at)
+      (subst (λ n. get_or order k 0 < n) done.size (marked_within seen (get_or order k 0) (is_seen (get_or order k 0) k inside refl)));
   reached = λ b h. done.seen_way b (is_seen b h.0 h.1 (get_or_default order h.0 0 b h.1 ∙ h.2));
   all = λ b way walk. times_contains b order (some b (is_in seen b) (done.placed b) (walked way b walk));
 }

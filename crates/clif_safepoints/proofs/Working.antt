@@ -1,24 +1,15 @@
 -- The steps of the work list.
-use Rattle.std.proofs.Common.{◌≡◌, ◌≢◌, ◌+◌, ◌-◌, ◌*◌, ◌^◌, ◌<◌, ◌≤◌, ◌⊎◌, ◌||◌, ◌&&◌, ◌==◌, not, ℕ, zero, suc, Bool, true, false, cond, List, [], ◌∷◌, ◌++◌, length, get_or, map, take, drop, set, min, refl, sym, ap, subst, ◌∙◌, arith, inl, inr, Option, Some, None, eqb, slice_index, slice_index_or, slice_set, length-append, append-nil, add-zero, zero-add}
-use Rattle.std.specs.Prelude.{Contains, All, slice_get}
-use Rattle.std.specs.List.{count_by, filter, flat_map, list_any}
+use Rattle.std.proofs.Common.{◌≡◌, ◌≢◌, ◌+◌, ◌<◌, ◌≤◌, ◌⊎◌, ◌||◌, ℕ, zero, suc, Bool, true, false, cond, List, [], ◌∷◌, ◌++◌, length, get_or, take, set, refl, sym, ap, subst, ◌∙◌, arith, inl, inr, eqb, slice_index, slice_index_or, slice_set, length-append}
+use Rattle.std.specs.Prelude.{Contains}
 use Rattle.std.proofs.lemmas.List.{get_or-set_other, get_or_default, set-get_or, take_more}
-use Rattle.std.proofs.lemmas.List.Elements.{Contains-append_cases, Contains-append_left, Contains-append_right, Contains-push_cases}
-use Rattle.std.proofs.lemmas.List.Sums.{count_by-le-length}
-use Rattle.std.proofs.lemmas.Grind.{flat_map-append, get_or-set_at}
-use Rattle.std.proofs.lemmas.Bool.{eq-eqb, eqb-true, false≢true}
+use Rattle.std.proofs.lemmas.List.Elements.{Contains-append_left, Contains-append_right, Contains-push_cases}
+use Rattle.std.proofs.lemmas.Grind.{get_or-set_at}
 use Rattle.std.proofs.lemmas.Bool.Decides.{eqb_tells}
 use Rattle.std.proofs.Math.ListN.{length-set}
-use Rattle.clif_instructions.specs.declared.block_call.BlockCall.{BlockCall}
-use Rattle.clif_instructions.specs.Edges.{targets}
-use Rattle.clif_instructions.specs.Instruction.{destinations, operands}
-use Rattle.clif_instructions.specs.Members.{stands_in}
-use Rattle.clif_ir.specs.Body.{Body, block_at, inst_at}
-use Rattle.clif_safepoints.specs.Graph.{arcs, leads_to, sources_of}
-use Rattle.clif_safepoints.specs.Progress.{IsHandled, IsTaken, Progress, one_more, pushed, pushed_all}
-use Rattle.clif_safepoints.specs.Sets.{AreSets, Grows, IsSet, in_set_of, is_in, member_count}
-use Rattle.clif_safepoints.specs.Transfer.{argument_passes, edge_needs, insts_of, is_live_before, is_live_behind, is_live_in, names, successors_of, targets_from}
-use Rattle.clif_safepoints.proofs.Visits.{times, times_append}
+use Rattle.clif_ir.specs.Body.{Body}
+use Rattle.clif_safepoints.specs.Progress.{IsHandled, Progress, one_more, pushed, pushed_all}
+use Rattle.clif_safepoints.specs.Sets.{AreSets, Grows, IsSet, in_set_of, is_in}
+use Rattle.clif_safepoints.specs.Transfer.{is_live_in}
 
 -- one more block is pushed
 pub pushed_more : (p : Progress) (xs : List ℕ) (x : ℕ) → pushed_all p (xs ++ x ∷ []) ≡ pushed (pushed_all p xs) x
@@ -74,48 +65,59 @@ push_one count p b inside queue = by (is_in p.waits b) refl
     here q (inr same) = subst (λ x. x < count) same inside
 
     by : (c : Bool) → is_in p.waits b ≡ c → IsPushed count 1 p (cond c p new) × (is_in (cond c p new).waits b ≡ true)
-    by true is = (record {
-      queue = queue;
-      sets = refl;
-      handled = refl;
-      kept = λ q h. h;
-      most = omega arith;
-      least = omega arith;
-    }, is)
-    by false is = (record {
-      queue = record {
-        marks = length-set p.waits b true ∙ queue.marks;
-        there = λ q h. here q (Contains-push_cases p.stack b q h);
-        waiting = λ q h. old_or_new q (eqb_tells q b) h;
-      };
-      sets = refl;
-      handled = refl;
-      kept = λ q h. still q (eqb_tells q b) h;
-      most = let long = length-append p.stack (b ∷ []) in omega (arith, long);
-      least = let long = length-append p.stack (b ∷ []) in omega (arith, long);
-    }, mark_now p.waits b within)
+    by true is = (
+      record {
+        queue = queue;
+        sets = refl;
+        handled = refl;
+        kept = λ q h. h;
+        most = omega arith;
+        least = omega arith;
+      },
+      is,
+    )
+    by false is = (
+      record {
+        queue = record {
+          marks = length-set p.waits b true ∙ queue.marks;
+          there = λ q h. here q (Contains-push_cases p.stack b q h);
+          waiting = λ q h. old_or_new q (eqb_tells q b) h;
+        };
+        sets = refl;
+        handled = refl;
+        kept = λ q h. still q (eqb_tells q b) h;
+        most = let long = length-append p.stack (b ∷ []) in omega (arith, long);
+        least = let long = length-append p.stack (b ∷ []) in omega (arith, long);
+      },
+      mark_now p.waits b within,
+    )
 
 pub push_each : (count : ℕ) (xs : List ℕ) (p : Progress) → ((x : ℕ) → Contains xs x → x < count) → IsQueue count p
     → IsPushed count (length xs) p (pushed_all p xs) × ((x : ℕ) → Contains xs x → is_in (pushed_all p xs).waits x ≡ true)
-push_each count [] p inside queue = (record {
-  queue = queue;
-  sets = refl;
-  handled = refl;
-  kept = λ q h. h;
-  most = omega arith;
-  least = omega arith;
-}, λ x h. absurd (omega (arith, h.1)))
+push_each count [] p inside queue = (
+  record {
+    queue = queue;
+    sets = refl;
+    handled = refl;
+    kept = λ q h. h;
+    most = omega arith;
+    least = omega arith;
+  },
+  λ x h. absurd (omega (arith, h.1)),
+)
 push_each count (y ∷ xs) p inside queue =
     let one = push_one count p y (inside y (0, omega arith, refl)) queue in
-    let rest = push_each count xs (pushed p y) (λ x h. inside x (suc h.0, omega (arith, h.1), h.2)) one.0.queue in
-    (record {
-      queue = rest.0.queue;
-      sets = rest.0.sets ∙ one.0.sets;
-      handled = rest.0.handled ∙ one.0.handled;
-      kept = λ q h. rest.0.kept q (one.0.kept q h);
-      most = omega (arith, rest.0.most, one.0.most);
-      least = omega (arith, rest.0.least, one.0.least);
-    }, λ x h. by x h.0 h.1 h.2 (rest.0.kept y one.1) rest.1)
+    let rest = push_each count xs (pushed p y) (λ x h. inside x (suc h.0, omega (arith, h.1), h.2)) one.0.queue in (
+      record {
+        queue = rest.0.queue;
+        sets = rest.0.sets ∙ one.0.sets;
+        handled = rest.0.handled ∙ one.0.handled;
+        kept = λ q h. rest.0.kept q (one.0.kept q h);
+        most = omega (arith, rest.0.most, one.0.most);
+        least = omega (arith, rest.0.least, one.0.least);
+      },
+      λ x h. by x h.0 h.1 h.2 (rest.0.kept y one.1) rest.1,
+    )
   where
     by : (x k : ℕ) → k < suc (length xs) → get_or (y ∷ xs) k x ≡ x → is_in (pushed_all (pushed p y) xs).waits y ≡ true
         → ((z : ℕ) → Contains xs z → is_in (pushed_all (pushed p y) xs).waits z ≡ true) → is_in (pushed_all (pushed p y) xs).waits x ≡ true
@@ -130,12 +132,15 @@ union_of : (f : Body) (values : List ℕ) (block index blocks : ℕ) (old : Prog
     → IsSet (length row) (λ k. is_in scanned k || is_in row k) set
     → (row ≡ slice_index_or old.sets block [])
     × IsSet (length values) (λ k. is_live_in f (in_set_of old.sets k) block (slice_index values k) || in_set_of old.sets k block) set
-union_of f values block index blocks old row scanned set sized inside at is scan union = (row_is, record {
-  size = union.size ∙ long;
-  members = λ k below.
-    union.members k (subst (λ n. k < n) (sym long) below) ∙ ap (λ (b : Bool). b || is_in row k) (scan.members k below)
-    ∙ ap (λ (marks : List Bool). is_live_in f (in_set_of old.sets k) block (slice_index values k) || is_in marks k) row_is;
-})
+union_of f values block index blocks old row scanned set sized inside at is scan union = (
+  row_is,
+  record {
+    size = union.size ∙ long;
+    members = λ k below.
+        union.members k (subst (λ n. k < n) (sym long) below) ∙ ap (λ (b : Bool). b || is_in row k) (scan.members k below)
+        ∙ ap (λ (marks : List Bool). is_live_in f (in_set_of old.sets k) block (slice_index values k) || is_in marks k) row_is;
+  },
+)
   where
     row_is : row ≡ slice_index_or old.sets block []
     row_is = is ∙ ap (λ n. get_or old.sets n row) at ∙ get_or_default old.sets block row [] (subst (λ n. block < n) (sym sized.count) inside)
@@ -153,8 +158,10 @@ handled_same f values sources block index blocks h old row scanned set' sized in
     record {
       set = set';
       union = found.1;
-      after = inl (same ∙ found.0,
-          ap (λ (sets : List (List Bool)). record old { sets = sets; handled = h }) sets ∙ ap (λ (n : ℕ). record old { handled = n }) more);
+      after = inl (
+        same ∙ found.0,
+        ap (λ (sets : List (List Bool)). record old { sets = sets; handled = h }) sets ∙ ap (λ (n : ℕ). record old { handled = n }) more,
+      );
     }
 
 pub handled_grown : (f : Body) (values sources : List ℕ) (block index blocks h : ℕ) (old new : Progress) (row scanned set' : List Bool) → AreSets blocks (length values) old.sets → block < blocks
@@ -167,7 +174,9 @@ handled_grown f values sources block index blocks h old new row scanned set' siz
     record {
       set = set';
       union = found.1;
-      after = inr (subst (λ (marks : List Bool). Grows marks set') found.0 grows,
-          next ∙ ap (λ (i : ℕ). pushed_all (record old { sets = set old.sets i set'; handled = h }) sources) at
-          ∙ ap (λ (n : ℕ). pushed_all (record old { sets = set old.sets block set'; handled = n }) sources) more);
+      after = inr (
+        subst (λ (marks : List Bool). Grows marks set') found.0 grows,
+        next ∙ ap (λ (i : ℕ). pushed_all (record old { sets = set old.sets i set'; handled = h }) sources) at
+            ∙ ap (λ (n : ℕ). pushed_all (record old { sets = set old.sets block set'; handled = n }) sources) more,
+      );
     }

@@ -1,5 +1,5 @@
 -- What the analysis tells of a function. Source: own; a safepoint is a call, as in Cranelift.
-use Rattle.std.specs.Prelude.{◌≡◌, ◌↔◌, ◌<◌, ◌+◌, ◌*◌, ◌≤◌, ◌⊎◌, ℕ, List, [], length, map, flat_map, sum_by, Some, IsTrue, Contains, slice_index_or}
+use Rattle.std.specs.Prelude.{◌≡◌, ◌↔◌, ◌<◌, ◌+◌, ◌*◌, ◌≤◌, ◌⊎◌, ℕ, List, [], length, flat_map, sum_by, Some, IsTrue, Contains, slice_index_or}
 use Rattle.std.specs.List.Sorted.{IsStrictlyIncreasing}
 use Rattle.clif_instructions.specs.Instruction.{is_call}
 use Rattle.clif_instructions.specs.Members.{Once}

@@ -32,7 +32,7 @@ IsUsedAhead counts function value p (q ∷ path) =
     Leads (function_flow function) p q
     × (¬ Contains (given_on_entry (function_code function) q.block q.index) value)
     × (Contains (used_operands function.resolved (placed_at function q)) value
-        ⊎ ((¬ Contains (placed_gives (placed_at function q)) value) × IsUsedAhead counts function value q path))
+    ⊎ ((¬ Contains (placed_gives (placed_at function q)) value) × IsUsedAhead counts function value q path))
 
 -- Live across the instruction at a place: it is no result of it, and some path ahead comes to a use before a definition.
 abbrev pub IsLiveAcross : (counts : ℕ → ℕ → Type 0) → FunctionView → Place ℕ → ℕ → Type 0

@@ -1,5 +1,5 @@
 -- The work list, as its steps change it. Source: own, after Cranelift's work list.
-use Rattle.std.specs.Prelude.{◌≡◌, ◌+◌, ◌-◌, ◌^◌, ◌||◌, ◌⊎◌, ℕ, Bool, true, false, List, [], ◌∷◌, ◌++◌, length, min, if◌then◌else◌, slice_index, slice_index_or, slice_set, Option, Some, None, MatchOption}
+use Rattle.std.specs.Prelude.{◌≡◌, ◌+◌, ◌-◌, ◌^◌, ◌||◌, ◌⊎◌, ℕ, Bool, true, false, List, [], ◌∷◌, ◌++◌, length, min, if◌then◌else◌, slice_index, slice_index_or, slice_set, Option, Some, None}
 use Rattle.clif_ir.specs.Body.{Body}
 use Rattle.clif_safepoints.specs.declared.work_list.WorkList.{WorkList}
 use Rattle.clif_safepoints.specs.Sets.{Grows, IsSet, in_set_of, is_in}
@@ -43,4 +43,4 @@ pub record IsHandled (f : Body) (values sources : List ℕ) (block : ℕ) (old n
   pub after :
       ((set ≡ slice_index_or old.sets block []) × (new ≡ record old { handled = one_more old.handled }))
       ⊎ (Grows (slice_index_or old.sets block []) set
-          × (new ≡ pushed_all (record old { sets = slice_set old.sets block set; handled = one_more old.handled }) sources))
+      × (new ≡ pushed_all (record old { sets = slice_set old.sets block set; handled = one_more old.handled }) sources))

@@ -97,7 +97,7 @@ fn record_inst(
         inst across.old.items across.new.items) }
     ensures live { OnOk result (IsSet (length recorded.now)
         (λ place. names func.now (operands (inst_at func.now inst).shape) (slice_index recorded.now place)
-            || is_live_behind func.now (in_set_of live_ins.now place) (slice_index recorded.now place) inst (is_in live.old place))
+        || is_live_behind func.now (in_set_of live_ins.now place) (slice_index recorded.now place) inst (is_in live.old place))
         live.new) }
     ensures memory_alone { IsOkUnless result BuildError.Memory }
 {

@@ -279,12 +279,7 @@ pub fn set_of(rt: &impl Abort, alloc: Global, numbers: &[u32]) -> Result<EntityS
 }
 
 // Asserts what is found for an instruction.
-fn tells(
-    rt: &impl Abort,
-    analysis: &LivenessAnalysis,
-    number: u32,
-    expected: &[u32],
-) {
+fn tells(rt: &impl Abort, analysis: &LivenessAnalysis, number: u32, expected: &[u32]) {
     assert!(rt; number < 1000);
     let found = analysis.live_across(Inst::from_u32(number));
     assert_eq!(rt; found.len(), expected.len());

@@ -1,5 +1,4 @@
-use Rattle.std.proofs.Common.{◌≡◌, ◌≢◌, ◌+◌, ◌<◌, ◌≤◌, ◌∙◌, ◌++◌, ◌∷◌, ◌-◌, [], ℕ, Bool, take, append-nil, List, true, false, length, ap, sym, subst, refl, get_or, IfSome,  set, arith, Option, Some, None, replicate}
-use Rattle.std.specs.Prelude.{Contains}
+use Rattle.std.proofs.Common.{◌≡◌, ◌+◌, ◌<◌, ◌∙◌, ◌++◌, ◌∷◌, ◌-◌, [], ℕ, Bool, take, append-nil, List, true, false, length, ap, sym, subst, refl, IfSome, set, arith, Option, Some, None, replicate}
 use Rattle.clif_safepoints.specs.declared.graph.Visit.{Visit}
 use Rattle.clif_safepoints.specs.declared.graph.Visit.TheVariants.{Enter, Leave}
 use Rattle.clif_safepoints.specs.Graph.{IsOrder, IsWay, leads_to}
@@ -95,8 +94,8 @@ visits_now c inside =
     c.in_ok-enter_each-in-Enter.ensures.ok
     ∙ ap (λ (xs : List Visit). xs ++ entered c.as_slice.result.now) c.in_ok-push-in-Enter.ensures.items
     ∙ ap (λ (xs : List ℕ). (c.pop.new.self.items ++ Leave c.in-Enter.block ∷ []) ++ entered xs)
-        (c.as_slice.ensures
-        ∙ row_at c.args.successors.now c.index-number.result c.in-Enter.block c.index-successors-number.result [] c.index-successors-number.is c.index-number.ensures.place inside)
+    (c.as_slice.ensures
+    ∙ row_at c.args.successors.now c.index-number.result c.in-Enter.block c.index-successors-number.result [] c.index-successors-number.is c.index-number.ensures.place inside)
 
 pub loop-visit-smaller-in-Continue-branch-5 : goal.loop-visit-smaller-in-Continue-branch-5
 loop-visit-smaller-in-Continue-branch-5 c =

@@ -1,7 +1,7 @@
-use Rattle.std.proofs.Common.{◌≡◌, ◌<◌, ◌∙◌, ◌==◌, ◌++◌, ap, sym, subst, ℕ, List, [], length, map}
+use Rattle.std.proofs.Common.{◌≡◌, ◌<◌, ◌∙◌, ◌==◌, ◌++◌, sym, subst, ℕ, List, [], length, map}
 use Rattle.std.specs.Prelude.{All}
 use Rattle.std.specs.List.{filter}
-use Rattle.clif_safepoints.specs.Graph.{arcs, leads_to}
+use Rattle.clif_safepoints.specs.Graph.{leads_to}
 use Rattle.clif_safepoints.specs.Tables.{AreRows}
 use Rattle.clif_safepoints.proofs.Rows.{row_at, sources_more}
 use Rattle.clif_safepoints.proofs.graph.predecessors.Goals as goal

@@ -1,4 +1,4 @@
-use Rattle.std.proofs.Common.{◌≡◌, ◌+◌, ◌<◌, ◌≤◌, ◌∙◌, ◌∷◌, ◌++◌, [], ℕ, List, length, take, ap, subst, sym, arith, false, get_or}
+use Rattle.std.proofs.Common.{◌≡◌, ◌+◌, ◌<◌, ◌∙◌, ◌∷◌, ◌++◌, [], length, take, ap, subst, sym, false}
 use Rattle.std.specs.Prelude.{EachIndex, slice_index}
 use Rattle.std.proofs.lemmas.List.{length-replicate, take_all, take_more}
 use Rattle.clif_instructions.specs.Members.{Once}
@@ -13,8 +13,8 @@ use Rattle.clif_safepoints.proofs.last_pass.across_by_inst.Goals.{After-as_slice
 pub loop-block-init : goal.loop-block-init
 loop-block-init c = (
   listed_none c.args.func.now c.args.recorded.now c.args.live_ins.now c.in_ok-across.across.items
-  (subst (λ n. AreRows n (λ number. []) c.in_ok-across.across.items) c.inst_count.ensures.exact c.in_ok-across.ensures.ok),
-  ap length c.in_ok-live.ensures.ok ∙ length-replicate c.len.result false ∙ c.len.ensures
+      (subst (λ n. AreRows n (λ number. []) c.in_ok-across.across.items) c.inst_count.ensures.exact c.in_ok-across.ensures.ok),
+  ap length c.in_ok-live.ensures.ok ∙ length-replicate c.len.result false ∙ c.len.ensures,
 )
 
 -- the instructions that were read are those of the block
@@ -24,7 +24,7 @@ insts_are c =
     subst (λ b. b < length c.args.func.now.blocks) (sym c.block-item.is) (c.requires.order c.loop-block.block-index c.block-item.result c.loop-block-test.true) in
     c.as_slice-own_insts.ensures
     ∙ row_at c.args.insts.now c.index.result c.block-item.result c.index-insts-index.result [] c.index-insts-index.is c.index.ensures.place
-        (subst (λ n. c.block-item.result < n) (sym c.requires.insts.size) there)
+    (subst (λ n. c.block-item.result < n) (sym c.requires.insts.size) there)
     ∙ c.requires.insts.rows c.block-item.result there
 
 pub record_block-requires-clause-exist : goal.record_block-requires-clause-exist
@@ -44,10 +44,9 @@ loop-block-preserved c =
     let more = listed_more c.args.func.now c.args.recorded.now c.args.live_ins.now (take c.loop-block.block-index c.args.order.now) c.block-item.result c.loop-block.across.items
     c.record_block.new.across.items c.law_consistent.ensures c.loop-block.invariant.0 recorded in
     let order : take c.loop-block.block-index c.args.order.now ++ c.block-item.result ∷ [] ≡ take (c.loop-block.block-index + 1) c.args.order.now =
-    ap (λ b. take c.loop-block.block-index c.args.order.now ++ b ∷ []) c.block-item.is ∙ sym (take_more c.args.order.now c.loop-block.block-index c.block-item.result c.loop-block-test.true) in
-    (
+    ap (λ b. take c.loop-block.block-index c.args.order.now ++ b ∷ []) c.block-item.is ∙ sym (take_more c.args.order.now c.loop-block.block-index c.block-item.result c.loop-block-test.true) in (
       subst (λ blocks. IsListedBy c.args.func.now c.args.recorded.now c.args.live_ins.now blocks c.record_block.new.across.items) order more,
-      c.in_ok-record_block.ensures.live
+      c.in_ok-record_block.ensures.live,
     )
 
 pub returns-clause-ok : goal.returns-clause-ok

@@ -1,12 +1,10 @@
-use Rattle.std.proofs.Common.{◌≡◌, ◌<◌, ◌∙◌, ℕ, List, Bool, length, ap, subst, sym, refl, Option}
-use Rattle.std.specs.Prelude.{All, IfSome, slice_get}
-use Rattle.std.specs.List.Sorted.{IsStrictlyIncreasing}
+use Rattle.std.proofs.Common.{◌≡◌, length, subst, sym}
+use Rattle.std.specs.Prelude.{slice_get}
 use Rattle.clif_safepoints.specs.Analysis.{IsAnalysis}
-use Rattle.clif_safepoints.specs.Fronts.{IsFinished}
 use Rattle.clif_safepoints.specs.Graph.{IsClosed, IsOrder}
 use Rattle.clif_safepoints.specs.LastPass.{IsListedBy}
 use Rattle.clif_safepoints.specs.Tables.{AreRows}
-use Rattle.clif_safepoints.specs.Transfer.{insts_of, successors_of}
+use Rattle.clif_safepoints.specs.Transfer.{successors_of}
 use Rattle.clif_safepoints.proofs.Concluding.{analysis_from_parts, closed_graph}
 use Rattle.clif_safepoints.proofs.liveness.analyse.Goals as goal
 use Rattle.clif_safepoints.proofs.liveness.analyse.Goals.{After-as_slice-order, After-as_slice-successors}
@@ -39,7 +37,7 @@ returns-clause-ok c =
     subst (λ sets. IsListedBy c.args.func.now c.in_ok-recorded.recorded sets c.as_slice-order.result.now c.in_ok-across.across.items) c.as_slice.ensures.value c.in_ok-across.ensures.ok in
     subst (λ values. IsAnalysis c.args.func.now values (record { across = c.in_ok-across.across.items; handled = c.in_ok-work.work.handled })) recorded
     (analysis_from_parts c.args.func.now c.in_ok-recorded.recorded c.as_slice-successors.result.now c.as_slice-order.result.now c.in_ok-work.work.sets.items
-        c.in_ok-across.across.items c.in_ok-work.work.handled (record {
+    c.in_ok-across.across.items c.in_ok-work.work.handled (record {
       kept = c.law_consistent.ensures;
       rising = c.law_rising.ensures;
       graph_is = record { size = rows.size; rows = rows.rows };

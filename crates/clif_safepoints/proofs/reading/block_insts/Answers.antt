@@ -1,7 +1,6 @@
-use Rattle.std.proofs.Common.{◌≡◌, ◌∙◌, ap, subst, ℕ, slice_index, true, false, if◌then◌else◌, [], Bool, List, refl, sym}
+use Rattle.std.proofs.Common.{◌≡◌, ◌∙◌, ap, subst, ℕ, true, false, if◌then◌else◌, [], Bool, List, refl, sym}
 use Rattle.clif_instructions.specs.Members.{next_in, stands_in}
 use Rattle.clif_ir.specs.Body.{block_at, inst_at}
-use Rattle.clif_safepoints.specs.Transfer.{insts_of}
 use Rattle.clif_safepoints.proofs.Rows.{walk_end, walk_inside, walk_step}
 use Rattle.clif_safepoints.proofs.reading.block_insts.Goals as goal
 

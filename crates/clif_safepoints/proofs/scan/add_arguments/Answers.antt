@@ -1,6 +1,5 @@
-use Rattle.std.proofs.Common.{◌==◌, length, slice_index, sym}
+use Rattle.std.proofs.Common.{length, slice_index, sym}
 use Rattle.clif_safepoints.specs.Transfer.{argument_passes}
-use Rattle.clif_safepoints.specs.Sets.{in_set_of}
 use Rattle.clif_safepoints.proofs.Marks.{add_end, add_start, add_step}
 use Rattle.clif_safepoints.proofs.scan.add_arguments.Goals as goal
 

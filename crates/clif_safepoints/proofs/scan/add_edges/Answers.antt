@@ -1,4 +1,4 @@
-use Rattle.std.proofs.Common.{◌==◌, length, slice_index, sym}
+use Rattle.std.proofs.Common.{length, slice_index, sym}
 use Rattle.clif_safepoints.specs.Transfer.{edge_needs}
 use Rattle.clif_safepoints.specs.Sets.{in_set_of}
 use Rattle.clif_safepoints.proofs.Marks.{add_end, add_start, add_step}

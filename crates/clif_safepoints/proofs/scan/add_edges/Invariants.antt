@@ -1,4 +1,4 @@
-use Rattle.std.proofs.Common.{◌≡◌, ◌||◌, ◌&&◌, not, ◌==◌, length, slice_index, take}
+use Rattle.std.proofs.Common.{◌||◌, length, slice_index, take}
 use Rattle.std.specs.List.{list_any}
 use Rattle.clif_safepoints.specs.Transfer.{edge_needs}
 use Rattle.clif_safepoints.specs.Sets.{IsSet, in_set_of, is_in}

@@ -1,4 +1,4 @@
-use Rattle.std.proofs.Common.{◌≡◌, ◌||◌, ◌==◌, length, slice_index, take}
+use Rattle.std.proofs.Common.{◌||◌, ◌==◌, length, slice_index, take}
 use Rattle.std.specs.List.{list_any}
 use Rattle.clif_ir.specs.Body.{resolved}
 use Rattle.clif_safepoints.specs.Sets.{IsSet, is_in}

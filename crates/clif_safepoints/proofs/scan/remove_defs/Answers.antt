@@ -1,5 +1,4 @@
 use Rattle.std.proofs.Common.{◌==◌, length, slice_index, sym}
-use Rattle.clif_safepoints.specs.Sets.{in_set_of}
 use Rattle.clif_safepoints.proofs.Marks.{drop_end, drop_start, drop_step}
 use Rattle.clif_safepoints.proofs.scan.remove_defs.Goals as goal
 

@@ -1,4 +1,4 @@
-use Rattle.std.proofs.Common.{◌≡◌, ◌-◌, ◌≤◌, ◌||◌, ◌&&◌, Bool, List, ℕ, false, not, length, slice_index, arith, subst, ap, sym}
+use Rattle.std.proofs.Common.{◌≡◌, ◌&&◌, List, ℕ, false, not, length, slice_index, arith, subst}
 use Rattle.clif_instructions.specs.Members.{stands_in}
 use Rattle.clif_safepoints.specs.Sets.{IsSet, in_set_of, is_in}
 use Rattle.clif_safepoints.proofs.Scanning.{IsLiveFrom, at_end, at_front, one_before}

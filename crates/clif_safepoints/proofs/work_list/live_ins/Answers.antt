@@ -1,11 +1,10 @@
-use Rattle.std.proofs.Common.{◌≡◌, ◌^◌, ◌-◌, ◌<◌, ◌≤◌, ◌∙◌, ◌∷◌, [], ℕ, List, Bool, length, ap, arith, subst, sym, refl, Some, None, false, replicate, slice_index_or}
+use Rattle.std.proofs.Common.{◌≡◌, ◌^◌, ◌-◌, ◌<◌, ◌≤◌, ◌∙◌, [], ℕ, List, length, ap, arith, subst, sym, Some, false, slice_index_or}
 use Rattle.std.specs.Prelude.{All, Contains}
 use Rattle.std.proofs.lemmas.List.{length-replicate}
 use Rattle.std.proofs.lemmas.List.Elements.{All-contains, Contains-get_or}
 use Rattle.clif_safepoints.specs.Fronts.{IsFinished, IsStart}
-use Rattle.clif_safepoints.specs.Graph.{leads_to, sources_of}
-use Rattle.clif_safepoints.specs.Progress.{IsHandled, IsTaken, Progress, progress_of}
-use Rattle.clif_safepoints.specs.Transfer.{insts_of, successors_of}
+use Rattle.clif_safepoints.specs.Graph.{sources_of}
+use Rattle.clif_safepoints.specs.Progress.{IsTaken, Progress, progress_of}
 use Rattle.clif_safepoints.proofs.Rows.{row_at}
 use Rattle.clif_safepoints.proofs.Settling.{IsProgress, progress_end, progress_start, progress_step, round_block, round_marks, round_sets, source_of, stack_marked, to_do}
 use Rattle.clif_safepoints.proofs.work_list.live_ins.Goals as goal
@@ -17,11 +16,10 @@ loop-block-init c =
     subst (λ n. IsStart n (length c.args.recorded.now) c.args.order.now c.in_ok-work.work.sets.items c.in_ok-work.work.stack.items c.in_ok-work.work.waits) c.block_count.ensures.exact
     (subst (λ n. IsStart c.block_count.result n c.args.order.now c.in_ok-work.work.sets.items c.in_ok-work.work.stack.items c.in_ok-work.work.waits) c.len.ensures c.in_ok-work.ensures.ok.0) in
     let with_handled : ℕ → Progress = λ n.
-    record { sets = c.in_ok-work.work.sets.items; stack = c.in_ok-work.work.stack.items; waits = c.in_ok-work.work.waits; handled = n } in
-    (
+    record { sets = c.in_ok-work.work.sets.items; stack = c.in_ok-work.work.stack.items; waits = c.in_ok-work.work.waits; handled = n } in (
       subst (λ n. IsProgress c.args.func.now c.args.recorded.now c.args.order.now c.args.successors.now (with_handled n)) (sym c.in_ok-work.ensures.ok.1)
-      (progress_start c.args.func.now c.args.recorded.now c.args.order.now c.args.successors.now c.in_ok-work.work.sets.items c.in_ok-work.work.stack.items c.in_ok-work.work.waits begun),
-      ap length c.in_ok-live.ensures.ok ∙ length-replicate c.len-2.result false ∙ c.len-2.ensures
+          (progress_start c.args.func.now c.args.recorded.now c.args.order.now c.args.successors.now c.in_ok-work.work.sets.items c.in_ok-work.work.stack.items c.in_ok-work.work.waits begun),
+      ap length c.in_ok-live.ensures.ok ∙ length-replicate c.len-2.result false ∙ c.len-2.ensures,
     )
 
 pub pop-requires : goal.pop-requires
@@ -64,7 +62,7 @@ sources_are c =
     let there : c.in-Some.block < length c.args.successors.now = subst (λ n. c.in-Some.block < n) (sym c.requires.successors.size) (there_before c) in
     c.as_slice-own_sources.ensures
     ∙ row_at c.as_slice-sources.result.now c.index-number.result c.in-Some.block c.index-sources-number.result [] c.index-sources-number.is c.index-number.ensures.place
-        (subst (λ n. c.in-Some.block < n) (sym (ap length c.as_slice-sources.ensures.value ∙ c.in_ok-source_lists.ensures.ok.size)) there)
+    (subst (λ n. c.in-Some.block < n) (sym (ap length c.as_slice-sources.ensures.value ∙ c.in_ok-source_lists.ensures.ok.size)) there)
     ∙ ap (λ (table : List (List ℕ)). slice_index_or table c.in-Some.block []) c.as_slice-sources.ensures.value
     ∙ c.in_ok-source_lists.ensures.ok.rows c.in-Some.block there
 
@@ -76,7 +74,7 @@ handle-requires-clause-insts c =
     let there = block_there (goal.at.handle-requires-clause-insts c).In-Some in
     c.as_slice-own_insts.ensures
     ∙ row_at c.args.insts.now c.index-number.result c.in-Some.block c.index-insts-number.result [] c.index-insts-number.is c.index-number.ensures.place
-        (subst (λ n. c.in-Some.block < n) (sym c.requires.insts.size) there)
+    (subst (λ n. c.in-Some.block < n) (sym c.requires.insts.size) there)
     ∙ c.requires.insts.rows c.in-Some.block there
 
 pub handle-requires-clause-sets : goal.handle-requires-clause-sets
@@ -93,9 +91,9 @@ pub handle-requires-clause-sources : goal.handle-requires-clause-sources
 handle-requires-clause-sources c =
     subst (λ xs. All (λ b. b < length c.args.func.now.blocks) xs) (sym (sources_are (goal.at.handle-requires-clause-sources c).After-as_slice-own_sources))
     (λ k d inside. order_there c.args.order.now (length c.args.func.now.blocks) c.requires.order
-        (slice_index_or (sources_of c.args.successors.now c.args.order.now c.in-Some.block) k d)
-        (source_of c.args.successors.now c.args.order.now c.in-Some.block (slice_index_or (sources_of c.args.successors.now c.args.order.now c.in-Some.block) k d)
-            (Contains-get_or (sources_of c.args.successors.now c.args.order.now c.in-Some.block) k d inside)))
+    (slice_index_or (sources_of c.args.successors.now c.args.order.now c.in-Some.block) k d)
+    (source_of c.args.successors.now c.args.order.now c.in-Some.block (slice_index_or (sources_of c.args.successors.now c.args.order.now c.in-Some.block) k d)
+    (Contains-get_or (sources_of c.args.successors.now c.args.order.now c.in-Some.block) k d inside)))
 
 pub handle-requires-clause-live : goal.handle-requires-clause-live
 handle-requires-clause-live c = c.loop-block.invariant.1
@@ -110,7 +108,7 @@ round c sources =
     c.in-Some.block c.as_slice-own_sources.result.now small (order_there c.args.order.now (length c.args.func.now.blocks) c.requires.order)
     (λ b inside. c.requires.successors.rows b inside)
     (λ b h. order_there c.args.order.now (length c.args.func.now.blocks) c.requires.order b
-        (source_of c.args.successors.now c.args.order.now c.in-Some.block b (subst (λ xs. Contains xs b) sources h)))
+    (source_of c.args.successors.now c.args.order.now c.in-Some.block b (subst (λ xs. Contains xs b) sources h)))
     sources c.loop-block.invariant.0 c.in-Some.ensures c.in_ok-handle.ensures.ok
 
 pub loop-block-preserved : goal.loop-block-preserved

@@ -1,4 +1,4 @@
-use Rattle.std.proofs.Common.{◌≡◌, ◌-◌, ◌<◌, ◌∷◌, ◌++◌, [], ℕ, List, Bool, refl, subst, sym, arith, set, true}
+use Rattle.std.proofs.Common.{◌-◌, ◌<◌, ℕ, List, Bool, refl, subst, sym, arith, set, true}
 use Rattle.clif_safepoints.proofs.Starting.{Waits, waits_all, waits_more}
 use Rattle.clif_safepoints.proofs.work_list.start.Goals as goal
 
@@ -14,6 +14,6 @@ loop-place-preserved c =
 pub returns-clause-ok : goal.returns-clause-ok
 returns-clause-ok c = (
   waits_all c.args.blocks c.args.places c.args.order.now c.loop-place.stack.items c.in_ok-sets.sets.items c.loop-place.waits c.loop-place.place c.loop-place-test.false
-  c.in_ok-sets.ensures.ok c.loop-place.invariant,
-  refl
+      c.in_ok-sets.ensures.ok c.loop-place.invariant,
+  refl,
 )

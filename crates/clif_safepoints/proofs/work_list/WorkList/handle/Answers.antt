@@ -1,8 +1,8 @@
-use Rattle.std.proofs.Common.{◌≡◌, List, Bool, ℕ, length, subst, slice_index}
+use Rattle.std.proofs.Common.{List, Bool, length, subst, slice_index}
 use Rattle.clif_safepoints.specs.Progress.{progress_of}
 use Rattle.clif_safepoints.specs.Sets.{IsSet, in_set_of}
 use Rattle.clif_safepoints.specs.Transfer.{is_live_in}
-use Rattle.clif_safepoints.proofs.Working.{handled_grown, handled_same}
+use Rattle.clif_safepoints.proofs.Working.{handled_same}
 use Rattle.clif_safepoints.proofs.work_list.WorkList.handle.Goals as goal
 
 pub returns-else-add_all-clause-ok : goal.returns-else-add_all-clause-ok
