@@ -7,4 +7,5 @@ pub mod Scanning
 pub mod Settling
 pub mod Starting
 pub mod Visits
+pub mod Worked
 pub mod Working

@@ -89,6 +89,14 @@ row_push values test place x row up inside' is passes so_far = record {
         let e : place ≡ k = omega (arith, below, behind) in
         subst (λ v. Contains (row ++ x ∷ []) v) (sym is ∙ ap (slice_index values) e) (Contains-push row x)
 
+pub row_step : (values : List ℕ) (test : ℕ → Bool) (place : ℕ) (row new : List ℕ) → IsStrictlyIncreasing values → place < length values
+    → new ≡ (if test place then row ++ slice_index values place ∷ [] else row) → RowTo values test place row → RowTo values test (place + 1) new
+row_step values test place row new up inside is so_far = by (test place) refl is
+  where
+    by : (c : Bool) → test place ≡ c → new ≡ (if c then row ++ slice_index values place ∷ [] else row) → RowTo values test (place + 1) new
+    by true passes same = subst (λ r. RowTo values test (place + 1) r) (sym same) (row_push values test place (slice_index values place) row up inside refl passes so_far)
+    by false fails same = subst (λ r. RowTo values test (place + 1) r) (sym same) (row_skip values test place row fails so_far)
+
 pub row_all : (values : List ℕ) (test : ℕ → Bool) (place : ℕ) (row : List ℕ) → length values ≤ place → RowTo values test place row → IsRow values test row
 row_all values test place row past done = record {
   rising = done.rising;

@@ -5,6 +5,7 @@ pub mod Sets
 pub mod Graph
 pub mod Tables
 pub mod Visits
+pub mod Examples
 pub mod LastPass
 pub mod Fronts
 pub mod Progress

@@ -1,5 +1,5 @@
 //! The last pass: the values that are live across each call.
-ghost use Rattle.std.specs.Prelude.{◌≡◌, ◌<◌, ◌||◌, length, All, EachIndex, OnOk, IfOk, IsOkUnless, slice_index, slice_set, []};
+ghost use Rattle.std.specs.Prelude.{◌≡◌, ◌<◌, ◌||◌, ◌∷◌, ◌++◌, if◌then◌else◌, length, All, EachIndex, OnOk, IfOk, IsOkUnless, slice_index, slice_set, []};
 ghost use Rattle.clif_instructions.specs.Instruction.{is_call, operands};
 ghost use Rattle.clif_instructions.specs.Members.{Once};
 ghost use Rattle.clif_ir.specs.Body.{inst_at};
@@ -149,11 +149,27 @@ fn members(
     recorded.law_rising();
     let mut values = ValueList::new(alloc);
     for place in 0..recorded.len() {
-        if live.contains(place) {
-            values.push(recorded.at(place))?;
-        }
+        push_member(recorded, live, place, &mut values)?;
     }
     Ok(values)
+}
+
+// Puts the value at a place at the end, if it is a member.
+fn push_member(
+    recorded: &Recorded<'_>,
+    live: &NumberSet,
+    place: usize,
+    values: &mut ValueList,
+) -> Result<(), BuildError>
+    requires exists { place < length recorded.now }
+    requires size { length live.now ≡ length recorded.now }
+    ensures ok { OnOk result (values.new ≡ (if is_in live.now place then values.old ++ slice_index recorded.now place ∷ [] else values.old)) }
+    ensures memory_alone { IsOkUnless result BuildError.Memory }
+{
+    if live.contains(place) {
+        values.push(recorded.at(place))?;
+    }
+    Ok(())
 }
 
 // Whether a collector may run at an instruction.

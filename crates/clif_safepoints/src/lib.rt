@@ -7,6 +7,7 @@
 
 mod graph;
 mod last_pass;
+pub mod laws;
 mod lists;
 pub mod liveness;
 mod number_set;
