@@ -254,7 +254,7 @@ found_place f kept order inst place h = ap (at (inst_at f inst).block) told
         (λ j before same. kept.insts_once (inst_at f inst).block j place before inside (same ∙ sym (get_or_from_slice_get (block_at f (inst_at f inst).block).insts place inst 0 home)))
 
 -- a place that a path comes to is one of its block
-path_size : (f : Body) (path : List (Place ℕ)) (p : Place ℕ) → IsPath (function_flow (view_of f)) (p ∷ path) → p.index < (function_flow (view_of f)).size p.block
+pub path_size : (f : Body) (path : List (Place ℕ)) (p : Place ℕ) → IsPath (function_flow (view_of f)) (p ∷ path) → p.index < (function_flow (view_of f)).size p.block
 path_size f [] p start = let first = start.1.0 in let some = start.1.1 in omega (arith, first, some)
 path_size f (q ∷ path) p walk = by walk.0
   where

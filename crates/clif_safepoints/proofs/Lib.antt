@@ -6,6 +6,7 @@ pub mod Rows
 pub mod Scanning
 pub mod Settling
 pub mod Starting
+pub mod Tracking
 pub mod Visits
 pub mod Worked
 pub mod Working

@@ -1,7 +1,5 @@
 -- Worked examples of liveness. The first function is the project's row `slot_reuse`; the other one is own.
-use Rattle.std.specs.Prelude.{◌≡◌, ℕ, List, [], ◌∷◌, false, pos}
-use Rattle.clif_types.specs.declared.extname.UserFuncName.TheVariants.{User}
-use Rattle.clif_types.specs.declared.call_conv.CallConv.TheVariants.{SystemV}
+use Rattle.std.specs.Prelude.{ℕ, List, [], ◌∷◌, false, pos}
 use Rattle.clif_types.specs.declared.types.«Type».TheVariants as type
 use Rattle.clif_types.specs.declared.types.LaneType.TheVariants as lane
 use Rattle.clif_instructions.specs.declared.instructions.InstructionData.{InstructionData}

@@ -4,6 +4,7 @@ pub mod Transfer
 pub mod Sets
 pub mod Graph
 pub mod Tables
+pub mod Contexts
 pub mod Visits
 pub mod Examples
 pub mod LastPass

@@ -5,6 +5,7 @@
 //! `specs/Analysis.antt`); how sets are kept is its own affair.
 #![tactic(auto)]
 
+pub mod contexts;
 mod graph;
 mod last_pass;
 pub mod laws;

@@ -11,6 +11,7 @@ use clif_ir::{
     BlockArg, BlockCall, ExceptionTableData, ExceptionTableItem, ExceptionTargets, Function,
     InstructionData, ValueList, ValueOrigin,
 };
+use clif_safepoints::contexts::tracked_context;
 use clif_safepoints::liveness::LivenessAnalysis;
 use clif_types::types::I32;
 use clif_types::{
@@ -308,5 +309,20 @@ pub fn finds(
     }
     assert!(rt; least <= analysis.handled());
     assert!(rt; analysis.handled() <= most);
+    Ok(())
+}
+
+/// Asserts which try call is told for its recorded context in the function that the steps make.
+pub fn tells_context(
+    rt: &impl Abort,
+    alloc: Global,
+    steps: &[Step<'_>],
+    recorded: &[u32],
+    expected: Option<u32>,
+) -> Result<(), Fail> {
+    let func = function(rt, alloc, steps)?;
+    let recorded = set_of(rt, alloc, recorded)?;
+    let told = tracked_context(&func, &recorded)?.map(|inst| inst.as_u32());
+    assert!(rt; told == expected);
     Ok(())
 }

@@ -1,4 +1,4 @@
-use Rattle.std.proofs.Common.{length, arith}
+use Rattle.std.proofs.Common.{arith}
 use Rattle.clif_safepoints.specs.Sets.{is_in}
 use Rattle.clif_safepoints.proofs.Recording.{row_all, row_step}
 use Rattle.clif_safepoints.proofs.last_pass.members.Goals as goal
