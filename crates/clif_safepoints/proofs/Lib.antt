@@ -1,0 +1,12 @@
+pub mod Concluding
+pub mod Marks
+pub mod Paths
+pub mod Recording
+pub mod Rows
+pub mod Scanning
+pub mod Settling
+pub mod Starting
+pub mod Tracking
+pub mod Visits
+pub mod Worked
+pub mod Working

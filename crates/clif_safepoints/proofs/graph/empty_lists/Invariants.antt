@@ -1,0 +1,6 @@
+use Rattle.std.proofs.Common.{[]}
+use Rattle.clif_safepoints.specs.Tables.{AreRows}
+use Rattle.clif_safepoints.proofs.graph.empty_lists.Given as goal
+
+abbrev pub invariant-loop-number : goal.invariant-loop-number
+invariant-loop-number l = AreRows l._number (λ number. []) l.lists.items

@@ -1,0 +1,6 @@
+use Rattle.clif_safepoints.specs.Sets.{is_in}
+use Rattle.clif_safepoints.proofs.Recording.{RowTo}
+use Rattle.clif_safepoints.proofs.last_pass.members.Given as goal
+
+abbrev pub invariant-loop-place : goal.invariant-loop-place
+invariant-loop-place l = RowTo l.recorded (is_in l.live) l.place l.values

@@ -1,0 +1,47 @@
+use Rattle.std.proofs.Common.{◌≡◌, length, subst, sym}
+use Rattle.std.specs.Prelude.{slice_get}
+use Rattle.clif_safepoints.specs.Analysis.{IsAnalysis}
+use Rattle.clif_safepoints.specs.Graph.{IsClosed, IsOrder}
+use Rattle.clif_safepoints.specs.LastPass.{IsListedBy}
+use Rattle.clif_safepoints.specs.Tables.{AreRows}
+use Rattle.clif_safepoints.specs.Transfer.{successors_of}
+use Rattle.clif_safepoints.proofs.Concluding.{analysis_from_parts, closed_graph}
+use Rattle.clif_safepoints.proofs.liveness.analyse.Goals as goal
+use Rattle.clif_safepoints.proofs.liveness.analyse.Goals.{After-as_slice-order, After-as_slice-successors}
+
+-- the lists of the graph
+graph_rows : (c : After-as_slice-successors) → AreRows (length c.args.func.now.blocks) (successors_of c.args.func.now) c.as_slice-successors.result.now
+graph_rows c =
+    subst (λ table. AreRows (length c.args.func.now.blocks) (successors_of c.args.func.now) table) (sym c.as_slice-successors.ensures.value) c.in_ok-successor_lists.ensures.ok
+
+closed : (c : After-as_slice-successors) → IsClosed c.as_slice-successors.result.now
+closed c = closed_graph c.args.func.now c.as_slice-successors.result.now c.law_consistent.ensures (graph_rows c)
+
+ordered : (c : After-as_slice-order) → IsOrder c.as_slice-successors.result.now (slice_get c.args.func.now.layout 0) c.as_slice-order.result.now
+ordered c =
+    subst (λ entry. IsOrder c.as_slice-successors.result.now entry c.as_slice-order.result.now) c.entry_block.ensures.exact
+    (subst (λ order. IsOrder c.as_slice-successors.result.now c.entry_block.result order) (sym c.as_slice-order.ensures.value) c.in_ok-blocks.ensures.ok)
+
+pub post_order-requires-clause-closed : goal.post_order-requires-clause-closed
+post_order-requires-clause-closed c = closed (goal.at.post_order-requires-clause-closed c).After-as_slice-successors
+
+pub live_ins-requires-clause-closed : goal.live_ins-requires-clause-closed
+live_ins-requires-clause-closed c = closed (goal.at.live_ins-requires-clause-closed c).After-as_slice-successors
+
+pub returns-clause-ok : goal.returns-clause-ok
+returns-clause-ok c =
+    let recorded : c.in_ok-recorded.recorded ≡ c.args.recorded.now = c.in_ok-recorded.ensures.ok in
+    let order = ordered (goal.at.returns-clause-ok c).After-as_slice-order in
+    let rows = graph_rows (goal.at.returns-clause-ok c).After-as_slice-successors in
+    let listed : IsListedBy c.args.func.now c.in_ok-recorded.recorded c.in_ok-work.work.sets.items c.as_slice-order.result.now c.in_ok-across.across.items =
+    subst (λ sets. IsListedBy c.args.func.now c.in_ok-recorded.recorded sets c.as_slice-order.result.now c.in_ok-across.across.items) c.as_slice.ensures.value c.in_ok-across.ensures.ok in
+    subst (λ values. IsAnalysis c.args.func.now values (record { across = c.in_ok-across.across.items; handled = c.in_ok-work.work.handled })) recorded
+    (analysis_from_parts c.args.func.now c.in_ok-recorded.recorded c.as_slice-successors.result.now c.as_slice-order.result.now c.in_ok-work.work.sets.items
+    c.in_ok-across.across.items c.in_ok-work.work.handled (record {
+      kept = c.law_consistent.ensures;
+      rising = c.law_rising.ensures;
+      graph_is = record { size = rows.size; rows = rows.rows };
+      ordered = order;
+      finished = c.in_ok-work.ensures.ok;
+      listed = listed;
+    }))

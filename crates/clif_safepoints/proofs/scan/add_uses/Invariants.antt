@@ -1,0 +1,10 @@
+use Rattle.std.proofs.Common.{◌||◌, ◌==◌, length, slice_index, take}
+use Rattle.std.specs.List.{list_any}
+use Rattle.clif_ir.specs.Body.{resolved}
+use Rattle.clif_safepoints.specs.Sets.{IsSet, is_in}
+use Rattle.clif_safepoints.proofs.scan.add_uses.Given as goal
+
+abbrev pub invariant-loop-value : goal.invariant-loop-value
+invariant-loop-value l =
+    IsSet (length l.recorded)
+    (λ k. list_any (λ x. resolved l.func x == slice_index l.recorded k) (take l.value-index l.values) || is_in l.initial.live k) l.live

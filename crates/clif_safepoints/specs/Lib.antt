@@ -1,0 +1,12 @@
+pub mod Liveness
+pub mod Analysis
+pub mod Transfer
+pub mod Sets
+pub mod Graph
+pub mod Tables
+pub mod Contexts
+pub mod Visits
+pub mod Examples
+pub mod LastPass
+pub mod Fronts
+pub mod Progress

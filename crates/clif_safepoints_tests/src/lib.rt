@@ -1,0 +1,11 @@
+//! Tests of `clif_safepoints`: the values that are live across calls, by hand.
+#![tactic(auto)]
+
+#[cfg(test)]
+mod contexts;
+#[cfg(test)]
+mod rows;
+#[cfg(test)]
+mod shapes;
+#[cfg(test)]
+mod steps;
