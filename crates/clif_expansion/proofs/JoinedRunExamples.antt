@@ -19,7 +19,7 @@ use Rattle.clif_meaning.specs.Store.{assigned}
 use Rattle.clif_meaning.specs.World.{World}
 use Rattle.clif_expansion.specs.Code.{NameTypes, PerformsIn}
 use Rattle.clif_expansion.specs.Constants.{computing}
-use Rattle.clif_expansion.specs.Emission.{building, reading_emitted}
+use Rattle.clif_expansion.specs.Emission.{AreGiven, building, reading_emitted}
 use Rattle.clif_expansion.specs.Examples.{negating, run_of}
 use Rattle.clif_expansion.specs.JoinedPrograms.{built_items}
 use Rattle.clif_expansion.specs.JoinedRunExamples.{JoinedRunExamples, narrow_run}
@@ -104,7 +104,7 @@ module _ (world : World) (reading : Reading) where
           ∙ did.kept result (not_generated emitted result (answer_of 3 0) refl)
           ∙ ap (λ (vs : List Bits). assigned same_name (x ∷ []) vs (λ x. 0) result) (sym values)
 
-  negated : IsPerformed world.pointer_width reading (ledger_after begun_script) (ledger_of begun_calls) (computing (Iconst (negsuc 6)) i32 [] ∷ []) sum (seven_more (answer_of 2 1)) → ⊥
+  negated : IsPerformed world.pointer_width AreGiven reading (ledger_after begun_script) (ledger_of begun_calls) (computing (Iconst (negsuc 6)) i32 [] ∷ []) sum (seven_more (answer_of 2 1)) → ⊥
   negated is =
       let performs = is.performs types (λ x ty there. ap or_invalid there) (λ x ty there. ap or_invalid there) in
       refused performs.given performs.named

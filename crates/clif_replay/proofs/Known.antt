@@ -13,7 +13,7 @@ use Rattle.clif_meaning.specs.Name.{answer_of}
 use Rattle.clif_meaning.specs.Request.{Request, Script}
 use Rattle.clif_expansion.specs.ConstantCalls.{constant_calls, constant_instructions, constant_last, IsPerformedByConstant}
 use Rattle.clif_expansion.specs.Constants.{computing}
-use Rattle.clif_expansion.specs.Emission.{building, reading_emitted}
+use Rattle.clif_expansion.specs.Emission.{AreGiven, building, reading_emitted}
 use Rattle.clif_expansion.specs.JoinedCalls.{Asking}
 use Rattle.clif_expansion.specs.Joining.{IsJoined, IsReadRequest, answers_at, reading_after}
 use Rattle.clif_expansion.specs.Reading.{IsReadAs, Reading, ScriptName}
@@ -178,7 +178,7 @@ module _ (naming : Naming) (count : ℕ) (plain : Script) (script : List ScriptC
       by : (n : Name) → (n.place < count) ⊎ (count ≤ n.place) → n.place < count + 1 → IsReadAs (reading_emitted reading plain_ledger ledger code) (extended n) (name_of n)
       by n (inl made) below =
           ap (reading_emitted reading plain_ledger ledger code) (earlier n made)
-          ∙ emitted_before reading plain_ledger ledger code (naming n) (joined.made (naming n) (name_of n) (known.reads n made)).0
+          ∙ emitted_before AreGiven reading plain_ledger ledger code (naming n) (joined.made (naming n) (name_of n) (known.reads n made)).0
           ∙ known.reads n made
       by n (inr past) below =
           let here : n.place ≡ count = omega (arith, past, below) in
