@@ -4,3 +4,4 @@ pub mod Performed
 pub mod Called
 pub mod Known
 pub mod Loads
+pub mod Laid

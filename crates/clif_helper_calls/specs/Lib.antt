@@ -2,3 +2,4 @@ pub mod Codes
 pub mod Performing
 pub mod LibraryCodes
 pub mod PerformingCalls
+pub mod Laying

@@ -2,6 +2,7 @@
 //! their contracts are the laws of the definitions.
 #![tactic(auto)]
 
+ghost use Rattle.clif_helper_calls.specs.Laying.{CodesAreLaid};
 ghost use Rattle.clif_helper_calls.specs.Performing.{LoadsArePerformed, PiecesArePerformed};
 ghost use Rattle.clif_helper_calls.specs.PerformingCalls.{CallsArePerformed, KnownCallsArePerformed};
 
@@ -23,4 +24,9 @@ pub fn known_calls_are_performed()
 /// Loads of both sides, and the comparison of what they give, perform a comparison.
 pub fn loads_are_performed()
     ensures { LoadsArePerformed }
+{}
+
+/// The code names what it gave before or what the operation of the script names.
+pub fn codes_are_laid()
+    ensures { CodesAreLaid }
 {}
