@@ -5,3 +5,4 @@ pub mod Called
 pub mod Known
 pub mod Loads
 pub mod Laid
+pub mod Standing

@@ -3,3 +3,4 @@ pub mod Performing
 pub mod LibraryCodes
 pub mod PerformingCalls
 pub mod Laying
+pub mod Standing

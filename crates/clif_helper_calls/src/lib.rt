@@ -5,6 +5,7 @@
 ghost use Rattle.clif_helper_calls.specs.Laying.{CodesAreLaid};
 ghost use Rattle.clif_helper_calls.specs.Performing.{LoadsArePerformed, PiecesArePerformed};
 ghost use Rattle.clif_helper_calls.specs.PerformingCalls.{CallsArePerformed, KnownCallsArePerformed};
+ghost use Rattle.clif_helper_calls.specs.Standing.{SingleCallsStand};
 
 /// Loads of all pieces and then stores of them perform a copy, and stores of a constant a fill.
 pub fn pieces_are_performed()
@@ -29,4 +30,9 @@ pub fn loads_are_performed()
 /// The code names what it gave before or what the operation of the script names.
 pub fn codes_are_laid()
     ensures { CodesAreLaid }
+{}
+
+/// A call of a function of the C library with a size that is a value stands for its emission.
+pub fn single_calls_stand()
+    ensures { SingleCallsStand }
 {}
