@@ -6,3 +6,4 @@ pub mod Known
 pub mod Loads
 pub mod Laid
 pub mod Standing
+pub mod KnownStanding

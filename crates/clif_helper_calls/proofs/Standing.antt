@@ -36,7 +36,7 @@ use Rattle.clif_helper_calls.proofs.Called.{calls_are_performed}
 use Rattle.clif_helper_calls.proofs.Laid.{codes_are_laid}
 
 -- a type of pointers is that of its width
-own_pointer : (pointer : «Type») → is_pointer pointer ≡ true → pointer_of (bits_of pointer) ≡ pointer
+pub own_pointer : (pointer : «Type») → is_pointer pointer ≡ true → pointer_of (bits_of pointer) ≡ pointer
 own_pointer type.Invalid is = cc
 own_pointer (type.Vector l n) is = cc
 own_pointer (type.Lane lane.I8) is = cc
@@ -49,7 +49,7 @@ own_pointer (type.Lane lane.F32) is = cc
 own_pointer (type.Lane lane.F64) is = cc
 own_pointer (type.Lane lane.F128) is = cc
 
-three_pointers : (a b c pointer own : «Type») → a ≡ pointer → b ≡ pointer → c ≡ pointer → own ≡ pointer → a ∷ b ∷ c ∷ [] ≡ own ∷ own ∷ own ∷ []
+pub three_pointers : (a b c pointer own : «Type») → a ≡ pointer → b ≡ pointer → c ≡ pointer → own ≡ pointer → a ∷ b ∷ c ∷ [] ≡ own ∷ own ∷ own ∷ []
 three_pointers a b c pointer own first second third is = cc
 
 module _ (how : LastResults) (callee : LibCall)

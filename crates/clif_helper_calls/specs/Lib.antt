@@ -4,3 +4,4 @@ pub mod LibraryCodes
 pub mod PerformingCalls
 pub mod Laying
 pub mod Standing
+pub mod KnownStanding

@@ -2,6 +2,7 @@
 //! their contracts are the laws of the definitions.
 #![tactic(auto)]
 
+ghost use Rattle.clif_helper_calls.specs.KnownStanding.{KnownCallsStand};
 ghost use Rattle.clif_helper_calls.specs.Laying.{CodesAreLaid};
 ghost use Rattle.clif_helper_calls.specs.Performing.{LoadsArePerformed, PiecesArePerformed};
 ghost use Rattle.clif_helper_calls.specs.PerformingCalls.{CallsArePerformed, KnownCallsArePerformed};
@@ -35,4 +36,9 @@ pub fn codes_are_laid()
 /// A call of a function of the C library with a size that is a value stands for its emission.
 pub fn single_calls_stand()
     ensures { SingleCallsStand }
+{}
+
+/// Calls of the C library with a constant size stand for the copy or the comparison that is emitted.
+pub fn known_calls_stand()
+    ensures { KnownCallsStand }
 {}
