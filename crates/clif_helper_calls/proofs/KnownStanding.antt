@@ -39,7 +39,7 @@ use Rattle.clif_helper_calls.proofs.Known.{known_calls_are_performed}
 use Rattle.clif_helper_calls.proofs.Laid.{codes_are_laid}
 use Rattle.clif_helper_calls.proofs.Standing.{own_pointer, three_pointers}
 
-pointer_is_int : (pointer : «Type») → is_pointer pointer ≡ true → IsTrue (is_int pointer)
+pub pointer_is_int : (pointer : «Type») → is_pointer pointer ≡ true → IsTrue (is_int pointer)
 pointer_is_int type.Invalid is = cc
 pointer_is_int (type.Vector l n) is = cc
 pointer_is_int (type.Lane lane.I8) is = cc
@@ -53,7 +53,7 @@ pointer_is_int (type.Lane lane.F64) is = cc
 pointer_is_int (type.Lane lane.F128) is = cc
 
 -- what a call of code answers has its type, in later ledgers, too
-answer_typed : (plain : Ledger) (instruction : Instruction Name Name) (more : Script) (types : Name → «Type») (ty : «Type») (place : ℕ) → place ≡ length plain.answers
+pub answer_typed : (plain : Ledger) (instruction : Instruction Name Name) (more : Script) (types : Name → «Type») (ty : «Type») (place : ℕ) → place ≡ length plain.answers
     → emitted_types instruction ≡ ty ∷ [] → HaveTypes (fold ledger_with (ledger_with plain (building instruction)) more) types → types (answer_of place 1) ≡ ty
 answer_typed plain instruction more types ty place here gives have =
     ap (λ (n : ℕ). types (answer_of n 1)) here
@@ -61,11 +61,11 @@ answer_typed plain instruction more types ty place here gives have =
     (ap value_answer_type (answers_last plain.answers (AnInstruction ∷ map AValue (emitted_types instruction)) 1)
     ∙ ap (λ (ts : List «Type»). value_answer_type (slice_get (AnInstruction ∷ map AValue ts) 1)) gives)
 
-longer : (plain : Ledger) (instruction : Instruction Name Name) → length (ledger_with plain (building instruction)).answers ≡ suc (length plain.answers)
+pub longer : (plain : Ledger) (instruction : Instruction Name Name) → length (ledger_with plain (building instruction)).answers ≡ suc (length plain.answers)
 longer plain instruction = one_longer plain.answers (answers_to plain (building instruction))
 
 -- the last call's answers are generated, where they are said to be
-last_generated : (reading : Reading) (plain ledger : Ledger) (code : List (Instruction Name Name)) (place index : ℕ) → place ≡ length plain.answers + length code
+pub last_generated : (reading : Reading) (plain ledger : Ledger) (code : List (Instruction Name Name)) (place index : ℕ) → place ≡ length plain.answers + length code
     → reading_behind AreGenerated reading plain ledger code (answer_of place index) ≡ Generated
 last_generated reading plain ledger [] place index is =
     let here : place ≡ length plain.answers = omega (arith, is) in

@@ -7,3 +7,4 @@ pub mod Loads
 pub mod Laid
 pub mod Standing
 pub mod KnownStanding
+pub mod FillStanding

@@ -5,3 +5,4 @@ pub mod PerformingCalls
 pub mod Laying
 pub mod Standing
 pub mod KnownStanding
+pub mod FillStanding

@@ -2,6 +2,7 @@
 //! their contracts are the laws of the definitions.
 #![tactic(auto)]
 
+ghost use Rattle.clif_helper_calls.specs.FillStanding.{FillCallsStand};
 ghost use Rattle.clif_helper_calls.specs.KnownStanding.{KnownCallsStand};
 ghost use Rattle.clif_helper_calls.specs.Laying.{CodesAreLaid};
 ghost use Rattle.clif_helper_calls.specs.Performing.{LoadsArePerformed, PiecesArePerformed};
@@ -41,4 +42,9 @@ pub fn single_calls_stand()
 /// Calls of the C library with a constant size stand for the copy or the comparison that is emitted.
 pub fn known_calls_stand()
     ensures { KnownCallsStand }
+{}
+
+/// Calls of `Memset` stand for fills, and two loads for a comparison.
+pub fn fill_calls_stand()
+    ensures { FillCallsStand }
 {}
