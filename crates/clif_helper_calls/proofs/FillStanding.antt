@@ -199,7 +199,7 @@ module _ (pointer : «Type») (signature : SignatureShape) (fill : FillShape) (f
 
 -- LOADS -------------------------------------------------------------------------------------------------------------------
 
-int_is_type : (ty : «Type») → IsTrue (is_int ty) → IsTrue (is_type ty)
+pub int_is_type : (ty : «Type») → IsTrue (is_int ty) → IsTrue (is_type ty)
 int_is_type type.Invalid is = cc
 int_is_type (type.Vector l k) is = cc
 int_is_type (type.Lane l) is = refl
@@ -217,7 +217,7 @@ pointer_is_address (type.Lane lane.F32) is = cc
 pointer_is_address (type.Lane lane.F64) is = cc
 pointer_is_address (type.Lane lane.F128) is = cc
 
-addressed : (t pointer ty : «Type») → t ≡ pointer → is_pointer pointer ≡ true → AreOfKinds ty (Address ∷ []) (t ∷ [])
+pub addressed : (t pointer ty : «Type») → t ≡ pointer → is_pointer pointer ≡ true → AreOfKinds ty (Address ∷ []) (t ∷ [])
 addressed t pointer ty is pointed = subst (λ (u : «Type»). AreOfKinds ty (Address ∷ []) (u ∷ [])) (sym is) (pointer_is_address pointer pointed, tt)
 
 module _ (pointer ty : «Type») (compare : CompareShape) (int : IsTrue (is_int ty)) (has : HasLoads ty compare) (a b x y : Name)
@@ -298,13 +298,13 @@ some_type : (o : Option «Type») → is_some o ≡ true → (ty : «Type») × 
 some_type None is = cc
 some_type (Some ty) is = (ty, refl)
 
-typed_alike : (reading : Reading) (plain ledger : Ledger) → IsJoined reading plain ledger → (types : NameTypes) (name given : Name) → IsReadAs reading name given
+pub typed_alike : (reading : Reading) (plain ledger : Ledger) → IsJoined reading plain ledger → (types : NameTypes) (name given : Name) → IsReadAs reading name given
     → has_value ledger given ≡ true → HaveTypes plain types.plain → HaveTypes ledger types.script → types.plain name ≡ types.script given
 typed_alike reading plain ledger joined types name given is there have' have =
     let found = some_type (type_of ledger given) there in
     have' name found.0 (ReadConditions.type_same reading plain ledger joined.ledgers joined.one_to_one name given is ∙ found.1) ∙ sym (have given found.0 found.1)
 
-one_of_two : (ledger : Ledger) (x y given : Name) → list_all (has_value ledger) (x ∷ y ∷ []) ≡ true → (given ≡ x) ⊎ (given ≡ y) → has_value ledger given ≡ true
+pub one_of_two : (ledger : Ledger) (x y given : Name) → list_all (has_value ledger) (x ∷ y ∷ []) ≡ true → (given ≡ x) ⊎ (given ≡ y) → has_value ledger given ≡ true
 one_of_two ledger x y given are (inl same) = ap (has_value ledger) same ∙ (and_parts (has_value ledger x) (has_value ledger y && true) are).0
 one_of_two ledger x y given are (inr same) =
     ap (has_value ledger) same ∙ (and_parts (has_value ledger y) true (and_parts (has_value ledger x) (has_value ledger y && true) are).1).0

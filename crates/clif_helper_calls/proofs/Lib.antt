@@ -8,3 +8,4 @@ pub mod Laid
 pub mod Standing
 pub mod KnownStanding
 pub mod FillStanding
+pub mod PieceStanding

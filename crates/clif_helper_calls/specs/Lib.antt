@@ -6,3 +6,4 @@ pub mod Laying
 pub mod Standing
 pub mod KnownStanding
 pub mod FillStanding
+pub mod PieceStanding

@@ -7,6 +7,7 @@ ghost use Rattle.clif_helper_calls.specs.KnownStanding.{KnownCallsStand};
 ghost use Rattle.clif_helper_calls.specs.Laying.{CodesAreLaid};
 ghost use Rattle.clif_helper_calls.specs.Performing.{LoadsArePerformed, PiecesArePerformed};
 ghost use Rattle.clif_helper_calls.specs.PerformingCalls.{CallsArePerformed, KnownCallsArePerformed};
+ghost use Rattle.clif_helper_calls.specs.PieceStanding.{PiecesStand};
 ghost use Rattle.clif_helper_calls.specs.Standing.{SingleCallsStand};
 
 /// Loads of all pieces and then stores of them perform a copy, and stores of a constant a fill.
@@ -47,4 +48,9 @@ pub fn known_calls_stand()
 /// Calls of `Memset` stand for fills, and two loads for a comparison.
 pub fn fill_calls_stand()
     ensures { FillCallsStand }
+{}
+
+/// Loads and stores of pieces stand for the copy or the fill that is emitted.
+pub fn pieces_stand()
+    ensures { PiecesStand }
 {}
