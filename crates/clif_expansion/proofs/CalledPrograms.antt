@@ -9,7 +9,7 @@ use Rattle.clif_meaning.specs.Ledger.{Ledger, answers_to, changed_by, is_termina
 use Rattle.clif_meaning.specs.Name.{Name, answer_of, same_name}
 use Rattle.clif_meaning.specs.Program.{Program, Item, Instruct, Use, Assign, answers_from, extended, redirected_item, result_names, result_types, with_call, with_inserted, with_item_at, with_parameters}
 use Rattle.clif_meaning.specs.Request.{Request, CreateBlock, SwitchToBlock, SealBlock, SealAllBlocks, InsertBlockAfter, SetColdBlock, EnsureInsertedBlock, AppendBlockParams, AppendFunctionParams, DeclareVar, DefVar, UseVar, MakeEntry, MakeEdge, MakeJumpTable, MakeExceptionTable, Annotate, Build, ChangeJumpDestination, Finalize}
-use Rattle.clif_expansion.specs.Emission.{StaysInLine, reading_emitted}
+use Rattle.clif_expansion.specs.Emission.{AreAnswered, AreGenerated, AreGiven, LastResults, StaysInLine, reading_behind}
 use Rattle.clif_expansion.specs.Expansion.{AreCut, IsCutProgram, IsReadBlock}
 use Rattle.clif_expansion.specs.JoinedCalls.{HaveCurrent, uses_current}
 use Rattle.clif_expansion.specs.JoinedPrograms.{IsDecidingItem, IsEmission, built_items}
@@ -572,17 +572,17 @@ module _ (Known : Reading → List Item → Item → Type 0) (lasts : LastsLater
 
   -- an emission and its code
   module _ (reading : Reading) (ledger' ledger : Ledger) (joined : IsJoined reading ledger' ledger) (plain program : Program) (goes : GoesWith reading ledger' ledger plain program)
-      (code : List (Instruction Name Name)) (last whole : Instruction Name Name) (line : AllByRecursion StaysInLine code) (stays : StaysInLine last) (whole_stays : StaysInLine whole)
-      (types : emitted_types last ≡ emitted_types whole) (both : HaveCurrent ledger' ledger)
-      (known : Known (reading_emitted reading ledger' ledger code) (built_items plain.place (code ++ last ∷ [])) (emitted_item program.place whole)) where
+      (how : LastResults) (code : List (Instruction Name Name)) (last whole : Instruction Name Name) (line : AllByRecursion StaysInLine code) (stays : StaysInLine last) (whole_stays : StaysInLine whole)
+      (types : AreAnswered how last whole) (both : HaveCurrent ledger' ledger)
+      (known : Known (reading_behind how reading ledger' ledger code) (built_items plain.place (code ++ last ∷ [])) (emitted_item program.place whole)) where
     abbrev emitted : Reading
-    emitted = reading_emitted reading ledger' ledger code
+    emitted = reading_behind how reading ledger' ledger code
 
     emission_keeps : (x name : Name) → IsReadAs reading x name → IsReadAs emitted x name
-    emission_keeps x name is = emitted_before reading ledger' ledger code x (joined.made x name is).0 ∙ is
+    emission_keeps x name is = emitted_before how reading ledger' ledger code x (joined.made x name is).0 ∙ is
 
     emission_generates : KeepsGenerated reading emitted
-    emission_generates x is = emitted_before reading ledger' ledger code x (joined.generated x is) ∙ is
+    emission_generates x is = emitted_before how reading ledger' ledger code x (joined.generated x is) ∙ is
 
     abbrev made_before : ℕ
     made_before = length ledger.answers
@@ -592,7 +592,7 @@ module _ (Known : Reading → List Item → Item → Type 0) (lasts : LastsLater
       keeps = emission_keeps;
       generated = emission_generates;
       unread = λ name unread. record {
-        unread = λ x read. by name unread x (emitted_either reading ledger' ledger code x name read);
+        unread = λ x read. by name unread x (emitted_either how reading ledger' ledger code x name read);
         before = let below = unread.before in omega (arith, below);
       };
     }
@@ -605,7 +605,7 @@ module _ (Known : Reading → List Item → Item → Type 0) (lasts : LastsLater
     EitherThen x block = IsOldOrBare reading emitted made_before (suc made_before) emission_on plain program goes.cut x block
 
     either_then : (x block : Name) → IsReadAs emitted x block → EitherThen x block
-    either_then x block is = by (emitted_either reading ledger' ledger code x block is)
+    either_then x block is = by (emitted_either how reading ledger' ledger code x block is)
       where
         by : ((length ledger'.answers ≤ x.place) × (block.place ≡ length ledger.answers)) ⊎ IsReadAs reading x block → EitherThen x block
         by (inl new) =
@@ -625,6 +625,16 @@ module _ (Known : Reading → List Item → Item → Type 0) (lasts : LastsLater
     line_on [] all = (stays, tt)
     line_on (first ∷ instructions) all = (all.0, line_on instructions all.1)
 
+    -- the results are those of the emitted instruction, if it gives something
+    results_answered : (so : LastResults) → how ≡ so → AreAnswered so last whole
+        → (emitted_types whole ≡ []) ⊎ AllZip (IsReadAs emitted) (result_names (plain.place + length code) last) (answers_from program.place 0 (emitted_types whole))
+    results_answered AreGenerated is none = inl none
+    results_answered AreGiven is same =
+        inr (subst (λ (ts : List «Type»). AllZip (IsReadAs emitted) (answers_from (plain.place + length code) 1 ts) (answers_from program.place 0 (emitted_types whole))) (sym same)
+        (results_read emitted (plain.place + length code) program.place (emitted_types whole) 0
+        (λ k. ap (λ (so : LastResults). reading_behind so reading ledger' ledger code (answer_of (plain.place + length code) (suc k))) is
+        ∙ emitted_result reading ledger' ledger code (plain.place + length code) k (ap (λ (n : ℕ). n + length code) goes.place') ∙ ap (λ (n : ℕ). ScriptName (answer_of n k)) (sym goes.place))))
+
     emission : IsEmission emitted (built_items plain.place (code ++ last ∷ [])) (emitted_item program.place whole)
     emission = record {
       place = plain.place;
@@ -636,9 +646,7 @@ module _ (Known : Reading → List Item → Item → Type 0) (lasts : LastsLater
       whole = whole;
       emitted = refl;
       stays = whole_stays;
-      results = subst (λ (ts : List «Type»). AllZip (IsReadAs emitted) (answers_from (plain.place + length code) 1 ts) (answers_from program.place 0 (emitted_types whole))) (sym types)
-          (results_read emitted (plain.place + length code) program.place (emitted_types whole) 0
-          (λ k. emitted_result reading ledger' ledger code (plain.place + length code) k (ap (λ (n : ℕ). n + length code) goes.place') ∙ ap (λ (n : ℕ). ScriptName (answer_of n k)) (sym goes.place)));
+      results = results_answered how refl types;
     }
 
     whole_called : StandsThen (built_items plain.place (code ++ last ∷ [])) (emitted_item program.place whole)
@@ -687,7 +695,7 @@ module _ (Known : Reading → List Item → Item → Type 0) (lasts : LastsLater
       generated_either x own = by (cases_lt x.place (length ledger'.answers))
         where
           by : (x.place < length ledger'.answers) ⊎ (length ledger'.answers ≤ x.place) → IsGenerated reading x ⊎ (length ledger'.answers ≤ x.place)
-          by (inl below) = inl (sym (emitted_before reading ledger' ledger code x below) ∙ own)
+          by (inl below) = inl (sym (emitted_before how reading ledger' ledger code x below) ∙ own)
           by (inr behind) = inr behind
 
       abbrev plain_end : Program

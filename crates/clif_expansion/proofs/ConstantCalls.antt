@@ -15,7 +15,7 @@ use Rattle.clif_meaning.specs.Ledger.{AValue, AnInstruction, Answered, BlockStat
 use Rattle.clif_meaning.specs.Name.{Name, answer_of, same_name}
 use Rattle.clif_expansion.specs.ConstantCalls.{AreAllowed, ConstantsAreEmitted, StandsForEmission, constant_calls, constant_instructions, constant_last, constant_name}
 use Rattle.clif_expansion.specs.Constants.{computing, i64}
-use Rattle.clif_expansion.specs.Emission.{StaysInLine, building}
+use Rattle.clif_expansion.specs.Emission.{AreGiven, StaysInLine, building}
 use Rattle.clif_expansion.specs.Joining.{IsJoined}
 use Rattle.clif_expansion.specs.Reading.{IsReadAs, Reading}
 use Rattle.clif_expansion.specs.ScriptCall.{Emit, call_allowed, can_emit, emitted_types, has_64_bits}
@@ -198,7 +198,7 @@ module _ (arithmetic : Arithmetic) (number : ℤ) (can : (ty : «Type») → can
     stands = record {
       allowed = allowed;
       joined = λ reading plain ledger ty x name joined.
-          emitting_keeps_joins reading plain ledger (constant_instructions ty number (length plain.answers)) (constant_last arithmetic ty (length plain.answers) x) (computing whole ty (name ∷ []))
+          emitting_keeps_joins AreGiven reading plain ledger (constant_instructions ty number (length plain.answers)) (constant_last arithmetic ty (length plain.answers) x) (computing whole ty (name ∷ []))
           joined (all_in_line ty (length plain.answers)) (stays ty (x ∷ constant_name ty (length plain.answers) ∷ [])) (whole_stays ty (name ∷ []))
           (types ty (x ∷ constant_name ty (length plain.answers) ∷ []) (name ∷ []));
     }

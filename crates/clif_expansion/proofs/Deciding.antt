@@ -128,7 +128,7 @@ some_branch world block names after branches tables (Arriving place instruction 
 
 wrong : (world : World) → Decides world.pointer_width early all_32_bits jumping comparing by_table 0 0 → ⊥
 wrong world decides =
-    let did = decides.decides world (λ x. 0) (λ x. 0) world.memory refl (λ x name is. refl) (record { operands = (omega arith, tt); claims = tt }) in
+    let did = decides.decides world (λ x. 0) (λ x. 0) world.memory refl (λ x name is. refl) (record { typed = ([], (refl, tt)); operands = (omega arith, tt); claims = tt }) in
     let some = some_branch world did.block (λ x. 0) did.after did.walked_branches did.walked_tables did.walk in
     absurd (omega (arith, some, did.few_branches))
 

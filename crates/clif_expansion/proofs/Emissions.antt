@@ -7,7 +7,7 @@ use Rattle.clif_types.specs.declared.types.«Type».{«Type»}
 use Rattle.clif_meaning.specs.Instruction.{Edge, Instruction, Operation, Switch}
 use Rattle.clif_meaning.specs.Ledger.{AValue, AnInstruction, Answered, BlockState, ExceptionTable, Ledger, answer_at, changed_by, is_inserted, is_terminator, ledger_with, with_begun, with_begun_at, with_filled_at, with_instruction, with_layout, with_predecessor, with_state, with_terminator}
 use Rattle.clif_meaning.specs.Name.{Name, answer_of, same_name}
-use Rattle.clif_expansion.specs.Emission.{ActingKeepsJoins, EmittingKeepsJoins, StaysInLine, building, reading_acted, reading_emitted, reading_generated}
+use Rattle.clif_expansion.specs.Emission.{AreAnswered, AreGenerated, AreGiven, EmittingKeepsJoins, LastResults, StaysInLine, building, reading_behind, reading_generated}
 use Rattle.clif_expansion.specs.Joining.{AreJoinedStates, IsJoined, IsReadAnswer, IsUnread, reading_with, results_at}
 use Rattle.clif_expansion.specs.Reading.{Generated, IsOneToOne, IsReadAs, Reading, ScriptName, StandsFor}
 use Rattle.clif_expansion.specs.ScriptCall.{Emit, emitted_types, ledger_behind, ledger_with_call}
@@ -380,37 +380,18 @@ module _ (reading : Reading) (plain ledger : Ledger) (midst : InMidst reading pl
         generated = generated_either (results_at here) (length after.answers) longer;
       }
 
-emitting : (reading : Reading) (plain ledger : Ledger) (code : List (Instruction Name Name)) (last whole : Instruction Name Name)
-    → InMidst reading plain ledger → AllByRecursion StaysInLine code → StaysInLine last → StaysInLine whole → emitted_types last ≡ emitted_types whole
-    → IsJoined (reading_emitted reading plain ledger code) (fold ledger_with plain (map building code ++ building last ∷ [])) (ledger_with_call ledger (Emit whole))
-emitting reading plain ledger [] last whole midst line stays whole_stays types = ends reading plain ledger midst last stays whole whole_stays types
-emitting reading plain ledger (first ∷ code) last whole midst line stays whole_stays types =
-    emitting (reading_generated reading plain) (ledger_with plain (building first)) ledger code last whole
+emitting : (how : LastResults) (reading : Reading) (plain ledger : Ledger) (code : List (Instruction Name Name)) (last whole : Instruction Name Name)
+    → InMidst reading plain ledger → AllByRecursion StaysInLine code → StaysInLine last → StaysInLine whole → AreAnswered how last whole
+    → IsJoined (reading_behind how reading plain ledger code) (fold ledger_with plain (map building code ++ building last ∷ [])) (ledger_with_call ledger (Emit whole))
+emitting AreGiven reading plain ledger [] last whole midst line stays whole_stays types = ends reading plain ledger midst last stays whole whole_stays types
+emitting AreGenerated reading plain ledger [] last whole midst line stays whole_stays types = acts reading plain ledger midst last stays whole whole_stays
+emitting how reading plain ledger (first ∷ code) last whole midst line stays whole_stays types =
+    emitting how (reading_generated reading plain) (ledger_with plain (building first)) ledger code last whole
     (goes_on reading plain ledger midst first line.0 (one_to_one_on reading plain ledger midst first line.0)) line.1 stays whole_stays types
 
-acting : (reading : Reading) (plain ledger : Ledger) (first : Instruction Name Name) (code : List (Instruction Name Name)) (whole : Instruction Name Name)
-    → InMidst reading plain ledger → AllByRecursion StaysInLine (first ∷ code) → StaysInLine whole
-    → IsJoined (reading_acted reading plain (first ∷ code)) (fold ledger_with plain (map building (first ∷ code))) (ledger_with_call ledger (Emit whole))
-acting reading plain ledger first [] whole midst line whole_stays = acts reading plain ledger midst first line.0 whole whole_stays
-acting reading plain ledger first (second ∷ code) whole midst line whole_stays =
-    acting (reading_generated reading plain) (ledger_with plain (building first)) ledger second code whole
-    (goes_on reading plain ledger midst first line.0 (one_to_one_on reading plain ledger midst first line.0)) line.1 whole_stays
-
-pub acting_keeps_joins : ActingKeepsJoins
-acting_keeps_joins reading plain ledger first code whole joined line whole_stays =
-    acting reading plain ledger first code whole
-    (record {
-      begins = begun_read reading (length ledger.answers) joined.one_to_one plain ledger joined.ledgers.states;
-      answers = joined.ledgers.answers;
-      one_to_one = joined.one_to_one;
-      made = joined.made;
-      own = joined.generated;
-    })
-    line whole_stays
-
 pub emitting_keeps_joins : EmittingKeepsJoins
-emitting_keeps_joins reading plain ledger code last whole joined line stays whole_stays types =
-    emitting reading plain ledger code last whole
+emitting_keeps_joins how reading plain ledger code last whole joined line stays whole_stays types =
+    emitting how reading plain ledger code last whole
     (record {
       begins = begun_read reading (length ledger.answers) joined.one_to_one plain ledger joined.ledgers.states;
       answers = joined.ledgers.answers;

@@ -7,7 +7,7 @@ use Rattle.clif_meaning.specs.Instruction.{Instruction}
 use Rattle.clif_meaning.specs.Ledger.{Ledger, answers_to, ledger_with}
 use Rattle.clif_meaning.specs.Name.{Name, answer_of, same_name}
 use Rattle.clif_meaning.specs.Program.{Program, Item, Instruct, answers_from, first_block, result_names, with_call, with_inserted}
-use Rattle.clif_expansion.specs.Emission.{building, reading_emitted, reading_generated}
+use Rattle.clif_expansion.specs.Emission.{AreGenerated, AreGiven, LastResults, building, reading_behind, reading_emitted, reading_generated, results_as}
 use Rattle.clif_expansion.specs.Joining.{results_at}
 use Rattle.clif_expansion.specs.JoinedPrograms.{built_items}
 use Rattle.clif_expansion.specs.Reading.{Generated, IsReadAs, Reading, ScriptName}
@@ -90,40 +90,30 @@ longer : (ledger : Ledger) (instruction : Instruction Name Name) → length (led
 longer ledger instruction = one_longer ledger.answers (answers_to ledger (building instruction))
 
 -- earlier names are read as before
-pub emitted_before : (reading : Reading) (plain ledger : Ledger) (code : List (Instruction Name Name)) (x : Name) → x.place < length plain.answers
-    → reading_emitted reading plain ledger code x ≡ reading x
-emitted_before reading plain ledger [] x below = read_before reading (length plain.answers) (results_at (length ledger.answers)) x below
-emitted_before reading plain ledger (first ∷ code) x below =
+pub emitted_before : (how : LastResults) (reading : Reading) (plain ledger : Ledger) (code : List (Instruction Name Name)) (x : Name) → x.place < length plain.answers
+    → reading_behind how reading plain ledger code x ≡ reading x
+emitted_before how reading plain ledger [] x below = read_before reading (length plain.answers) (results_as how (length ledger.answers)) x below
+emitted_before how reading plain ledger (first ∷ code) x below =
     let more = longer plain first in
-    emitted_before (reading_generated reading plain) (ledger_with plain (building first)) ledger code x (omega (arith, below, more))
+    emitted_before how (reading_generated reading plain) (ledger_with plain (building first)) ledger code x (omega (arith, below, more))
     ∙ read_before reading (length plain.answers) (λ index. Generated) x below
 
--- the last call's results are the emission's
-pub emitted_result : (reading : Reading) (plain ledger : Ledger) (code : List (Instruction Name Name)) (place index : ℕ) → place ≡ length plain.answers + length code
-    → IsReadAs (reading_emitted reading plain ledger code) (answer_of place (suc index)) (answer_of (length ledger.answers) index)
-emitted_result reading plain ledger [] place index is =
-    let here : place ≡ length plain.answers = omega (arith, is) in
-    ap (λ (n : ℕ). reading_emitted reading plain ledger [] (answer_of n (suc index))) here
-    ∙ read_there reading (length plain.answers) (suc index) (results_at (length ledger.answers))
-emitted_result reading plain ledger (first ∷ code) place index is =
-    let more = longer plain first in
-    emitted_result (reading_generated reading plain) (ledger_with plain (building first)) ledger code place index (omega (arith, is, more))
-
 -- what is read is an answer of the emission, or was read before
-pub emitted_either : (reading : Reading) (plain ledger : Ledger) (code : List (Instruction Name Name)) (x name : Name) → IsReadAs (reading_emitted reading plain ledger code) x name
+pub emitted_either : (how : LastResults) (reading : Reading) (plain ledger : Ledger) (code : List (Instruction Name Name)) (x name : Name) → IsReadAs (reading_behind how reading plain ledger code) x name
     → ((length plain.answers ≤ x.place) × (name.place ≡ length ledger.answers)) ⊎ IsReadAs reading x name
-emitted_either reading plain ledger [] x name is = by (read_either reading (length plain.answers) (results_at (length ledger.answers)) x (ScriptName name) is)
+emitted_either how reading plain ledger [] x name is = by (read_either reading (length plain.answers) (results_as how (length ledger.answers)) x (ScriptName name) is)
   where
-    result_place : (k : ℕ) → results_at (length ledger.answers) k ≡ ScriptName name → name.place ≡ length ledger.answers
-    result_place zero is = cc
-    result_place (suc k) is = ap (λ (n : Name). n.place) (sym (same_script (answer_of (length ledger.answers) k) name is))
+    result_place : (so : LastResults) (k : ℕ) → results_as so (length ledger.answers) k ≡ ScriptName name → name.place ≡ length ledger.answers
+    result_place AreGiven zero is = cc
+    result_place AreGiven (suc k) is = ap (λ (n : Name). n.place) (sym (same_script (answer_of (length ledger.answers) k) name is))
+    result_place AreGenerated k is = cc
 
-    by : ((x.place ≡ length plain.answers) × (results_at (length ledger.answers) x.index ≡ ScriptName name)) ⊎ IsReadAs reading x name
+    by : ((x.place ≡ length plain.answers) × (results_as how (length ledger.answers) x.index ≡ ScriptName name)) ⊎ IsReadAs reading x name
         → ((length plain.answers ≤ x.place) × (name.place ≡ length ledger.answers)) ⊎ IsReadAs reading x name
-    by (inl new) = let place = new.0 in inl (omega (arith, place), result_place x.index new.1)
+    by (inl new) = let place = new.0 in inl (omega (arith, place), result_place how x.index new.1)
     by (inr old) = inr old
-emitted_either reading plain ledger (first ∷ code) x name is =
-    by (emitted_either (reading_generated reading plain) (ledger_with plain (building first)) ledger code x name is)
+emitted_either how reading plain ledger (first ∷ code) x name is =
+    by (emitted_either how (reading_generated reading plain) (ledger_with plain (building first)) ledger code x name is)
   where
     generated : ((x.place ≡ length plain.answers) × (Generated ≡ ScriptName name)) ⊎ IsReadAs reading x name → IsReadAs reading x name
     generated (inl new) = let apart = new.1 in cc
@@ -135,30 +125,30 @@ emitted_either reading plain ledger (first ∷ code) x name is =
     by (inr old) = inr (generated (read_either reading (length plain.answers) (λ index. Generated) x (ScriptName name) old))
 
 -- what the calls before the last one answer is generated
-pub emitted_inner : (reading : Reading) (plain ledger : Ledger) (code : List (Instruction Name Name)) (place k index : ℕ) → place ≡ length plain.answers + k → k < length code
-    → reading_emitted reading plain ledger code (answer_of place index) ≡ Generated
-emitted_inner reading plain ledger [] place k index is below = absurd (omega (arith, below))
-emitted_inner reading plain ledger (first ∷ code) place zero index is below =
+pub emitted_inner : (how : LastResults) (reading : Reading) (plain ledger : Ledger) (code : List (Instruction Name Name)) (place k index : ℕ) → place ≡ length plain.answers + k → k < length code
+    → reading_behind how reading plain ledger code (answer_of place index) ≡ Generated
+emitted_inner how reading plain ledger [] place k index is below = absurd (omega (arith, below))
+emitted_inner how reading plain ledger (first ∷ code) place zero index is below =
     let here : place ≡ length plain.answers = omega (arith, is) in
     let more = longer plain first in
-    emitted_before (reading_generated reading plain) (ledger_with plain (building first)) ledger code (answer_of place index) (omega (arith, here, more))
+    emitted_before how (reading_generated reading plain) (ledger_with plain (building first)) ledger code (answer_of place index) (omega (arith, here, more))
     ∙ ap (λ (n : ℕ). reading_generated reading plain (answer_of n index)) here
     ∙ read_there reading (length plain.answers) index (λ index. Generated)
-emitted_inner reading plain ledger (first ∷ code) place (suc k) index is below =
+emitted_inner how reading plain ledger (first ∷ code) place (suc k) index is below =
     let more = longer plain first in
-    emitted_inner (reading_generated reading plain) (ledger_with plain (building first)) ledger code place k index (omega (arith, is, more)) (omega (arith, below))
+    emitted_inner how (reading_generated reading plain) (ledger_with plain (building first)) ledger code place k index (omega (arith, is, more)) (omega (arith, below))
 
 -- what is generated is an answer of a call so far
-pub emitted_generated : (reading : Reading) (plain ledger : Ledger) (code : List (Instruction Name Name)) → ((x : Name) → reading x ≡ Generated → x.place < length plain.answers)
-    → (x : Name) → reading_emitted reading plain ledger code x ≡ Generated → x.place < length code + suc (length plain.answers)
-emitted_generated reading plain ledger [] made x is = by (read_either reading (length plain.answers) (results_at (length ledger.answers)) x Generated is)
+pub emitted_generated : (how : LastResults) (reading : Reading) (plain ledger : Ledger) (code : List (Instruction Name Name)) → ((x : Name) → reading x ≡ Generated → x.place < length plain.answers)
+    → (x : Name) → reading_behind how reading plain ledger code x ≡ Generated → x.place < length code + suc (length plain.answers)
+emitted_generated how reading plain ledger [] made x is = by (read_either reading (length plain.answers) (results_as how (length ledger.answers)) x Generated is)
   where
-    by : ((x.place ≡ length plain.answers) × (results_at (length ledger.answers) x.index ≡ Generated)) ⊎ (reading x ≡ Generated) → x.place < 0 + suc (length plain.answers)
+    by : ((x.place ≡ length plain.answers) × (results_as how (length ledger.answers) x.index ≡ Generated)) ⊎ (reading x ≡ Generated) → x.place < 0 + suc (length plain.answers)
     by (inl new) = let place = new.0 in omega (arith, place)
     by (inr old) = let below = made x old in omega (arith, below)
-emitted_generated reading plain ledger (first ∷ code) made x is =
+emitted_generated how reading plain ledger (first ∷ code) made x is =
     let more = longer plain first in
-    let below = emitted_generated (reading_generated reading plain) (ledger_with plain (building first)) ledger code made_next x is in
+    let below = emitted_generated how (reading_generated reading plain) (ledger_with plain (building first)) ledger code made_next x is in
     omega (arith, more, below)
   where
     made_next : (y : Name) → reading_generated reading plain y ≡ Generated → y.place < length (ledger_with plain (building first)).answers
@@ -167,6 +157,17 @@ emitted_generated reading plain ledger (first ∷ code) made x is =
         by : ((y.place ≡ length plain.answers) × (Generated ≡ Generated)) ⊎ (reading y ≡ Generated) → y.place < length (ledger_with plain (building first)).answers
         by (inl new) = let more = longer plain first in let place = new.0 in omega (arith, more, place)
         by (inr old) = let more = longer plain first in let below = made y old in omega (arith, more, below)
+
+-- the last call's results are the emission's
+pub emitted_result : (reading : Reading) (plain ledger : Ledger) (code : List (Instruction Name Name)) (place index : ℕ) → place ≡ length plain.answers + length code
+    → IsReadAs (reading_emitted reading plain ledger code) (answer_of place (suc index)) (answer_of (length ledger.answers) index)
+emitted_result reading plain ledger [] place index is =
+    let here : place ≡ length plain.answers = omega (arith, is) in
+    ap (λ (n : ℕ). reading_emitted reading plain ledger [] (answer_of n (suc index))) here
+    ∙ read_there reading (length plain.answers) (suc index) (results_at (length ledger.answers))
+emitted_result reading plain ledger (first ∷ code) place index is =
+    let more = longer plain first in
+    emitted_result (reading_generated reading plain) (ledger_with plain (building first)) ledger code place index (omega (arith, is, more))
 
 -- ANSWERS -----------------------------------------------------------------------------------------------------------------
 

@@ -8,7 +8,7 @@ use Rattle.clif_meaning.specs.Instruction.{Instruction, operation_entries}
 use Rattle.clif_meaning.specs.Ledger.{Ledger, empty_ledger, has_value, ledger_after, ledger_with, type_of, variable_type}
 use Rattle.clif_meaning.specs.Request.{Request, EnsureInsertedBlock, DefVar, UseVar, Build, Script}
 use Rattle.clif_meaning.specs.Name.{Name}
-use Rattle.clif_expansion.specs.Emission.{building, reading_across, reading_emitted}
+use Rattle.clif_expansion.specs.Emission.{building, reading_across, reading_behind}
 use Rattle.clif_expansion.specs.JoinedCalls.{Asking, Emitting, HaveCurrent, JoinedCallsHaveJoinedLedgers, Starting, Switching, uses_current}
 use Rattle.clif_expansion.specs.Joining.{IsJoined, IsReadCurrent, reading_after}
 use Rattle.clif_expansion.specs.Reading.{IsReadAs, Reading}
@@ -92,9 +92,9 @@ joined_calls reading plain calls Starting = asking_keeps_joins.starts
 joined_calls reading plain calls (Asking before script earlier asked request are is placed) =
     later_joined (reading_after before (ledger_after script) (ledger_of earlier)) script (asked ∷ []) earlier (Ask request ∷ [])
     (asking_keeps_joins.keeps before (ledger_after script) (ledger_of earlier) asked request (joined_calls before script earlier are) is)
-joined_calls reading plain calls (Emitting before script earlier code last instruction are placed line stays whole types) =
-    later_joined (reading_emitted before (ledger_after script) (ledger_of earlier) code) script (map building code ++ building last ∷ []) earlier (Emit instruction ∷ [])
-    (emitting_keeps_joins before (ledger_after script) (ledger_of earlier) code last instruction (joined_calls before script earlier are) line stays whole types)
+joined_calls reading plain calls (Emitting how before script earlier code last instruction are placed line stays whole types) =
+    later_joined (reading_behind how before (ledger_after script) (ledger_of earlier) code) script (map building code ++ building last ∷ []) earlier (Emit instruction ∷ [])
+    (emitting_keeps_joins how before (ledger_after script) (ledger_of earlier) code last instruction (joined_calls before script earlier are) line stays whole types)
 joined_calls reading plain calls (Switching before script more earlier block value ty keys edges switch branches tables are at placed is code) =
     let joined = joined_calls before script earlier are in
     let here = current_read before (ledger_after script) (ledger_of earlier) (ledger_after script).current (ledger_of earlier).current block joined.ledgers.states.current at placed in

@@ -156,7 +156,7 @@ module _ (reading later : Reading) (keeps : KeepsReading reading later) where
       whole = is.whole;
       emitted = is.emitted;
       stays = is.stays;
-      results = names_later reading later keeps _ _ is.results;
+      results = elim is.results [ inl none ↦ inl none | inr read ↦ inr (names_later reading later keeps _ _ read) ];
     },
     lasts reading later keeps generated code item known,
   ))

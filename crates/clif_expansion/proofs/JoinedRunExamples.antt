@@ -19,12 +19,12 @@ use Rattle.clif_meaning.specs.Store.{assigned}
 use Rattle.clif_meaning.specs.World.{World}
 use Rattle.clif_expansion.specs.Code.{NameTypes, PerformsIn}
 use Rattle.clif_expansion.specs.Constants.{computing}
-use Rattle.clif_expansion.specs.Emission.{building, reading_emitted}
+use Rattle.clif_expansion.specs.Emission.{AreGiven, building, reading_emitted}
 use Rattle.clif_expansion.specs.Examples.{negating, run_of}
 use Rattle.clif_expansion.specs.JoinedPrograms.{built_items}
 use Rattle.clif_expansion.specs.JoinedRunExamples.{JoinedRunExamples, narrow_run}
 use Rattle.clif_expansion.specs.JoinedRuns.{calls_run}
-use Rattle.clif_expansion.specs.Laws.{IsSoundRun, TakesValues}
+use Rattle.clif_expansion.specs.Laws.{IsSoundRun, TakesTyped, TakesValues}
 use Rattle.clif_expansion.specs.Line.{Contents, RunsTo}
 use Rattle.clif_expansion.specs.PerformedCalls.{IsPerformed}
 use Rattle.clif_expansion.specs.Reading.{IsReadAs, Reading}
@@ -104,11 +104,11 @@ module _ (world : World) (reading : Reading) where
           ∙ did.kept result (not_generated emitted result (answer_of 3 0) refl)
           ∙ ap (λ (vs : List Bits). assigned same_name (x ∷ []) vs (λ x. 0) result) (sym values)
 
-  negated : IsPerformed world.pointer_width reading (ledger_after begun_script) (ledger_of begun_calls) (computing (Iconst (negsuc 6)) i32 [] ∷ []) sum (seven_more (answer_of 2 1)) → ⊥
+  negated : IsPerformed world.pointer_width AreGiven reading (ledger_after begun_script) (ledger_of begun_calls) (computing (Iconst (negsuc 6)) i32 [] ∷ []) sum (seven_more (answer_of 2 1)) → ⊥
   negated is =
       let performs = is.performs types (λ x ty there. ap or_invalid there) (λ x ty there. ap or_invalid there) in
       refused performs.given performs.named
-      (performs.performs world (λ x. 0) (λ x. 0) world.memory refl world.holds_bytes (λ x name read. refl) (record { operands = (omega arith, tt); claims = tt }))
+      (performs.performs world (λ x. 0) (λ x. 0) world.memory refl world.holds_bytes (λ x name read. refl) (record { typed = ([], (refl, tt)); operands = (omega arith, tt); claims = tt }))
 
 -- SOUND RUNS --------------------------------------------------------------------------------------------------------------
 
@@ -138,6 +138,8 @@ module _ (world : World) where
   -- it has returned behind three steps
   sound : IsSoundRun (run_of negating world)
   sound = record {
+    takes_types = in_each_step (run_of negating world) (HasReturned (4294967291 ∷ [])) (λ state. refl) (λ Q. tt) refl
+        (TakesTyped (run_of negating world)) ([], tt) ([], (refl, tt)) (_, refl);
     takes_values = in_each_step (run_of negating world) (HasReturned (4294967291 ∷ [])) (λ state. refl) (λ Q. tt) refl
         (TakesValues (run_of negating world)) tt (omega arith, tt) (omega arith, tt);
     claims_true = in_each_step (run_of negating world) (HasReturned (4294967291 ∷ [])) (λ state. refl) (λ Q. tt) refl
@@ -147,6 +149,8 @@ module _ (world : World) where
   -- the block ends there without a terminator
   sound_calls : (hidden : ℕ → Bool) → IsSoundRun (calls_run summing_calls hidden world)
   sound_calls hidden = record {
+    takes_types = in_each_step (calls_run summing_calls hidden world) IsStuck (λ state. refl) (λ Q. tt) refl
+        (TakesTyped (calls_run summing_calls hidden world)) ([], tt) ([], (refl, tt)) tt;
     takes_values = in_each_step (calls_run summing_calls hidden world) IsStuck (λ state. refl) (λ Q. tt) refl
         (TakesValues (calls_run summing_calls hidden world)) tt (omega arith, tt) tt;
     claims_true = in_each_step (calls_run summing_calls hidden world) IsStuck (λ state. refl) (λ Q. tt) refl

@@ -12,7 +12,7 @@ use Rattle.clif_meaning.specs.Request.{Request, CreateBlock, SwitchToBlock, Seal
 use Rattle.clif_meaning.specs.Tracked.{tracked_by, tracked_from}
 use Rattle.clif_meaning.specs.World.{World}
 use Rattle.clif_expansion.specs.Code.{DecidesItem, Does, NameTypes, PerformsItem}
-use Rattle.clif_expansion.specs.Emission.{building, reading_across, reading_emitted}
+use Rattle.clif_expansion.specs.Emission.{building, reading_across, reading_behind}
 use Rattle.clif_expansion.specs.Expansion.{IsCutProgram, IsExpandedRun, types_in}
 use Rattle.clif_expansion.specs.JoinedCalls.{AreJoinedCalls, Asking, Emitting, Starting, Switching}
 use Rattle.clif_expansion.specs.JoinedRuns.{JoinedCallsMeanTheSame, calls_run, tracked_by_call, tracked_by_calls}
@@ -82,7 +82,7 @@ module _ (pointer_width : ℕ) (types : NameTypes) where
       (types_before (ledger_after script) (ask ∷ []) types.plain (subst (λ (l : Ledger). HaveTypes l types.plain) (fold_on ledger_with empty_ledger script (ask ∷ [])) have'))
       (call_types_before (ledger_of earlier) (Ask request) types.script (subst (λ (l : Ledger). HaveTypes l types.script) (fold_on ledger_with_call empty_ledger earlier (Ask request ∷ [])) have))
       done
-  each_done reading plain calls (Emitting old script earlier code last whole are placed line stays whole_stays same) have' have done =
+  each_done reading plain calls (Emitting how old script earlier code last whole are placed line stays whole_stays same) have' have done =
       let behind' : HaveTypes (fold ledger_with (ledger_after script) (map building code ++ building last ∷ [])) types.plain =
       subst (λ (l : Ledger). HaveTypes l types.plain) (fold_on ledger_with empty_ledger script (map building code ++ building last ∷ [])) have' in
       let after : HaveTypes (ledger_with_call (ledger_of earlier) (Emit whole)) types.script =
@@ -250,13 +250,13 @@ module _ (marks' marks : Ledger) (same : (v : ℕ) → is_marked marks' v ≡ is
       (subst (λ (n : ℕ). AllZip (IsReadAs (reading_after old (ledger_after script) (ledger_of earlier))) (tracked_by marks' n ask) (tracked_by marks (length earlier) request)) places'
       (subst (λ (n : ℕ). AllZip (IsReadAs (reading_after old (ledger_after script) (ledger_of earlier))) (tracked_by marks' (length (ledger_after script).answers) ask) (tracked_by marks n request)) places
       (call_tracks old (ledger_after script) (ledger_of earlier) joined ask request is))) tt)
-  tracked reading plain calls (Emitting old script earlier code last whole are placed line stays whole_stays types) =
+  tracked reading plain calls (Emitting how old script earlier code last whole are placed line stays whole_stays types) =
       let joined = joined_calls old script earlier are in
-      let keeps : KeepsReading old (reading_emitted old (ledger_after script) (ledger_of earlier) code) =
-      λ x name is. emitted_before old (ledger_after script) (ledger_of earlier) code x (joined.made x name is).0 ∙ is in
-      behind (reading_emitted old (ledger_after script) (ledger_of earlier) code) script (map building code ++ building last ∷ []) earlier (Emit whole ∷ [])
-      (names_later old (reading_emitted old (ledger_after script) (ledger_of earlier) code) keeps _ _ (tracked old script earlier are))
-      (subst (λ (xs : List Name). AllZip (IsReadAs (reading_emitted old (ledger_after script) (ledger_of earlier) code)) xs []) (sym (built_track marks' (length script) code last)) tt)
+      let keeps : KeepsReading old (reading_behind how old (ledger_after script) (ledger_of earlier) code) =
+      λ x name is. emitted_before how old (ledger_after script) (ledger_of earlier) code x (joined.made x name is).0 ∙ is in
+      behind (reading_behind how old (ledger_after script) (ledger_of earlier) code) script (map building code ++ building last ∷ []) earlier (Emit whole ∷ [])
+      (names_later old (reading_behind how old (ledger_after script) (ledger_of earlier) code) keeps _ _ (tracked old script earlier are))
+      (subst (λ (xs : List Name). AllZip (IsReadAs (reading_behind how old (ledger_after script) (ledger_of earlier) code)) xs []) (sym (built_track marks' (length script) code last)) tt)
   tracked reading plain calls (Switching old script more earlier block value ty keys edges switch branches tables are at placed is code) =
       let joined = joined_calls old script earlier are in
       let across : Reading = reading_across old (length script) (length more) in

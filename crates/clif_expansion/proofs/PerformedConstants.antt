@@ -23,7 +23,7 @@ use Rattle.clif_meaning.specs.Request.{Script}
 use Rattle.clif_expansion.specs.Code.{NameTypes, Performs, PerformsItem}
 use Rattle.clif_expansion.specs.ConstantCalls.{ConstantCallsArePerformed, IsPerformedByConstant, constant_calls, constant_instructions, constant_last, constant_name}
 use Rattle.clif_expansion.specs.Constants.{Has64Bits, NamesConstant, computing, i64, place_behind, with_constant}
-use Rattle.clif_expansion.specs.Emission.{StaysInLine, building, reading_emitted}
+use Rattle.clif_expansion.specs.Emission.{AreGiven, StaysInLine, building, reading_emitted}
 use Rattle.clif_expansion.specs.JoinedCalls.{Emitting}
 use Rattle.clif_expansion.specs.JoinedPrograms.{built_items}
 use Rattle.clif_expansion.specs.Joining.{IsJoined}
@@ -129,7 +129,7 @@ module _ (arithmetic whole : Arithmetic) (number : ℤ) (emits : (ty : «Type»)
     m = length ledger.answers
 
     inner : (code : List (Instruction Name Name)) (k place : ℕ) → place ≡ n + k → k < length code → reading_emitted reading plain ledger code (answer_of place 1) ≡ Generated
-    inner code k place is below = emitted_inner reading plain ledger code place k 1 is below
+    inner code k place is below = emitted_inner AreGiven reading plain ledger code place k 1 is below
 
     once : (ty : «Type») → reading_emitted reading plain ledger (computing (Iconst number) ty [] ∷ []) (answer_of n 1) ≡ Generated
     once ty = inner (computing (Iconst number) ty [] ∷ []) 0 n (omega arith) (omega arith)
@@ -232,9 +232,9 @@ module _ (arithmetic whole : Arithmetic) (number : ℤ) (emits : (ty : «Type»)
     calls_nothing (type.Vector l k) pointer_width x = (tt, (tt, tt))
 
     done : (pointer_width : ℕ) (ty : «Type») (x name : Name) → IsJoined reading plain ledger → IsReadAs reading x name → IsTrue (is_int ty) → Has64Bits number
-        → IsPerformed pointer_width reading plain ledger (constant_instructions ty number n) (constant_last arithmetic ty n x) (computing whole ty (name ∷ []))
+        → IsPerformed pointer_width AreGiven reading plain ledger (constant_instructions ty number n) (constant_last arithmetic ty n x) (computing whole ty (name ∷ []))
     done pointer_width ty x name joined is int small =
-        let operand : IsReadAs (emitted ty) x name = emitted_before reading plain ledger (constant_instructions ty number n) x (joined.made x name is).0 ∙ is in
+        let operand : IsReadAs (emitted ty) x name = emitted_before AreGiven reading plain ledger (constant_instructions ty number n) x (joined.made x name is).0 ∙ is in
         let given : IsReadAs (emitted ty) (given_at ty n) (answer_of m 0) = emitted_result reading plain ledger (constant_instructions ty number n) (place_behind ty n) 0 (behind ty n) in
         let item : Item = Instruct m (computing whole ty (name ∷ [])) (answer_of m 0 ∷ []) in
         record {
@@ -256,7 +256,7 @@ module _ (arithmetic whole : Arithmetic) (number : ℤ) (emits : (ty : «Type»)
     stands : IsPerformedByConstant arithmetic whole number
     stands = record {
       joined = λ reading plain calls ty x name are may.
-          Emitting reading plain calls (constant_instructions ty number (length (ledger_after plain).answers)) (constant_last arithmetic ty (length (ledger_after plain).answers) x)
+          Emitting AreGiven reading plain calls (constant_instructions ty number (length (ledger_after plain).answers)) (constant_last arithmetic ty (length (ledger_after plain).answers) x)
           (computing whole ty (name ∷ [])) are
           (emission_placed reading (ledger_after plain) (ledger_of calls) (joined_calls reading plain calls are) (computing whole ty (name ∷ [])) may) (all_in_line arithmetic number can ty (length (ledger_after plain).answers))
           (stays ty (x ∷ constant_name ty (length (ledger_after plain).answers) ∷ [])) (whole_stays ty (name ∷ []))

@@ -7,10 +7,10 @@ use Rattle.clif_meaning.specs.Ledger.{AValue, Ledger, answers_to, empty_ledger, 
 use Rattle.clif_meaning.specs.Name.{Name, answer_of}
 use Rattle.clif_meaning.specs.Program.{Program, Item, empty_program, program_of, with_call, with_inserted, with_item_at}
 use Rattle.clif_meaning.specs.Request.{Build, Script}
-use Rattle.clif_expansion.specs.Emission.{building, reading_across, reading_emitted, reading_generated}
+use Rattle.clif_expansion.specs.Emission.{AreGenerated, AreGiven, LastResults, building, reading_across, reading_behind, reading_generated, results_as}
 use Rattle.clif_expansion.specs.JoinedCalls.{AreJoinedCalls, Asking, Emitting, Starting, Switching}
 use Rattle.clif_expansion.specs.JoinedPrograms.{IsCalled, JoinedCallsHaveJoinedPrograms, built_items}
-use Rattle.clif_expansion.specs.Joining.{answers_at, reading_after, reading_with, results_at}
+use Rattle.clif_expansion.specs.Joining.{answers_at, reading_after, reading_with}
 use Rattle.clif_expansion.specs.Reading.{Generated, NotMade, Reading, StandsFor}
 use Rattle.clif_expansion.specs.ScriptCall.{Ask, Emit, ScriptCall, emitted_item, emitted_types, ledger_behind, ledger_of, ledger_with_call, program_behind, program_of_calls, program_with_call}
 use Rattle.clif_expansion.proofs.Across.{across_apart, across_before, across_inside}
@@ -76,9 +76,9 @@ module _ (Known : Reading → List Item → Item → Type 0) (lasts : LastsLater
   abbrev pub EachKnown : (reading : Reading) (plain : Script) (calls : List ScriptCall) → AreJoinedCalls reading plain calls → Type 0
   EachKnown reading plain calls Starting = Unit {0}
   EachKnown reading plain calls (Asking old script earlier ask request are is placed) = EachKnown old script earlier are
-  EachKnown reading plain calls (Emitting old script earlier code last whole are placed line stays whole_stays types) =
+  EachKnown reading plain calls (Emitting how old script earlier code last whole are placed line stays whole_stays types) =
       EachKnown old script earlier are
-      × Known (reading_emitted old (ledger_after script) (ledger_of earlier) code) (built_items (length (ledger_after script).answers) (code ++ last ∷ []))
+      × Known (reading_behind how old (ledger_after script) (ledger_of earlier) code) (built_items (length (ledger_after script).answers) (code ++ last ∷ []))
       (emitted_item (length (ledger_of earlier).answers) whole)
   EachKnown reading plain calls (Switching old script more earlier block value ty keys edges switch branches tables are at placed is code) =
       EachKnown old script earlier are
@@ -100,14 +100,14 @@ module _ (Known : Reading → List Item → Item → Type 0) (lasts : LastsLater
       on_from (reading_after old (ledger_after script) (ledger_of earlier)) script (ask ∷ []) earlier (Ask request ∷ [])
       (asked_goes Known lasts Decided lasts_in KnownItem old (ledger_after script) (ledger_of earlier) (joined_calls old script earlier are) (program_of script) (program_of_calls earlier)
       (go old script earlier are known) ask request is placed)
-  go reading plain calls (Emitting old script earlier code last whole are placed line stays whole_stays types) known =
+  go reading plain calls (Emitting how old script earlier code last whole are placed line stays whole_stays types) known =
       let joined = joined_calls old script earlier are in
       let goes = go old script earlier are known.0 in
-      let emitted : Reading = reading_emitted old (ledger_after script) (ledger_of earlier) code in
+      let emitted : Reading = reading_behind how old (ledger_after script) (ledger_of earlier) code in
       let here : Known emitted (built_items (program_of script).place (code ++ last ∷ [])) (emitted_item (program_of_calls earlier).place whole) =
       subst (λ (n : ℕ). Known emitted (built_items n (code ++ last ∷ [])) (emitted_item (program_of_calls earlier).place whole)) (sym goes.place')
       (subst (λ (n : ℕ). Known emitted (built_items (length (ledger_after script).answers) (code ++ last ∷ [])) (emitted_item n whole)) (sym goes.place) known.1) in
-      let after = joined_calls reading plain calls (Emitting old script earlier code last whole are placed line stays whole_stays types) in
+      let after = joined_calls reading plain calls (Emitting how old script earlier code last whole are placed line stays whole_stays types) in
       let end' : Ledger = fold ledger_with (ledger_after script) (map building code ++ building last ∷ []) in
       let end : Ledger = ledger_with_call (ledger_of earlier) (Emit whole) in
       let end_current : end.current ≡ (ledger_of earlier).current =
@@ -115,8 +115,8 @@ module _ (Known : Reading → List Item → Item → Type 0) (lasts : LastsLater
       on_from emitted script (map building code ++ building last ∷ []) earlier (Emit whole ∷ [])
       (subst (λ (p : Program). Goes emitted end' end p (program_with_call (program_of_calls earlier) (Emit whole))) (sym (built (program_of script) code last))
       (subst (λ (p : Program). Goes emitted end' end (built_program (program_of script) code last) p)
-      (sym (script_is Known lasts Decided lasts_in KnownItem old (ledger_after script) (ledger_of earlier) joined (program_of script) (program_of_calls earlier) goes code last whole line stays whole_stays types placed here after.one_to_one))
-      (emitted_goes Known lasts Decided lasts_in KnownItem old (ledger_after script) (ledger_of earlier) joined (program_of script) (program_of_calls earlier) goes code last whole line stays whole_stays types placed here after.one_to_one
+      (sym (script_is Known lasts Decided lasts_in KnownItem old (ledger_after script) (ledger_of earlier) joined (program_of script) (program_of_calls earlier) goes how code last whole line stays whole_stays types placed here after.one_to_one))
+      (emitted_goes Known lasts Decided lasts_in KnownItem old (ledger_after script) (ledger_of earlier) joined (program_of script) (program_of_calls earlier) goes how code last whole line stays whole_stays types placed here after.one_to_one
       end' end (how_many (ledger_after script) code last) (one_longer (ledger_of earlier).answers (map AValue (emitted_types whole))) (built_current (ledger_after script) code last) end_current)))
   go reading plain calls (Switching old script more earlier block value ty keys edges switch branches tables are at placed is code) known =
       let joined = joined_calls old script earlier are in
@@ -161,7 +161,7 @@ pub none_known : (reading : Reading) (plain : Script) (calls : List ScriptCall) 
     → EachKnown nothing (λ a b c d e f g. tt) undecided (λ a b c d e f g h i j. tt) anything reading plain calls are
 none_known reading plain calls Starting = tt
 none_known reading plain calls (Asking old script earlier ask request are is placed) = none_known old script earlier are
-none_known reading plain calls (Emitting old script earlier code last whole are placed line stays whole_stays types) = (none_known old script earlier are, tt)
+none_known reading plain calls (Emitting how old script earlier code last whole are placed line stays whole_stays types) = (none_known old script earlier are, tt)
 none_known reading plain calls (Switching old script more earlier block value ty keys edges switch branches tables are at placed is code) =
     (none_known old script earlier are, tt, all_anything (length script) more)
 
@@ -199,17 +199,18 @@ with_unmade reading place answers some before x is = by (cases_lt x.place place)
         further (inl past) = omega (arith, past)
         further (inr low) = absurd (at_place (omega (arith, low, behind)))
 
-some_result : (place k : ℕ) → results_at place k ≡ NotMade → ⊥
-some_result place zero is = let no_way : ⊥ = cc in no_way
-some_result place (suc k) is = let no_way : ⊥ = cc in no_way
+some_result : (how : LastResults) (place k : ℕ) → results_as how place k ≡ NotMade → ⊥
+some_result AreGiven place zero is = let no_way : ⊥ = cc in no_way
+some_result AreGiven place (suc k) is = let no_way : ⊥ = cc in no_way
+some_result AreGenerated place k is = let no_way : ⊥ = cc in no_way
 
-emitted_unmade : (reading : Reading) (plain ledger : Ledger) (code : List (Instruction Name Name)) → ((x : Name) → reading x ≡ NotMade → length plain.answers ≤ x.place)
-    → (x : Name) → reading_emitted reading plain ledger code x ≡ NotMade → length code + suc (length plain.answers) ≤ x.place
-emitted_unmade reading plain ledger [] before x is =
-    let behind = with_unmade reading (length plain.answers) (results_at (length ledger.answers)) (some_result (length ledger.answers)) before x is in omega (arith, behind)
-emitted_unmade reading plain ledger (first ∷ code) before x is =
+emitted_unmade : (how : LastResults) (reading : Reading) (plain ledger : Ledger) (code : List (Instruction Name Name)) → ((x : Name) → reading x ≡ NotMade → length plain.answers ≤ x.place)
+    → (x : Name) → reading_behind how reading plain ledger code x ≡ NotMade → length code + suc (length plain.answers) ≤ x.place
+emitted_unmade how reading plain ledger [] before x is =
+    let behind = with_unmade reading (length plain.answers) (results_as how (length ledger.answers)) (some_result how (length ledger.answers)) before x is in omega (arith, behind)
+emitted_unmade how reading plain ledger (first ∷ code) before x is =
     let one : length (ledger_with plain (building first)).answers ≡ suc (length plain.answers) = one_longer plain.answers (answers_to plain (building first)) in
-    let rest = emitted_unmade (reading_generated reading plain) (ledger_with plain (building first)) ledger code next x is in
+    let rest = emitted_unmade how (reading_generated reading plain) (ledger_with plain (building first)) ledger code next x is in
     omega (arith, rest, one)
   where
     next : (y : Name) → reading_generated reading plain y ≡ NotMade → length (ledger_with plain (building first)).answers ≤ y.place
@@ -226,10 +227,10 @@ unmade reading plain calls (Asking old script earlier ask request are read place
     ap (λ (l : Ledger). length l.answers) (fold_on ledger_with empty_ledger script (ask ∷ [])) ∙ one_longer (ledger_after script).answers (answers_to (ledger_after script) ask) in
     let behind = with_unmade old (length (ledger_after script).answers) (answers_at (length (ledger_of earlier).answers)) (λ k same. let no_way : ⊥ = cc in no_way) (unmade old script earlier are) x is in
     omega (arith, longer, behind)
-unmade reading plain calls (Emitting old script earlier code last whole are placed line stays whole_stays types) x is =
+unmade reading plain calls (Emitting how old script earlier code last whole are placed line stays whole_stays types) x is =
     let longer : length (ledger_after (script ++ (map building code ++ building last ∷ []))).answers ≡ length code + suc (length (ledger_after script).answers) =
     ap (λ (l : Ledger). length l.answers) (fold_on ledger_with empty_ledger script (map building code ++ building last ∷ [])) ∙ how_many (ledger_after script) code last in
-    let behind = emitted_unmade old (ledger_after script) (ledger_of earlier) code (unmade old script earlier are) x is in
+    let behind = emitted_unmade how old (ledger_after script) (ledger_of earlier) code (unmade old script earlier are) x is in
     omega (arith, longer, behind)
 unmade reading plain calls (Switching old script more earlier block value ty keys edges switch branches tables are at placed read code) x is =
     by (cases_lt x.place (length script)) (cases_lt x.place (length script + length more)) (unmade old script earlier are x)

@@ -136,7 +136,7 @@ module _ (reading : Reading) (one_to_one : IsOneToOne reading) (world : World) (
     turns : (n : ℕ) (t : ScriptState) → IsLike t (after n) → Turn t (after n)
     turns n t alike =
         Turns.turn reading one_to_one world hidden variable_type is_marked program' program type' type tracked' tracked expanded same_type same_tracked
-        t (after n) alike (record { values = sound.takes_values n; claims = sound.claims_true n; bytes = memory_holds_bytes run n })
+        t (after n) alike (record { typed = sound.takes_types n; values = sound.takes_values n; claims = sound.claims_true n; bytes = memory_holds_bytes run n })
 
     -- a state of the script's run, and a state that is alike
     abbrev Related : ScriptState → ScriptState → Type 0

@@ -9,6 +9,7 @@ use Rattle.clif_meaning.specs.Ledger.{BlockState, Ledger, empty_ledger, ledger_a
 use Rattle.clif_meaning.specs.Name.{Name, answer_of}
 use Rattle.clif_meaning.specs.Program.{Program, empty_program, with_call}
 use Rattle.clif_meaning.specs.Request.{CreateBlock, SwitchToBlock, SealBlock, Script}
+use Rattle.clif_expansion.specs.Emission.{AreGiven}
 use Rattle.clif_expansion.specs.Constants.{computing}
 use Rattle.clif_expansion.specs.JoinedCalls.{AreJoinedCalls, Asking, Emitting, Starting}
 use Rattle.clif_expansion.specs.Joining.{AreJoinedStates, Both, IsOwnState, IsReadState, NoMore, NoneLeads, Own, StandAmong}
@@ -56,7 +57,7 @@ begun =
 abbrev stands : (reading : Reading) × AreJoinedCalls reading summing_script summing_calls
 stands = (
   _,
-  Emitting _ begun_script begun_calls (computing (Iconst (pos 7)) i32 [] ∷ []) sum (seven_more (answer_of 2 1)) begun.1 refl
+  Emitting AreGiven _ begun_script begun_calls (computing (Iconst (pos 7)) i32 [] ∷ []) sum (seven_more (answer_of 2 1)) begun.1 refl
       (record { no_edges = refl; goes_on = refl }, tt) (record { no_edges = refl; goes_on = refl }) (record { no_edges = refl; goes_on = refl }) refl,
 )
 

@@ -16,7 +16,7 @@ use Rattle.clif_meaning.specs.World.{World}
 use Rattle.clif_byte_laws.specs.Pieces.{HoldsBytes}
 use Rattle.clif_expansion.specs.Code.{Decides, DecidesIn, Does, IsItself, NameTypes, Performs, PerformsIn}
 use Rattle.clif_expansion.specs.Expansion.{IsExpandedProgram}
-use Rattle.clif_expansion.specs.Laws.{TakesValues}
+use Rattle.clif_expansion.specs.Laws.{TakesTyped, TakesValues}
 use Rattle.clif_expansion.specs.Reading.{Agree, IsOneToOne, IsReadItem, Reading}
 use Rattle.clif_expansion.proofs.Alike
 use Rattle.clif_expansion.proofs.Alike.{Agrees, IsAlike, IsSamePlace, item_alike, same_operands}
@@ -31,8 +31,9 @@ next_ranges run state (At (Instruct place instruction results ∷ rest)) =
     touched_ranges run.world instruction.operation instruction.controlling (map run.name_type instruction.operands) (map state.names instruction.operands)
 next_ranges run state _ = []
 
--- the next item of a run takes values, what it claims is true, and memory holds bytes
+-- the next item of a run takes values of types that it takes, what it claims is true, and memory holds bytes
 pub record IsSoundAt (run : ScriptRun) (state : ScriptState) (control : Control Item) : Type 0 where
+  pub typed : OfNextItem (TakesTyped run state) control
   pub values : OfNextItem (TakesValues run state) control
   pub claims : OfNextItem (ClaimsAreTrue run state) control
   pub bytes : HoldsBytes state.memory
@@ -123,7 +124,7 @@ module _ (reading : Reading) (one_to_one : IsOneToOne reading) (world : World) (
       → Turn (record t { control = At (code ++ rest') }) (record s { control = At (Instruct place instruction results ∷ rest) })
   performed t s place instruction results [] rest' rest performs left sound same = absurd (performs.begins refl)
   performed t s place instruction results (first ∷ code) rest' rest performs left sound same =
-      let did = performs.performs world t.names s.names t.memory refl (subst HoldsBytes (sym same.memory) sound.bytes) same.names (record { operands = sound.values; claims = sound.claims }) in
+      let did = performs.performs world t.names s.names t.memory refl (subst HoldsBytes (sym same.memory) sound.bytes) same.names (record { typed = sound.typed; operands = sound.values; claims = sound.claims }) in
       let outcome : outcome_of world instruction.operation instruction.controlling (map type instruction.operands) (map s.names instruction.operands) s.memory ≡ Gives did.values did.after.memory =
       ap (λ (memory : Memory). outcome_of world instruction.operation instruction.controlling (map type instruction.operands) (map s.names instruction.operands) memory) (sym same.memory)
       ∙ did.outcome in
@@ -159,7 +160,7 @@ module _ (reading : Reading) (one_to_one : IsOneToOne reading) (world : World) (
       → IsSoundAt run s (At (Instruct place instruction results ∷ rest)) → Agrees reading t s
       → Turn (record t { control = At (code ++ rest') }) (record s { control = At (Instruct place instruction results ∷ rest) })
   decided t s place instruction results code rest' rest branches tables decides sound same =
-      let did = decides.decides world t.names s.names t.memory refl same.names (record { operands = sound.values; claims = sound.claims }) in
+      let did = decides.decides world t.names s.names t.memory refl same.names (record { typed = sound.typed; operands = sound.values; claims = sound.claims }) in
       let outcome : outcome_of world instruction.operation instruction.controlling (map type instruction.operands) (map s.names instruction.operands) s.memory ≡ Goes did.index [] s.memory =
       subst (λ (memory : Memory). outcome_of world instruction.operation instruction.controlling (map type instruction.operands) (map s.names instruction.operands) memory ≡ Goes did.index [] memory)
       same.memory did.outcome in

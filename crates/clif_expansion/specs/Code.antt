@@ -11,6 +11,7 @@ use Rattle.clif_meaning.specs.Name.{Name, same_name}
 use Rattle.clif_meaning.specs.Outcome.{Gives, Goes, outcome_of}
 use Rattle.clif_meaning.specs.Program.{Program, Item, Instruct, Use, Assign}
 use Rattle.clif_meaning.specs.Store.{assigned}
+use Rattle.clif_meaning.specs.Typing.{TakesOperands}
 use Rattle.clif_meaning.specs.World.{World}
 use Rattle.clif_byte_laws.specs.Pieces.{HoldsBytes}
 use Rattle.clif_expansion.specs.Line.{Contents, RunsTo}
@@ -31,8 +32,13 @@ IsItself reading _ item = ⊥
 
 -- PERFORMS ----------------------------------------------------------------------------------------------------------------
 
--- The operands are values of their types, and what the instruction claims is true.
+-- the operands are of types that the instruction takes, in some function
+abbrev pub TakesTypes : (Name → «Type») → Instruction Name Name → Type 0
+TakesTypes types instruction = (returns : List «Type») × TakesOperands returns instruction.operation instruction.controlling (map types instruction.operands)
+
+-- The operands are of types that the instruction takes and are values of these, and what the instruction claims is true.
 pub record IsSound (world : World) (types : Name → «Type») (instruction : Instruction Name Name) (names : Name → Bits) : Type 0 where
+  pub typed : TakesTypes types instruction
   pub operands : AreValues (map types instruction.operands) (map names instruction.operands)
   pub claims : AllByRecursion (Holds world)
       (claims_of world instruction.operation instruction.controlling (map types instruction.operands) (map names instruction.operands))

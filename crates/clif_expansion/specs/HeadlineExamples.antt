@@ -20,6 +20,7 @@ use Rattle.clif_meaning.specs.Name.{Name, answer_of}
 use Rattle.clif_meaning.specs.Premises.{WellTyped}
 use Rattle.clif_meaning.specs.Request.{Script, SealBlock}
 use Rattle.clif_meaning.specs.World.{World}
+use Rattle.clif_expansion.specs.Emission.{AreGiven}
 use Rattle.clif_expansion.specs.CallsHeadline.{CallsMeanTheSame, CallsPremises}
 use Rattle.clif_expansion.specs.CallsVerdict.{AreCallsAllowed, made, verdict_on_call_attempts, verdict_on_calls}
 use Rattle.clif_expansion.specs.Constants.{computing, i64}
@@ -78,9 +79,9 @@ pub record HeadlineExamples : Type 0 where
   pub mistyped : WellTyped (ledger_of mistyped_calls) (program_of_calls mistyped_calls) first_signature → ⊥
   -- code that compares at another type doesn't perform the comparison, nor does code that calls `Memcpy` by another signature
   pub untyped : (pointer_width : ℕ) (reading : Reading) → AreJoinedCalls reading begun_script begun_calls
-      → IsPerformed pointer_width reading (ledger_after begun_script) (ledger_of begun_calls) (computing (Iconst (pos 7)) i64 [] ∷ []) is_wide_seven is_seven → ⊥
+      → IsPerformed pointer_width AreGiven reading (ledger_after begun_script) (ledger_of begun_calls) (computing (Iconst (pos 7)) i64 [] ∷ []) is_wide_seven is_seven → ⊥
   pub misnamed : (pointer_width : ℕ) (reading : Reading)
-      → IsPerformed pointer_width reading (ledger_after begun_script) (ledger_of begun_calls) [] copying_nothing is_seven → ⊥
+      → IsPerformed pointer_width AreGiven reading (ledger_after begun_script) (ledger_of begun_calls) [] copying_nothing is_seven → ⊥
   -- `finalize` is refused where the block isn't sealed
   pub unsealed : verdict_on_calls summing_calls ≡ Refused 4
   -- the sum of no value is a misuse at its place, even if it were only tried

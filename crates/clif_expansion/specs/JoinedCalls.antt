@@ -8,10 +8,10 @@ use Rattle.clif_meaning.specs.Instruction.{Edge, Instruction}
 use Rattle.clif_meaning.specs.Ledger.{Ledger, ledger_after}
 use Rattle.clif_meaning.specs.Name.{Name}
 use Rattle.clif_meaning.specs.Request.{Request, EnsureInsertedBlock, DefVar, UseVar, Build, Script}
-use Rattle.clif_expansion.specs.Emission.{StaysInLine, building, reading_across, reading_emitted}
+use Rattle.clif_expansion.specs.Emission.{AreAnswered, LastResults, StaysInLine, building, reading_across, reading_behind}
 use Rattle.clif_expansion.specs.Joining.{IsJoined, IsReadRequest, reading_after}
 use Rattle.clif_expansion.specs.Reading.{IsReadInstruction, NotMade, Reading}
-use Rattle.clif_expansion.specs.ScriptCall.{Ask, Emit, ScriptCall, emitted_types, ledger_of}
+use Rattle.clif_expansion.specs.ScriptCall.{Ask, Emit, ScriptCall, ledger_of}
 use Rattle.clif_expansion.specs.Switching.{IsSwitchCode, switching}
 
 -- it puts something into the current block
@@ -35,15 +35,16 @@ pub data AreJoinedCalls : Reading → (plain : Script) → List ScriptCall → T
       → IsReadRequest reading asked request
       → (uses_current request ≡ true → HaveCurrent (ledger_after plain) (ledger_of calls))
       → AreJoinedCalls (reading_after reading (ledger_after plain) (ledger_of calls)) (plain ++ asked ∷ []) (calls ++ Ask request ∷ [])
-  -- an instruction that only scripts have, and code in a line with a last instruction whose results are as many and of the same types
-  Emitting : (reading : Reading) (plain : Script) (calls : List ScriptCall) (code : List (Instruction Name Name)) (last instruction : Instruction Name Name)
+  -- an instruction that only scripts have, and code in a line with a last instruction whose results are as many and of the same types,
+  -- or are generated where the script's gives nothing
+  Emitting : (how : LastResults) (reading : Reading) (plain : Script) (calls : List ScriptCall) (code : List (Instruction Name Name)) (last instruction : Instruction Name Name)
       → AreJoinedCalls reading plain calls
       → HaveCurrent (ledger_after plain) (ledger_of calls)
       → AllByRecursion StaysInLine code
       → StaysInLine last
       → StaysInLine instruction
-      → emitted_types last ≡ emitted_types instruction
-      → AreJoinedCalls (reading_emitted reading (ledger_after plain) (ledger_of calls) code) (plain ++ (map building code ++ building last ∷ [])) (calls ++ Emit instruction ∷ [])
+      → AreAnswered how last instruction
+      → AreJoinedCalls (reading_behind how reading (ledger_after plain) (ledger_of calls) code) (plain ++ (map building code ++ building last ∷ [])) (calls ++ Emit instruction ∷ [])
   -- a switch, and code in blocks of its own that decides where it goes
   Switching : (reading : Reading) (plain more : Script) (calls : List ScriptCall) (block value : Name) (ty : «Type») (keys : List ℕ)
       (edges : List (Edge Name Name)) (switch : Instruction Name Name) (branches tables : ℕ)

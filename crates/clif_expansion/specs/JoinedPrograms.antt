@@ -30,7 +30,7 @@ abbrev pub built_items : ℕ → List (Instruction Name Name) → List Item
 built_items place [] = []
 built_items place (instruction ∷ code) = Instruct place instruction (result_names place instruction) ∷ built_items (suc place) code
 
--- The code is in a line, and the item was emitted; the last instruction's results are read as the item's.
+-- The code is in a line, and the item was emitted; the last instruction's results are read as the item's, if it gives something.
 pub record IsEmission (reading : Reading) (code : List Item) (item : Item) : Type 0 where
   pub place : ℕ
   pub instructions : List (Instruction Name Name)
@@ -41,7 +41,7 @@ pub record IsEmission (reading : Reading) (code : List Item) (item : Item) : Typ
   pub whole : Instruction Name Name
   pub emitted : item ≡ emitted_item other whole
   pub stays : StaysInLine whole
-  pub results : AllZip (IsReadAs reading) (result_names (place + length instructions) last) (answers_from other 0 (emitted_types whole))
+  pub results : (emitted_types whole ≡ []) ⊎ AllZip (IsReadAs reading) (result_names (place + length instructions) last) (answers_from other 0 (emitted_types whole))
 
 -- the edge passes nothing, and leads to a generated block or where the item leads
 pub record DecidesAlong (reading : Reading) (item : Item) (edge : Edge Name Name) : Type 0 where

@@ -10,6 +10,7 @@ use Rattle.clif_meaning.specs.Name.{answer_of}
 use Rattle.clif_meaning.specs.Program.{Item, Instruct}
 use Rattle.clif_meaning.specs.ScriptMachine.{ScriptRun}
 use Rattle.clif_meaning.specs.World.{World}
+use Rattle.clif_expansion.specs.Emission.{AreGiven}
 use Rattle.clif_expansion.specs.Constants.{computing}
 use Rattle.clif_expansion.specs.Examples.{negating, negation, of_32_bits, run_of}
 use Rattle.clif_expansion.specs.JoinedCalls.{AreJoinedCalls}
@@ -35,7 +36,7 @@ pub record JoinedRunExamples (world : World) : Type 0 where
   pub sound_calls : (hidden : ℕ → Bool) → IsSoundRun (calls_run summing_calls hidden world)
   -- a sum with minus seven doesn't perform it
   pub negated : (reading : Reading)
-      → IsPerformed world.pointer_width reading (ledger_after begun_script) (ledger_of begun_calls) (computing (Iconst (negsuc 6)) i32 [] ∷ []) sum (seven_more (answer_of 2 1)) → ⊥
+      → IsPerformed world.pointer_width AreGiven reading (ledger_after begun_script) (ledger_of begun_calls) (computing (Iconst (negsuc 6)) i32 [] ∷ []) sum (seven_more (answer_of 2 1)) → ⊥
   pub sound : IsSoundRun (run_of negating world)
   -- 300 isn't a value of 8 bits
   pub narrow : IsSoundRun (narrow_run world) → ⊥

@@ -7,6 +7,7 @@ use Rattle.clif_meaning.specs.Premises.{ClaimsAreTrue, InEachStep, SparesSpillSl
 use Rattle.clif_meaning.specs.Program.{Item, Instruct, Use, Assign}
 use Rattle.clif_meaning.specs.SameMeaning.{SameMeaning}
 use Rattle.clif_meaning.specs.ScriptMachine.{ScriptRun, ScriptState, script_machine}
+use Rattle.clif_expansion.specs.Code.{TakesTypes}
 use Rattle.clif_expansion.specs.Expansion.{IsExpandedRun}
 use Rattle.clif_expansion.specs.Reading.{Reading}
 
@@ -16,8 +17,15 @@ TakesValues run state (Instruct place instruction results) = AreValues (map run.
 TakesValues run state (Use variable name) = Unit {0}
 TakesValues run state (Assign variable name) = Unit {0}
 
--- In each step of the run operands are values of their types, and what is claimed is true.
+-- the item's operands are of types that it takes
+abbrev pub TakesTyped : ScriptRun → ScriptState → Item → Type 0
+TakesTyped run state (Instruct place instruction results) = TakesTypes run.name_type instruction
+TakesTyped run state (Use variable name) = Unit {0}
+TakesTyped run state (Assign variable name) = Unit {0}
+
+-- In each step of the run operands are of types that are taken and values of these, and what is claimed is true.
 pub record IsSoundRun (run : ScriptRun) : Type 0 where
+  pub takes_types : InEachStep (TakesTyped run) run
   pub takes_values : InEachStep (TakesValues run) run
   pub claims_true : InEachStep (ClaimsAreTrue run) run
 

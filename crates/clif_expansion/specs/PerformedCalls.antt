@@ -12,7 +12,7 @@ use Rattle.clif_meaning.specs.Premises.{IfLibraryCall}
 use Rattle.clif_meaning.specs.Program.{Program}
 use Rattle.clif_meaning.specs.Request.{Script}
 use Rattle.clif_expansion.specs.Code.{NameTypes, PerformsItem}
-use Rattle.clif_expansion.specs.Emission.{building, reading_emitted}
+use Rattle.clif_expansion.specs.Emission.{LastResults, building, reading_behind}
 use Rattle.clif_expansion.specs.JoinedCalls.{AreJoinedCalls, Asking, Emitting, Starting, Switching}
 use Rattle.clif_expansion.specs.JoinedPrograms.{built_items}
 use Rattle.clif_expansion.specs.Laying.{IsLaid}
@@ -23,18 +23,18 @@ use Rattle.clif_expansion.specs.ScriptCall.{Emit, ScriptCall, emitted_item, ledg
 -- Code that is built behind these ledgers, of instructions and a last one, does what the instruction does that is emitted: it
 -- performs it, whatever types later names have, is laid, is well typed where the instruction is, and calls functions of the C
 -- library by their signatures.
-pub record IsPerformed (pointer_width : ℕ) (reading : Reading) (plain_ledger ledger : Ledger) (code : List (Instruction Name Name)) (last instruction : Instruction Name Name) : Type 0 where
+pub record IsPerformed (pointer_width : ℕ) (how : LastResults) (reading : Reading) (plain_ledger ledger : Ledger) (code : List (Instruction Name Name)) (last instruction : Instruction Name Name) : Type 0 where
   pub performs : (types : NameTypes)
       → HaveTypes (fold ledger_with plain_ledger (map building code ++ building last ∷ [])) types.plain
       → HaveTypes (ledger_with_call ledger (Emit instruction)) types.script
-      → PerformsItem pointer_width (reading_emitted reading plain_ledger ledger code) types
+      → PerformsItem pointer_width (reading_behind how reading plain_ledger ledger code) types
       (built_items (length plain_ledger.answers) (code ++ last ∷ [])) (emitted_item (length ledger.answers) instruction)
   pub laid : (program : Program)
-      → IsLaid (reading_emitted reading plain_ledger ledger code) program
+      → IsLaid (reading_behind how reading plain_ledger ledger code) program
       (built_items (length plain_ledger.answers) (code ++ last ∷ [])) (emitted_item (length ledger.answers) instruction)
   pub typed : (types : NameTypes) (returns : List «Type»)
       → HaveTypes (fold ledger_with plain_ledger (map building code ++ building last ∷ [])) types.plain
-      → Agree (reading_emitted reading plain_ledger ledger code) types.plain types.script
+      → Agree (reading_behind how reading plain_ledger ledger code) types.plain types.script
       → IsTypedInLine types.script returns instruction → AllByRecursion (IsTypedInLine types.plain returns) (code ++ last ∷ [])
   pub as_named : AllByRecursion (λ each. IfLibraryCall (pointer_of pointer_width) (library_call each.operation)) (code ++ last ∷ [])
 
@@ -42,8 +42,8 @@ pub record IsPerformed (pointer_width : ℕ) (reading : Reading) (plain_ledger l
 abbrev pub ArePerformed : (pointer_width : ℕ) (reading : Reading) (plain : Script) (calls : List ScriptCall) → AreJoinedCalls reading plain calls → Type 0
 ArePerformed pointer_width reading plain calls Starting = Unit {0}
 ArePerformed pointer_width reading plain calls (Asking before script earlier asked request are is placed) = ArePerformed pointer_width before script earlier are
-ArePerformed pointer_width reading plain calls (Emitting before script earlier code last instruction are placed line stays whole types) =
-    ArePerformed pointer_width before script earlier are × IsPerformed pointer_width before (ledger_after script) (ledger_of earlier) code last instruction
+ArePerformed pointer_width reading plain calls (Emitting how before script earlier code last instruction are placed line stays whole types) =
+    ArePerformed pointer_width before script earlier are × IsPerformed pointer_width how before (ledger_after script) (ledger_of earlier) code last instruction
 -- of a switch this is said where it is joined
 ArePerformed pointer_width reading plain calls (Switching before script more earlier block value ty keys edges switch branches tables are at placed is code) =
     ArePerformed pointer_width before script earlier are

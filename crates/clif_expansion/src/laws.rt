@@ -3,7 +3,7 @@
 ghost use Rattle.clif_expansion.specs.CallsVerdict.{VerdictsAreRead};
 ghost use Rattle.clif_expansion.specs.ConstantCalls.{ConstantCallsArePerformed, ConstantsAreEmitted};
 ghost use Rattle.clif_expansion.specs.Constants.{ConstantsAreOperands, ConstantsArePerformed};
-ghost use Rattle.clif_expansion.specs.Emission.{ActingKeepsJoins, EmittingKeepsJoins};
+ghost use Rattle.clif_expansion.specs.Emission.{EmittingKeepsJoins};
 ghost use Rattle.clif_expansion.specs.HeadlineLaws.{AskingMeansTheSame, CallsMeanWhatPlainCallsMean, CallsNameValues, JoinedCallsKeepPremises};
 ghost use Rattle.clif_expansion.specs.JoinedCalls.{JoinedCallsHaveJoinedLedgers};
 ghost use Rattle.clif_expansion.specs.JoinedPrograms.{JoinedCallsHaveJoinedPrograms};
@@ -84,11 +84,6 @@ pub fn conditions_are_read()
 /// A script that emits nothing has the ledger and the program of its calls of the builder.
 pub fn asking_stays()
     ensures { AskingStays }
-{}
-
-/// Code in a line, all of which is generated, keeps the ledgers joined with an instruction that only scripts have.
-pub fn acting_keeps_joins()
-    ensures { ActingKeepsJoins }
 {}
 
 /// Code in a line keeps the ledger of a script's plain calls joined to that of a script that emits an instruction with

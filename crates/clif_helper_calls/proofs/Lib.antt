@@ -4,3 +4,8 @@ pub mod Performed
 pub mod Called
 pub mod Known
 pub mod Loads
+pub mod Laid
+pub mod Standing
+pub mod KnownStanding
+pub mod FillStanding
+pub mod PieceStanding

@@ -122,7 +122,7 @@ one_more n = omega arith
 
 module _ (reading : Reading) (types : NameTypes) (pointer ty : «Type») (compare : CompareShape) (place : ℕ) (left right given_left given_right one two result given_result : Name)
     (may : IsTrue (can_emit (Bytes (CompareBytes compare)) pointer)) (has : HasLoads ty compare)
-    (named : NamesCompare reading types pointer left right given_left given_right one two result given_result)
+    (named : NamesCompare reading types left right given_left given_right one two result given_result)
     (world : World) (plain script : Name → Bits) (memory : Memory) (holds_bytes : HoldsBytes memory) (agree : Agree reading plain script)
     (sound : IsSound world types.script (doing (Bytes (CompareBytes compare)) pointer (given_left ∷ given_right ∷ [])) script) where
   abbrev l : ℕ
@@ -168,7 +168,7 @@ module _ (reading : Reading) (types : NameTypes) (pointer ty : «Type») (compar
       (subst (λ (n : ℕ). Holds world (Accessible (bytes_at width l n))) (sym (one_more size)) sound.claims.0)
       (lined_by world compare l compare.left_alignment has.by_loads sound.claims.1.1.0 (λ aligned. (said aligned).0))
       (λ address there. in_first (bytes_at width l size) (bytes_at width r size) address (subst (λ (n : ℕ). lies_in (bytes_at width l n) address ≡ true) (one_more size) there))
-      left (ap bits_of named.left_typed) memory place 0 (one ∷ []) plain
+      left (ap bits_of (named.left_typed ∙ sound.typed.1.0)) memory place 0 (one ∷ []) plain
 
   loaded_left : LoadedLeft
   loaded_left = Runs.loads world types.plain reading ranges left_flags ty width has.exponent size l 1
@@ -176,7 +176,7 @@ module _ (reading : Reading) (types : NameTypes) (pointer ty : «Type») (compar
       (subst (λ (n : ℕ). Holds world (Accessible (bytes_at width l n))) (sym (one_more size)) sound.claims.0)
       (lined_by world compare l compare.left_alignment has.by_loads sound.claims.1.1.0 (λ aligned. (said aligned).0))
       (λ address there. in_first (bytes_at width l size) (bytes_at width r size) address (subst (λ (n : ℕ). lies_in (bytes_at width l n) address ≡ true) (one_more size) there))
-      left (ap bits_of named.left_typed) memory place 0 (one ∷ []) plain holds_bytes (not_generated reading left given_left named.left_read)
+      left (ap bits_of (named.left_typed ∙ sound.typed.1.0)) memory place 0 (one ∷ []) plain holds_bytes (not_generated reading left given_left named.left_read)
       (omega arith) (agree left given_left named.left_read) (named.one_generated, tt) (tt, tt)
 
   abbrev LoadedRight : Type 0
@@ -185,7 +185,7 @@ module _ (reading : Reading) (types : NameTypes) (pointer ty : «Type») (compar
       (subst (λ (n : ℕ). Holds world (Accessible (bytes_at width r n))) (sym (one_more size)) sound.claims.1.0)
       (lined_by world compare r compare.right_alignment has.by_loads sound.claims.1.1.1.0 (λ aligned. (said aligned).1))
       (λ address there. in_second (bytes_at width l size) (bytes_at width r size) address (subst (λ (n : ℕ). lies_in (bytes_at width r n) address ≡ true) (one_more size) there))
-      right (ap bits_of named.right_typed) memory (suc place) 0 (two ∷ []) loaded_left.after
+      right (ap bits_of (named.right_typed ∙ sound.typed.1.1.0)) memory (suc place) 0 (two ∷ []) loaded_left.after
 
   loaded_right : LoadedRight
   loaded_right = Runs.loads world types.plain reading ranges right_flags ty width has.exponent size r 1
@@ -193,7 +193,7 @@ module _ (reading : Reading) (types : NameTypes) (pointer ty : «Type») (compar
       (subst (λ (n : ℕ). Holds world (Accessible (bytes_at width r n))) (sym (one_more size)) sound.claims.1.0)
       (lined_by world compare r compare.right_alignment has.by_loads sound.claims.1.1.1.0 (λ aligned. (said aligned).1))
       (λ address there. in_second (bytes_at width l size) (bytes_at width r size) address (subst (λ (n : ℕ). lies_in (bytes_at width r n) address ≡ true) (one_more size) there))
-      right (ap bits_of named.right_typed) memory (suc place) 0 (two ∷ []) loaded_left.after holds_bytes (not_generated reading right given_right named.right_read)
+      right (ap bits_of (named.right_typed ∙ sound.typed.1.1.0)) memory (suc place) 0 (two ∷ []) loaded_left.after holds_bytes (not_generated reading right given_right named.right_read)
       (omega arith) (loaded_left.kept right (not_generated reading right given_right named.right_read) ∙ agree right given_right named.right_read) (named.two_generated, tt) (tt, tt)
 
   abbrev left_bytes : List ℕ

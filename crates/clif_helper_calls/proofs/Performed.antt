@@ -109,7 +109,7 @@ in_only one address there = rw there refl
 
 module _ (reading : Reading) (types : NameTypes) (pointer ty : «Type») (copy : CopyShape) (place : ℕ) (names : List Name) (target source given_target given_source : Name)
     (may : IsTrue (can_emit (Bytes (Copy copy)) pointer)) (has : HasAccesses ty copy.size (length names))
-    (named : NamesCopy reading types pointer target source given_target given_source names) where
+    (named : NamesCopy reading types target source given_target given_source names) where
   abbrev size : ℕ
   size = copy.size
 
@@ -173,12 +173,12 @@ module _ (reading : Reading) (types : NameTypes) (pointer ty : «Type») (copy :
         has.access.is_power (sizes.narrow has.access.exponent has.access.few) sizes.bits sizes.bytes
         (subst (λ (n : ℕ). Holds world (Accessible (bytes_at width s n))) (sym sizes.whole) sound.claims.1.0) (λ is. (lined is).1)
         (λ address there. in_second (bytes_at width t size) (bytes_at width s size) address (subst (λ (n : ℕ). lies_in (bytes_at width s n) address ≡ true) sizes.whole there))
-        source (ap bits_of named.source_typed) memory place 0 names plain
+        source (ap bits_of (named.source_typed ∙ sound.typed.1.1.0)) memory place 0 names plain
     loaded = Runs.loads world types.plain reading ranges (copy_flags copy) ty width has.access.exponent bytes s (length names)
         has.access.is_power (sizes.narrow has.access.exponent has.access.few) sizes.bits sizes.bytes
         (subst (λ (n : ℕ). Holds world (Accessible (bytes_at width s n))) (sym sizes.whole) sound.claims.1.0) (λ is. (lined is).1)
         (λ address there. in_second (bytes_at width t size) (bytes_at width s size) address (subst (λ (n : ℕ). lies_in (bytes_at width s n) address ≡ true) sizes.whole there))
-        source (ap bits_of named.source_typed) memory place 0 names plain holds_bytes (not_generated reading source given_source named.source_read)
+        source (ap bits_of (named.source_typed ∙ sound.typed.1.1.0)) memory place 0 names plain holds_bytes (not_generated reading source given_source named.source_read)
         (omega arith) (agree source given_source named.source_read) named.generated named.distinct
 
     stored : RunsTo world types.plain ranges (store_pieces (copy_flags copy) ty bytes target (place + length names) 0 names) (record { names = loaded.after; memory = memory })
@@ -187,7 +187,7 @@ module _ (reading : Reading) (types : NameTypes) (pointer ty : «Type») (copy :
         has.access.is_power (sizes.narrow has.access.exponent has.access.few) sizes.bits sizes.bytes
         (subst (λ (n : ℕ). Holds world (Accessible (bytes_at width t n))) (sym sizes.whole) sound.claims.0) (λ is. (lined is).0)
         (λ address there. in_first (bytes_at width t size) (bytes_at width s size) address (subst (λ (n : ℕ). lies_in (bytes_at width t n) address ≡ true) sizes.whole there))
-        target (ap bits_of named.target_typed) memory (place + length names) 0 names loaded.after (omega arith)
+        target (ap bits_of (named.target_typed ∙ sound.typed.1.0)) memory (place + length names) 0 names loaded.after (omega arith)
         (loaded.kept target (not_generated reading target given_target named.target_read) ∙ agree target given_target named.target_read)
 
     whole_copied : pieces_stored memory width bytes (t + 0 * bytes) (map loaded.after names) ≡ copied memory (bytes_at width t size) s
@@ -223,7 +223,7 @@ how_many (suc count) x = ap suc (how_many count x)
 
 module _ (reading : Reading) (types : NameTypes) (pointer ty : «Type») (fill : FillShape) (place : ℕ) (number : ℤ) (count : ℕ) (target given_target constant : Name)
     (may : IsTrue (can_emit (Bytes (Fill fill)) pointer)) (has : HasAccesses ty fill.size count) (repeats : RepeatsByte ty fill.byte number)
-    (named : NamesFill reading types pointer target given_target constant) where
+    (named : NamesFill reading types target given_target constant) where
   abbrev fill_bytes : ℕ
   fill_bytes = access_size fill.size
 
@@ -269,7 +269,7 @@ module _ (reading : Reading) (types : NameTypes) (pointer ty : «Type») (fill :
         has.access.is_power (fill_sizes.narrow has.access.exponent has.access.few) fill_sizes.bits fill_sizes.bytes
         (subst (λ (n : ℕ). Holds world (Accessible (bytes_at fill_width f n))) (sym fill_sizes.whole) sound.claims.0) fill_lined
         (λ address there. in_only (bytes_at fill_width f fill.size) address (subst (λ (n : ℕ). lies_in (bytes_at fill_width f n) address ≡ true) fill_sizes.whole there))
-        target (ap bits_of named.target_typed) memory (suc place) 0 (replicate count constant) between (let long = how_many count constant in omega (arith, long))
+        target (ap bits_of (named.target_typed ∙ sound.typed.1.0)) memory (suc place) 0 (replicate count constant) between (let long = how_many count constant in omega (arith, long))
         (assigned_elsewhere reading (constant ∷ []) (wrapped (bits_of ty) number ∷ []) plain target (named.generated, tt) (not_generated reading target given_target named.target_read)
         ∙ agree target given_target named.target_read)
 

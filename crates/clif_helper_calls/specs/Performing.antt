@@ -19,18 +19,18 @@ pub record HasAccesses (ty : «Type») (size count : ℕ) : Type 0 where
   pub access : IsAccess ty (access_size size)
   pub many : count ≡ size / access_size size
 
--- Names of a copy: the addresses are read as the script's and have the type of pointers; the others were generated, each once.
-pub record NamesCopy (reading : Reading) (types : NameTypes) (pointer : «Type») (target source given_target given_source : Name) (names : List Name) : Type 0 where
+-- Names of a copy: the addresses are read as the script's and have their types; the others were generated, each once.
+pub record NamesCopy (reading : Reading) (types : NameTypes) (target source given_target given_source : Name) (names : List Name) : Type 0 where
   pub target_read : IsReadAs reading target given_target
   pub source_read : IsReadAs reading source given_source
-  pub target_typed : types.plain target ≡ pointer
-  pub source_typed : types.plain source ≡ pointer
+  pub target_typed : types.plain target ≡ types.script given_target
+  pub source_typed : types.plain source ≡ types.script given_source
   pub generated : AllByRecursion (λ name. reading name ≡ Generated) names
   pub distinct : AreDistinct names
 
-pub record NamesFill (reading : Reading) (types : NameTypes) (pointer : «Type») (target given_target constant : Name) : Type 0 where
+pub record NamesFill (reading : Reading) (types : NameTypes) (target given_target constant : Name) : Type 0 where
   pub target_read : IsReadAs reading target given_target
-  pub target_typed : types.plain target ≡ pointer
+  pub target_typed : types.plain target ≡ types.script given_target
   pub generated : reading constant ≡ Generated
 
 -- Such code performs the copy, or the fill, of a script.
@@ -38,13 +38,13 @@ pub record PiecesArePerformed : Type 0 where
   pub copies : (pointer_width : ℕ) (reading : Reading) (types : NameTypes) (pointer ty : «Type») (copy : CopyShape) (place : ℕ) (names : List Name)
       (target source given_target given_source : Name)
       → bits_of pointer ≡ pointer_width → IsTrue (can_emit (Bytes (Copy copy)) pointer) → HasAccesses ty copy.size (length names)
-      → NamesCopy reading types pointer target source given_target given_source names
+      → NamesCopy reading types target source given_target given_source names
       → Performs pointer_width reading types (copy_code (copy_flags copy) ty (access_size copy.size) target source place names)
       (doing (Bytes (Copy copy)) pointer (given_target ∷ given_source ∷ [])) []
   pub fills : (pointer_width : ℕ) (reading : Reading) (types : NameTypes) (pointer ty : «Type») (fill : FillShape) (place : ℕ) (number : ℤ) (count : ℕ)
       (target given_target constant : Name)
       → bits_of pointer ≡ pointer_width → IsTrue (can_emit (Bytes (Fill fill)) pointer) → HasAccesses ty fill.size count → RepeatsByte ty fill.byte number
-      → NamesFill reading types pointer target given_target constant
+      → NamesFill reading types target given_target constant
       → Performs pointer_width reading types (fill_code (fill_flags fill) ty (access_size fill.size) target place number constant count)
       (doing (Bytes (Fill fill)) pointer (given_target ∷ [])) []
 
@@ -56,11 +56,11 @@ pub record HasLoads (ty : «Type») (compare : CompareShape) : Type 0 where
   pub is_power : compare.size ≡ 2 ^ exponent
   pub few : exponent ≤ 4
 
-pub record NamesCompare (reading : Reading) (types : NameTypes) (pointer : «Type») (left right given_left given_right one two result given_result : Name) : Type 0 where
+pub record NamesCompare (reading : Reading) (types : NameTypes) (left right given_left given_right one two result given_result : Name) : Type 0 where
   pub left_read : IsReadAs reading left given_left
   pub right_read : IsReadAs reading right given_right
-  pub left_typed : types.plain left ≡ pointer
-  pub right_typed : types.plain right ≡ pointer
+  pub left_typed : types.plain left ≡ types.script given_left
+  pub right_typed : types.plain right ≡ types.script given_right
   pub one_generated : reading one ≡ Generated
   pub two_generated : reading two ≡ Generated
   pub apart : one ≢ two
@@ -72,6 +72,6 @@ LoadsArePerformed =
     (pointer_width : ℕ) (reading : Reading) (types : NameTypes) (pointer ty : «Type») (compare : CompareShape) (place : ℕ)
     (left right given_left given_right one two result given_result : Name)
     → IsTrue (can_emit (Bytes (CompareBytes compare)) pointer) → HasLoads ty compare
-    → NamesCompare reading types pointer left right given_left given_right one two result given_result
+    → NamesCompare reading types left right given_left given_right one two result given_result
     → Performs pointer_width reading types (compare_code compare ty left right place one two result)
     (doing (Bytes (CompareBytes compare)) pointer (given_left ∷ given_right ∷ [])) (given_result ∷ [])

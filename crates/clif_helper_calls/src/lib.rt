@@ -2,8 +2,13 @@
 //! their contracts are the laws of the definitions.
 #![tactic(auto)]
 
+ghost use Rattle.clif_helper_calls.specs.FillStanding.{FillCallsStand};
+ghost use Rattle.clif_helper_calls.specs.KnownStanding.{KnownCallsStand};
+ghost use Rattle.clif_helper_calls.specs.Laying.{CodesAreLaid};
 ghost use Rattle.clif_helper_calls.specs.Performing.{LoadsArePerformed, PiecesArePerformed};
 ghost use Rattle.clif_helper_calls.specs.PerformingCalls.{CallsArePerformed, KnownCallsArePerformed};
+ghost use Rattle.clif_helper_calls.specs.PieceStanding.{PiecesStand};
+ghost use Rattle.clif_helper_calls.specs.Standing.{SingleCallsStand};
 
 /// Loads of all pieces and then stores of them perform a copy, and stores of a constant a fill.
 pub fn pieces_are_performed()
@@ -23,4 +28,29 @@ pub fn known_calls_are_performed()
 /// Loads of both sides, and the comparison of what they give, perform a comparison.
 pub fn loads_are_performed()
     ensures { LoadsArePerformed }
+{}
+
+/// The code names what it gave before or what the operation of the script names.
+pub fn codes_are_laid()
+    ensures { CodesAreLaid }
+{}
+
+/// A call of a function of the C library with a size that is a value stands for its emission.
+pub fn single_calls_stand()
+    ensures { SingleCallsStand }
+{}
+
+/// Calls of the C library with a constant size stand for the copy or the comparison that is emitted.
+pub fn known_calls_stand()
+    ensures { KnownCallsStand }
+{}
+
+/// Calls of `Memset` stand for fills, and two loads for a comparison.
+pub fn fill_calls_stand()
+    ensures { FillCallsStand }
+{}
+
+/// Loads and stores of pieces stand for the copy or the fill that is emitted.
+pub fn pieces_stand()
+    ensures { PiecesStand }
 {}

@@ -13,7 +13,7 @@ use Rattle.clif_meaning.specs.Name as named
 use Rattle.clif_meaning.specs.Name.{answer_of}
 use Rattle.clif_meaning.specs.Request.{Request, Script}
 use Rattle.clif_expansion.specs.ConstantCalls.{constant_calls, constant_instructions, constant_last, IsPerformedByConstant}
-use Rattle.clif_expansion.specs.Emission.{building, reading_across, reading_emitted}
+use Rattle.clif_expansion.specs.Emission.{AreGiven, building, reading_across, reading_emitted}
 use Rattle.clif_expansion.specs.JoinedCalls.{Asking, Switching}
 use Rattle.clif_expansion.specs.Joining.{AreJoinedLedgers, IsJoined, IsReadException, IsReadRequest, IsReadTable, answers_at, reading_after, reading_with}
 use Rattle.clif_expansion.specs.Reading.{Generated, IsReadAs, IsReadInstruction, Reading, ScriptName, StandsFor}
@@ -287,7 +287,7 @@ module _ (naming : Naming) (count : ℕ) (plain : Script) (script : List ScriptC
       by n (inl made) inside =
           let read = known.reads n made in
           ap (reading_emitted full plain_ledger ledger code) (earlier n made)
-          ∙ emitted_before full plain_ledger ledger code (naming n) (below (naming n) (name_of n) read)
+          ∙ emitted_before AreGiven full plain_ledger ledger code (naming n) (below (naming n) (name_of n) read)
           ∙ read
       by n (inr past) inside =
           let here : n.place ≡ count = omega (arith, past, inside) in
@@ -297,12 +297,12 @@ module _ (naming : Naming) (count : ℕ) (plain : Script) (script : List ScriptC
           ∙ ap (λ (k : ℕ). ScriptName (answer_of k n.answer)) other
 
       emitted-keeps : KeepsReading reading (reading_emitted reading plain_ledger ledger code)
-      emitted-keeps y n read = emitted_before reading plain_ledger ledger code y (joined.made y n read).0 ∙ read
+      emitted-keeps y n read = emitted_before AreGiven reading plain_ledger ledger code y (joined.made y n read).0 ∙ read
 
       emitted-full : KeepsReading (reading_emitted reading plain_ledger ledger code) (reading_emitted full plain_ledger ledger code)
       emitted-full y n read = elim (emitted-alike reading full plain_ledger ledger code y n read) [
         | inl new ↦ new
-        | inr old ↦ emitted_before full plain_ledger ledger code y (joined.made y n old).0 ∙ known.keeps y n old
+        | inr old ↦ emitted_before AreGiven full plain_ledger ledger code y (joined.made y n old).0 ∙ known.keeps y n old
       ]
 
       -- one name more is known behind its plain calls

@@ -218,7 +218,7 @@ module _ (ledger : Ledger) (types : Name → «Type») where
         each_decided old script earlier are
         (types_before (ledger_after script) (ask ∷ []) types (subst (λ (l : Ledger). HaveTypes l types) from have))
         (λ x there. grows x (subst (λ (l : Ledger). IsTrue (has_block l x)) (sym from) (there_later (ask ∷ []) (ledger_after script) x there))) known
-    each_decided reading plain calls (Emitting old script earlier code last whole are placed line stays whole_stays same) have grows known =
+    each_decided reading plain calls (Emitting how old script earlier code last whole are placed line stays whole_stays same) have grows known =
         let more : Script = map building code ++ building last ∷ [] in
         let from = fold_on ledger_with empty_ledger script more in (
           each_decided old script earlier are

@@ -17,8 +17,11 @@ use Rattle.clif_meaning.specs.Premises.{EachItem, EntryTakes, IsItemWellTyped, W
 use Rattle.clif_meaning.specs.Program.{Program, Item, Instruct, Use, Assign, answers_from, empty_program, extended, redirected_instruction, redirected_item, result_names, result_types, with_inserted, with_item_at}
 use Rattle.clif_meaning.specs.Request.{Request, CreateBlock, SwitchToBlock, SealBlock, SealAllBlocks, InsertBlockAfter, SetColdBlock, EnsureInsertedBlock, AppendBlockParams, AppendFunctionParams, DeclareVar, DefVar, UseVar, MakeEntry, MakeEdge, MakeJumpTable, MakeExceptionTable, Annotate, Build, ChangeJumpDestination, Finalize}
 use Rattle.clif_meaning.specs.World.{World}
+use Rattle.clif_meaning.specs.ScriptMachine.{ScriptRun, ScriptState}
+use Rattle.clif_meaning.proofs.EachStep.{each_step}
 use Rattle.clif_typed_runs.specs.ValuesFit.{EntryHas, IsItemTyped, IsScriptTyped, name_types_at}
 use Rattle.clif_typed_runs.proofs.ScriptSteps.{runs_fit}
+use Rattle.clif_expansion.specs.Laws.{TakesTyped}
 use Rattle.clif_expansion.specs.CallsVerdict.{AreCallsAllowed}
 use Rattle.clif_expansion.specs.HeadlineLaws.{CallsNameValues}
 use Rattle.clif_expansion.specs.JoinedRuns.{calls_run}
@@ -285,11 +288,21 @@ module _ (calls : List ScriptCall) (hidden : ℕ → Bool) (world : World) where
         arguments = arguments;
       }
 
+-- a typed item takes operands of its types
+takes_typed : (run : ScriptRun) (state : ScriptState) (returns : List «Type») (item : Item) → IsItemTyped run returns item → TakesTyped run state item
+takes_typed run state returns (Instruct place instruction results) is = (returns, is.takes.operands)
+takes_typed run state returns (Use variable name) is = tt
+takes_typed run state returns (Assign variable name) is = tt
+
 pub calls_name_values : CallsNameValues
 calls_name_values = record {
   fits = λ calls signature hidden world allowed well arguments.
       runs_fit (calls_run calls hidden world) signature (typed calls hidden world signature allowed well arguments);
   sound = λ calls signature hidden world allowed well arguments claims. record {
+    takes_types =
+        let run : ScriptRun = calls_run calls hidden world in
+        each_step (IsItemTyped run (types_of signature.returns)) run (typed calls hidden world signature allowed well arguments).items (TakesTyped run)
+        (λ state item is. takes_typed run state (types_of signature.returns) item is);
     takes_values = values_are_taken (calls_run calls hidden world)
         (λ n. (runs_fit (calls_run calls hidden world) signature (typed calls hidden world signature allowed well arguments) n).names);
     claims_true = claims;

@@ -12,6 +12,7 @@ use Rattle.clif_meaning.proofs.Endings
 use Rattle.clif_meaning.proofs.FirstPremises.{no_slots, shows_all}
 use Rattle.clif_meaning.proofs.SampleWorld
 use Rattle.clif_meaning.proofs.WorkedExamples.{other_ends}
+use Rattle.clif_expansion.specs.Emission.{AreGiven}
 use Rattle.clif_expansion.specs.CallsHeadline.{CallsMeanTheSame, CallsPremises, behaviour_beside_calls, behaviour_of_calls, in_spill_slot_beside, run_beside_calls, run_of_calls}
 use Rattle.clif_meaning.specs.Examples.{first_function_with, first_signature, i32}
 use Rattle.clif_meaning.specs.Headline.{MeansTheSame, pointer_bits}
@@ -200,10 +201,10 @@ seven same =
 
 -- The compared name has 32 bits.
 untyped : (pointer_width : ℕ) (reading : Reading) → AreJoinedCalls reading begun_script begun_calls
-    → IsPerformed pointer_width reading (ledger_after begun_script) (ledger_of begun_calls) (computing (Iconst (pos 7)) i64 [] ∷ []) is_wide_seven is_seven → ⊥
+    → IsPerformed pointer_width AreGiven reading (ledger_after begun_script) (ledger_of begun_calls) (computing (Iconst (pos 7)) i64 [] ∷ []) is_wide_seven is_seven → ⊥
 untyped pointer_width reading are is =
     let joined =
-    Emitting reading begun_script begun_calls (computing (Iconst (pos 7)) i64 [] ∷ []) is_wide_seven is_seven are refl
+    Emitting AreGiven reading begun_script begun_calls (computing (Iconst (pos 7)) i64 [] ∷ []) is_wide_seven is_seven are refl
     (record { no_edges = refl; goes_on = refl }, tt) (record { no_edges = refl; goes_on = refl }) (record { no_edges = refl; goes_on = refl }) refl in
     let script : Script = begun_script ++ iconst i64 (pos 7) ∷ Build [] is_wide_seven ∷ [] in
     let calls : List ScriptCall = begun_calls ++ Emit is_seven ∷ [] in

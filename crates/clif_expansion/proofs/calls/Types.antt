@@ -84,7 +84,7 @@ module _ (pointer_width : ℕ) (types : NameTypes) where
   each_typed reading plain calls (Asking old script earlier ask request are is placed) have' done =
       each_typed old script earlier are
       (types_before (ledger_after script) (ask ∷ []) types.plain (subst (λ (l : Ledger). HaveTypes l types.plain) (fold_on ledger_with empty_ledger script (ask ∷ [])) have')) done
-  each_typed reading plain calls (Emitting old script earlier code last whole are placed line stays whole_stays same) have' done =
+  each_typed reading plain calls (Emitting how old script earlier code last whole are placed line stays whole_stays same) have' done =
       let behind' : HaveTypes (fold ledger_with (ledger_after script) (map building code ++ building last ∷ [])) types.plain =
       subst (λ (l : Ledger). HaveTypes l types.plain) (fold_on ledger_with empty_ledger script (map building code ++ building last ∷ [])) have' in (
         each_typed old script earlier are (types_before (ledger_after script) (map building code ++ building last ∷ []) types.plain behind') done.0,

@@ -1,0 +1,101 @@
+-- Calls of `Memset` stand for the fill that is emitted, and two loads for a comparison: joined calls stay joined with the emission at the
+-- script's end and the plain calls at the plain one's, and if each emission was performed so far, each is. Own.
+use Rattle.std.specs.Prelude.{ℕ, suc, ℤ, pos, List, [], ◌∷◌, ◌++◌, IsTrue, map}
+use Rattle.clif_opcodes.specs.declared.opcodes.ConvertOpcode.TheVariants.{Uextend}
+use Rattle.clif_types.specs.Signature.{SignatureShape}
+use Rattle.clif_types.specs.Types.{bits_of, is_int}
+use Rattle.clif_types.specs.declared.libcall.LibCall.TheVariants.{Memset}
+use Rattle.clif_types.specs.declared.types.«Type».{«Type»}
+use Rattle.clif_access_plans.specs.Plans.{is_aligned_load}
+use Rattle.clif_meaning.specs.ByteOperation.{CompareShape, Fill, FillShape}
+use Rattle.clif_meaning.specs.Instruction.{Bytes, Compare, Convert, Iconst, Instruction, Load}
+use Rattle.clif_meaning.specs.Ledger.{ledger_after}
+use Rattle.clif_meaning.specs.Name.{Name, answer_of}
+use Rattle.clif_meaning.specs.Request.{Script}
+use Rattle.clif_expansion.specs.Constants.{computing}
+use Rattle.clif_expansion.specs.Emission.{AreGenerated, AreGiven, building, reading_behind}
+use Rattle.clif_expansion.specs.JoinedCalls.{AreJoinedCalls}
+use Rattle.clif_expansion.specs.PerformedCalls.{ArePerformed}
+use Rattle.clif_expansion.specs.Reading.{IsReadAs, Reading}
+use Rattle.clif_expansion.specs.ScriptCall.{Emit, ScriptCall, call_allowed, ledger_of}
+use Rattle.clif_helper_calls.specs.Codes.{doing, flags_where}
+use Rattle.clif_helper_calls.specs.KnownStanding.{compare_emission, next_place}
+use Rattle.clif_helper_calls.specs.LibraryCodes.{IsConstant, calling, i32, i8}
+use Rattle.clif_helper_calls.specs.Performing.{HasLoads}
+use Rattle.clif_helper_calls.specs.PerformingCalls.{HasSignature, ReadsThree, ReadsTwo}
+use Rattle.clif_helper_calls.specs.Standing.{library_emission}
+
+-- the byte widened, and the call
+abbrev pub set_first : (byte : Name) → List (Instruction Name Name)
+set_first byte = computing (Convert Uextend) i32 (byte ∷ []) ∷ []
+
+abbrev pub set_last : SignatureShape → (place : ℕ) (target size : Name) → Instruction Name Name
+set_last signature place target size = calling Memset signature target (answer_of place 1) size
+
+-- a known byte and a known size, the byte widened, and the call
+abbrev pub fill_first : «Type» → (filling number : ℤ) → (place : ℕ) → List (Instruction Name Name)
+fill_first pointer filling number place =
+    computing (Iconst filling) i8 [] ∷ computing (Iconst number) pointer [] ∷ computing (Convert Uextend) i32 (answer_of place 1 ∷ []) ∷ []
+
+abbrev pub fill_last : SignatureShape → (place : ℕ) (target : Name) → Instruction Name Name
+fill_last signature place target = calling Memset signature target (answer_of (suc (suc place)) 1) (answer_of (suc place) 1)
+
+abbrev pub fill_emission : FillShape → «Type» → (target : Name) → Instruction Name Name
+fill_emission fill pointer target = doing (Bytes (Fill fill)) pointer (target ∷ [])
+
+-- loads of both sides, and their comparison
+abbrev pub loads_first : CompareShape → «Type» → (left right : Name) → List (Instruction Name Name)
+loads_first compare ty left right =
+    doing (Load (flags_where compare.flags (is_aligned_load compare.condition compare.size compare.left_alignment)) (pos 0)) ty (left ∷ [])
+    ∷ doing (Load (flags_where compare.flags (is_aligned_load compare.condition compare.size compare.right_alignment)) (pos 0)) ty (right ∷ []) ∷ []
+
+abbrev pub loads_last : CompareShape → «Type» → (place : ℕ) → Instruction Name Name
+loads_last compare ty place = computing (Compare compare.condition) ty (answer_of place 1 ∷ answer_of (suc place) 1 ∷ [])
+
+pub record FillCallsStand : Type 0 where
+  pub sets_joined : (pointer : «Type») (signature : SignatureShape) (reading : Reading) (plain : Script) (calls : List ScriptCall)
+      (target byte size given_target given_byte given_size : Name)
+      → AreJoinedCalls reading plain calls → IsTrue (call_allowed (ledger_of calls) (Emit (library_emission Memset pointer given_target given_byte given_size)))
+      → AreJoinedCalls (reading_behind AreGenerated reading (ledger_after plain) (ledger_of calls) (set_first byte))
+      (plain ++ (map building (set_first byte) ++ building (set_last signature (next_place plain) target size) ∷ []))
+      (calls ++ Emit (library_emission Memset pointer given_target given_byte given_size) ∷ [])
+  pub sets_performed : (pointer : «Type») (signature : SignatureShape) (reading : Reading) (plain : Script) (calls : List ScriptCall)
+      (target byte size given_target given_byte given_size : Name)
+      → HasSignature (bits_of pointer) Memset signature
+      → (are : AreJoinedCalls reading plain calls) → ArePerformed (bits_of pointer) reading plain calls are
+      → ReadsThree reading target byte size given_target given_byte given_size
+      → (may : IsTrue (call_allowed (ledger_of calls) (Emit (library_emission Memset pointer given_target given_byte given_size))))
+      → ArePerformed (bits_of pointer) (reading_behind AreGenerated reading (ledger_after plain) (ledger_of calls) (set_first byte))
+      (plain ++ (map building (set_first byte) ++ building (set_last signature (next_place plain) target size) ∷ []))
+      (calls ++ Emit (library_emission Memset pointer given_target given_byte given_size) ∷ [])
+      (sets_joined pointer signature reading plain calls target byte size given_target given_byte given_size are may)
+  pub fills_joined : (pointer : «Type») (signature : SignatureShape) (fill : FillShape) (filling number : ℤ) (reading : Reading) (plain : Script) (calls : List ScriptCall)
+      (target given_target : Name)
+      → AreJoinedCalls reading plain calls → IsTrue (call_allowed (ledger_of calls) (Emit (fill_emission fill pointer given_target)))
+      → AreJoinedCalls (reading_behind AreGenerated reading (ledger_after plain) (ledger_of calls) (fill_first pointer filling number (next_place plain)))
+      (plain ++ (map building (fill_first pointer filling number (next_place plain)) ++ building (fill_last signature (next_place plain) target) ∷ []))
+      (calls ++ Emit (fill_emission fill pointer given_target) ∷ [])
+  pub fills_performed : (pointer : «Type») (signature : SignatureShape) (fill : FillShape) (filling number : ℤ) (reading : Reading) (plain : Script) (calls : List ScriptCall)
+      (target given_target : Name)
+      → HasSignature (bits_of pointer) Memset signature → IsConstant i8 filling fill.byte → IsConstant pointer number fill.size
+      → (are : AreJoinedCalls reading plain calls) → ArePerformed (bits_of pointer) reading plain calls are → IsReadAs reading target given_target
+      → (may : IsTrue (call_allowed (ledger_of calls) (Emit (fill_emission fill pointer given_target))))
+      → ArePerformed (bits_of pointer) (reading_behind AreGenerated reading (ledger_after plain) (ledger_of calls) (fill_first pointer filling number (next_place plain)))
+      (plain ++ (map building (fill_first pointer filling number (next_place plain)) ++ building (fill_last signature (next_place plain) target) ∷ []))
+      (calls ++ Emit (fill_emission fill pointer given_target) ∷ [])
+      (fills_joined pointer signature fill filling number reading plain calls target given_target are may)
+  pub loads_joined : (pointer ty : «Type») (compare : CompareShape) (reading : Reading) (plain : Script) (calls : List ScriptCall)
+      (left right given_left given_right : Name)
+      → AreJoinedCalls reading plain calls → IsTrue (call_allowed (ledger_of calls) (Emit (compare_emission compare pointer given_left given_right)))
+      → AreJoinedCalls (reading_behind AreGiven reading (ledger_after plain) (ledger_of calls) (loads_first compare ty left right))
+      (plain ++ (map building (loads_first compare ty left right) ++ building (loads_last compare ty (next_place plain)) ∷ []))
+      (calls ++ Emit (compare_emission compare pointer given_left given_right) ∷ [])
+  pub loads_performed : (pointer ty : «Type») (compare : CompareShape) (reading : Reading) (plain : Script) (calls : List ScriptCall)
+      (left right given_left given_right : Name)
+      → IsTrue (is_int ty) → HasLoads ty compare
+      → (are : AreJoinedCalls reading plain calls) → ArePerformed (bits_of pointer) reading plain calls are → ReadsTwo reading left right given_left given_right
+      → (may : IsTrue (call_allowed (ledger_of calls) (Emit (compare_emission compare pointer given_left given_right))))
+      → ArePerformed (bits_of pointer) (reading_behind AreGiven reading (ledger_after plain) (ledger_of calls) (loads_first compare ty left right))
+      (plain ++ (map building (loads_first compare ty left right) ++ building (loads_last compare ty (next_place plain)) ∷ []))
+      (calls ++ Emit (compare_emission compare pointer given_left given_right) ∷ [])
+      (loads_joined pointer ty compare reading plain calls left right given_left given_right are may)
