@@ -9,3 +9,4 @@ pub mod Standing
 pub mod KnownStanding
 pub mod FillStanding
 pub mod PieceStanding
+pub mod CodeExamples

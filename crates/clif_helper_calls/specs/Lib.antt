@@ -7,3 +7,4 @@ pub mod Standing
 pub mod KnownStanding
 pub mod FillStanding
 pub mod PieceStanding
+pub mod CodeExamples

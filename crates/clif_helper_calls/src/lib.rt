@@ -2,6 +2,7 @@
 //! their contracts are the laws of the definitions.
 #![tactic(auto)]
 
+ghost use Rattle.clif_helper_calls.specs.CodeExamples.{CodeExamples};
 ghost use Rattle.clif_helper_calls.specs.FillStanding.{FillCallsStand};
 ghost use Rattle.clif_helper_calls.specs.KnownStanding.{KnownCallsStand};
 ghost use Rattle.clif_helper_calls.specs.Laying.{CodesAreLaid};
@@ -53,4 +54,9 @@ pub fn fill_calls_stand()
 /// Loads and stores of pieces stand for the copy or the fill that is emitted.
 pub fn pieces_stand()
     ensures { PiecesStand }
+{}
+
+/// A copy of twelve bytes and a fill of six, worked out, and what isn't the code of one.
+pub fn code_examples()
+    ensures { CodeExamples }
 {}
