@@ -11,7 +11,8 @@ use Rattle.clif_meaning.specs.WellPlaced.{edge_targets, function_flow}
 use Rattle.clif_meaning.specs.View.{view_of}
 use Rattle.clif_safepoints.specs.Liveness.{every_argument, IsLiveAcross}
 
--- the values that are live across each instruction, by its number, and how many blocks were handled before the last pass
+-- the values that are live across each instruction, by its number, and how many blocks were handled before the last
+-- pass
 pub record Findings : Type 0 where
   pub across : List (List ℕ)
   pub handled : ℕ
@@ -28,8 +29,8 @@ found_across found inst = slice_index_or found.across inst []
 abbrev pub place_of_inst : Body → ℕ → Place ℕ
 place_of_inst f inst = record { block = (inst_at f inst).block; index = place_in_block f inst }
 
--- A recorded value is to be found for an instruction: it is a call that a path from the entry comes to, and the value, which is
--- no alias, is live across it.
+-- A recorded value is to be found for an instruction: it is a call that a path from the entry comes to, and the value,
+-- which is no alias, is live across it.
 pub record IsTracedAcross (f : Body) (recorded : List ℕ) (inst value : ℕ) : Type 0 where
   pub exists : inst < length f.insts
   pub call : IsTrue (is_call (inst_at f inst).shape)
@@ -46,14 +47,15 @@ pub record IsExact (f : Body) (recorded : List ℕ) (inst : ℕ) (values : List 
 -- edges from the entry lead to the block, or it is the entry. A block without instructions may be one, too.
 abbrev pub IsReached : FunctionView → ℕ → Type 0
 IsReached function block =
-    (function.entry ≡ Some block) ⊎ ((p : Place ℕ) × IsReachable (function_flow function) p × Contains ((function_flow function).targets p) block)
+    (function.entry ≡ Some block)
+    ⊎ ((p : Place ℕ) × IsReachable (function_flow function) p × Contains ((function_flow function).targets p) block)
 
 -- how many edges leave a block
 abbrev pub edges_from : FunctionView → ℕ → ℕ
 edges_from function block = length (flat_map (λ placed. edge_targets placed.instruction) (function.blocks block).items)
 
--- How many blocks were handled: each that is reached at least once, and no more than once for it and once for each recorded
--- value and each edge that leaves it.
+-- How many blocks were handled: each that is reached at least once, and no more than once for it and once for each
+-- recorded value and each edge that leaves it.
 pub record IsHandledCount (function : FunctionView) (recorded : List ℕ) (handled : ℕ) : Type 0 where
   pub blocks : List ℕ
   pub once : Once blocks

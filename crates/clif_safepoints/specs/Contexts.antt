@@ -20,7 +20,8 @@ pub record HasTrackedContext (f : Body) (recorded : List ℕ) (inst : ℕ) : Typ
 -- the first such instruction by its number, if there is one
 abbrev pub IsFirstTracked : Body → List ℕ → Option ℕ → Type 0
 IsFirstTracked f recorded None = (i : ℕ) → HasTrackedContext f recorded i → ⊥
-IsFirstTracked f recorded (Some inst) = HasTrackedContext f recorded inst × ((i : ℕ) → HasTrackedContext f recorded i → inst ≤ i)
+IsFirstTracked f recorded (Some inst) =
+    HasTrackedContext f recorded inst × ((i : ℕ) → HasTrackedContext f recorded i → inst ≤ i)
 
 -- the item names a recorded context
 abbrev pub item_is_tracked : Body → List ℕ → ExceptionItem → Bool

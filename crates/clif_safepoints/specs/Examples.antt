@@ -27,7 +27,8 @@ slot_body = record empty_function {
   values = result_of 0 ∷ result_of 3 ∷ [];
   insts =
       node (UnaryImm (pos 0)) (0 ∷ []) ∷ node (Call 0 (0 ∷ [])) [] ∷ node (Call 0 (0 ∷ [])) []
-      ∷ node (UnaryImm (pos 1)) (1 ∷ []) ∷ node (Call 0 (1 ∷ [])) [] ∷ node (Call 0 (1 ∷ [])) [] ∷ node (MultiAry []) [] ∷ [];
+      ∷ node (UnaryImm (pos 1)) (1 ∷ []) ∷ node (Call 0 (1 ∷ [])) [] ∷ node (Call 0 (1 ∷ [])) []
+      ∷ node (MultiAry []) [] ∷ [];
   blocks = record { params = []; insts = 0 ∷ 1 ∷ 2 ∷ 3 ∷ 4 ∷ 5 ∷ 6 ∷ []; is_cold = false } ∷ [];
   layout = 0 ∷ [];
 }
@@ -39,7 +40,9 @@ edge_body = record empty_function {
   insts =
       node (Call 0 []) (0 ∷ []) ∷ node (Call 0 []) [] ∷ node (Jump (record { block = 1; args = arg.Value 0 ∷ [] })) []
       ∷ record { shape = MultiAry []; results = []; block = 1; srcloc = 0 } ∷ [];
-  blocks = record { params = []; insts = 0 ∷ 1 ∷ 2 ∷ []; is_cold = false } ∷ record { params = 1 ∷ []; insts = 3 ∷ []; is_cold = false } ∷ [];
+  blocks =
+      record { params = []; insts = 0 ∷ 1 ∷ 2 ∷ []; is_cold = false }
+      ∷ record { params = 1 ∷ []; insts = 3 ∷ []; is_cold = false } ∷ [];
   layout = 0 ∷ 1 ∷ [];
 }
 

@@ -35,10 +35,12 @@ pub record IsFinished (f : Body) (values order : List ℕ) (sets : List (List Bo
 
 -- so many sets without a member
 abbrev pub AreEmpty : ℕ → ℕ → List (List Bool) → Type 0
-AreEmpty blocks places sets = (length sets ≡ blocks) × ((b : ℕ) → b < blocks → slice_index_or sets b [] ≡ replicate places false)
+AreEmpty blocks places sets =
+    (length sets ≡ blocks) × ((b : ℕ) → b < blocks → slice_index_or sets b [] ≡ replicate places false)
 
 -- nothing is live yet, and these blocks wait
-pub record IsStart (blocks places : ℕ) (order : List ℕ) (sets : List (List Bool)) (stack : List ℕ) (waits : List Bool) : Type 0 where
+pub record IsStart (blocks places : ℕ) (order : List ℕ) (sets : List (List Bool)) (stack : List ℕ)
+    (waits : List Bool) : Type 0 where
   pub sized : AreSets blocks places sets
   pub empty : (k b : ℕ) → in_set_of sets k b ≡ true → ⊥
   pub marks : length waits ≡ blocks

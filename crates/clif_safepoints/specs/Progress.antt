@@ -5,8 +5,8 @@ use Rattle.clif_safepoints.specs.declared.work_list.WorkList.{WorkList}
 use Rattle.clif_safepoints.specs.Sets.{Grows, IsSet, in_set_of, is_in}
 use Rattle.clif_safepoints.specs.Transfer.{is_live_in}
 
--- what is live at the front of each block so far, the blocks that wait, the next one last, a mark for each of them, and how many
--- blocks were handled
+-- what is live at the front of each block so far, the blocks that wait, the next one last, a mark for each of them, and
+-- how many blocks were handled
 pub record Progress : Type 0 where
   pub sets : List (List Bool)
   pub stack : List ℕ
@@ -29,7 +29,8 @@ pushed_all p (block ∷ blocks) = pushed_all (pushed p block) blocks
 abbrev pub IsTaken : Progress → Option ℕ → Progress → Type 0
 IsTaken old None new = (old.stack ≡ []) × (new ≡ old)
 IsTaken old (Some block) new =
-    (old.stack ≡ new.stack ++ block ∷ []) × (new.waits ≡ slice_set old.waits block false) × (new.sets ≡ old.sets) × (new.handled ≡ old.handled)
+    (old.stack ≡ new.stack ++ block ∷ []) × (new.waits ≡ slice_set old.waits block false) × (new.sets ≡ old.sets)
+    × (new.handled ≡ old.handled)
 
 -- one more, up to the greatest number of 128 bits
 abbrev pub one_more : ℕ → ℕ

@@ -1,5 +1,6 @@
--- The equations of liveness for a block, whatever is taken to be live at the fronts of blocks. Source: the usual equations of
--- data flow: what is live before an instruction is what it uses, and what is live behind it and not defined by it.
+-- The equations of liveness for a block, whatever is taken to be live at the fronts of blocks. Source: the usual
+-- equations of data flow: what is live before an instruction is what it uses, and what is live behind it and not
+-- defined by it.
 use Rattle.std.specs.Prelude.{ℕ, ◌==◌, Bool, false, not, ◌||◌, ◌&&◌, List, [], ◌∷◌, flat_map, if◌then◌else◌}
 use Rattle.std.specs.List.{list_any}
 use Rattle.clif_instructions.specs.declared.block_call.BlockArg.{BlockArg}

@@ -14,7 +14,8 @@ use clif_instructions::exception_table::ExceptionItem;
 use clif_ir::Function;
 use clif_types::{BuildError, EntityRef, EntitySet, Inst, Value};
 
-/// The first try call, by its number, that is reached and one of whose contexts is recorded. The only error is `Memory`.
+/// The first try call, by its number, that is reached and one of whose contexts is recorded. The only error is
+/// `Memory`.
 pub fn tracked_context(
     func: &Function,
     recorded: &EntitySet<Value>,
@@ -78,7 +79,8 @@ fn has_tracked_context(
 // Whether one of the contexts of an instruction is recorded.
 fn names_tracked(func: &Function, recorded: &EntitySet<Value>, inst: Inst) -> bool
     requires { inst < length func.now.insts }
-    ensures { IsTrue result ↔ ((value : ℕ) × Contains (contexts (inst_at func.now inst).shape) value × Contains recorded.now (resolved func.now value)) }
+    ensures { IsTrue result ↔ ((value : ℕ) × Contains (contexts (inst_at func.now inst).shape) value
+        × Contains recorded.now (resolved func.now value)) }
 {
     func.law_consistent();
     match func.inst_data(inst).exception_targets() {

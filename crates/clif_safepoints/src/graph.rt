@@ -73,7 +73,8 @@ pub(crate) fn predecessors(
 ) -> Result<Vec<BlockList>, BuildError>
     requires exist { All (λ block. block < length successors.now) order.now }
     requires closed { IsClosed successors.now }
-    ensures ok { IfOk result (λ sources. AreRows (length successors.now) (sources_of successors.now order.now) sources.items) }
+    ensures ok { IfOk result (λ sources.
+        AreRows (length successors.now) (sources_of successors.now order.now) sources.items) }
     ensures memory_alone { IsOkUnless result BuildError.Memory }
 {
     let mut sources = empty_lists(alloc, successors.len())?;
@@ -104,7 +105,9 @@ fn add_source(
 ) -> Result<(), BuildError>
     requires { All (λ target. target < length sources.old.items) targets.now }
     ensures ok { OnOk result (AreRows (length sources.old.items)
-        (λ target. leads_to sources.old.items target ++ map (λ x. block) (filter (λ x. x == target) targets.now)) sources.new.items) }
+        (λ target. leads_to sources.old.items target
+        ++ map (λ x. block) (filter (λ x. x == target) targets.now))
+        sources.new.items) }
     ensures memory_alone { IsOkUnless result BuildError.Memory }
 {
     for target in targets {

@@ -16,8 +16,8 @@ use clif_ir::{Function, InstructionData, ValueList};
 use clif_types::{Block, BuildError, EntityRef, Inst};
 use std::alloc::Global;
 
-/// The values for each instruction, by its number: for a call of these blocks those that are live across it. The only error
-/// is `Memory`.
+/// The values for each instruction, by its number: for a call of these blocks those that are live across it.
+/// The only error is `Memory`.
 pub(crate) fn across_by_inst(
     func: &Function,
     recorded: &Recorded<'_>,
@@ -68,7 +68,8 @@ fn record_block(
     requires sets { AreSets (length func.now.blocks) (length recorded.now) live_ins.now }
     requires live { length live.old ≡ length recorded.now }
     requires across { length across.old.items ≡ length func.now.insts }
-    ensures ok { OnOk result (IsRecorded func.now recorded.now live_ins.now insts.now across.old.items across.new.items) }
+    ensures ok { OnOk result (IsRecorded func.now recorded.now live_ins.now insts.now
+        across.old.items across.new.items) }
     ensures live { OnOk result (length live.new ≡ length recorded.now) }
     ensures memory_alone { IsOkUnless result BuildError.Memory }
 {
@@ -93,11 +94,13 @@ fn record_inst(
     requires live { length live.old ≡ length recorded.now }
     requires across { length across.old.items ≡ length func.now.insts }
     ensures put { OnOk result (IsPut func.now recorded.now
-        (λ place. is_live_behind func.now (in_set_of live_ins.now place) (slice_index recorded.now place) inst (is_in live.old place))
+        (λ place. is_live_behind func.now (in_set_of live_ins.now place)
+        (slice_index recorded.now place) inst (is_in live.old place))
         inst across.old.items across.new.items) }
     ensures live { OnOk result (IsSet (length recorded.now)
         (λ place. names func.now (operands (inst_at func.now inst).shape) (slice_index recorded.now place)
-        || is_live_behind func.now (in_set_of live_ins.now place) (slice_index recorded.now place) inst (is_in live.old place))
+        || is_live_behind func.now (in_set_of live_ins.now place)
+        (slice_index recorded.now place) inst (is_in live.old place))
         live.new) }
     ensures memory_alone { IsOkUnless result BuildError.Memory }
 {
@@ -163,7 +166,8 @@ fn push_member(
 ) -> Result<(), BuildError>
     requires exists { place < length recorded.now }
     requires size { length live.now ≡ length recorded.now }
-    ensures ok { OnOk result (values.new ≡ (if is_in live.now place then values.old ++ slice_index recorded.now place ∷ [] else values.old)) }
+    ensures ok { OnOk result (values.new ≡
+        (if is_in live.now place then values.old ++ slice_index recorded.now place ∷ [] else values.old)) }
     ensures memory_alone { IsOkUnless result BuildError.Memory }
 {
     if live.contains(place) {

@@ -17,7 +17,9 @@ use clif_types::{Block, EntityRef, Inst, Value};
 fn add_use(func: &Function, recorded: &Recorded<'_>, value: Value, live: &mut NumberSet)
     requires exists { value < length func.now.values }
     requires size { length live.old ≡ length recorded.now }
-    ensures { IsSet (length recorded.now) (λ place. (resolved func.now value == slice_index recorded.now place) || is_in live.old place) live.new }
+    ensures { IsSet (length recorded.now)
+        (λ place. (resolved func.now value == slice_index recorded.now place) || is_in live.old place)
+        live.new }
 {
     recorded.law_rising();
     if let Some(place) = recorded.place_of(func.resolve_aliases(value)) {
@@ -29,7 +31,9 @@ fn add_use(func: &Function, recorded: &Recorded<'_>, value: Value, live: &mut Nu
 fn add_uses(func: &Function, recorded: &Recorded<'_>, values: &[Value], live: &mut NumberSet)
     requires exist { EachIndex values.now (λ k. slice_index values.now k < length func.now.values) }
     requires size { length live.old ≡ length recorded.now }
-    ensures { IsSet (length recorded.now) (λ place. names func.now values.now (slice_index recorded.now place) || is_in live.old place) live.new }
+    ensures { IsSet (length recorded.now)
+        (λ place. names func.now values.now (slice_index recorded.now place) || is_in live.old place)
+        live.new }
 {
     for value in values {
         add_use(func, recorded, *value, live);
@@ -39,7 +43,9 @@ fn add_uses(func: &Function, recorded: &Recorded<'_>, values: &[Value], live: &m
 // Takes a value away.
 fn remove_def(recorded: &Recorded<'_>, value: Value, live: &mut NumberSet)
     requires size { length live.old ≡ length recorded.now }
-    ensures { IsSet (length recorded.now) (λ place. not (value == slice_index recorded.now place) && is_in live.old place) live.new }
+    ensures { IsSet (length recorded.now)
+        (λ place. not (value == slice_index recorded.now place) && is_in live.old place)
+        live.new }
 {
     recorded.law_rising();
     if let Some(place) = recorded.place_of(value) {
@@ -50,7 +56,9 @@ fn remove_def(recorded: &Recorded<'_>, value: Value, live: &mut NumberSet)
 // Takes these values away.
 fn remove_defs(recorded: &Recorded<'_>, values: &[Value], live: &mut NumberSet)
     requires size { length live.old ≡ length recorded.now }
-    ensures { IsSet (length recorded.now) (λ place. not (stands_in (slice_index recorded.now place) values.now) && is_in live.old place) live.new }
+    ensures { IsSet (length recorded.now)
+        (λ place. not (stands_in (slice_index recorded.now place) values.now) && is_in live.old place)
+        live.new }
 {
     for value in values {
         remove_def(recorded, *value, live);
@@ -61,7 +69,9 @@ fn remove_defs(recorded: &Recorded<'_>, values: &[Value], live: &mut NumberSet)
 fn add_argument(func: &Function, recorded: &Recorded<'_>, arg: &BlockArg, live: &mut NumberSet)
     requires exists { PassedExists func.now arg.now }
     requires size { length live.old ≡ length recorded.now }
-    ensures { IsSet (length recorded.now) (λ place. argument_passes func.now (slice_index recorded.now place) arg.now || is_in live.old place) live.new }
+    ensures { IsSet (length recorded.now)
+        (λ place. argument_passes func.now (slice_index recorded.now place) arg.now || is_in live.old place)
+        live.new }
 {
     match arg {
         BlockArg::Value(value) => add_use(func, recorded, *value, live),
@@ -73,7 +83,10 @@ fn add_argument(func: &Function, recorded: &Recorded<'_>, arg: &BlockArg, live: 
 fn add_arguments(func: &Function, recorded: &Recorded<'_>, args: &[BlockArg], live: &mut NumberSet)
     requires exist { All (PassedExists func.now) args.now }
     requires size { length live.old ≡ length recorded.now }
-    ensures { IsSet (length recorded.now) (λ place. list_any (argument_passes func.now (slice_index recorded.now place)) args.now || is_in live.old place) live.new }
+    ensures { IsSet (length recorded.now)
+        (λ place. list_any (argument_passes func.now (slice_index recorded.now place)) args.now
+        || is_in live.old place)
+        live.new }
 {
     for arg in args {
         add_argument(func, recorded, arg, live);
@@ -91,7 +104,10 @@ fn add_edge(
     requires exists { EdgeExists func.now edge.now }
     requires sets { AreSets (length func.now.blocks) (length recorded.now) live_ins.now }
     requires size { length live.old ≡ length recorded.now }
-    ensures { IsSet (length recorded.now) (λ place. edge_needs func.now (in_set_of live_ins.now place) (slice_index recorded.now place) edge.now || is_in live.old place) live.new }
+    ensures { IsSet (length recorded.now)
+        (λ place. edge_needs func.now (in_set_of live_ins.now place) (slice_index recorded.now place) edge.now
+        || is_in live.old place)
+        live.new }
 {
     add_arguments(func, recorded, edge.args.as_slice(), live);
     live.add_all(&live_ins[edge.block.index()]);
@@ -108,7 +124,10 @@ fn add_edges(
     requires exist { All (EdgeExists func.now) edges.now }
     requires sets { AreSets (length func.now.blocks) (length recorded.now) live_ins.now }
     requires size { length live.old ≡ length recorded.now }
-    ensures { IsSet (length recorded.now) (λ place. list_any (edge_needs func.now (in_set_of live_ins.now place) (slice_index recorded.now place)) edges.now || is_in live.old place) live.new }
+    ensures { IsSet (length recorded.now)
+        (λ place. list_any (edge_needs func.now (in_set_of live_ins.now place) (slice_index recorded.now place)) edges.now
+        || is_in live.old place)
+        live.new }
 {
     for edge in edges {
         add_edge(func, recorded, live_ins, edge, live);
@@ -127,7 +146,10 @@ pub(crate) fn step_behind(
     requires exists { inst < length func.now.insts }
     requires sets { AreSets (length func.now.blocks) (length recorded.now) live_ins.now }
     requires size { length live.old ≡ length recorded.now }
-    ensures { IsSet (length recorded.now) (λ place. is_live_behind func.now (in_set_of live_ins.now place) (slice_index recorded.now place) inst (is_in live.old place)) live.new }
+    ensures { IsSet (length recorded.now)
+        (λ place. is_live_behind func.now (in_set_of live_ins.now place)
+        (slice_index recorded.now place) inst (is_in live.old place))
+        live.new }
 {
     let edges = func.inst_data(inst).branch_destination();
     add_edges(func, recorded, live_ins, edges, live);
@@ -143,7 +165,10 @@ pub(crate) fn step_before(
 )
     requires exists { inst < length func.now.insts }
     requires size { length live.old ≡ length recorded.now }
-    ensures { IsSet (length recorded.now) (λ place. names func.now (operands (inst_at func.now inst).shape) (slice_index recorded.now place) || is_in live.old place) live.new }
+    ensures { IsSet (length recorded.now)
+        (λ place. names func.now (operands (inst_at func.now inst).shape) (slice_index recorded.now place)
+        || is_in live.old place)
+        live.new }
 {
     add_uses(func, recorded, func.inst_data(inst).arguments(), live);
 }
@@ -161,7 +186,9 @@ pub(crate) fn scan_block(
     requires insts { insts.now ≡ insts_of func.now block }
     requires sets { AreSets (length func.now.blocks) (length recorded.now) live_ins.now }
     requires size { length live.old ≡ length recorded.now }
-    ensures { IsSet (length recorded.now) (λ place. is_live_in func.now (in_set_of live_ins.now place) block (slice_index recorded.now place)) live.new }
+    ensures { IsSet (length recorded.now)
+        (λ place. is_live_in func.now (in_set_of live_ins.now place) block (slice_index recorded.now place))
+        live.new }
 {
     func.law_consistent();
     live.clear();

@@ -85,7 +85,8 @@ impl WorkList {
         requires waits { length self.old.waits ≡ length func.now.blocks }
         requires sources { All (λ source. source < length func.now.blocks) sources.now }
         requires live { length live.old ≡ length recorded.now }
-        ensures ok { OnOk result (IsHandled func.now recorded.now sources.now block (progress_of self.old) (progress_of self.new)) }
+        ensures ok { OnOk result (IsHandled func.now recorded.now sources.now block
+            (progress_of self.old) (progress_of self.new)) }
         ensures live { length live.new ≡ length recorded.now }
         ensures memory_alone { IsOkUnless result BuildError.Memory }
     {
@@ -137,7 +138,8 @@ fn start(
     order: &[Block],
 ) -> Result<WorkList, BuildError>
     requires { All (λ block. block < blocks) order.now }
-    ensures ok { IfOk result (λ work. IsStart blocks places order.now work.sets.items work.stack.items work.waits × (work.handled ≡ 0)) }
+    ensures ok { IfOk result (λ work.
+        IsStart blocks places order.now work.sets.items work.stack.items work.waits × (work.handled ≡ 0)) }
     ensures memory_alone { IsOkUnless result BuildError.Memory }
 {
     let sets = empty_sets(alloc, blocks, places)?;
