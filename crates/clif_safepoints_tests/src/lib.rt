@@ -4,6 +4,10 @@
 #[cfg(test)]
 mod contexts;
 #[cfg(test)]
+mod paths;
+#[cfg(test)]
+mod random;
+#[cfg(test)]
 mod rows;
 #[cfg(test)]
 mod shapes;

@@ -1,7 +1,8 @@
 //! Functions that are made by tables of steps, and what the analysis finds in them.
 #![tactic(auto)]
 
-ghost use Rattle.std.specs.Prelude.{◌≡◌, ◌<◌, length, IsTrue, EachIndex, All, slice_index};
+ghost use Rattle.std.specs.Prelude.{◌≡◌, ◌<◌, ℕ, length, IsTrue, EachIndex, All, slice_index};
+ghost use Rattle.clif_instructions.specs.Members.{IsPlaceOf};
 ghost use Rattle.clif_ir.specs.Body.{value_at};
 ghost use Rattle.clif_ir.specs.Changes.{home_of};
 ghost use Rattle.clif_ir.specs.Consistent.{EdgeExists, PassedExists};
@@ -182,13 +183,26 @@ fn has_edges(func: &Function, edges: &[BlockCall]) -> bool
 }
 
 fn put(rt: &impl Abort, func: &mut Function, block: u32, plain: Plain<'_>) -> Result<(), Fail> {
-    let block = block_of(rt, func, block);
     let shape = shape_of(rt, func.allocator(), plain)?;
+    put_shape(rt, func, b(rt, block), shape, InsertAt::Back)
+}
+
+/// Puts an instruction into a block. Its results are `i32`s.
+pub fn put_shape(
+    rt: &impl Abort,
+    func: &mut Function,
+    block: Block,
+    shape: InstructionData,
+    at: InsertAt,
+) -> Result<(), Fail>
+    requires { (count : ℕ) → IsPlaceOf at count }
+{
+    assert!(rt; block.index() < func.block_count());
     assert!(rt; has_operands(func, shape.arguments()));
     assert!(rt; has_edges(func, shape.branch_destination()));
     assert!(rt; func.has_contexts(&shape));
     assert!(rt; func.has_entries(&shape));
-    func.insert_inst(block, InsertAt::Back, shape, I32, SourceLoc::new(0))?;
+    func.insert_inst(block, at, shape, I32, SourceLoc::new(0))?;
     Ok(())
 }
 
@@ -200,7 +214,8 @@ fn is_param(func: &Function, value: Value) -> bool
     func.param_home(value).is_some()
 }
 
-fn alias(rt: &impl Abort, func: &mut Function, param: u32, original: u32) -> Result<(), Fail> {
+/// Makes a parameter another name of a value.
+pub fn alias(rt: &impl Abort, func: &mut Function, param: u32, original: u32) -> Result<(), Fail> {
     let param = value_of(rt, func, param);
     let original = value_of(rt, func, original);
     assert!(rt; is_param(func, param));
@@ -216,7 +231,13 @@ fn push_types(list: &mut Vec<AbiParam>, count: usize) -> Result<(), AllocError> 
     Ok(())
 }
 
-fn import(rt: &impl Abort, func: &mut Function, params: usize, returns: usize) -> Result<(), Fail> {
+/// Imports a function that takes and returns so many values.
+pub fn import(
+    rt: &impl Abort,
+    func: &mut Function,
+    params: usize,
+    returns: usize,
+) -> Result<(), Fail> {
     let mut signature = Signature::new(func.allocator(), CallConv::SystemV);
     push_types(&mut signature.params, params)?;
     push_types(&mut signature.returns, returns)?;
@@ -231,7 +252,8 @@ fn import(rt: &impl Abort, func: &mut Function, params: usize, returns: usize) -
     Ok(())
 }
 
-fn make_block(func: &mut Function) -> Result<(), Fail> {
+/// Makes a block and puts it at the end of the layout.
+pub fn make_block(func: &mut Function) -> Result<(), Fail> {
     let block = func.create_block()?;
     func.ensure_block_inserted(block)?;
     Ok(())
