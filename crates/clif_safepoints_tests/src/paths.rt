@@ -8,7 +8,7 @@ use clif_types::{Block, EntityRef, Inst, Value};
 use std::process::Abort;
 use std::test::Fail;
 
-/// More than how often a search of these small functions takes an instruction up: no more than twice for each.
+/// More places than a search of these small functions goes to: no more than two follow each instruction.
 const MOST_STEPS: usize = 1000;
 
 // Asserts that an instruction exists.

@@ -7,11 +7,14 @@ ghost use Rattle.clif_instructions.specs.Members.{IsPlaceOf};
 use crate::paths::{is_live_across, reached, resolved, shape_of};
 use crate::steps::{alias, function, import, make_block, put_shape, set_of};
 use clif_instructions::insert_at::InsertAt;
-use clif_ir::{BlockArg, BlockCall, Function, InstructionData, ValueList};
+use clif_ir::{
+    BlockArg, BlockCall, ExceptionTableData, ExceptionTableItem, ExceptionTargets, Function,
+    InstructionData, ValueList,
+};
 use clif_opcodes::BinaryOpcode::Iadd;
 use clif_safepoints::liveness::LivenessAnalysis;
 use clif_types::types::I32;
-use clif_types::{Block, EntityRef, FuncRef, Inst, Value};
+use clif_types::{Block, EntityRef, FuncRef, Inst, SigRef, Value};
 use rand::{RngExt, SeedableRng};
 use rand_pcg::Pcg32;
 use std::alloc::Global;
@@ -128,6 +131,30 @@ fn any_call(
     })
 }
 
+// The same for a try call, which has an edge for its return and one for all exceptions.
+fn any_try_call(
+    rt: &impl Abort,
+    random: &mut Pcg32,
+    func: &Function,
+    count: usize,
+) -> Result<InstructionData, Fail> {
+    assert!(rt; count < 1000);
+    let args = any_values(rt, random, func, count)?;
+    let normal = any_edge(rt, random, func)?;
+    let mut items = Vec::new(func.allocator());
+    items.push(ExceptionTableItem::Default(any_edge(rt, random, func)?))?;
+    let table = ExceptionTableData {
+        sig: SigRef::new(count),
+        normal,
+        items,
+    };
+    Ok(InstructionData::TryCall {
+        func_ref: FuncRef::new(count),
+        args,
+        exception: ExceptionTargets::new(func.allocator(), table)?,
+    })
+}
+
 fn any_step(rt: &impl Abort, random: &mut Pcg32, func: &Function) -> Result<InstructionData, Fail> {
     match below(random, 4) {
         0 => Ok(InstructionData::UnaryImm { imm: 1 }),
@@ -147,16 +174,15 @@ fn any_terminator(
     random: &mut Pcg32,
     func: &Function,
 ) -> Result<InstructionData, Fail> {
-    match below(random, 7) {
-        0 => {
-            let count = below(random, 3);
-            Ok(InstructionData::MultiAry {
-                args: any_values(rt, random, func, count)?,
-            })
-        }
+    let count = below(random, 3);
+    match below(random, 8) {
+        0 => Ok(InstructionData::MultiAry {
+            args: any_values(rt, random, func, count)?,
+        }),
         1 | 2 => Ok(InstructionData::Jump {
             destination: any_edge(rt, random, func)?,
         }),
+        3 => any_try_call(rt, random, func, count),
         _ => {
             let arg = any_value(rt, random, func);
             let then = any_edge(rt, random, func)?;
@@ -311,7 +337,10 @@ fn live_values(
 }
 
 fn is_call(shape: &InstructionData) -> bool {
-    matches!(shape, InstructionData::Call { .. })
+    matches!(
+        shape,
+        InstructionData::Call { .. } | InstructionData::TryCall { .. }
+    )
 }
 
 // Asserts that these values were found for an instruction.
