@@ -12,14 +12,14 @@ use Rattle.clif_meaning.specs.Request.{Request, CreateBlock, SwitchToBlock, Seal
 use Rattle.clif_expansion.specs.Emission.{AreAnswered, AreGenerated, AreGiven, LastResults, StaysInLine, reading_behind}
 use Rattle.clif_expansion.specs.Expansion.{AreCut, IsCutProgram, IsReadBlock}
 use Rattle.clif_expansion.specs.JoinedCalls.{HaveCurrent, uses_current}
-use Rattle.clif_expansion.specs.JoinedPrograms.{IsDecidingItem, IsEmission, built_items}
+use Rattle.clif_expansion.specs.JoinedPrograms.{AreLastRead, IsDecidingItem, IsEmission, built_items}
 use Rattle.clif_expansion.specs.Joining.{IsJoined, IsReadCurrent, IsReadRequest, IsUnread, answers_at, reading_after}
 use Rattle.clif_expansion.specs.Reading.{Generated, IsOneToOne, IsReadAs, IsReadInstruction, NotMade, Reading, ScriptName, StandsFor}
 use Rattle.clif_expansion.specs.ScriptCall.{Emit, emitted_item, emitted_types, program_behind, program_with_call}
 use Rattle.clif_expansion.specs.Walk.{IsGenerated}
 use Rattle.clif_expansion.proofs.Among.{other_generated}
 use Rattle.clif_expansion.proofs.Emissions.{begun_current}
-use Rattle.clif_expansion.proofs.EmittedPrograms.{built_program, emitted_before, emitted_either, emitted_result, one_longer, results_read}
+use Rattle.clif_expansion.proofs.EmittedPrograms.{built_program, emitted_before, emitted_either, emitted_none, emitted_result, one_longer, results_generated, results_read}
 use Rattle.clif_expansion.proofs.JoinedPrograms.{IsBareFrom, IsBefore, IsCalledSo, KeepsOwn, LastsIn, LastsLater, bare_items, called_later, called_redirected, cut_each, cut_inserted, cut_items, cut_mapped, deciders_later, elsewhere, one_item, own_unchanged, switch_unchanged, with_items_at}
 use Rattle.clif_expansion.proofs.JoinedStates.{chosen, zip_joined}
 use Rattle.clif_expansion.proofs.Joins
@@ -625,15 +625,20 @@ module _ (Known : Reading → List Item → Item → Type 0) (lasts : LastsLater
     line_on [] all = (stays, tt)
     line_on (first ∷ instructions) all = (all.0, line_on instructions all.1)
 
-    -- the results are those of the emitted instruction, if it gives something
+    -- the results are those of the emitted instruction, or were generated
     results_answered : (so : LastResults) → how ≡ so → AreAnswered so last whole
-        → (emitted_types whole ≡ []) ⊎ AllZip (IsReadAs emitted) (result_names (plain.place + length code) last) (answers_from program.place 0 (emitted_types whole))
-    results_answered AreGenerated is none = inl none
+        → AreLastRead so emitted (result_names (plain.place + length code) last) (answers_from program.place 0 (emitted_types whole))
+    results_answered AreGenerated is none = (
+      results_generated emitted (plain.place + length code) (emitted_types last) 1
+          (λ k. ap (λ (so : LastResults). reading_behind so reading ledger' ledger code (answer_of (plain.place + length code) k)) is
+          ∙ emitted_none reading ledger' ledger code (plain.place + length code) k (ap (λ (n : ℕ). n + length code) goes.place')),
+      ap (answers_from program.place 0) none,
+    )
     results_answered AreGiven is same =
-        inr (subst (λ (ts : List «Type»). AllZip (IsReadAs emitted) (answers_from (plain.place + length code) 1 ts) (answers_from program.place 0 (emitted_types whole))) (sym same)
+        subst (λ (ts : List «Type»). AllZip (IsReadAs emitted) (answers_from (plain.place + length code) 1 ts) (answers_from program.place 0 (emitted_types whole))) (sym same)
         (results_read emitted (plain.place + length code) program.place (emitted_types whole) 0
         (λ k. ap (λ (so : LastResults). reading_behind so reading ledger' ledger code (answer_of (plain.place + length code) (suc k))) is
-        ∙ emitted_result reading ledger' ledger code (plain.place + length code) k (ap (λ (n : ℕ). n + length code) goes.place') ∙ ap (λ (n : ℕ). ScriptName (answer_of n k)) (sym goes.place))))
+        ∙ emitted_result reading ledger' ledger code (plain.place + length code) k (ap (λ (n : ℕ). n + length code) goes.place') ∙ ap (λ (n : ℕ). ScriptName (answer_of n k)) (sym goes.place)))
 
     emission : IsEmission emitted (built_items plain.place (code ++ last ∷ [])) (emitted_item program.place whole)
     emission = record {
@@ -646,6 +651,7 @@ module _ (Known : Reading → List Item → Item → Type 0) (lasts : LastsLater
       whole = whole;
       emitted = refl;
       stays = whole_stays;
+      how = how;
       results = results_answered how refl types;
     }
 
@@ -659,7 +665,7 @@ module _ (Known : Reading → List Item → Item → Type 0) (lasts : LastsLater
       abbrev script_program : Program
       script_program = record (with_items_at (with_inserted program) program.current (emitted_item program.place whole ∷ [])) { place = suc program.place }
 
-      pub script_is : program_with_call program (Emit whole) ≡ script_program
+      pub script_is : program_with_call program (Emit [] whole) ≡ script_program
       script_is =
           ap (λ (p : Program). record p { place = suc program.place })
           (program_line whole.operation (with_item_at (with_inserted program) program.current (emitted_item program.place whole)) whole_stays.goes_on

@@ -184,7 +184,7 @@ module _ (arithmetic : Arithmetic) (number : ℤ) (can : (ty : «Type») → can
       (stays : (ty : «Type») (operands : List Name) → StaysInLine (computing arithmetic ty operands)) (whole_stays : (ty : «Type») (operands : List Name) → StaysInLine (computing whole ty operands))
       (types : (ty : «Type») (operands others : List Name) → emitted_types (computing arithmetic ty operands) ≡ emitted_types (computing whole ty others)) where
     allowed : (reading : Reading) (plain ledger : Ledger) (ty : «Type») (x name : Name) → IsJoined reading plain ledger → IsReadAs reading x name
-        → IsTrue (call_allowed ledger (Emit (computing whole ty (name ∷ [])))) → Allowed plain ty x
+        → IsTrue (call_allowed ledger (Emit [] (computing whole ty (name ∷ [])))) → Allowed plain ty x
     allowed reading plain ledger ty x name joined is may =
         let ready = and_parts (is_open ledger ledger.current && (has_value ledger name && true) && true) (can_emit (Compute whole) ty) may in
         let edges = and_parts (is_open ledger ledger.current && (has_value ledger name && true)) true ready.0 in
@@ -198,7 +198,7 @@ module _ (arithmetic : Arithmetic) (number : ℤ) (can : (ty : «Type») → can
     stands = record {
       allowed = allowed;
       joined = λ reading plain ledger ty x name joined.
-          emitting_keeps_joins AreGiven reading plain ledger (constant_instructions ty number (length plain.answers)) (constant_last arithmetic ty (length plain.answers) x) (computing whole ty (name ∷ []))
+          emitting_keeps_joins AreGiven reading plain ledger [] (constant_instructions ty number (length plain.answers)) (constant_last arithmetic ty (length plain.answers) x) (computing whole ty (name ∷ []))
           joined (all_in_line ty (length plain.answers)) (stays ty (x ∷ constant_name ty (length plain.answers) ∷ [])) (whole_stays ty (name ∷ []))
           (types ty (x ∷ constant_name ty (length plain.answers) ∷ []) (name ∷ []));
     }

@@ -7,10 +7,11 @@ use Rattle.clif_types.specs.declared.types.«Type».{«Type»}
 use Rattle.clif_meaning.specs.Instruction.{Edge, Instruction, Operation, Switch}
 use Rattle.clif_meaning.specs.Ledger.{AValue, AnInstruction, Answered, BlockState, ExceptionTable, Ledger, answer_at, changed_by, is_inserted, is_terminator, ledger_with, with_begun, with_begun_at, with_filled_at, with_instruction, with_layout, with_predecessor, with_state, with_terminator}
 use Rattle.clif_meaning.specs.Name.{Name, answer_of, same_name}
-use Rattle.clif_expansion.specs.Emission.{AreAnswered, AreGenerated, AreGiven, EmittingKeepsJoins, LastResults, StaysInLine, building, reading_behind, reading_generated}
+use Rattle.clif_expansion.specs.Emission.{AreAnswered, AreGenerated, AreGiven, EmittingKeepsJoins, LastResults, StaysInLine, building, importing, ledger_importing, reading_behind, reading_generated, reading_importing, reading_line}
 use Rattle.clif_expansion.specs.Joining.{AreJoinedStates, IsJoined, IsReadAnswer, IsUnread, reading_with, results_at}
 use Rattle.clif_expansion.specs.Reading.{Generated, IsOneToOne, IsReadAs, Reading, ScriptName, StandsFor}
-use Rattle.clif_expansion.specs.ScriptCall.{Emit, emitted_types, ledger_behind, ledger_with_call}
+use Rattle.clif_expansion.specs.ScriptCall.{Emit, emitted_types, ledger_behind, ledger_with_call, with_imports}
+use Rattle.clif_expansion.proofs.Imports.{imports_joined}
 use Rattle.clif_expansion.proofs.JoinedStates.{begun_read}
 use Rattle.clif_expansion.proofs.Joins.{GoesOn, KeepsGenerated, KeepsReading, answer_later, answers_before, answers_last, at_read, read_before, read_either, states_later, values_read}
 use Rattle.clif_expansion.proofs.Names.{equal_names, same_script}
@@ -132,6 +133,10 @@ record InMidst (reading : Reading) (plain ledger : Ledger) : Type 0 where
   made : (x name : Name) → IsReadAs reading x name → (x.place < length plain.answers) × (name.place < length ledger.answers)
   own : (x : Name) → reading x ≡ Generated → x.place < length plain.answers
 
+pub fold_on : {X Y : Type 0} (f : Y → X → Y) (start : Y) (xs more : List X) → fold f start (xs ++ more) ≡ fold f (fold f start xs) more
+fold_on f start [] more = refl
+fold_on f start (x ∷ xs) more = fold_on f (f start x) xs more
+
 one_longer : (answers : List (List Answered)) (more : List Answered) → length (answers ++ more ∷ []) ≡ length answers + 1
 one_longer answers more = length-append answers (more ∷ [])
 
@@ -222,7 +227,7 @@ module _ (reading : Reading) (plain ledger : Ledger) (midst : InMidst reading pl
 
     module _ (whole : Instruction Name Name) (whole_stays : StaysInLine whole) where
       abbrev acted : Ledger
-      acted = ledger_with_call ledger (Emit whole)
+      acted = ledger_with_call ledger (Emit [] whole)
 
       longer_acted : length acted.answers ≡ length ledger.answers + 1
       longer_acted = one_longer ledger.answers (map AValue (emitted_types whole))
@@ -270,7 +275,7 @@ module _ (reading : Reading) (plain ledger : Ledger) (midst : InMidst reading pl
       emitted = reading_with reading here' (results_at here)
 
       abbrev end : Ledger
-      end = ledger_with_call ledger (Emit whole)
+      end = ledger_with_call ledger (Emit [] whole)
 
       longer_end : length end.answers ≡ here + 1
       longer_end = one_longer ledger.answers (map AValue (emitted_types whole))
@@ -382,15 +387,18 @@ module _ (reading : Reading) (plain ledger : Ledger) (midst : InMidst reading pl
 
 emitting : (how : LastResults) (reading : Reading) (plain ledger : Ledger) (code : List (Instruction Name Name)) (last whole : Instruction Name Name)
     → InMidst reading plain ledger → AllByRecursion StaysInLine code → StaysInLine last → StaysInLine whole → AreAnswered how last whole
-    → IsJoined (reading_behind how reading plain ledger code) (fold ledger_with plain (map building code ++ building last ∷ [])) (ledger_with_call ledger (Emit whole))
+    → IsJoined (reading_behind how reading plain ledger code) (fold ledger_with plain (map building code ++ building last ∷ [])) (ledger_with_call ledger (Emit [] whole))
 emitting AreGiven reading plain ledger [] last whole midst line stays whole_stays types = ends reading plain ledger midst last stays whole whole_stays types
 emitting AreGenerated reading plain ledger [] last whole midst line stays whole_stays types = acts reading plain ledger midst last stays whole whole_stays
 emitting how reading plain ledger (first ∷ code) last whole midst line stays whole_stays types =
     emitting how (reading_generated reading plain) (ledger_with plain (building first)) ledger code last whole
     (goes_on reading plain ledger midst first line.0 (one_to_one_on reading plain ledger midst first line.0)) line.1 stays whole_stays types
 
-pub emitting_keeps_joins : EmittingKeepsJoins
-emitting_keeps_joins how reading plain ledger code last whole joined line stays whole_stays types =
+-- from joined ledgers on
+pub behind_joined : (how : LastResults) (reading : Reading) (plain ledger : Ledger) (code : List (Instruction Name Name)) (last whole : Instruction Name Name)
+    → IsJoined reading plain ledger → AllByRecursion StaysInLine code → StaysInLine last → StaysInLine whole → AreAnswered how last whole
+    → IsJoined (reading_behind how reading plain ledger code) (fold ledger_with plain (map building code ++ building last ∷ [])) (ledger_with_call ledger (Emit [] whole))
+behind_joined how reading plain ledger code last whole joined line stays whole_stays types =
     emitting how reading plain ledger code last whole
     (record {
       begins = begun_read reading (length ledger.answers) joined.one_to_one plain ledger joined.ledgers.states;
@@ -400,3 +408,10 @@ emitting_keeps_joins how reading plain ledger code last whole joined line stays 
       own = joined.generated;
     })
     line stays whole_stays types
+
+pub emitting_keeps_joins : EmittingKeepsJoins
+emitting_keeps_joins how reading plain ledger imports code last whole joined line stays whole_stays types =
+    subst (λ (l : Ledger). IsJoined (reading_line how reading plain ledger imports code) l (ledger_with_call ledger (Emit imports whole)))
+    (sym (fold_on ledger_with plain (importing imports) (map building code ++ building last ∷ [])))
+    (behind_joined how (reading_importing reading plain imports) (ledger_importing plain imports) (with_imports imports ledger) code last whole
+    (imports_joined reading plain ledger imports joined) line stays whole_stays types)

@@ -1,7 +1,7 @@
 -- Programs behind an emission and its code in a line.
 use Rattle.std.proofs.Common.{◌≡◌, ◌<◌, ◌≤◌, ◌+◌, ◌⊎◌, inl, inr, ℕ, zero, suc, List, [], ◌∷◌, ◌++◌, length, map, refl, sym, ◌∙◌, ap, arith, Option, Some, None}
 use Rattle.std.specs.Prelude.{fold, if◌then◌else◌}
-use Rattle.std.specs.List.{AllZip}
+use Rattle.std.specs.List.{AllByRecursion, AllZip}
 use Rattle.clif_types.specs.declared.types.«Type».{«Type»}
 use Rattle.clif_meaning.specs.Instruction.{Instruction}
 use Rattle.clif_meaning.specs.Ledger.{Ledger, answers_to, ledger_with}
@@ -11,6 +11,7 @@ use Rattle.clif_expansion.specs.Emission.{AreGenerated, AreGiven, LastResults, b
 use Rattle.clif_expansion.specs.Joining.{results_at}
 use Rattle.clif_expansion.specs.JoinedPrograms.{built_items}
 use Rattle.clif_expansion.specs.Reading.{Generated, IsReadAs, Reading, ScriptName}
+use Rattle.clif_expansion.specs.Walk.{IsGenerated}
 use Rattle.clif_expansion.proofs.JoinedPrograms.{items_more, with_items_at}
 use Rattle.clif_expansion.proofs.Joins.{read_before, read_either, read_there}
 use Rattle.clif_expansion.proofs.Names.{same_script}
@@ -168,6 +169,22 @@ emitted_result reading plain ledger [] place index is =
 emitted_result reading plain ledger (first ∷ code) place index is =
     let more = longer plain first in
     emitted_result (reading_generated reading plain) (ledger_with plain (building first)) ledger code place index (omega (arith, is, more))
+
+-- or are generated
+pub emitted_none : (reading : Reading) (plain ledger : Ledger) (code : List (Instruction Name Name)) (place index : ℕ) → place ≡ length plain.answers + length code
+    → reading_behind AreGenerated reading plain ledger code (answer_of place index) ≡ Generated
+emitted_none reading plain ledger [] place index is =
+    let here : place ≡ length plain.answers = omega (arith, is) in
+    ap (λ (n : ℕ). reading_behind AreGenerated reading plain ledger [] (answer_of n index)) here
+    ∙ read_there reading (length plain.answers) index (λ k. Generated)
+emitted_none reading plain ledger (first ∷ code) place index is =
+    let more = longer plain first in
+    emitted_none (reading_generated reading plain) (ledger_with plain (building first)) ledger code place index (omega (arith, is, more))
+
+pub results_generated : (reading : Reading) (place : ℕ) (types : List «Type») (index : ℕ) → ((k : ℕ) → reading (answer_of place k) ≡ Generated)
+    → AllByRecursion (IsGenerated reading) (answers_from place index types)
+results_generated reading place [] index generated = tt
+results_generated reading place (ty ∷ types) index generated = (generated index, results_generated reading place types (suc index) generated)
 
 -- ANSWERS -----------------------------------------------------------------------------------------------------------------
 

@@ -3,23 +3,22 @@ use Rattle.std.proofs.Common.{◌≡◌, Bool, true, false, List, [], ◌∷◌,
 use Rattle.std.specs.Prelude.{◌&&◌, fold, is_some}
 use Rattle.std.specs.List.{list_all}
 use Rattle.std.proofs.lemmas.Bool.{and_parts}
+use Rattle.clif_tables.specs.Entries.{TableEntry}
 use Rattle.clif_meaning.specs.Acceptance.{allows, can_assign, can_lead, can_operate, has_entry, is_open, may_give_all}
 use Rattle.clif_meaning.specs.Instruction.{Instruction, operation_entries}
 use Rattle.clif_meaning.specs.Ledger.{Ledger, empty_ledger, has_value, ledger_after, ledger_with, type_of, variable_type}
 use Rattle.clif_meaning.specs.Request.{Request, EnsureInsertedBlock, DefVar, UseVar, Build, Script}
 use Rattle.clif_meaning.specs.Name.{Name}
-use Rattle.clif_expansion.specs.Emission.{building, reading_across, reading_behind}
-use Rattle.clif_expansion.specs.JoinedCalls.{Asking, Emitting, HaveCurrent, JoinedCallsHaveJoinedLedgers, Starting, Switching, uses_current}
+use Rattle.clif_expansion.specs.Emission.{line_calls, reading_across, reading_line}
+use Rattle.clif_expansion.specs.JoinedCalls.{Asking, Emitting, Giving, HaveCurrent, JoinedCallsHaveJoinedLedgers, Starting, Switching, uses_current}
 use Rattle.clif_expansion.specs.Joining.{IsJoined, IsReadCurrent, reading_after}
 use Rattle.clif_expansion.specs.Reading.{IsReadAs, Reading}
 use Rattle.clif_expansion.specs.ScriptCall.{Ask, Emit, ScriptCall, call_allowed, can_emit, ledger_of, ledger_with_call}
+pub use Rattle.clif_expansion.proofs.Emissions.{fold_on}
 use Rattle.clif_expansion.proofs.Emissions.{emitting_keeps_joins}
+use Rattle.clif_expansion.proofs.GivenCalls.{given_ledger}
 use Rattle.clif_expansion.proofs.Joins.{asking_keeps_joins}
 use Rattle.clif_expansion.proofs.SwitchedLedgers.{fold_longer, switched_joined}
-
-pub fold_on : {X Y : Type 0} (f : Y → X → Y) (start : Y) (xs more : List X) → fold f start (xs ++ more) ≡ fold f (fold f start xs) more
-fold_on f start [] more = refl
-fold_on f start (x ∷ xs) more = fold_on f (f start x) xs more
 
 -- later calls, from joined ledgers on
 later_joined : (reading : Reading) (plain more : Script) (calls last : List ScriptCall)
@@ -73,8 +72,9 @@ asked_placed reading plain ledger joined (Build entries instruction) may uses =
     built_open false b c d e f g is = let no_way : false ≡ true = is in cc
 asked_placed reading plain ledger joined _ may uses = let no_way : false ≡ true = uses in cc
 
-pub emission_placed : (reading : Reading) (plain ledger : Ledger) → IsJoined reading plain ledger → (instruction : Instruction Name Name) → call_allowed ledger (Emit instruction) ≡ true → HaveCurrent plain ledger
-emission_placed reading plain ledger joined instruction may =
+pub emission_placed : (reading : Reading) (plain ledger : Ledger) → IsJoined reading plain ledger → (imports : List TableEntry) (instruction : Instruction Name Name)
+    → call_allowed ledger (Emit imports instruction) ≡ true → HaveCurrent plain ledger
+emission_placed reading plain ledger joined imports instruction may =
     have_current reading plain ledger joined
     (emitted_open (list_all (has_value ledger) instruction.contexts) (is_open ledger ledger.current) (list_all (has_value ledger) instruction.operands)
     (list_all (can_lead ledger) instruction.edges) (can_emit instruction.operation instruction.controlling) may)
@@ -92,12 +92,14 @@ joined_calls reading plain calls Starting = asking_keeps_joins.starts
 joined_calls reading plain calls (Asking before script earlier asked request are is placed) =
     later_joined (reading_after before (ledger_after script) (ledger_of earlier)) script (asked ∷ []) earlier (Ask request ∷ [])
     (asking_keeps_joins.keeps before (ledger_after script) (ledger_of earlier) asked request (joined_calls before script earlier are) is)
-joined_calls reading plain calls (Emitting how before script earlier code last instruction are placed line stays whole types) =
-    later_joined (reading_behind how before (ledger_after script) (ledger_of earlier) code) script (map building code ++ building last ∷ []) earlier (Emit instruction ∷ [])
-    (emitting_keeps_joins how before (ledger_after script) (ledger_of earlier) code last instruction (joined_calls before script earlier are) line stays whole types)
+joined_calls reading plain calls (Emitting how before script earlier imports code last instruction are placed line stays whole types) =
+    later_joined (reading_line how before (ledger_after script) (ledger_of earlier) imports code) script (line_calls imports code last) earlier (Emit imports instruction ∷ [])
+    (emitting_keeps_joins how before (ledger_after script) (ledger_of earlier) imports code last instruction (joined_calls before script earlier are) line stays whole types)
 joined_calls reading plain calls (Switching before script more earlier block value ty keys edges switch branches tables are at placed is code) =
     let joined = joined_calls before script earlier are in
     let here = current_read before (ledger_after script) (ledger_of earlier) (ledger_after script).current (ledger_of earlier).current block joined.ledgers.states.current at placed in
     let from = fold_on ledger_with empty_ledger script more in
-    subst (λ (l : Ledger). IsJoined (reading_across before (length script) (length more)) (ledger_after (script ++ more)) l) (sym (fold_on ledger_with_call empty_ledger earlier (Emit switch ∷ [])))
+    subst (λ (l : Ledger). IsJoined (reading_across before (length script) (length more)) (ledger_after (script ++ more)) l) (sym (fold_on ledger_with_call empty_ledger earlier (Emit [] switch ∷ [])))
     (switched_joined before script more (ledger_of earlier) joined block here.0 value ty keys edges switch branches tables at here.1 here.2 is code (calls_made script) from)
+joined_calls reading plain calls (Giving before script given earlier are is) =
+    subst (λ (l : Ledger). IsJoined before l (ledger_of earlier)) (given_ledger script given is) (joined_calls before script earlier are)

@@ -8,9 +8,9 @@ use Rattle.clif_meaning.specs.Instruction.{Edge, Instruction}
 use Rattle.clif_meaning.specs.Name.{Name, answer_of, same_name}
 use Rattle.clif_meaning.specs.Program.{Program, Item, Instruct, Use, Assign, answers_from, first_block, redirected_edge, redirected_instruction, redirected_item, result_names, with_inserted, with_item_at}
 use Rattle.clif_meaning.specs.WellPlaced.{item_targets}
-use Rattle.clif_expansion.specs.Emission.{StaysInLine}
+use Rattle.clif_expansion.specs.Emission.{AreGenerated, AreGiven, LastResults, StaysInLine}
 use Rattle.clif_expansion.specs.Expansion.{AreCut, IsCutProgram, IsReadBlock}
-use Rattle.clif_expansion.specs.JoinedPrograms.{DecidesAlong, IsAsked, IsDecidingItem, IsEmission, IsReadPlace, IsSwitched, built_items}
+use Rattle.clif_expansion.specs.JoinedPrograms.{AreLastRead, DecidesAlong, IsAsked, IsDecidingItem, IsEmission, IsReadPlace, IsSwitched, built_items}
 use Rattle.clif_expansion.specs.Joining.{IsUnread}
 use Rattle.clif_expansion.specs.Reading.{IsOneToOne, IsReadAs, IsReadEdge, IsReadInstruction, IsReadItem, Reading, ScriptName}
 use Rattle.clif_expansion.specs.ScriptCall.{emitted_item, emitted_types}
@@ -122,6 +122,15 @@ module _ (reading later : Reading) (keeps : KeepsReading reading later) where
   deciders_later generated item [] all = tt
   deciders_later generated item (plain ∷ code) all = (decider_later generated item plain all.0, deciders_later generated item code all.1)
 
+  generated_later : KeepsGenerated reading later → (names : List Name) → AllByRecursion (IsGenerated reading) names → AllByRecursion (IsGenerated later) names
+  generated_later generated [] all = tt
+  generated_later generated (name ∷ names) all = (generated name all.0, generated_later generated names all.1)
+
+  -- what the last instruction gives
+  last_later : KeepsGenerated reading later → (how : LastResults) (plain results : List Name) → AreLastRead how reading plain results → AreLastRead how later plain results
+  last_later generated AreGiven plain results read = names_later reading later keeps plain results read
+  last_later generated AreGenerated plain results all = (generated_later generated plain all.0, all.1)
+
   pub called_later : (Known : Reading → List Item → Item → Type 0) (Decided : Reading → Program → List Item → Item → Type 0) → LastsLater Known → LastsIn Decided
       → KeepsGenerated reading later → (made further : ℕ) → ((name : Name) → IsUnread reading made name → IsUnread later further name)
       → (before after : Program) → KeepsOwn reading before after
@@ -156,7 +165,8 @@ module _ (reading later : Reading) (keeps : KeepsReading reading later) where
       whole = is.whole;
       emitted = is.emitted;
       stays = is.stays;
-      results = elim is.results [ inl none ↦ inl none | inr read ↦ inr (names_later reading later keeps _ _ read) ];
+      how = is.how;
+      results = last_later generated is.how _ _ is.results;
     },
     lasts reading later keeps generated code item known,
   ))
@@ -265,6 +275,7 @@ module _ (reading : Reading) (one_to_one : IsOneToOne reading) (jump branch at f
           whole = is.whole;
           emitted = same_item;
           stays = is.stays;
+          how = is.how;
           results = is.results;
         },
         subst (λ (xs : List Item). Known reading xs (redirected_item branch from to item)) (is.built ∙ sym same_code)

@@ -71,7 +71,7 @@ negated_calls = building (computing (Iconst (negsuc 6)) i32 []) ∷ building sum
 abbrev types : NameTypes
 types = record {
   plain = λ x. or_invalid (type_of (fold ledger_with (ledger_after begun_script) negated_calls) x);
-  script = λ x. or_invalid (type_of (ledger_with_call (ledger_of begun_calls) (Emit (seven_more (answer_of 2 1)))) x);
+  script = λ x. or_invalid (type_of (ledger_with_call (ledger_of begun_calls) (Emit [] (seven_more (answer_of 2 1)))) x);
 }
 
 -- what the sum with minus seven is of zero; and seven or nothing, which isn't that

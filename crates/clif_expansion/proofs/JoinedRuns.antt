@@ -1,7 +1,8 @@
 -- Joined calls whose emissions are performed have a run that the plain calls' run expands.
-use Rattle.std.proofs.Common.{◌≡◌, ◌<◌, ◌+◌, inl, inr, ℕ, suc, Bool, List, [], ◌∷◌, ◌++◌, length, map, refl, sym, ◌∙◌, ap, subst, arith, append_assoc}
+use Rattle.std.proofs.Common.{◌≡◌, ◌<◌, ◌+◌, inl, inr, ℕ, suc, Bool, List, [], ◌∷◌, ◌++◌, length, map, refl, sym, ◌∙◌, ap, ap₂, subst, arith, append_assoc}
 use Rattle.std.specs.Prelude.{fold, slice_get}
 use Rattle.std.specs.List.{AllByRecursion, AllZip}
+use Rattle.clif_tables.specs.Entries.{TableEntry}
 use Rattle.clif_meaning.specs.FunctionView.{FunctionView}
 use Rattle.clif_meaning.specs.Headline.{in_spill_slot, script_run}
 use Rattle.clif_meaning.specs.Instruction.{Instruction}
@@ -12,19 +13,21 @@ use Rattle.clif_meaning.specs.Request.{Request, CreateBlock, SwitchToBlock, Seal
 use Rattle.clif_meaning.specs.Tracked.{tracked_by, tracked_from}
 use Rattle.clif_meaning.specs.World.{World}
 use Rattle.clif_expansion.specs.Code.{DecidesItem, Does, NameTypes, PerformsItem}
-use Rattle.clif_expansion.specs.Emission.{building, reading_across, reading_behind}
+use Rattle.clif_expansion.specs.Emission.{building, importing, ledger_importing, line_calls, reading_across, reading_importing, reading_line}
 use Rattle.clif_expansion.specs.Expansion.{IsCutProgram, IsExpandedRun, types_in}
-use Rattle.clif_expansion.specs.JoinedCalls.{AreJoinedCalls, Asking, Emitting, Starting, Switching}
+use Rattle.clif_expansion.specs.JoinedCalls.{AreJoinedCalls, Asking, Emitting, Giving, IsBuiltWith, IsGiven, IsSame, Starting, Switching}
 use Rattle.clif_expansion.specs.JoinedRuns.{JoinedCallsMeanTheSame, calls_run, tracked_by_call, tracked_by_calls}
 use Rattle.clif_expansion.specs.Joining.{IsJoined, IsReadRequest, answers_at, reading_after}
 use Rattle.clif_expansion.specs.Laying.{IsLaid, IsLaidProgram}
 use Rattle.clif_expansion.specs.PerformedCalls.{ArePerformed, HaveTypes}
 use Rattle.clif_expansion.specs.Reading.{IsReadAs, Reading}
-use Rattle.clif_expansion.specs.ScriptCall.{Ask, Emit, ScriptCall, call_answers, ledger_of, ledger_with_call, program_of_calls}
+use Rattle.clif_expansion.specs.ScriptCall.{Ask, Emit, ScriptCall, call_answers, ledger_of, ledger_with_call, program_of_calls, with_imports}
 use Rattle.clif_expansion.specs.Switching.{IsDecidingCall, targets_of}
 use Rattle.clif_expansion.proofs.Across.{across_before}
 use Rattle.clif_expansion.proofs.DecidingPrograms.{AllBuilt}
 use Rattle.clif_expansion.proofs.EmittedPrograms.{emitted_before, one_longer}
+use Rattle.clif_expansion.proofs.GivenCalls.{given_ledger}
+use Rattle.clif_expansion.proofs.Imports.{importing_before, importing_longer}
 use Rattle.clif_expansion.proofs.JoinedCalls.{calls_made, current_read, fold_on, joined_calls}
 use Rattle.clif_expansion.proofs.JoinedPrograms.{IsCalledSo, LastsIn, LastsLater, cut_each}
 use Rattle.clif_expansion.proofs.JoinedStates.{any_read, chosen, zip_joined}
@@ -82,22 +85,24 @@ module _ (pointer_width : ℕ) (types : NameTypes) where
       (types_before (ledger_after script) (ask ∷ []) types.plain (subst (λ (l : Ledger). HaveTypes l types.plain) (fold_on ledger_with empty_ledger script (ask ∷ [])) have'))
       (call_types_before (ledger_of earlier) (Ask request) types.script (subst (λ (l : Ledger). HaveTypes l types.script) (fold_on ledger_with_call empty_ledger earlier (Ask request ∷ [])) have))
       done
-  each_done reading plain calls (Emitting how old script earlier code last whole are placed line stays whole_stays same) have' have done =
-      let behind' : HaveTypes (fold ledger_with (ledger_after script) (map building code ++ building last ∷ [])) types.plain =
-      subst (λ (l : Ledger). HaveTypes l types.plain) (fold_on ledger_with empty_ledger script (map building code ++ building last ∷ [])) have' in
-      let after : HaveTypes (ledger_with_call (ledger_of earlier) (Emit whole)) types.script =
-      subst (λ (l : Ledger). HaveTypes l types.script) (fold_on ledger_with_call empty_ledger earlier (Emit whole ∷ [])) have in (
+  each_done reading plain calls (Emitting how old script earlier imports code last whole are placed line stays whole_stays same) have' have done =
+      let all' : HaveTypes (fold ledger_with (ledger_after script) (line_calls imports code last)) types.plain =
+      subst (λ (l : Ledger). HaveTypes l types.plain) (fold_on ledger_with empty_ledger script (line_calls imports code last)) have' in
+      let behind' : HaveTypes (fold ledger_with (ledger_importing (ledger_after script) imports) (map building code ++ building last ∷ [])) types.plain =
+      subst (λ (l : Ledger). HaveTypes l types.plain) (fold_on ledger_with (ledger_after script) (importing imports) (map building code ++ building last ∷ [])) all' in
+      let after : HaveTypes (ledger_with_call (ledger_of earlier) (Emit imports whole)) types.script =
+      subst (λ (l : Ledger). HaveTypes l types.script) (fold_on ledger_with_call empty_ledger earlier (Emit imports whole ∷ [])) have in (
         each_done old script earlier are
-            (types_before (ledger_after script) (map building code ++ building last ∷ []) types.plain behind')
-            (call_types_before (ledger_of earlier) (Emit whole) types.script after) done.0,
+            (types_before (ledger_after script) (line_calls imports code last) types.plain all')
+            (call_types_before (ledger_of earlier) (Emit imports whole) types.script after) done.0,
         (done.1.performs types behind' after, done.1.laid),
       )
   each_done reading plain calls (Switching old script more earlier block value ty keys edges switch branches tables are at placed is code) have' have done =
       let joined = joined_calls old script earlier are in
       let here = current_read old (ledger_after script) (ledger_of earlier) (ledger_after script).current (ledger_of earlier).current block joined.ledgers.states.current at placed in
-      let after : HaveTypes (ledger_with_call (ledger_of earlier) (Emit switch)) types.script =
-      subst (λ (l : Ledger). HaveTypes l types.script) (fold_on ledger_with_call empty_ledger earlier (Emit switch ∷ [])) have in
-      let before : HaveTypes (ledger_of earlier) types.script = call_types_before (ledger_of earlier) (Emit switch) types.script after in
+      let after : HaveTypes (ledger_with_call (ledger_of earlier) (Emit [] switch)) types.script =
+      subst (λ (l : Ledger). HaveTypes l types.script) (fold_on ledger_with_call empty_ledger earlier (Emit [] switch ∷ [])) have in
+      let before : HaveTypes (ledger_of earlier) types.script = call_types_before (ledger_of earlier) (Emit [] switch) types.script after in
       let before' : HaveTypes (ledger_after script) types.plain =
       types_before (ledger_after script) more types.plain (subst (λ (l : Ledger). HaveTypes l types.plain) (fold_on ledger_with empty_ledger script more) have') in (
         each_done old script earlier are before' before done,
@@ -110,6 +115,8 @@ module _ (pointer_width : ℕ) (types : NameTypes) where
         ),
         all_anything (length script) more,
       )
+  each_done reading plain calls (Giving old script given earlier are is) have' have done =
+      each_done old script earlier are (subst (λ (l : Ledger). HaveTypes l types.plain) (sym (given_ledger script given is)) have') have done
 
   does : (reading : Reading) (made : ℕ) (program : Program) (code : List Item) (item : Item) → IsCalledHere reading made program code item → Does pointer_width reading types program code item
   does reading made program (plain ∷ []) item (inl asked) = inl asked.0
@@ -186,6 +193,22 @@ module _ (marks : Ledger) where
   built_track place [] last = refl
   built_track place (first ∷ code) last = built_track (suc place) code last
 
+  -- and so do imports
+  line_track : (place : ℕ) (imports : List TableEntry) (code : List (Instruction Name Name)) (last : Instruction Name Name) → tracked_from marks place (line_calls imports code last) ≡ []
+  line_track place [] code last = built_track place code last
+  line_track place (entry ∷ imports) code last = line_track (suc place) imports code last
+
+  -- what is given to an instruction tracks nothing
+  one_given : (place : ℕ) (plain given : Request) → IsGiven plain given → tracked_by marks place plain ≡ tracked_by marks place given
+  one_given place plain given (IsSame request) = refl
+  one_given place plain given (IsBuiltWith entries instruction are) = refl
+
+  given_track : (place : ℕ) (plain given : Script) → AllZip IsGiven plain given → tracked_from marks place plain ≡ tracked_from marks place given
+  given_track place [] [] are = refl
+  given_track place (request ∷ plain) (other ∷ given) are = ap₂ (λ (xs ys : List Name). xs ++ ys) (one_given place request other are.0) (given_track (suc place) plain given are.1)
+  given_track place [] (other ∷ given) are = absurd are
+  given_track place (request ∷ plain) [] are = absurd are
+
 module _ (marks' marks : Ledger) (same : (v : ℕ) → is_marked marks' v ≡ is_marked marks v) where
   -- what a call tracks is read as what the script's call tracks
   call_tracks : (reading : Reading) (ledger' ledger : Ledger) (joined : IsJoined reading ledger' ledger) (ask request : Request) → IsReadRequest reading ask request
@@ -250,13 +273,18 @@ module _ (marks' marks : Ledger) (same : (v : ℕ) → is_marked marks' v ≡ is
       (subst (λ (n : ℕ). AllZip (IsReadAs (reading_after old (ledger_after script) (ledger_of earlier))) (tracked_by marks' n ask) (tracked_by marks (length earlier) request)) places'
       (subst (λ (n : ℕ). AllZip (IsReadAs (reading_after old (ledger_after script) (ledger_of earlier))) (tracked_by marks' (length (ledger_after script).answers) ask) (tracked_by marks n request)) places
       (call_tracks old (ledger_after script) (ledger_of earlier) joined ask request is))) tt)
-  tracked reading plain calls (Emitting how old script earlier code last whole are placed line stays whole_stays types) =
+  tracked reading plain calls (Emitting how old script earlier imports code last whole are placed line stays whole_stays types) =
       let joined = joined_calls old script earlier are in
-      let keeps : KeepsReading old (reading_behind how old (ledger_after script) (ledger_of earlier) code) =
-      λ x name is. emitted_before how old (ledger_after script) (ledger_of earlier) code x (joined.made x name is).0 ∙ is in
-      behind (reading_behind how old (ledger_after script) (ledger_of earlier) code) script (map building code ++ building last ∷ []) earlier (Emit whole ∷ [])
-      (names_later old (reading_behind how old (ledger_after script) (ledger_of earlier) code) keeps _ _ (tracked old script earlier are))
-      (subst (λ (xs : List Name). AllZip (IsReadAs (reading_behind how old (ledger_after script) (ledger_of earlier) code)) xs []) (sym (built_track marks' (length script) code last)) tt)
+      let line : Reading = reading_line how old (ledger_after script) (ledger_of earlier) imports code in
+      let keeps : KeepsReading old line =
+      λ x name is.
+      let below : x.place < length (ledger_after script).answers = (joined.made x name is).0 in
+      let more = importing_longer (ledger_after script) imports in
+      emitted_before how (reading_importing old (ledger_after script) imports) (ledger_importing (ledger_after script) imports) (with_imports imports (ledger_of earlier)) code x (omega (arith, below, more))
+      ∙ importing_before old (ledger_after script) imports x below ∙ is in
+      behind line script (line_calls imports code last) earlier (Emit imports whole ∷ [])
+      (names_later old line keeps _ _ (tracked old script earlier are))
+      (subst (λ (xs : List Name). AllZip (IsReadAs line) xs []) (sym (line_track marks' (length script) imports code last)) tt)
   tracked reading plain calls (Switching old script more earlier block value ty keys edges switch branches tables are at placed is code) =
       let joined = joined_calls old script earlier are in
       let across : Reading = reading_across old (length script) (length more) in
@@ -264,9 +292,11 @@ module _ (marks' marks : Ledger) (same : (v : ℕ) → is_marked marks' v ≡ is
       let keeps : KeepsReading old across =
       λ x name is. let below : x.place < length (ledger_after script).answers = (joined.made x name is).0 in
       across_before old (length script) (length more) x (omega (arith, below, made)) ∙ is in
-      behind across script more earlier (Emit switch ∷ [])
+      behind across script more earlier (Emit [] switch ∷ [])
       (names_later old across keeps _ _ (tracked old script earlier are))
       (subst (λ (xs : List Name). AllZip (IsReadAs across) xs []) (sym (none_tracked (length script) (length (ledger_after script).jump_tables) (targets_of edges) (length script) more code.calls)) tt)
+  tracked reading plain calls (Giving old script given earlier are is) =
+      subst (λ (xs : List Name). AllZip (IsReadAs old) xs (tracked_by_calls marks 0 earlier)) (given_track marks' 0 script given is) (tracked old script earlier are)
 
 -- RUNS --------------------------------------------------------------------------------------------------------------------
 

@@ -28,11 +28,14 @@ pub mod Joins
 pub mod ReadConditions
 pub mod ScriptCalls
 pub mod SwitchExamples
+pub mod Imports
+pub mod GivenCalls
 pub mod Emissions
 pub mod JoinedCalls
 pub mod ConstantCalls
 pub mod JoinedPrograms
 pub mod CalledPrograms
+pub mod ImportedPrograms
 pub mod SwitchedPrograms
 pub mod ProgramsOfCalls
 pub mod EmittedPrograms

@@ -256,9 +256,9 @@ module _ (arithmetic whole : Arithmetic) (number : ℤ) (emits : (ty : «Type»)
     stands : IsPerformedByConstant arithmetic whole number
     stands = record {
       joined = λ reading plain calls ty x name are may.
-          Emitting AreGiven reading plain calls (constant_instructions ty number (length (ledger_after plain).answers)) (constant_last arithmetic ty (length (ledger_after plain).answers) x)
+          Emitting AreGiven reading plain calls [] (constant_instructions ty number (length (ledger_after plain).answers)) (constant_last arithmetic ty (length (ledger_after plain).answers) x)
           (computing whole ty (name ∷ [])) are
-          (emission_placed reading (ledger_after plain) (ledger_of calls) (joined_calls reading plain calls are) (computing whole ty (name ∷ [])) may) (all_in_line arithmetic number can ty (length (ledger_after plain).answers))
+          (emission_placed reading (ledger_after plain) (ledger_of calls) (joined_calls reading plain calls are) [] (computing whole ty (name ∷ [])) may) (all_in_line arithmetic number can ty (length (ledger_after plain).answers))
           (stays ty (x ∷ constant_name ty (length (ledger_after plain).answers) ∷ [])) (whole_stays ty (name ∷ []))
           (gives ty (x ∷ constant_name ty (length (ledger_after plain).answers) ∷ []) ∙ sym (whole_gives ty (name ∷ [])));
       performed = λ pointer_width reading plain calls ty x name are done_before is may.

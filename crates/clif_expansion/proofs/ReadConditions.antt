@@ -5,6 +5,7 @@ use Rattle.std.specs.List.{AllZip, list_all, list_any}
 use Rattle.clif_tables.specs.Lists.{TableLists}
 use Rattle.clif_types.specs.Types.{is_type}
 use Rattle.clif_types.specs.declared.types.«Type».{«Type»}
+use Rattle.clif_tables.specs.Entries.{TableEntry}
 use Rattle.clif_meaning.specs.Acceptance.{allows, blames_variable, can_assign, can_lead, can_leave, can_make, can_operate, has_argument, has_entry, has_item, is_open, is_unfinished, may_give, may_give_all, refusal_of, tables_differ, unfinished, Unfilled, Unsealed}
 use Rattle.clif_meaning.specs.Instruction.{Argument, Known, CallResult, CallPayload, Edge, Instruction, operation_entries}
 use Rattle.clif_meaning.specs.Ledger.{ABlock, AVariable, AValue, AnInstruction, AnEntry, AnEdge, AJumpTable, AnExceptionTable, Answered, BlockState, ExceptionTable, Ledger, VariableState, answer_at, answered_edge, begins_with, block_state, edge_named, has_block, has_predecessors, has_value, is_empty, is_filled, is_inserted, is_instruction_answer, is_pristine, is_sealed, is_unreachable, leads_to, state_has, type_of, value_answer_type, variable_type}
@@ -270,9 +271,9 @@ module _ (reading : Reading) (plain ledger : Ledger) (ledgers : AreJoinedLedgers
       && list_all (has_entry (ledgers.states.tables i)) (operation_entries (operation i))
 
   -- an instruction that only scripts have may be emitted under both names
-  pub emission_same : (instruction' instruction : Instruction Name Name) → IsReadInstruction reading instruction' instruction
-      → call_allowed plain (Emit instruction') ≡ call_allowed ledger (Emit instruction)
-  emission_same instruction' instruction is =
+  pub emission_same : (imports' imports : List TableEntry) (instruction' instruction : Instruction Name Name) → IsReadInstruction reading instruction' instruction
+      → call_allowed plain (Emit imports' instruction') ≡ call_allowed ledger (Emit imports instruction)
+  emission_same imports' imports instruction' instruction is =
       let operands = values_same instruction'.operands instruction.operands is.operands in
       let contexts = values_same instruction'.contexts instruction.contexts is.contexts in
       let edges = all_same (IsReadEdge reading) (can_lead plain) (can_lead ledger) lead_same instruction'.edges instruction.edges is.edges in

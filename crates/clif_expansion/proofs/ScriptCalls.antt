@@ -57,7 +57,7 @@ begun =
 abbrev stands : (reading : Reading) × AreJoinedCalls reading summing_script summing_calls
 stands = (
   _,
-  Emitting AreGiven _ begun_script begun_calls (computing (Iconst (pos 7)) i32 [] ∷ []) sum (seven_more (answer_of 2 1)) begun.1 refl
+  Emitting AreGiven _ begun_script begun_calls [] (computing (Iconst (pos 7)) i32 [] ∷ []) sum (seven_more (answer_of 2 1)) begun.1 refl
       (record { no_edges = refl; goes_on = refl }, tt) (record { no_edges = refl; goes_on = refl }) (record { no_edges = refl; goes_on = refl }) refl,
 )
 

@@ -232,7 +232,7 @@ module _ (reading : Reading) (plain more : Script) (ledger : Ledger) (joined : I
   many = ap (λ (l : Ledger). length l.answers) end_is ∙ fold_longer more before ∙ ap (λ (n : ℕ). n + count) (sym place)
 
   abbrev end : Ledger
-  end = ledger_with_call ledger (Emit switch)
+  end = ledger_with_call ledger (Emit [] switch)
 
   longer : length end.answers ≡ suc made
   longer = one_longer ledger.answers (map AValue (emitted_types switch))

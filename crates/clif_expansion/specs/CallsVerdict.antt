@@ -1,6 +1,7 @@
 -- The verdict on calls of a script that may also emit, as it is on a script's calls of the builder: a misuse goes before a refusal,
 -- and the first call that is either decides. After the documentation of Cranelift's `FunctionBuilder`; of emissions it is own.
 use Rattle.std.specs.Prelude.{◌≡◌, ◌+◌, ◌&&◌, ℕ, suc, Bool, true, false, not, if◌then◌else◌, List, [], ◌∷◌, ◌++◌, IsTrue, fold, is_some, length, map}
+use Rattle.clif_tables.specs.Entries.{TableEntry}
 use Rattle.clif_meaning.specs.Acceptance.{Accepted, Misuse, Refused, Verdict, allows, blames_variable, refusal_of, verdict_on_attempts}
 use Rattle.clif_meaning.specs.Instruction.{Instruction}
 use Rattle.clif_meaning.specs.Ledger.{Ledger, empty_ledger}
@@ -21,7 +22,7 @@ made call = record { call = call; is_tried = false }
 -- the variable of a call is to blame that isn't allowed: an emission has none
 abbrev pub call_blames_variable : Ledger → ScriptCall → Bool
 call_blames_variable ledger (Ask request) = blames_variable ledger request
-call_blames_variable ledger (Emit instruction) = false
+call_blames_variable ledger (Emit imports instruction) = false
 
 -- a call that isn't allowed is refused, and no misuse
 abbrev pub is_call_refused : Ledger → CallAttempt → Bool
@@ -82,9 +83,9 @@ pub record VerdictsAreRead : Type 0 where
   pub blames : (place : ℕ) (ledger : Ledger) (attempt : CallAttempt) (rest : List CallAttempt) → call_allowed ledger attempt.call ≡ false
       → is_call_refused ledger attempt ≡ true → verdict_on_calls_from place ledger (attempt ∷ rest) ≡ Refused place
   -- So an emission that isn't allowed is a misuse, whether it was only tried or not.
-  pub not_emitted : (place : ℕ) (ledger : Ledger) (instruction : Instruction Name Name) (is_tried : Bool) (rest : List CallAttempt)
-      → call_allowed ledger (Emit instruction) ≡ false
-      → verdict_on_calls_from place ledger (record { call = Emit instruction; is_tried = is_tried } ∷ rest) ≡ Misuse place
+  pub not_emitted : (place : ℕ) (ledger : Ledger) (imports : List TableEntry) (instruction : Instruction Name Name) (is_tried : Bool) (rest : List CallAttempt)
+      → call_allowed ledger (Emit imports instruction) ≡ false
+      → verdict_on_calls_from place ledger (record { call = Emit imports instruction; is_tried = is_tried } ∷ rest) ≡ Misuse place
   -- A call that is allowed and refused is refused at its place.
   pub refuses : (place : ℕ) (ledger : Ledger) (attempt : CallAttempt) (rest : List CallAttempt) → call_allowed ledger attempt.call ≡ true
       → is_some (call_refusal ledger attempt.call) ≡ true → verdict_on_calls_from place ledger (attempt ∷ rest) ≡ Refused place

@@ -48,25 +48,25 @@ AreAllowed ledger (request ∷ script) = IsTrue (allows ledger request) × AreAl
 -- The plain arithmetic on a name and the constant may be called where the script may emit the whole one, and keeps the join.
 pub record StandsForEmission (arithmetic whole : Arithmetic) (number : ℤ) : Type 0 where
   pub allowed : (reading : Reading) (plain ledger : Ledger) (ty : «Type») (x name : Name) → IsJoined reading plain ledger → IsReadAs reading x name
-      → IsTrue (call_allowed ledger (Emit (computing whole ty (name ∷ []))))
+      → IsTrue (call_allowed ledger (Emit [] (computing whole ty (name ∷ []))))
       → AreAllowed plain (constant_calls arithmetic ty number (length plain.answers) x)
   pub joined : (reading : Reading) (plain ledger : Ledger) (ty : «Type») (x name : Name) → IsJoined reading plain ledger
       → IsJoined (reading_emitted reading plain ledger (constant_instructions ty number (length plain.answers)))
       (fold ledger_with plain (constant_calls arithmetic ty number (length plain.answers) x))
-      (ledger_with_call ledger (Emit (computing whole ty (name ∷ []))))
+      (ledger_with_call ledger (Emit [] (computing whole ty (name ∷ []))))
 
 -- Joined calls stay joined with the emission at the script's end and these calls at the plain one's, and if each emission was
 -- performed so far, each is: the name is a value, and the constant has 64 bits.
 pub record IsPerformedByConstant (arithmetic whole : Arithmetic) (number : ℤ) : Type 0 where
   pub joined : (reading : Reading) (plain : Script) (calls : List ScriptCall) (ty : «Type») (x name : Name) → AreJoinedCalls reading plain calls
-      → IsTrue (call_allowed (ledger_of calls) (Emit (computing whole ty (name ∷ []))))
+      → IsTrue (call_allowed (ledger_of calls) (Emit [] (computing whole ty (name ∷ []))))
       → AreJoinedCalls (reading_emitted reading (ledger_after plain) (ledger_of calls) (constant_instructions ty number (length (ledger_after plain).answers)))
-      (plain ++ constant_calls arithmetic ty number (length (ledger_after plain).answers) x) (calls ++ Emit (computing whole ty (name ∷ [])) ∷ [])
+      (plain ++ constant_calls arithmetic ty number (length (ledger_after plain).answers) x) (calls ++ Emit [] (computing whole ty (name ∷ [])) ∷ [])
   pub performed : (pointer_width : ℕ) (reading : Reading) (plain : Script) (calls : List ScriptCall) (ty : «Type») (x name : Name) (are : AreJoinedCalls reading plain calls)
       → ArePerformed pointer_width reading plain calls are → IsReadAs reading x name
-      → (may : IsTrue (call_allowed (ledger_of calls) (Emit (computing whole ty (name ∷ [])))))
+      → (may : IsTrue (call_allowed (ledger_of calls) (Emit [] (computing whole ty (name ∷ [])))))
       → ArePerformed pointer_width (reading_emitted reading (ledger_after plain) (ledger_of calls) (constant_instructions ty number (length (ledger_after plain).answers)))
-      (plain ++ constant_calls arithmetic ty number (length (ledger_after plain).answers) x) (calls ++ Emit (computing whole ty (name ∷ [])) ∷ [])
+      (plain ++ constant_calls arithmetic ty number (length (ledger_after plain).answers) x) (calls ++ Emit [] (computing whole ty (name ∷ [])) ∷ [])
       (joined reading plain calls ty x name are may)
 
 -- So it is with the plain sum and the plain comparison.

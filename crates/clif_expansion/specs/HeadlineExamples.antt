@@ -40,7 +40,7 @@ returning_script = summing_script ++ return_ (answer_of 4 1 ∷ []) ∷ SealBloc
 
 -- the sum at 64 bits, of a name of 32 bits
 abbrev pub mistyped_calls : List ScriptCall
-mistyped_calls = begun_calls ++ Emit (computing (AddConstant (pos 7)) i64 (answer_of 2 1 ∷ [])) ∷ []
+mistyped_calls = begun_calls ++ Emit [] (computing (AddConstant (pos 7)) i64 (answer_of 2 1 ∷ [])) ∷ []
 
 -- a comparison with seven, as only scripts have it; at 64 bits; and a copy that is called with no operands
 abbrev pub is_seven : Instruction Name Name
@@ -60,7 +60,7 @@ copying_nothing = record {
 
 -- the sum of no value
 abbrev pub misused : ScriptCall
-misused = Emit (seven_more (answer_of 2 2))
+misused = Emit [] (seven_more (answer_of 2 2))
 
 pub record HeadlineExamples : Type 0 where
   -- the calls meet the premises in every world, wherever spill slots lie; each of them may be made, and they are accepted

@@ -7,7 +7,7 @@ use Rattle.clif_meaning.specs.Name.{Name, answer_of}
 use Rattle.clif_meaning.specs.Program.{Item, Instruct, Use, Assign, answers_from, program_of, result_names}
 use Rattle.clif_meaning.specs.Request.{Script}
 use Rattle.clif_meaning.specs.WellPlaced.{item_targets}
-use Rattle.clif_expansion.specs.Emission.{StaysInLine}
+use Rattle.clif_expansion.specs.Emission.{AreGenerated, AreGiven, LastResults, StaysInLine}
 use Rattle.clif_expansion.specs.Expansion.{IsCutProgram}
 use Rattle.clif_expansion.specs.JoinedCalls.{AreJoinedCalls}
 use Rattle.clif_expansion.specs.Reading.{IsReadAs, IsReadItem, Reading, ScriptName}
@@ -30,7 +30,12 @@ abbrev pub built_items : ℕ → List (Instruction Name Name) → List Item
 built_items place [] = []
 built_items place (instruction ∷ code) = Instruct place instruction (result_names place instruction) ∷ built_items (suc place) code
 
--- The code is in a line, and the item was emitted; the last instruction's results are read as the item's, if it gives something.
+-- What the last instruction gives is read as what the item gives, or was generated where that gives nothing.
+abbrev pub AreLastRead : LastResults → Reading → (plain results : List Name) → Type 0
+AreLastRead AreGiven reading plain results = AllZip (IsReadAs reading) plain results
+AreLastRead AreGenerated reading plain results = AllByRecursion (IsGenerated reading) plain × (results ≡ [])
+
+-- The code is in a line, and the item was emitted.
 pub record IsEmission (reading : Reading) (code : List Item) (item : Item) : Type 0 where
   pub place : ℕ
   pub instructions : List (Instruction Name Name)
@@ -41,7 +46,8 @@ pub record IsEmission (reading : Reading) (code : List Item) (item : Item) : Typ
   pub whole : Instruction Name Name
   pub emitted : item ≡ emitted_item other whole
   pub stays : StaysInLine whole
-  pub results : (emitted_types whole ≡ []) ⊎ AllZip (IsReadAs reading) (result_names (place + length instructions) last) (answers_from other 0 (emitted_types whole))
+  pub how : LastResults
+  pub results : AreLastRead how reading (result_names (place + length instructions) last) (answers_from other 0 (emitted_types whole))
 
 -- the edge passes nothing, and leads to a generated block or where the item leads
 pub record DecidesAlong (reading : Reading) (item : Item) (edge : Edge Name Name) : Type 0 where

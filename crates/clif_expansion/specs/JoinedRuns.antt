@@ -23,7 +23,7 @@ use Rattle.clif_expansion.specs.ScriptCall.{Ask, Emit, ScriptCall, ledger_of, pr
 -- the names that the call at this place tracks: an emission tracks none
 abbrev pub tracked_by_call : Ledger → (place : ℕ) → ScriptCall → List Name
 tracked_by_call ledger place (Ask request) = tracked_by ledger place request
-tracked_by_call ledger place (Emit instruction) = []
+tracked_by_call ledger place (Emit imports instruction) = []
 
 -- those that the calls from this place on track
 abbrev pub tracked_by_calls : Ledger → (place : ℕ) → List ScriptCall → List Name

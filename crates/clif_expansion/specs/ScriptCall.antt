@@ -8,6 +8,7 @@ use Rattle.clif_types.specs.declared.types.LaneType.TheVariants as lane
 use Rattle.clif_types.specs.declared.types.«Type».{«Type»}
 use Rattle.clif_types.specs.declared.types.«Type».TheVariants as type
 use Rattle.clif_types.specs.Types.{bits_of, is_int}
+use Rattle.clif_tables.specs.Entries.{TableEntry, with_entry}
 use Rattle.clif_meaning.specs.Acceptance.{Refusal, allows, can_lead, is_open, refusal_of}
 use Rattle.clif_meaning.specs.ByteOperation.{ByteOperation, Copy, Fill, CompareBytes, CallLibrary, greatest_power, is_unsigned}
 use Rattle.clif_meaning.specs.Instruction.{AddConstant, CompareConstant, Compute, Instruction, Operation, Bytes, Switch}
@@ -20,8 +21,8 @@ use Rattle.clif_expansion.specs.Keys.{SwitchRefusal, keys_refusal, table_count}
 pub data ScriptCall : Type 0 where
   -- what the builder is asked
   Ask : Request → ScriptCall
-  -- an instruction that only scripts have, at the end of the current block
-  Emit : Instruction Name Name → ScriptCall
+  -- an instruction that only scripts have, at the end of the current block. Its code imports these entries of the function's tables.
+  Emit : (imports : List TableEntry) → Instruction Name Name → ScriptCall
 
 -- the types of an instruction's results
 abbrev pub emitted_types : Instruction Name Name → List «Type»
@@ -31,7 +32,7 @@ emitted_types instruction = result_types instruction.operation instruction.contr
 
 abbrev pub call_answers : Ledger → ScriptCall → List Answered
 call_answers ledger (Ask request) = answers_to ledger request
-call_answers ledger (Emit instruction) = map AValue (emitted_types instruction)
+call_answers ledger (Emit imports instruction) = map AValue (emitted_types instruction)
 
 -- Behind a switch there is no current block: the builder's own is one that the script can't name. The switch has made jump tables,
 -- which serve it.
@@ -39,10 +40,14 @@ abbrev pub ledger_behind : Operation → Ledger → Ledger
 ledger_behind (Switch keys) ledger = record ledger { current = None; jump_tables = ledger.jump_tables ++ replicate (table_count keys keys) None }
 ledger_behind _ ledger = ledger
 
+-- with these entries at the ends of their tables
+abbrev pub with_imports : List TableEntry → Ledger → Ledger
+with_imports imports ledger = record ledger { tables = fold with_entry ledger.tables imports }
+
 -- what a call changes, its answers aside
 abbrev pub call_changes : Ledger → ScriptCall → Ledger
 call_changes ledger (Ask request) = changed_by ledger request
-call_changes ledger (Emit instruction) = ledger_behind instruction.operation (with_instruction ledger instruction)
+call_changes ledger (Emit imports instruction) = ledger_behind instruction.operation (with_instruction (with_imports imports ledger) instruction)
 
 abbrev pub ledger_with_call : Ledger → ScriptCall → Ledger
 ledger_with_call ledger call = record (call_changes ledger call) { answers = ledger.answers ++ call_answers ledger call ∷ [] }
@@ -63,7 +68,7 @@ program_behind _ program = program
 
 abbrev pub program_with_call : Program → ScriptCall → Program
 program_with_call program (Ask request) = with_call program request
-program_with_call program (Emit instruction) =
+program_with_call program (Emit imports instruction) =
     record (program_behind instruction.operation (with_item (with_inserted program) (emitted_item program.place instruction))) { place = suc program.place }
 
 -- the variable program of these calls
@@ -107,7 +112,7 @@ can_emit _ ty = false
 -- the condition of each kind of call
 abbrev pub call_allowed : Ledger → ScriptCall → Bool
 call_allowed ledger (Ask request) = allows ledger request
-call_allowed ledger (Emit instruction) =
+call_allowed ledger (Emit imports instruction) =
     list_all (has_value ledger) instruction.contexts
     && is_open ledger ledger.current && list_all (has_value ledger) instruction.operands && list_all (can_lead ledger) instruction.edges
     && can_emit instruction.operation instruction.controlling
@@ -124,7 +129,7 @@ emission_refusal _ ty = None
 -- what it is refused for
 abbrev pub call_refusal : Ledger → ScriptCall → Option CallRefusal
 call_refusal ledger (Ask request) = option_map OfCall (refusal_of ledger request)
-call_refusal ledger (Emit instruction) = option_map OfSwitch (emission_refusal instruction.operation instruction.controlling)
+call_refusal ledger (Emit imports instruction) = option_map OfSwitch (emission_refusal instruction.operation instruction.controlling)
 
 -- Without an emission the ledger and the program are those of the builder's calls.
 pub record AskingStays : Type 0 where

@@ -32,7 +32,7 @@ abbrev pub in_context : (context x : Name) → Instruction Name Name
 in_context context x = record (seven_more x) { contexts = context ∷ [] }
 
 abbrev pub summing_calls : List ScriptCall
-summing_calls = begun_calls ++ Emit (seven_more (answer_of 2 1)) ∷ []
+summing_calls = begun_calls ++ Emit [] (seven_more (answer_of 2 1)) ∷ []
 
 -- the plain calls: seven, and the sum
 abbrev pub sum : Instruction Name Name
@@ -70,14 +70,14 @@ abbrev pub summing_reading : Reading
 summing_reading name = summing name.place name.index
 
 pub record ScriptCallExamples : Type 0 where
-  pub allowed : call_allowed (ledger_of begun_calls) (Emit (seven_more (answer_of 2 1))) ≡ true
-  pub with_context : call_allowed (ledger_of begun_calls) (Emit (in_context (answer_of 2 1) (answer_of 2 1))) ≡ true
+  pub allowed : call_allowed (ledger_of begun_calls) (Emit [] (seven_more (answer_of 2 1))) ≡ true
+  pub with_context : call_allowed (ledger_of begun_calls) (Emit [] (in_context (answer_of 2 1) (answer_of 2 1))) ≡ true
   -- there is no such value, neither as an operand nor as a context; the operation isn't of scripts alone; and the constant has no sign
   -- of 64 bits
-  pub no_value : call_allowed (ledger_of begun_calls) (Emit (seven_more (answer_of 2 2))) ≡ false
-  pub no_context : call_allowed (ledger_of begun_calls) (Emit (in_context (answer_of 2 2) (answer_of 2 1))) ≡ false
-  pub built : call_allowed (ledger_of begun_calls) (Emit (computing (Iconst (pos 7)) i32 [])) ≡ false
-  pub too_wide : call_allowed (ledger_of begun_calls) (Emit (computing (AddConstant (pos 9223372036854775808)) i32 (answer_of 2 1 ∷ []))) ≡ false
+  pub no_value : call_allowed (ledger_of begun_calls) (Emit [] (seven_more (answer_of 2 2))) ≡ false
+  pub no_context : call_allowed (ledger_of begun_calls) (Emit [] (in_context (answer_of 2 2) (answer_of 2 1))) ≡ false
+  pub built : call_allowed (ledger_of begun_calls) (Emit [] (computing (Iconst (pos 7)) i32 [])) ≡ false
+  pub too_wide : call_allowed (ledger_of begun_calls) (Emit [] (computing (AddConstant (pos 9223372036854775808)) i32 (answer_of 2 1 ∷ []))) ≡ false
   -- the result is the first answer
   pub result : type_of (ledger_of summing_calls) (answer_of 3 0) ≡ Some i32
   pub items : (program_of_calls summing_calls).items (block 0)

@@ -32,7 +32,7 @@ both_edges = plain (block 1) ∷ plain (block 2) ∷ []
 
 -- a switch of five at this type by these keys
 abbrev pub switch_at : «Type» → List ℕ → List (Edge Name Name) → ScriptCall
-switch_at ty keys edges = Emit (switching keys ty (answer_of 4 1) edges)
+switch_at ty keys edges = Emit [] (switching keys ty (answer_of 4 1) edges)
 
 -- to the second block for seven, and else to the third one
 abbrev pub switched_calls : List ScriptCall

@@ -23,10 +23,11 @@ use Rattle.clif_expansion.specs.Switching.{BuildsTyped, IsDeciding, IsDecidingCa
 use Rattle.clif_expansion.specs.Walk.{IsGenerated}
 use Rattle.clif_expansion.proofs.Among.{generated_other}
 use Rattle.clif_expansion.proofs.BlockNames.{asked_names, names_of}
-use Rattle.clif_expansion.specs.Emission.{building, reading_across}
-use Rattle.clif_expansion.specs.JoinedCalls.{AreJoinedCalls, Asking, Emitting, HaveCurrent, Starting, Switching}
+use Rattle.clif_expansion.specs.Emission.{line_calls, reading_across}
+use Rattle.clif_expansion.specs.JoinedCalls.{AreJoinedCalls, Asking, Emitting, Giving, HaveCurrent, Starting, Switching}
 use Rattle.clif_expansion.specs.JoinedPrograms.{IsDecidingItem}
 use Rattle.clif_expansion.specs.ScriptCall.{ScriptCall, emitted_item, ledger_of}
+use Rattle.clif_expansion.proofs.GivenCalls.{given_ledger}
 use Rattle.clif_expansion.proofs.JoinedCalls.{calls_made, current_read, fold_on, joined_calls}
 use Rattle.clif_expansion.proofs.LedgerTypes.{types_before}
 use Rattle.clif_expansion.proofs.ProgramsOfCalls.{EachKnown, anything, currents_same, script_place, undecided}
@@ -218,8 +219,8 @@ module _ (ledger : Ledger) (types : Name → «Type») where
         each_decided old script earlier are
         (types_before (ledger_after script) (ask ∷ []) types (subst (λ (l : Ledger). HaveTypes l types) from have))
         (λ x there. grows x (subst (λ (l : Ledger). IsTrue (has_block l x)) (sym from) (there_later (ask ∷ []) (ledger_after script) x there))) known
-    each_decided reading plain calls (Emitting how old script earlier code last whole are placed line stays whole_stays same) have grows known =
-        let more : Script = map building code ++ building last ∷ [] in
+    each_decided reading plain calls (Emitting how old script earlier imports code last whole are placed line stays whole_stays same) have grows known =
+        let more : Script = line_calls imports code last in
         let from = fold_on ledger_with empty_ledger script more in (
           each_decided old script earlier are
               (types_before (ledger_after script) more types (subst (λ (l : Ledger). HaveTypes l types) from have))
@@ -235,3 +236,8 @@ module _ (ledger : Ledger) (types : Name → «Type») where
           code_known old script more earlier block value ty keys edges switch branches tables are at placed is code built,
           built,
         )
+    each_decided reading plain calls (Giving old script given earlier are is) have grows known =
+        let same = given_ledger script given is in
+        each_decided old script earlier are
+        (subst (λ (l : Ledger). HaveTypes l types) (sym same) have)
+        (λ x there. grows x (subst (λ (l : Ledger). IsTrue (has_block l x)) same there)) known

@@ -8,6 +8,7 @@ use Rattle.std.specs.List.{AllByRecursion}
 use Rattle.clif_types.specs.declared.types.«Type».{«Type»}
 use Rattle.clif_types.specs.Signature.{SignatureShape}
 use Rattle.clif_tables.specs.Callees.{types_of}
+use Rattle.clif_tables.specs.Entries.{TableEntry}
 use Rattle.clif_meaning.specs.Acceptance.{allows, is_open}
 use Rattle.clif_meaning.specs.Bits.{AreValues}
 use Rattle.clif_meaning.specs.Instruction.{Edge, Instruction, Operation, Switch}
@@ -26,7 +27,7 @@ use Rattle.clif_expansion.specs.CallsVerdict.{AreCallsAllowed}
 use Rattle.clif_expansion.specs.HeadlineLaws.{CallsNameValues}
 use Rattle.clif_expansion.specs.JoinedRuns.{calls_run}
 use Rattle.clif_expansion.specs.PerformedCalls.{HaveTypes}
-use Rattle.clif_expansion.specs.ScriptCall.{Ask, Emit, ScriptCall, call_allowed, call_answers, emitted_item, emitted_types, ledger_behind, ledger_of, ledger_with_call, program_behind, program_of_calls, program_with_call}
+use Rattle.clif_expansion.specs.ScriptCall.{Ask, Emit, ScriptCall, call_allowed, call_answers, emitted_item, emitted_types, ledger_behind, ledger_of, ledger_with_call, program_behind, program_of_calls, program_with_call, with_imports}
 use Rattle.clif_expansion.proofs.EmittedPrograms.{one_longer}
 use Rattle.clif_expansion.proofs.Joins.{answers_last}
 use Rattle.clif_expansion.proofs.LedgerTypes.{call_types_before}
@@ -77,6 +78,12 @@ behind_variables : (operation : Operation) (ledger : Ledger) → (ledger_behind 
 behind_variables (Switch keys) ledger = refl
 behind_variables _ ledger = refl
 
+-- and an instruction
+instruction_variables : (ledger : Ledger) (instruction : Instruction Name Name) → (with_instruction ledger instruction).variables ≡ ledger.variables
+instruction_variables ledger instruction =
+    led_variables (answer_of (length ledger.answers) 0) (with_terminator (with_begun ledger) instruction.operation) instruction.edges
+    ∙ ended_variables (with_begun ledger) instruction.operation ∙ begun_variables ledger ledger.current
+
 -- a variable keeps its type behind a call more
 module _ (ledger : Ledger) (v : ℕ) (ty : «Type») (is : variable_type ledger v ≡ Some ty) where
   same_variables : (states : List VariableState) → states ≡ ledger.variables → option_map (λ state. state.ty) (slice_get states v) ≡ Some ty
@@ -86,10 +93,7 @@ module _ (ledger : Ledger) (v : ℕ) (ty : «Type») (is : variable_type ledger 
   begun_on = same_variables (with_begun ledger).variables (begun_variables ledger ledger.current)
 
   instruction_on : (instruction : Instruction Name Name) → variable_type (with_instruction ledger instruction) v ≡ Some ty
-  instruction_on instruction =
-      same_variables (with_instruction ledger instruction).variables
-      (led_variables (answer_of (length ledger.answers) 0) (with_terminator (with_begun ledger) instruction.operation) instruction.edges
-      ∙ ended_variables (with_begun ledger) instruction.operation ∙ begun_variables ledger ledger.current)
+  instruction_on instruction = same_variables (with_instruction ledger instruction).variables (instruction_variables ledger instruction)
 
   asked_on : (request : Request) → variable_type (changed_by ledger request) v ≡ Some ty
   asked_on CreateBlock = is
@@ -115,13 +119,9 @@ module _ (ledger : Ledger) (v : ℕ) (ty : «Type») (is : variable_type ledger 
 
   call_on : (call : ScriptCall) → variable_type (ledger_with_call ledger call) v ≡ Some ty
   call_on (Ask request) = asked_on request
-  call_on (Emit instruction) =
-      same_variables_at (with_instruction ledger instruction).variables (instruction_on instruction)
-      (ledger_with_call ledger (Emit instruction)).variables (behind_variables instruction.operation (with_instruction ledger instruction))
-    where
-      same_variables_at : (states : List VariableState) → option_map (λ state. state.ty) (slice_get states v) ≡ Some ty → (others : List VariableState) → others ≡ states
-          → option_map (λ state. state.ty) (slice_get others v) ≡ Some ty
-      same_variables_at states found others same = ap (λ (list : List VariableState). option_map (λ state. state.ty) (slice_get list v)) same ∙ found
+  call_on (Emit imports instruction) =
+      same_variables (ledger_with_call ledger (Emit imports instruction)).variables
+      (behind_variables instruction.operation (with_instruction (with_imports imports ledger) instruction) ∙ instruction_variables (with_imports imports ledger) instruction)
 
 -- a declared variable has the type that the ledger gives it
 abbrev HaveVariables : Ledger → (ℕ → «Type») → Type 0
@@ -199,13 +199,13 @@ module _ (types : Name → «Type») (variables : ℕ → «Type») where
         ∙ ap value_answer_type (answers_last ledger.answers (answers_to ledger (Build entries instruction)) (suc k))
         ∙ value_there (result_types instruction.operation instruction.controlling) k ty there))
 
-    emitted_given : (instruction : Instruction Name Name) → HaveTypes (ledger_with_call ledger (Emit instruction)) types → HasGiven (emitted_item program.place instruction)
-    emitted_given instruction have =
+    emitted_given : (imports : List TableEntry) (instruction : Instruction Name Name) → HaveTypes (ledger_with_call ledger (Emit imports instruction)) types → HasGiven (emitted_item program.place instruction)
+    emitted_given imports instruction have =
         subst (λ (n : ℕ). map types (answers_from n 0 (emitted_types instruction)) ≡ emitted_types instruction) (sym here)
-        (answers_given (ledger_with_call ledger (Emit instruction)) have (length ledger.answers) 0 (emitted_types instruction)
+        (answers_given (ledger_with_call ledger (Emit imports instruction)) have (length ledger.answers) 0 (emitted_types instruction)
         (λ k ty there.
         let next : 0 + k ≡ k = omega arith in
-        ap (λ (i : ℕ). type_of (ledger_with_call ledger (Emit instruction)) (answer_of (length ledger.answers) i)) next
+        ap (λ (i : ℕ). type_of (ledger_with_call ledger (Emit imports instruction)) (answer_of (length ledger.answers) i)) next
         ∙ ap value_answer_type (answers_last ledger.answers (map AValue (emitted_types instruction)) k)
         ∙ value_there (emitted_types instruction) k ty there))
 
@@ -234,13 +234,13 @@ module _ (types : Name → «Type») (variables : ℕ → «Type») where
     call_given : (call : ScriptCall) → IsTrue (call_allowed ledger call) → HaveTypes (ledger_with_call ledger call) types → HaveVariables ledger variables
         → EachItem HasGiven (program_with_call program call)
     call_given (Ask request) allowed have declared = asked_given request allowed have declared
-    call_given (Emit instruction) allowed have declared =
+    call_given (Emit imports instruction) allowed have declared =
         behind_given instruction.operation (with_item_at (with_inserted program) program.current (emitted_item program.place instruction))
-        (with_one (with_inserted program) program.current (emitted_item program.place instruction) all (emitted_given instruction have))
+        (with_one (with_inserted program) program.current (emitted_item program.place instruction) all (emitted_given imports instruction have))
 
   place_on : (program : Program) (call : ScriptCall) → (program_with_call program call).place ≡ suc program.place
   place_on program (Ask request) = refl
-  place_on program (Emit instruction) = refl
+  place_on program (Emit imports instruction) = refl
 
   all_given : (ledger : Ledger) (program : Program) (calls : List ScriptCall) → program.place ≡ length ledger.answers → AreCallsAllowed ledger calls
       → HaveTypes (fold ledger_with_call ledger calls) types → HaveVariables (fold ledger_with_call ledger calls) variables

@@ -204,10 +204,10 @@ untyped : (pointer_width : ℕ) (reading : Reading) → AreJoinedCalls reading b
     → IsPerformed pointer_width AreGiven reading (ledger_after begun_script) (ledger_of begun_calls) (computing (Iconst (pos 7)) i64 [] ∷ []) is_wide_seven is_seven → ⊥
 untyped pointer_width reading are is =
     let joined =
-    Emitting AreGiven reading begun_script begun_calls (computing (Iconst (pos 7)) i64 [] ∷ []) is_wide_seven is_seven are refl
+    Emitting AreGiven reading begun_script begun_calls [] (computing (Iconst (pos 7)) i64 [] ∷ []) is_wide_seven is_seven are refl
     (record { no_edges = refl; goes_on = refl }, tt) (record { no_edges = refl; goes_on = refl }) (record { no_edges = refl; goes_on = refl }) refl in
     let script : Script = begun_script ++ iconst i64 (pos 7) ∷ Build [] is_wide_seven ∷ [] in
-    let calls : List ScriptCall = begun_calls ++ Emit is_seven ∷ [] in
+    let calls : List ScriptCall = begun_calls ++ Emit [] is_seven ∷ [] in
     let typed =
     is.typed (record { plain = λ x. or_invalid (type_of (ledger_after script) x); script = λ x. or_invalid (type_of (ledger_of calls) x) }) [] (λ x ty there. ap or_invalid there)
     (agree _ script calls joined) (record { made_at = refl; operands = (refl, tt); edges = tt }) in

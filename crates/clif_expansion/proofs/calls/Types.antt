@@ -17,9 +17,9 @@ use Rattle.clif_meaning.specs.Program.{Program, Item, Instruct, Use, Assign, pro
 use Rattle.clif_meaning.specs.Request.{Script}
 use Rattle.clif_meaning.specs.Typing.{EachEdgeMatches, IsWellTyped, TakesOperands, call_shape}
 use Rattle.clif_expansion.specs.Code.{NameTypes}
-use Rattle.clif_expansion.specs.Emission.{StaysInLine, building}
+use Rattle.clif_expansion.specs.Emission.{StaysInLine, building, importing, ledger_importing, line_calls}
 use Rattle.clif_expansion.specs.Expansion.{IsCutProgram, IsReadBlock}
-use Rattle.clif_expansion.specs.JoinedCalls.{AreJoinedCalls, Asking, Emitting, Starting, Switching}
+use Rattle.clif_expansion.specs.JoinedCalls.{AreJoinedCalls, Asking, Emitting, Giving, Starting, Switching}
 use Rattle.clif_expansion.specs.JoinedPrograms.{IsDecidingItem, IsEmission, built_items}
 use Rattle.clif_expansion.specs.Joining.{IsJoined}
 use Rattle.clif_expansion.specs.PerformedCalls.{ArePerformed, HaveTypes, IsTypedInLine}
@@ -27,6 +27,7 @@ use Rattle.clif_expansion.specs.Reading.{Agree, IsReadInstruction, IsReadItem, R
 use Rattle.clif_expansion.specs.ScriptCall.{ScriptCall, emitted_item, ledger_of, program_of_calls}
 use Rattle.clif_expansion.specs.Walk.{IsGenerated}
 use Rattle.clif_expansion.proofs.CalledPrograms.{OwnItems}
+use Rattle.clif_expansion.proofs.GivenCalls.{given_ledger}
 use Rattle.clif_expansion.proofs.JoinedCalls.{fold_on}
 use Rattle.clif_expansion.proofs.JoinedPrograms.{IsCalledSo, LastsLater}
 use Rattle.clif_expansion.proofs.LedgerTypes.{types_before}
@@ -84,13 +85,16 @@ module _ (pointer_width : ℕ) (types : NameTypes) where
   each_typed reading plain calls (Asking old script earlier ask request are is placed) have' done =
       each_typed old script earlier are
       (types_before (ledger_after script) (ask ∷ []) types.plain (subst (λ (l : Ledger). HaveTypes l types.plain) (fold_on ledger_with empty_ledger script (ask ∷ [])) have')) done
-  each_typed reading plain calls (Emitting how old script earlier code last whole are placed line stays whole_stays same) have' done =
-      let behind' : HaveTypes (fold ledger_with (ledger_after script) (map building code ++ building last ∷ [])) types.plain =
-      subst (λ (l : Ledger). HaveTypes l types.plain) (fold_on ledger_with empty_ledger script (map building code ++ building last ∷ [])) have' in (
-        each_typed old script earlier are (types_before (ledger_after script) (map building code ++ building last ∷ []) types.plain behind') done.0,
+  each_typed reading plain calls (Emitting how old script earlier imports code last whole are placed line stays whole_stays same) have' done =
+      let importing' : Ledger = ledger_importing (ledger_after script) imports in
+      let all' : HaveTypes (fold ledger_with (ledger_after script) (line_calls imports code last)) types.plain =
+      subst (λ (l : Ledger). HaveTypes l types.plain) (fold_on ledger_with empty_ledger script (line_calls imports code last)) have' in
+      let behind' : HaveTypes (fold ledger_with importing' (map building code ++ building last ∷ [])) types.plain =
+      subst (λ (l : Ledger). HaveTypes l types.plain) (fold_on ledger_with (ledger_after script) (importing imports) (map building code ++ building last ∷ [])) all' in (
+        each_typed old script earlier are (types_before (ledger_after script) (line_calls imports code last) types.plain all') done.0,
         (
-          λ agree returns typed. items_typed types.plain returns (length (ledger_after script).answers) (code ++ last ∷ []) (done.1.typed types returns behind' agree typed),
-          items_as_named (pointer_of pointer_width) (length (ledger_after script).answers) (code ++ last ∷ []) done.1.as_named,
+          λ agree returns typed. items_typed types.plain returns (length importing'.answers) (code ++ last ∷ []) (done.1.typed types returns behind' agree typed),
+          items_as_named (pointer_of pointer_width) (length importing'.answers) (code ++ last ∷ []) done.1.as_named,
         ),
       )
   each_typed reading plain calls (Switching old script more earlier block value ty keys edges switch branches tables are at placed is code) have' done =
@@ -100,6 +104,8 @@ module _ (pointer_width : ℕ) (types : NameTypes) where
         tt,
         all_anything (length script) more,
       )
+  each_typed reading plain calls (Giving old script given earlier are is) have' done =
+      each_typed old script earlier are (subst (λ (l : Ledger). HaveTypes l types.plain) (sym (given_ledger script given is)) have') done
 
 -- JOINED CALLS ------------------------------------------------------------------------------------------------------------
 

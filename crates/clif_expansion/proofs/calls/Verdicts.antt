@@ -119,8 +119,8 @@ verdicts_are_read = record {
   goes_on = goes_on;
   misused = λ place ledger attempt rest allowed blamed. not_allowed place ledger attempt rest false allowed blamed;
   blames = λ place ledger attempt rest allowed blamed. not_allowed place ledger attempt rest true allowed blamed;
-  not_emitted = λ place ledger instruction is_tried rest allowed.
-      not_allowed place ledger (record { call = Emit instruction; is_tried = is_tried }) rest false allowed (never_refused is_tried);
+  not_emitted = λ place ledger imports instruction is_tried rest allowed.
+      not_allowed place ledger (record { call = Emit imports instruction; is_tried = is_tried }) rest false allowed (never_refused is_tried);
   refuses = refuses;
   accepted = λ attempts. accepted_taken 0 empty_ledger attempts (made (Ask Finalize) ∷ []);
   accepts = λ attempts are. taken_accepted 0 empty_ledger attempts (made (Ask Finalize)) are;
