@@ -31,12 +31,12 @@ use Rattle.clif_expansion.specs.Laying.{IsLaid}
 use Rattle.clif_expansion.specs.PerformedCalls.{HaveTypes, IsPerformed}
 use Rattle.clif_expansion.specs.Reading.{Generated, IsReadAs, Reading}
 use Rattle.clif_expansion.specs.ScriptCall.{Emit, can_emit, can_emit_bytes, emitted_item, is_pointer, ledger_of}
-use Rattle.clif_expansion.proofs.EmittedPrograms.{emitted_before, emitted_inner, emitted_result}
+use Rattle.clif_expansion.proofs.EmittedPrograms.{emitted_before, emitted_inner, emitted_none, emitted_result}
 use Rattle.clif_expansion.proofs.JoinedCalls.{emission_placed, joined_calls}
 use Rattle.clif_expansion.proofs.LedgerTypes.{call_types_before, types_before}
 use Rattle.clif_expansion.proofs.ReadConditions
 use Rattle.clif_helper_calls.specs.Codes.{doing, flags_where}
-use Rattle.clif_helper_calls.specs.FillStanding.{FillCallsStand, fill_emission, fill_first, fill_last, loads_first, loads_last, set_first, set_last}
+use Rattle.clif_helper_calls.specs.FillStanding.{FillCallsStand, fill_emission, fill_first, fill_last, fill_line, loads_first, loads_last, set_first, set_last, set_line}
 use Rattle.clif_helper_calls.specs.KnownStanding.{compare_emission}
 use Rattle.clif_helper_calls.specs.LibraryCodes.{IsConstant, fill_call_code, i32, i8, set_code}
 use Rattle.clif_helper_calls.specs.Performing.{HasLoads}
@@ -44,10 +44,11 @@ use Rattle.clif_helper_calls.specs.PerformingCalls.{HasSignature, ReadsThree, Re
 use Rattle.clif_helper_calls.specs.Standing.{library_emission}
 use Rattle.clif_helper_calls.proofs.Called.{calls_are_performed}
 use Rattle.clif_helper_calls.proofs.Known.{known_calls_are_performed}
-use Rattle.clif_helper_calls.proofs.KnownStanding.{answer_typed, last_generated, longer, pointer_is_int}
+use Rattle.clif_helper_calls.proofs.KnownStanding.{answer_typed, longer, pointer_is_int}
 use Rattle.clif_helper_calls.proofs.Laid.{codes_are_laid}
 use Rattle.clif_helper_calls.proofs.Loads.{loads_are_performed}
-use Rattle.clif_helper_calls.proofs.Standing.{own_pointer}
+use Rattle.clif_helper_calls.proofs.Lines.{line_stands}
+use Rattle.clif_helper_calls.proofs.Standing.{own_pointer, three_read}
 
 three_types : (a b c p own w : «Type») → a ≡ p → b ≡ w → c ≡ p → own ≡ p → a ∷ b ∷ c ∷ [] ≡ own ∷ w ∷ own ∷ []
 three_types a b c p own w first second third is = cc
@@ -83,7 +84,7 @@ module _ (pointer : «Type») (signature : SignatureShape) (has : HasSignature (
     performs = λ types have' have.
         subst (λ (items : List Item). PerformsItem (bits_of pointer) behind types items (emitted_item (length ledger.answers) (library_emission Memset pointer x y z))) (sym set_built)
         (calls_are_performed.sets (bits_of pointer) behind types pointer signature n a b c x y z (answer_of n 1) (answer_of (suc n) 1) refl has reads_behind
-        (emitted_inner AreGenerated reading plain ledger (set_first b) n 0 1 (omega arith) (omega arith)) (last_generated reading plain ledger (set_first b) (suc n) 1 (omega arith)));
+        (emitted_inner AreGenerated reading plain ledger (set_first b) n 0 1 (omega arith) (omega arith)) (emitted_none reading plain ledger (set_first b) (suc n) 1 (omega arith)));
     laid = λ program.
         subst (λ (items : List Item). IsLaid behind program items (emitted_item (length ledger.answers) (library_emission Memset pointer x y z))) (sym set_built)
         (codes_are_laid.sets behind program signature pointer n (length ledger.answers) (Bytes (CallLibrary Memset)) a b c x y z (answer_of n 1) (answer_of (suc n) 1) reads_behind);
@@ -152,7 +153,7 @@ module _ (pointer : «Type») (signature : SignatureShape) (fill : FillShape) (f
             inner (suc m) 1 (omega arith) (omega arith),
             (
               inner (suc (suc m)) 2 (omega arith) (omega arith),
-              (last_generated reading plain ledger code (suc (suc (suc m))) 1 (omega arith), tt),
+              (emitted_none reading plain ledger code (suc (suc (suc m))) 1 (omega arith), tt),
             ),
           ),
         ) (next_differs m) (next_differs (suc m)));
@@ -255,7 +256,7 @@ module _ (pointer ty : «Type») (compare : CompareShape) (int : IsTrue (is_int 
   loads_done = record {
     performs = λ types have' have.
         let before' : HaveTypes plain types.plain = types_before plain (map building loading ++ building compared ∷ []) types.plain have' in
-        let before : HaveTypes ledger types.script = call_types_before ledger (Emit (compare_emission compare pointer x y)) types.script have in
+        let before : HaveTypes ledger types.script = call_types_before ledger (Emit [] (compare_emission compare pointer x y)) types.script have in
         loads_are_performed (bits_of pointer) since types pointer ty compare k a b x y (answer_of k 1) (answer_of (suc k) 1) (answer_of (suc (suc k)) 1) (answer_of (length ledger.answers) 0) may has
         (record {
           left_read = reads_since.first_read;
@@ -311,28 +312,26 @@ one_of_two ledger x y given are (inr same) =
 
 pub fill_calls_stand : FillCallsStand
 fill_calls_stand = record {
-  sets_joined = λ pointer signature reading plain calls a b c x y z are may.
-      Emitting AreGenerated reading plain calls (set_first b) (set_last signature (length (ledger_after plain).answers) a c) (library_emission Memset pointer x y z) are
-      (emission_placed reading (ledger_after plain) (ledger_of calls) (joined_calls reading plain calls are) (library_emission Memset pointer x y z) may)
-      (record { no_edges = refl; goes_on = refl }, tt) (record { no_edges = refl; goes_on = refl }) (record { no_edges = refl; goes_on = refl }) refl;
-  sets_performed = λ pointer signature reading plain calls a b c x y z has are done reads may.
-      let ledger : Ledger = ledger_of calls in
+  sets = λ pointer signature a b c x y z has.
+      line_stands pointer (set_line signature pointer a b c x y z) (λ reading. ReadsThree reading a b c x y z)
+      (λ place. (record { no_edges = refl; goes_on = refl }, tt)) (λ place. record { no_edges = refl; goes_on = refl }) (record { no_edges = refl; goes_on = refl }) (λ place. refl)
+      (λ reading later keeps reads. three_read reading later keeps a b c x y z reads)
+      (λ reading plain ledger joined reads may.
       let ready = and_parts (is_open ledger ledger.current && list_all (has_value ledger) (x ∷ y ∷ z ∷ []) && true) (can_emit (Bytes (CallLibrary Memset)) pointer) may in
       let pointed = and_parts (is_pointer pointer) true ready.1 in
-      (done, set_done pointer signature has a b c x y z reading (ledger_after plain) ledger (joined_calls reading plain calls are) reads pointed.0);
-  fills_joined = λ pointer signature fill filling number reading plain calls a x are may.
-      Emitting AreGenerated reading plain calls (fill_first pointer filling number (length (ledger_after plain).answers)) (fill_last signature (length (ledger_after plain).answers) a) (fill_emission fill pointer x) are
-      (emission_placed reading (ledger_after plain) (ledger_of calls) (joined_calls reading plain calls are) (fill_emission fill pointer x) may)
-      (record { no_edges = refl; goes_on = refl }, (record { no_edges = refl; goes_on = refl }, (record { no_edges = refl; goes_on = refl }, tt))) (record { no_edges = refl; goes_on = refl })
-      (record { no_edges = refl; goes_on = refl }) refl;
-  fills_performed = λ pointer signature fill filling number reading plain calls a x has filling_is constant are done read may.
-      let ledger : Ledger = ledger_of calls in
+      set_done pointer signature has a b c x y z reading plain ledger joined reads pointed.0);
+  fills = λ pointer signature fill filling number a x has filling_is constant.
+      line_stands pointer (fill_line fill signature pointer filling number a x) (λ reading. IsReadAs reading a x)
+      (λ place. (record { no_edges = refl; goes_on = refl }, (record { no_edges = refl; goes_on = refl }, (record { no_edges = refl; goes_on = refl }, tt))))
+      (λ place. record { no_edges = refl; goes_on = refl }) (record { no_edges = refl; goes_on = refl }) (λ place. refl)
+      (λ reading later keeps read. keeps a x read)
+      (λ reading plain ledger joined read may.
       let ready = and_parts (is_open ledger ledger.current && list_all (has_value ledger) (x ∷ []) && true) (can_emit (Bytes (Fill fill)) pointer) may in
       let pointed = and_parts (is_pointer pointer) (can_emit_bytes (Fill fill) pointer) ready.1 in
-      (done, fill_done pointer signature fill filling number has filling_is constant a x reading (ledger_after plain) ledger (joined_calls reading plain calls are) read pointed.0);
+      fill_done pointer signature fill filling number has filling_is constant a x reading plain ledger joined read pointed.0);
   loads_joined = λ pointer ty compare reading plain calls a b x y are may.
-      Emitting AreGiven reading plain calls (loads_first compare ty a b) (loads_last compare ty (length (ledger_after plain).answers)) (compare_emission compare pointer x y) are
-      (emission_placed reading (ledger_after plain) (ledger_of calls) (joined_calls reading plain calls are) (compare_emission compare pointer x y) may)
+      Emitting AreGiven reading plain calls [] (loads_first compare ty a b) (loads_last compare ty (length (ledger_after plain).answers)) (compare_emission compare pointer x y) are
+      (emission_placed reading (ledger_after plain) (ledger_of calls) (joined_calls reading plain calls are) [] (compare_emission compare pointer x y) may)
       (record { no_edges = refl; goes_on = refl }, (record { no_edges = refl; goes_on = refl }, tt)) (record { no_edges = refl; goes_on = refl }) (record { no_edges = refl; goes_on = refl }) refl;
   loads_performed = λ pointer ty compare reading plain calls a b x y int has are done reads may.
       let ledger : Ledger = ledger_of calls in

@@ -21,23 +21,22 @@ use Rattle.clif_meaning.specs.Request.{Script}
 use Rattle.clif_expansion.specs.Code.{PerformsItem}
 use Rattle.clif_expansion.specs.Constants.{computing}
 use Rattle.clif_expansion.specs.Emission.{AreGenerated, AreGiven, building, reading_behind, reading_generated, results_as}
-use Rattle.clif_expansion.specs.JoinedCalls.{Emitting}
 use Rattle.clif_expansion.specs.JoinedPrograms.{built_items}
 use Rattle.clif_expansion.specs.Joining.{IsJoined}
 use Rattle.clif_expansion.specs.Laying.{IsLaid}
 use Rattle.clif_expansion.specs.PerformedCalls.{HaveTypes, IsPerformed}
 use Rattle.clif_expansion.specs.Reading.{Generated, IsReadAs, Reading}
 use Rattle.clif_expansion.specs.ScriptCall.{can_emit, can_emit_bytes, emitted_item, emitted_types, is_pointer, ledger_of}
-use Rattle.clif_expansion.proofs.EmittedPrograms.{emitted_before, emitted_inner, emitted_result, one_longer}
-use Rattle.clif_expansion.proofs.JoinedCalls.{emission_placed, joined_calls}
+use Rattle.clif_expansion.proofs.EmittedPrograms.{emitted_before, emitted_inner, emitted_none, emitted_result, one_longer}
 use Rattle.clif_expansion.proofs.Joins.{answers_last, read_there}
 use Rattle.clif_expansion.proofs.LedgerTypes.{types_before}
-use Rattle.clif_helper_calls.specs.KnownStanding.{KnownCallsStand, compare_emission, compare_first, compare_last, copy_emission, copy_first, copy_last}
+use Rattle.clif_helper_calls.specs.KnownStanding.{KnownCallsStand, compare_emission, compare_first, compare_last, compare_line, copy_emission, copy_first, copy_last, copy_line}
 use Rattle.clif_helper_calls.specs.LibraryCodes.{IsConstant, calling, compare_call_code, copy_call_code, copying_function, i32}
 use Rattle.clif_helper_calls.specs.PerformingCalls.{HasSignature, ReadsTwo}
 use Rattle.clif_helper_calls.proofs.Known.{known_calls_are_performed}
 use Rattle.clif_helper_calls.proofs.Laid.{codes_are_laid}
-use Rattle.clif_helper_calls.proofs.Standing.{own_pointer, three_pointers}
+use Rattle.clif_helper_calls.proofs.Lines.{line_stands}
+use Rattle.clif_helper_calls.proofs.Standing.{own_pointer, three_pointers, two_read}
 
 pub pointer_is_int : (pointer : «Type») → is_pointer pointer ≡ true → IsTrue (is_int pointer)
 pointer_is_int type.Invalid is = cc
@@ -63,17 +62,6 @@ answer_typed plain instruction more types ty place here gives have =
 
 pub longer : (plain : Ledger) (instruction : Instruction Name Name) → length (ledger_with plain (building instruction)).answers ≡ suc (length plain.answers)
 longer plain instruction = one_longer plain.answers (answers_to plain (building instruction))
-
--- the last call's answers are generated, where they are said to be
-pub last_generated : (reading : Reading) (plain ledger : Ledger) (code : List (Instruction Name Name)) (place index : ℕ) → place ≡ length plain.answers + length code
-    → reading_behind AreGenerated reading plain ledger code (answer_of place index) ≡ Generated
-last_generated reading plain ledger [] place index is =
-    let here : place ≡ length plain.answers = omega (arith, is) in
-    ap (λ (n : ℕ). reading_behind AreGenerated reading plain ledger [] (answer_of n index)) here
-    ∙ read_there reading (length plain.answers) index (results_as AreGenerated (length ledger.answers))
-last_generated reading plain ledger (first ∷ code) place index is =
-    let more = longer plain first in
-    last_generated (reading_generated reading plain) (ledger_with plain (building first)) ledger code place index (omega (arith, is, more))
 
 copying_returns : (no_overlap : Bool) (pointer : «Type») → library_returns pointer (copying_function no_overlap) ≡ pointer ∷ []
 copying_returns true pointer = refl
@@ -116,7 +104,7 @@ module _ (pointer : «Type») (signature : SignatureShape) (copy : CopyShape) (n
     performs = λ types have' have.
         subst (λ (items : List Item). PerformsItem (bits_of pointer) behind types items (emitted_item (length ledger.answers) (copy_emission copy pointer x y))) (sym copy_built)
         (known_calls_are_performed.copies (bits_of pointer) behind types pointer signature copy number n a b x y (answer_of n 1) (answer_of (suc n) 1) refl has constant reads_behind
-        (emitted_inner AreGenerated reading plain ledger code n 0 1 (omega arith) (omega arith)) (last_generated reading plain ledger code (suc n) 1 (omega arith)));
+        (emitted_inner AreGenerated reading plain ledger code n 0 1 (omega arith) (omega arith)) (emitted_none reading plain ledger code (suc n) 1 (omega arith)));
     laid = λ program.
         subst (λ (items : List Item). IsLaid behind program items (emitted_item (length ledger.answers) (copy_emission copy pointer x y))) (sym copy_built)
         (codes_are_laid.copy_calls behind program copy.no_overlap signature pointer number n (length ledger.answers) (Bytes (Copy copy)) a b x y (answer_of n 1) (answer_of (suc n) 1) reads_behind);
@@ -239,23 +227,20 @@ module _ (pointer : «Type») (signature : SignatureShape) (compare : CompareSha
 
 pub known_calls_stand : KnownCallsStand
 known_calls_stand = record {
-  copies_joined = λ pointer signature copy number reading plain calls a b x y are may.
-      Emitting AreGenerated reading plain calls (copy_first pointer number) (copy_last copy signature (length (ledger_after plain).answers) a b) (copy_emission copy pointer x y) are
-      (emission_placed reading (ledger_after plain) (ledger_of calls) (joined_calls reading plain calls are) (copy_emission copy pointer x y) may)
-      (record { no_edges = refl; goes_on = refl }, tt) (record { no_edges = refl; goes_on = refl }) (record { no_edges = refl; goes_on = refl }) refl;
-  copies_performed = λ pointer signature copy number reading plain calls a b x y has constant are done reads may.
-      let ledger : Ledger = ledger_of calls in
+  copies = λ pointer signature copy number a b x y has constant.
+      line_stands pointer (copy_line copy signature pointer number a b x y) (λ reading. ReadsTwo reading a b x y)
+      (λ place. (record { no_edges = refl; goes_on = refl }, tt)) (λ place. record { no_edges = refl; goes_on = refl }) (record { no_edges = refl; goes_on = refl }) (λ place. refl)
+      (λ reading later keeps reads. two_read reading later keeps a b x y reads)
+      (λ reading plain ledger joined reads may.
       let ready = and_parts (is_open ledger ledger.current && list_all (has_value ledger) (x ∷ y ∷ []) && true) (can_emit (Bytes (Copy copy)) pointer) may in
       let pointed = and_parts (is_pointer pointer) (can_emit_bytes (Copy copy) pointer) ready.1 in
-      (done, copy_done pointer signature copy number has constant a b x y reading (ledger_after plain) ledger (joined_calls reading plain calls are) reads pointed.0);
-  compares_joined = λ pointer signature compare number reading plain calls a b x y are may.
-      Emitting AreGiven reading plain calls (compare_first signature pointer number (length (ledger_after plain).answers) a b) (compare_last compare (length (ledger_after plain).answers))
-      (compare_emission compare pointer x y) are
-      (emission_placed reading (ledger_after plain) (ledger_of calls) (joined_calls reading plain calls are) (compare_emission compare pointer x y) may)
-      (record { no_edges = refl; goes_on = refl }, (record { no_edges = refl; goes_on = refl }, (record { no_edges = refl; goes_on = refl }, tt))) (record { no_edges = refl; goes_on = refl })
-      (record { no_edges = refl; goes_on = refl }) refl;
-  compares_performed = λ pointer signature compare number reading plain calls a b x y has constant are done reads may.
-      let ledger : Ledger = ledger_of calls in
+      copy_done pointer signature copy number has constant a b x y reading plain ledger joined reads pointed.0);
+  compares = λ pointer signature compare number a b x y has constant.
+      line_stands pointer (compare_line compare signature pointer number a b x y) (λ reading. ReadsTwo reading a b x y)
+      (λ place. (record { no_edges = refl; goes_on = refl }, (record { no_edges = refl; goes_on = refl }, (record { no_edges = refl; goes_on = refl }, tt))))
+      (λ place. record { no_edges = refl; goes_on = refl }) (record { no_edges = refl; goes_on = refl }) (λ place. refl)
+      (λ reading later keeps reads. two_read reading later keeps a b x y reads)
+      (λ reading plain ledger joined reads may.
       let ready = and_parts (is_open ledger ledger.current && list_all (has_value ledger) (x ∷ y ∷ []) && true) (can_emit (Bytes (CompareBytes compare)) pointer) may in
-      (done, compare_done pointer signature compare number has constant a b x y reading (ledger_after plain) ledger (joined_calls reading plain calls are) reads ready.1);
+      compare_done pointer signature compare number has constant a b x y reading plain ledger joined reads ready.1);
 }

@@ -5,6 +5,7 @@ pub mod Called
 pub mod Known
 pub mod Loads
 pub mod Laid
+pub mod Lines
 pub mod Standing
 pub mod KnownStanding
 pub mod FillStanding

@@ -28,7 +28,7 @@ use Rattle.clif_expansion.specs.Laying.{IsLaid}
 use Rattle.clif_expansion.specs.PerformedCalls.{HaveTypes, IsPerformed, IsTypedInLine}
 use Rattle.clif_expansion.specs.Reading.{Generated, IsReadAs, Reading}
 use Rattle.clif_expansion.specs.ScriptCall.{Emit, can_emit, can_emit_bytes, is_pointer, ledger_of}
-use Rattle.clif_expansion.proofs.EmittedPrograms.{emitted_before, emitted_inner}
+use Rattle.clif_expansion.proofs.EmittedPrograms.{emitted_before, emitted_inner, emitted_none}
 use Rattle.clif_expansion.proofs.JoinedCalls.{emission_placed, joined_calls}
 use Rattle.clif_expansion.proofs.LedgerTypes.{call_types_before, types_before}
 use Rattle.clif_helper_calls.specs.Codes.{AreDistinct, copy_code, copy_flags, doing, fill_code, fill_flags, load_pieces, store_pieces}
@@ -38,7 +38,7 @@ use Rattle.clif_helper_calls.specs.Performing.{HasAccesses}
 use Rattle.clif_helper_calls.specs.PerformingCalls.{ReadsTwo}
 use Rattle.clif_helper_calls.specs.PieceStanding.{PiecesStand, copy_instructions, fill_instructions, load_instructions, piece_names, store_instructions}
 use Rattle.clif_helper_calls.proofs.FillStanding.{addressed, int_is_type, one_of_two, typed_alike}
-use Rattle.clif_helper_calls.proofs.KnownStanding.{answer_typed, last_generated, longer}
+use Rattle.clif_helper_calls.proofs.KnownStanding.{answer_typed, longer}
 use Rattle.clif_helper_calls.proofs.Laid.{codes_are_laid}
 use Rattle.clif_helper_calls.proofs.Performed.{pieces_are_performed}
 
@@ -161,7 +161,7 @@ all_generated reading plain ledger code place k here few = by (cases_lt k (lengt
   where
     by : (k < length code) ⊎ (length code ≤ k) → reading_behind AreGenerated reading plain ledger code (answer_of place 1) ≡ Generated
     by (inl below) = emitted_inner AreGenerated reading plain ledger code place k 1 here below
-    by (inr last) = last_generated reading plain ledger code place 1 (omega (arith, here, few, last))
+    by (inr last) = emitted_none reading plain ledger code place 1 (omega (arith, here, few, last))
 
 names_generated : (reading : Reading) (plain ledger : Ledger) (code : List (Instruction Name Name)) (place k count : ℕ) → place ≡ length plain.answers + k → k + count ≤ suc (length code)
     → AllByRecursion (λ name. reading_behind AreGenerated reading plain ledger code name ≡ Generated) (piece_names place count)
@@ -235,7 +235,7 @@ module _ (pointer ty : «Type») (copy : CopyShape) (count : ℕ) (a b x y : Nam
   copy_done = record {
     performs = λ types have' have.
         let before' : HaveTypes plain types.plain = types_before plain (map building code ++ building last ∷ []) types.plain have' in
-        let before : HaveTypes ledger types.script = call_types_before ledger (Emit (copy_emission copy pointer x y)) types.script have in
+        let before : HaveTypes ledger types.script = call_types_before ledger (Emit [] (copy_emission copy pointer x y)) types.script have in
         subst (λ (items : List Item). PerformsItem (bits_of pointer) behind types items emitted) (sym copy_built)
         (pieces_are_performed.copies (bits_of pointer) behind types pointer ty copy n names a b x y refl may accesses
         (record {
@@ -298,7 +298,7 @@ module _ (pointer ty : «Type») (fill : FillShape) (number : ℤ) (count : ℕ)
   fill_done = record {
     performs = λ types have' have.
         let before' : HaveTypes plain types.plain = types_before plain (map building code ++ building last ∷ []) types.plain have' in
-        let before : HaveTypes ledger types.script = call_types_before ledger (Emit (fill_emission fill pointer x)) types.script have in
+        let before : HaveTypes ledger types.script = call_types_before ledger (Emit [] (fill_emission fill pointer x)) types.script have in
         subst (λ (items : List Item). PerformsItem (bits_of pointer) past types items emission) (sym fill_built)
         (pieces_are_performed.fills (bits_of pointer) past types pointer ty fill m number count a x (answer_of m 1) refl may has repeats
         (record {
@@ -344,8 +344,8 @@ pub pieces_stand : PiecesStand
 pieces_stand = record {
   copies_joined = λ pointer ty copy count reading plain calls a b x y code last is are may.
       let line = line_of code last (copy_instructions copy ty a b (length (ledger_after plain).answers) count) is (copies_stay copy ty a b (length (ledger_after plain).answers) count) in
-      Emitting AreGenerated reading plain calls code last (copy_emission copy pointer x y) are
-      (emission_placed reading (ledger_after plain) (ledger_of calls) (joined_calls reading plain calls are) (copy_emission copy pointer x y) may)
+      Emitting AreGenerated reading plain calls [] code last (copy_emission copy pointer x y) are
+      (emission_placed reading (ledger_after plain) (ledger_of calls) (joined_calls reading plain calls are) [] (copy_emission copy pointer x y) may)
       line.0 line.1 (record { no_edges = refl; goes_on = refl }) refl;
   copies_performed = λ pointer ty copy count reading plain calls a b x y code last is int has are done reads may.
       let ledger : Ledger = ledger_of calls in
@@ -358,8 +358,8 @@ pieces_stand = record {
       );
   fills_joined = λ pointer ty fill number count reading plain calls a x code last is are may.
       let line = line_of code last (fill_instructions fill ty number a (length (ledger_after plain).answers) count) is (fills_stay fill ty number a (length (ledger_after plain).answers) count) in
-      Emitting AreGenerated reading plain calls code last (fill_emission fill pointer x) are
-      (emission_placed reading (ledger_after plain) (ledger_of calls) (joined_calls reading plain calls are) (fill_emission fill pointer x) may)
+      Emitting AreGenerated reading plain calls [] code last (fill_emission fill pointer x) are
+      (emission_placed reading (ledger_after plain) (ledger_of calls) (joined_calls reading plain calls are) [] (fill_emission fill pointer x) may)
       line.0 line.1 (record { no_edges = refl; goes_on = refl }) refl;
   fills_performed = λ pointer ty fill number count reading plain calls a x code last is int has repeats are done read may.
       let ledger : Ledger = ledger_of calls in

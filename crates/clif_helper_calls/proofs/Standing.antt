@@ -13,27 +13,26 @@ use Rattle.clif_tables.specs.Callees.{types_of}
 use Rattle.clif_meaning.specs.Acceptance.{is_open}
 use Rattle.clif_meaning.specs.ByteOperation.{CallLibrary}
 use Rattle.clif_meaning.specs.Instruction.{Bytes, Instruction}
-use Rattle.clif_meaning.specs.Ledger.{Ledger, has_value, ledger_after}
+use Rattle.clif_meaning.specs.Ledger.{Ledger, has_value}
 use Rattle.clif_meaning.specs.Library.{library_parameters, library_returns, pointer_of}
 use Rattle.clif_meaning.specs.Name.{Name, answer_of}
 use Rattle.clif_meaning.specs.Program.{Item, Instruct, Program, answers_from}
 use Rattle.clif_expansion.specs.Code.{NameTypes, PerformsItem}
 use Rattle.clif_expansion.specs.Emission.{AreAnswered, AreGenerated, AreGiven, LastResults, StaysInLine, reading_behind, results_as}
-use Rattle.clif_expansion.specs.JoinedCalls.{Emitting}
 use Rattle.clif_expansion.specs.JoinedPrograms.{built_items}
 use Rattle.clif_expansion.specs.Joining.{IsJoined}
 use Rattle.clif_expansion.specs.Laying.{IsLaid}
 use Rattle.clif_expansion.specs.PerformedCalls.{IsPerformed, IsTypedInLine}
 use Rattle.clif_expansion.specs.Reading.{IsReadAs, Reading}
-use Rattle.clif_expansion.specs.ScriptCall.{can_emit, emitted_item, is_pointer, ledger_of}
+use Rattle.clif_expansion.specs.ScriptCall.{can_emit, emitted_item, is_pointer}
 use Rattle.clif_expansion.proofs.EmittedPrograms.{emitted_before}
-use Rattle.clif_expansion.proofs.JoinedCalls.{emission_placed, joined_calls}
-use Rattle.clif_expansion.proofs.Joins.{read_there}
+use Rattle.clif_expansion.proofs.Joins.{KeepsReading, read_there}
 use Rattle.clif_helper_calls.specs.LibraryCodes.{call_code, calling}
-use Rattle.clif_helper_calls.specs.PerformingCalls.{HasSignature, ReadsThree}
-use Rattle.clif_helper_calls.specs.Standing.{SingleCallsStand, StandsForEmission, library_emission}
+use Rattle.clif_helper_calls.specs.PerformingCalls.{HasSignature, ReadsThree, ReadsTwo}
+use Rattle.clif_helper_calls.specs.Standing.{SingleCallsStand, StandsForEmission, library_emission, single_line}
 use Rattle.clif_helper_calls.proofs.Called.{calls_are_performed}
 use Rattle.clif_helper_calls.proofs.Laid.{codes_are_laid}
+use Rattle.clif_helper_calls.proofs.Lines.{line_stands}
 
 -- a type of pointers is that of its width
 pub own_pointer : (pointer : «Type») → is_pointer pointer ≡ true → pointer_of (bits_of pointer) ≡ pointer
@@ -51,6 +50,17 @@ own_pointer (type.Lane lane.F128) is = cc
 
 pub three_pointers : (a b c pointer own : «Type») → a ≡ pointer → b ≡ pointer → c ≡ pointer → own ≡ pointer → a ∷ b ∷ c ∷ [] ≡ own ∷ own ∷ own ∷ []
 three_pointers a b c pointer own first second third is = cc
+
+-- names that are read stay so
+pub three_read : (reading later : Reading) → KeepsReading reading later → (a b n x y z : Name) → ReadsThree reading a b n x y z → ReadsThree later a b n x y z
+three_read reading later keeps a b n x y z reads = record {
+  first_read = keeps a x reads.first_read;
+  second_read = keeps b y reads.second_read;
+  third_read = keeps n z reads.third_read;
+}
+
+pub two_read : (reading later : Reading) → KeepsReading reading later → (a b x y : Name) → ReadsTwo reading a b x y → ReadsTwo later a b x y
+two_read reading later keeps a b x y reads = record { first_read = keeps a x reads.first_read; second_read = keeps b y reads.second_read }
 
 module _ (how : LastResults) (callee : LibCall)
     (parameters : (pointer : «Type») → library_parameters pointer callee ≡ pointer ∷ pointer ∷ pointer ∷ [])
@@ -123,18 +133,15 @@ module _ (how : LastResults) (callee : LibCall)
       }
 
   stands : StandsForEmission how callee
-  stands = record {
-    joined = λ pointer signature reading plain calls a b n x y z has are may.
-        Emitting how reading plain calls [] (calling callee signature a b n) (library_emission callee pointer x y z) are
-        (emission_placed reading (ledger_after plain) (ledger_of calls) (joined_calls reading plain calls are) (library_emission callee pointer x y z) may)
-        tt (record { no_edges = refl; goes_on = refl }) (whole_stays pointer x y z)
-        (answered pointer signature a b n x y z (has.returns ∙ returns (pointer_of (bits_of pointer))));
-    performed = λ pointer signature reading plain calls a b n x y z has are done_before reads may.
-        let ledger : Ledger = ledger_of calls in
-        let ready = and_parts (is_open ledger ledger.current && list_all (has_value ledger) (x ∷ y ∷ z ∷ []) && true) (can_emit (Bytes (CallLibrary callee)) pointer) may in
-        let pointed = and_parts (is_pointer pointer) true (sym (emits pointer) ∙ ready.1) in
-        (done_before, done pointer signature has a b n x y z reading (ledger_after plain) ledger (joined_calls reading plain calls are) reads pointed.0);
-  }
+  stands pointer signature a b n x y z has =
+      line_stands pointer (single_line how callee signature pointer a b n x y z) (λ reading. ReadsThree reading a b n x y z)
+      (λ place. tt) (λ place. record { no_edges = refl; goes_on = refl }) (whole_stays pointer x y z)
+      (λ place. answered pointer signature a b n x y z (has.returns ∙ returns (pointer_of (bits_of pointer))))
+      (λ reading later keeps reads. three_read reading later keeps a b n x y z reads)
+      (λ reading plain ledger joined reads may.
+      let ready = and_parts (is_open ledger ledger.current && list_all (has_value ledger) (x ∷ y ∷ z ∷ []) && true) (can_emit (Bytes (CallLibrary callee)) pointer) may in
+      let pointed = and_parts (is_pointer pointer) true (sym (emits pointer) ∙ ready.1) in
+      done pointer signature has a b n x y z reading plain ledger joined reads pointed.0)
 
 pub single_calls_stand : SingleCallsStand
 single_calls_stand = record {

@@ -21,6 +21,7 @@ use Rattle.clif_expansion.specs.ScriptCall.{Emit, ScriptCall, call_allowed, ledg
 use Rattle.clif_helper_calls.specs.Codes.{doing, flags_where}
 use Rattle.clif_helper_calls.specs.KnownStanding.{compare_emission, next_place}
 use Rattle.clif_helper_calls.specs.LibraryCodes.{IsConstant, calling, i32, i8}
+use Rattle.clif_helper_calls.specs.Lines.{Line, LineStands}
 use Rattle.clif_helper_calls.specs.Performing.{HasLoads}
 use Rattle.clif_helper_calls.specs.PerformingCalls.{HasSignature, ReadsThree, ReadsTwo}
 use Rattle.clif_helper_calls.specs.Standing.{library_emission}
@@ -52,50 +53,43 @@ loads_first compare ty left right =
 abbrev pub loads_last : CompareShape → «Type» → (place : ℕ) → Instruction Name Name
 loads_last compare ty place = computing (Compare compare.condition) ty (answer_of place 1 ∷ answer_of (suc place) 1 ∷ [])
 
+-- the lines of `Memset`, with a byte and a size that are values, and with known ones
+abbrev pub set_line : SignatureShape → «Type» → (target byte size given_target given_byte given_size : Name) → Line
+set_line signature pointer target byte size given_target given_byte given_size = record {
+  how = AreGenerated;
+  code = λ place. set_first byte;
+  last = λ place. set_last signature place target size;
+  emission = library_emission Memset pointer given_target given_byte given_size;
+}
+
+abbrev pub fill_line : FillShape → SignatureShape → «Type» → (filling number : ℤ) (target given_target : Name) → Line
+fill_line fill signature pointer filling number target given_target = record {
+  how = AreGenerated;
+  code = λ place. fill_first pointer filling number place;
+  last = λ place. fill_last signature place target;
+  emission = fill_emission fill pointer given_target;
+}
+
 pub record FillCallsStand : Type 0 where
-  pub sets_joined : (pointer : «Type») (signature : SignatureShape) (reading : Reading) (plain : Script) (calls : List ScriptCall)
-      (target byte size given_target given_byte given_size : Name)
-      → AreJoinedCalls reading plain calls → IsTrue (call_allowed (ledger_of calls) (Emit (library_emission Memset pointer given_target given_byte given_size)))
-      → AreJoinedCalls (reading_behind AreGenerated reading (ledger_after plain) (ledger_of calls) (set_first byte))
-      (plain ++ (map building (set_first byte) ++ building (set_last signature (next_place plain) target size) ∷ []))
-      (calls ++ Emit (library_emission Memset pointer given_target given_byte given_size) ∷ [])
-  pub sets_performed : (pointer : «Type») (signature : SignatureShape) (reading : Reading) (plain : Script) (calls : List ScriptCall)
-      (target byte size given_target given_byte given_size : Name)
+  pub sets : (pointer : «Type») (signature : SignatureShape) (target byte size given_target given_byte given_size : Name)
       → HasSignature (bits_of pointer) Memset signature
-      → (are : AreJoinedCalls reading plain calls) → ArePerformed (bits_of pointer) reading plain calls are
-      → ReadsThree reading target byte size given_target given_byte given_size
-      → (may : IsTrue (call_allowed (ledger_of calls) (Emit (library_emission Memset pointer given_target given_byte given_size))))
-      → ArePerformed (bits_of pointer) (reading_behind AreGenerated reading (ledger_after plain) (ledger_of calls) (set_first byte))
-      (plain ++ (map building (set_first byte) ++ building (set_last signature (next_place plain) target size) ∷ []))
-      (calls ++ Emit (library_emission Memset pointer given_target given_byte given_size) ∷ [])
-      (sets_joined pointer signature reading plain calls target byte size given_target given_byte given_size are may)
-  pub fills_joined : (pointer : «Type») (signature : SignatureShape) (fill : FillShape) (filling number : ℤ) (reading : Reading) (plain : Script) (calls : List ScriptCall)
-      (target given_target : Name)
-      → AreJoinedCalls reading plain calls → IsTrue (call_allowed (ledger_of calls) (Emit (fill_emission fill pointer given_target)))
-      → AreJoinedCalls (reading_behind AreGenerated reading (ledger_after plain) (ledger_of calls) (fill_first pointer filling number (next_place plain)))
-      (plain ++ (map building (fill_first pointer filling number (next_place plain)) ++ building (fill_last signature (next_place plain) target) ∷ []))
-      (calls ++ Emit (fill_emission fill pointer given_target) ∷ [])
-  pub fills_performed : (pointer : «Type») (signature : SignatureShape) (fill : FillShape) (filling number : ℤ) (reading : Reading) (plain : Script) (calls : List ScriptCall)
-      (target given_target : Name)
+      → LineStands pointer (set_line signature pointer target byte size given_target given_byte given_size)
+      (λ reading. ReadsThree reading target byte size given_target given_byte given_size)
+  pub fills : (pointer : «Type») (signature : SignatureShape) (fill : FillShape) (filling number : ℤ) (target given_target : Name)
       → HasSignature (bits_of pointer) Memset signature → IsConstant i8 filling fill.byte → IsConstant pointer number fill.size
-      → (are : AreJoinedCalls reading plain calls) → ArePerformed (bits_of pointer) reading plain calls are → IsReadAs reading target given_target
-      → (may : IsTrue (call_allowed (ledger_of calls) (Emit (fill_emission fill pointer given_target))))
-      → ArePerformed (bits_of pointer) (reading_behind AreGenerated reading (ledger_after plain) (ledger_of calls) (fill_first pointer filling number (next_place plain)))
-      (plain ++ (map building (fill_first pointer filling number (next_place plain)) ++ building (fill_last signature (next_place plain) target) ∷ []))
-      (calls ++ Emit (fill_emission fill pointer given_target) ∷ [])
-      (fills_joined pointer signature fill filling number reading plain calls target given_target are may)
+      → LineStands pointer (fill_line fill signature pointer filling number target given_target) (λ reading. IsReadAs reading target given_target)
   pub loads_joined : (pointer ty : «Type») (compare : CompareShape) (reading : Reading) (plain : Script) (calls : List ScriptCall)
       (left right given_left given_right : Name)
-      → AreJoinedCalls reading plain calls → IsTrue (call_allowed (ledger_of calls) (Emit (compare_emission compare pointer given_left given_right)))
+      → AreJoinedCalls reading plain calls → IsTrue (call_allowed (ledger_of calls) (Emit [] (compare_emission compare pointer given_left given_right)))
       → AreJoinedCalls (reading_behind AreGiven reading (ledger_after plain) (ledger_of calls) (loads_first compare ty left right))
       (plain ++ (map building (loads_first compare ty left right) ++ building (loads_last compare ty (next_place plain)) ∷ []))
-      (calls ++ Emit (compare_emission compare pointer given_left given_right) ∷ [])
+      (calls ++ Emit [] (compare_emission compare pointer given_left given_right) ∷ [])
   pub loads_performed : (pointer ty : «Type») (compare : CompareShape) (reading : Reading) (plain : Script) (calls : List ScriptCall)
       (left right given_left given_right : Name)
       → IsTrue (is_int ty) → HasLoads ty compare
       → (are : AreJoinedCalls reading plain calls) → ArePerformed (bits_of pointer) reading plain calls are → ReadsTwo reading left right given_left given_right
-      → (may : IsTrue (call_allowed (ledger_of calls) (Emit (compare_emission compare pointer given_left given_right))))
+      → (may : IsTrue (call_allowed (ledger_of calls) (Emit [] (compare_emission compare pointer given_left given_right))))
       → ArePerformed (bits_of pointer) (reading_behind AreGiven reading (ledger_after plain) (ledger_of calls) (loads_first compare ty left right))
       (plain ++ (map building (loads_first compare ty left right) ++ building (loads_last compare ty (next_place plain)) ∷ []))
-      (calls ++ Emit (compare_emission compare pointer given_left given_right) ∷ [])
+      (calls ++ Emit [] (compare_emission compare pointer given_left given_right) ∷ [])
       (loads_joined pointer ty compare reading plain calls left right given_left given_right are may)

@@ -3,6 +3,7 @@ pub mod Performing
 pub mod LibraryCodes
 pub mod PerformingCalls
 pub mod Laying
+pub mod Lines
 pub mod Standing
 pub mod KnownStanding
 pub mod FillStanding

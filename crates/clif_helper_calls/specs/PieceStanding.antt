@@ -55,30 +55,30 @@ pub record PiecesStand : Type 0 where
   pub copies_joined : (pointer ty : «Type») (copy : CopyShape) (count : ℕ) (reading : Reading) (plain : Script) (calls : List ScriptCall)
       (target source given_target given_source : Name) (code : List (Instruction Name Name)) (last : Instruction Name Name)
       → code ++ last ∷ [] ≡ copy_instructions copy ty target source (next_place plain) count
-      → AreJoinedCalls reading plain calls → IsTrue (call_allowed (ledger_of calls) (Emit (copy_emission copy pointer given_target given_source)))
+      → AreJoinedCalls reading plain calls → IsTrue (call_allowed (ledger_of calls) (Emit [] (copy_emission copy pointer given_target given_source)))
       → AreJoinedCalls (reading_behind AreGenerated reading (ledger_after plain) (ledger_of calls) code)
-      (plain ++ (map building code ++ building last ∷ [])) (calls ++ Emit (copy_emission copy pointer given_target given_source) ∷ [])
+      (plain ++ (map building code ++ building last ∷ [])) (calls ++ Emit [] (copy_emission copy pointer given_target given_source) ∷ [])
   pub copies_performed : (pointer ty : «Type») (copy : CopyShape) (count : ℕ) (reading : Reading) (plain : Script) (calls : List ScriptCall)
       (target source given_target given_source : Name) (code : List (Instruction Name Name)) (last : Instruction Name Name)
       → (is : code ++ last ∷ [] ≡ copy_instructions copy ty target source (next_place plain) count)
       → IsTrue (is_int ty) → HasAccesses ty copy.size count
       → (are : AreJoinedCalls reading plain calls) → ArePerformed (bits_of pointer) reading plain calls are → ReadsTwo reading target source given_target given_source
-      → (may : IsTrue (call_allowed (ledger_of calls) (Emit (copy_emission copy pointer given_target given_source))))
+      → (may : IsTrue (call_allowed (ledger_of calls) (Emit [] (copy_emission copy pointer given_target given_source))))
       → ArePerformed (bits_of pointer) (reading_behind AreGenerated reading (ledger_after plain) (ledger_of calls) code)
-      (plain ++ (map building code ++ building last ∷ [])) (calls ++ Emit (copy_emission copy pointer given_target given_source) ∷ [])
+      (plain ++ (map building code ++ building last ∷ [])) (calls ++ Emit [] (copy_emission copy pointer given_target given_source) ∷ [])
       (copies_joined pointer ty copy count reading plain calls target source given_target given_source code last is are may)
   pub fills_joined : (pointer ty : «Type») (fill : FillShape) (number : ℤ) (count : ℕ) (reading : Reading) (plain : Script) (calls : List ScriptCall)
       (target given_target : Name) (code : List (Instruction Name Name)) (last : Instruction Name Name)
       → code ++ last ∷ [] ≡ fill_instructions fill ty number target (next_place plain) count
-      → AreJoinedCalls reading plain calls → IsTrue (call_allowed (ledger_of calls) (Emit (fill_emission fill pointer given_target)))
+      → AreJoinedCalls reading plain calls → IsTrue (call_allowed (ledger_of calls) (Emit [] (fill_emission fill pointer given_target)))
       → AreJoinedCalls (reading_behind AreGenerated reading (ledger_after plain) (ledger_of calls) code)
-      (plain ++ (map building code ++ building last ∷ [])) (calls ++ Emit (fill_emission fill pointer given_target) ∷ [])
+      (plain ++ (map building code ++ building last ∷ [])) (calls ++ Emit [] (fill_emission fill pointer given_target) ∷ [])
   pub fills_performed : (pointer ty : «Type») (fill : FillShape) (number : ℤ) (count : ℕ) (reading : Reading) (plain : Script) (calls : List ScriptCall)
       (target given_target : Name) (code : List (Instruction Name Name)) (last : Instruction Name Name)
       → (is : code ++ last ∷ [] ≡ fill_instructions fill ty number target (next_place plain) count)
       → IsTrue (is_int ty) → HasAccesses ty fill.size count → RepeatsByte ty fill.byte number
       → (are : AreJoinedCalls reading plain calls) → ArePerformed (bits_of pointer) reading plain calls are → IsReadAs reading target given_target
-      → (may : IsTrue (call_allowed (ledger_of calls) (Emit (fill_emission fill pointer given_target))))
+      → (may : IsTrue (call_allowed (ledger_of calls) (Emit [] (fill_emission fill pointer given_target))))
       → ArePerformed (bits_of pointer) (reading_behind AreGenerated reading (ledger_after plain) (ledger_of calls) code)
-      (plain ++ (map building code ++ building last ∷ [])) (calls ++ Emit (fill_emission fill pointer given_target) ∷ [])
+      (plain ++ (map building code ++ building last ∷ [])) (calls ++ Emit [] (fill_emission fill pointer given_target) ∷ [])
       (fills_joined pointer ty fill number count reading plain calls target given_target code last is are may)
