@@ -57,7 +57,7 @@ not-taken true true bits fails = let no_way : ⊥ = cc in absurd no_way
 not-taken true false bits fails = refl
 not-taken false integer bits fails = refl
 
-allowed-is : (naming : Naming) (ledger : Ledger) (called : ImmediateCall) → call_allowed ledger (Emit (emission_under naming ledger called))
+allowed-is : (naming : Naming) (ledger : Ledger) (called : ImmediateCall) → call_allowed ledger (Emit [] (emission_under naming ledger called))
     ≡ condition (acceptance.is_open ledger ledger.current) (has_value ledger (naming (operand_in called))) (is_int (operand_type naming ledger called)) (has_64_bits (constant_in called))
 allowed-is naming ledger (immediate.IaddImmS x imm) = refl
 allowed-is naming ledger (immediate.IcmpImmS cond x imm) = refl
@@ -66,7 +66,7 @@ allowed-is naming ledger (immediate.IcmpImmS cond x imm) = refl
 abbrev pub EmissionJudged : ImmediateCall → FunctionBuilder → List Answer → Bool → Type 0
 EmissionJudged called b answers allowed =
     (naming : Naming) (declared : SignatureShape) (calls : List AnsweredCall) → IsReady naming declared calls b answers
-    → call_allowed (ledger_of calls) (Emit (emission_under naming (ledger_of calls) called)) ≡ allowed
+    → call_allowed (ledger_of calls) (Emit [] (emission_under naming (ledger_of calls) called)) ≡ allowed
 
 pub none-judged : (called : ImmediateCall) (b : FunctionBuilder) (answers : List Answer) → value_of b.func.now answers (operand_in called) ≡ None → EmissionJudged called b answers false
 none-judged called b answers none naming declared calls ready =

@@ -224,13 +224,13 @@ module _ (naming : Naming) (count : ℕ) (plain : Script) (script : List ScriptC
   -- EMITTING --------------------------------------------------------------------------------------------------------------
 
   -- what is emitted may be where it may be with the builder's names, and its names are read then
-  emitted-with : (a b : Instruction named.Name named.Name) → IsReadInstruction wide a b → call_allowed plain_ledger (Emit a) ≡ call_allowed ledger (Emit b)
+  emitted-with : (a b : Instruction named.Name named.Name) → IsReadInstruction wide a b → call_allowed plain_ledger (Emit [] a) ≡ call_allowed ledger (Emit [] b)
   emitted-with a b is = elim (emitted wide all plain_ledger ledger each a b is) [
-    | inl read ↦ emission_same all plain_ledger ledger all-joined (whole-one reading plain_ledger ledger joined) a b read
+    | inl read ↦ emission_same all plain_ledger ledger all-joined (whole-one reading plain_ledger ledger joined) [] [] a b read
     | inr denied ↦ denied.0 ∙ sym denied.1
   ]
 
-  emitted-narrow : (a b : Instruction named.Name named.Name) → IsReadInstruction wide a b → call_allowed ledger (Emit b) ≡ true → IsReadInstruction reading a b
+  emitted-narrow : (a b : Instruction named.Name named.Name) → IsReadInstruction wide a b → call_allowed ledger (Emit [] b) ≡ true → IsReadInstruction reading a b
   emitted-narrow a b is may = elim (emitted wide all plain_ledger ledger each a b is) [
     | inl read ↦ narrowed-emission all reading plain_ledger ledger joined narrow a b read (emitted-with a b is ∙ may)
     | inr denied ↦ absurd (false≢true (sym denied.1 ∙ may))
@@ -255,14 +255,14 @@ module _ (naming : Naming) (count : ℕ) (plain : Script) (script : List ScriptC
     same-type : operand_type naming plain_ledger called ≡ ty
     same-type = type-same wide naming plain_ledger ledger tables-read reads-wide (operand_in called)
 
-    pub emitted-same : call_allowed plain_ledger (Emit (emission_under naming plain_ledger called)) ≡ call_allowed ledger (Emit emission)
+    pub emitted-same : call_allowed plain_ledger (Emit [] (emission_under naming plain_ledger called)) ≡ call_allowed ledger (Emit [] emission)
     emitted-same = emitted-with (emission_under naming plain_ledger called) emission emission-wide
 
     -- the operand's name was made
-    operand-read : call_allowed ledger (Emit emission) ≡ true → IsReadAs reading x name
+    operand-read : call_allowed ledger (Emit [] emission) ≡ true → IsReadAs reading x name
     operand-read may = (emitted-narrow (emission_under naming plain_ledger called) emission emission-wide may).operands.0
 
-    module _ (may : call_allowed ledger (Emit emission) ≡ true) (added : Script)
+    module _ (may : call_allowed ledger (Emit [] emission) ≡ true) (added : Script)
         (is : added ≡ plain_calls_under naming plain_ledger (length plain_ledger.answers) called)
         (extended : Naming) (last : ℕ) (at_end : length plain_ledger.answers + length added ≡ suc last)
         (earlier : (name : Name) → name.place < count → extended name ≡ naming name)
@@ -306,8 +306,8 @@ module _ (naming : Naming) (count : ℕ) (plain : Script) (script : List ScriptC
       ]
 
       -- one name more is known behind its plain calls
-      pub known-emitted : AreKnown extended (count + 1) (plain ++ added) (script ++ Emit emission ∷ [])
-      known-emitted = subst (λ (calls : Script). AreKnown extended (count + 1) (plain ++ calls) (script ++ Emit emission ∷ [])) same-calls (record {
+      pub known-emitted : AreKnown extended (count + 1) (plain ++ added) (script ++ Emit [] emission ∷ [])
+      known-emitted = subst (λ (calls : Script). AreKnown extended (count + 1) (plain ++ calls) (script ++ Emit [] emission ∷ [])) same-calls (record {
         calls = record {
           reading = reading_emitted reading plain_ledger ledger code;
           joined = (performed-by called).joined reading plain script ty x name known.calls.joined may;
@@ -316,7 +316,7 @@ module _ (naming : Naming) (count : ℕ) (plain : Script) (script : List ScriptC
         };
         full = reading_emitted full plain_ledger ledger code;
         keeps = emitted-full;
-        only = only-later plain_calls (Emit emission) (reading_emitted reading plain_ledger ledger code) (reading_emitted full plain_ledger ledger code) emitted-keeps
+        only = only-later plain_calls (Emit [] emission) (reading_emitted reading plain_ledger ledger code) (reading_emitted full plain_ledger ledger code) emitted-keeps
             (emitted-alike full reading plain_ledger ledger code);
         reads = λ n inside. by n (cases_lt n.place count) inside;
       })
@@ -333,13 +333,13 @@ module _ (naming : Naming) (count : ℕ) (plain : Script) (script : List ScriptC
     switch-wide : IsReadInstruction wide plain-switch switch
     switch-wide = switch-read wide naming plain_ledger ledger tables-read reads-wide entries value otherwise
 
-    pub switch-same : call_allowed plain_ledger (Emit plain-switch) ≡ call_allowed ledger (Emit switch)
+    pub switch-same : call_allowed plain_ledger (Emit [] plain-switch) ≡ call_allowed ledger (Emit [] switch)
     switch-same = emitted-with plain-switch switch switch-wide
 
-    pub switch-refused : is_some (call_refusal plain_ledger (Emit plain-switch)) ≡ is_some (call_refusal ledger (Emit switch))
+    pub switch-refused : is_some (call_refusal plain_ledger (Emit [] plain-switch)) ≡ is_some (call_refusal ledger (Emit [] switch))
     switch-refused = ap (λ (ty : «Type»). is_some (option_map OfSwitch (keys_refusal ty (keys_of entries)))) switch-wide.controlling
 
-    module _ (may : call_allowed ledger (Emit switch) ≡ true) (added : Script) (block from : named.Name) (ty : «Type») (keys : List ℕ) (edges : List (Edge named.Name named.Name)) (branches tables : ℕ)
+    module _ (may : call_allowed ledger (Emit [] switch) ≡ true) (added : Script) (block from : named.Name) (ty : «Type») (keys : List ℕ) (edges : List (Edge named.Name named.Name)) (branches tables : ℕ)
         (is : plain-switch ≡ switching keys ty from edges) (current : plain_ledger.current ≡ Some block) (code : IsSwitchCode plain added block from ty keys edges branches tables)
         (extended : Naming) (last : ℕ) (at_end : length plain + length added ≡ suc last) (given : List Answered)
         (at_given : slice_get (ledger_after (plain ++ added)).answers last ≡ Some given) (some : 0 < length added)
@@ -373,10 +373,10 @@ module _ (naming : Naming) (count : ℕ) (plain : Script) (script : List ScriptC
           across_before reading (length plain) (length added) x (omega (arith, inside, plain-many)) ∙ read
 
       -- a name behind all answers is one of neither side
-      behind-answers : (x name : named.Name) → x.place ≡ last → unanswered-at x.index ≡ ScriptName name → AreUnanswered (ledger_after (plain ++ added)) (ledger_of (script ++ Emit switch ∷ [])) x name
+      behind-answers : (x name : named.Name) → x.place ≡ last → unanswered-at x.index ≡ ScriptName name → AreUnanswered (ledger_after (plain ++ added)) (ledger_of (script ++ Emit [] switch ∷ [])) x name
       behind-answers x name here is = by (cases_lt x.index (length given))
         where
-          by : (x.index < length given) ⊎ (length given ≤ x.index) → AreUnanswered (ledger_after (plain ++ added)) (ledger_of (script ++ Emit switch ∷ [])) x name
+          by : (x.index < length given) ⊎ (length given ≤ x.index) → AreUnanswered (ledger_after (plain ++ added)) (ledger_of (script ++ Emit [] switch ∷ [])) x name
           by (inl answered) =
               let wrong : Generated ≡ ScriptName name =
               sym (ap (λ (c : Bool). if c then Generated else ScriptName (answer_of (length ledger.answers) (x.index - length given))) (lt-ltb x.index (length given) answered)) ∙ is in
@@ -386,34 +386,34 @@ module _ (naming : Naming) (count : ℕ) (plain : Script) (script : List ScriptC
               same_script (answer_of (length ledger.answers) (x.index - length given)) name
               (sym (ap (λ (c : Bool). if c then Generated else ScriptName (answer_of (length ledger.answers) (x.index - length given))) (le-ltb x.index (length given) past)) ∙ is) in
               let place : length ledger.answers ≡ name.place = ap (λ (n : named.Name). n.place) same in
-              let on : ledger_of (script ++ Emit switch ∷ []) ≡ ledger_with_call ledger (Emit switch) = fold_on ledger_with_call empty_ledger script (Emit switch ∷ []) in
+              let on : ledger_of (script ++ Emit [] switch ∷ []) ≡ ledger_with_call ledger (Emit [] switch) = fold_on ledger_with_call empty_ledger script (Emit [] switch ∷ []) in
               record {
                 plain_made =
                     let many = calls_made (plain ++ added) in
                     let both = length-append plain added in
                     omega (arith, here, many, both, at_end);
                 made =
-                    let longer = one_longer ledger.answers (call_answers ledger (Emit switch)) in
-                    let counted : length (ledger_of (script ++ Emit switch ∷ [])).answers ≡ length (ledger.answers ++ call_answers ledger (Emit switch) ∷ []) = ap (λ (l : Ledger). length l.answers) on in
+                    let longer = one_longer ledger.answers (call_answers ledger (Emit [] switch)) in
+                    let counted : length (ledger_of (script ++ Emit [] switch ∷ [])).answers ≡ length (ledger.answers ++ call_answers ledger (Emit [] switch) ∷ []) = ap (λ (l : Ledger). length l.answers) on in
                     omega (arith, place, longer, counted);
                 none_plain =
                     ap (λ (k : ℕ). option_and_then (λ (answers : List Answered). slice_get answers x.index) (slice_get (ledger_after (plain ++ added)).answers k)) here
                     ∙ ap (option_and_then (λ (answers : List Answered). slice_get answers x.index)) at_given ∙ slice_get_past given x.index past;
                 none =
                     ap (λ (l : Ledger). answer_at l name) on
-                    ∙ ap (λ (k : ℕ). option_and_then (λ (answers : List Answered). slice_get answers name.index) (slice_get (ledger.answers ++ call_answers ledger (Emit switch) ∷ []) k)) (sym place)
-                    ∙ answers_last ledger.answers (call_answers ledger (Emit switch)) name.index;
+                    ∙ ap (λ (k : ℕ). option_and_then (λ (answers : List Answered). slice_get answers name.index) (slice_get (ledger.answers ++ call_answers ledger (Emit [] switch) ∷ []) k)) (sym place)
+                    ∙ answers_last ledger.answers (call_answers ledger (Emit [] switch)) name.index;
               }
 
-      across-only : (x name : named.Name) → IsReadAs full-across x name → IsReadAs across x name ⊎ AreUnanswered (ledger_after (plain ++ added)) (ledger_of (script ++ Emit switch ∷ [])) x name
+      across-only : (x name : named.Name) → IsReadAs full-across x name → IsReadAs across x name ⊎ AreUnanswered (ledger_after (plain ++ added)) (ledger_of (script ++ Emit [] switch ∷ [])) x name
       across-only x name read = by (read_either (reading_across full (length plain) (length added)) last unanswered-at x (ScriptName name) read)
         where
-          of_full : IsReadAs reading x name ⊎ AreUnanswered plain_ledger ledger x name → IsReadAs across x name ⊎ AreUnanswered (ledger_after (plain ++ added)) (ledger_of (script ++ Emit switch ∷ [])) x name
+          of_full : IsReadAs reading x name ⊎ AreUnanswered plain_ledger ledger x name → IsReadAs across x name ⊎ AreUnanswered (ledger_after (plain ++ added)) (ledger_of (script ++ Emit [] switch ∷ [])) x name
           of_full (inl old) = inl (read-across x name old)
-          of_full (inr gone) = inr (still-unanswered plain added script (Emit switch) x name gone)
+          of_full (inr gone) = inr (still-unanswered plain added script (Emit [] switch) x name gone)
 
           by : ((x.place ≡ last) × (unanswered-at x.index ≡ ScriptName name)) ⊎ IsReadAs (reading_across full (length plain) (length added)) x name
-              → IsReadAs across x name ⊎ AreUnanswered (ledger_after (plain ++ added)) (ledger_of (script ++ Emit switch ∷ [])) x name
+              → IsReadAs across x name ⊎ AreUnanswered (ledger_after (plain ++ added)) (ledger_of (script ++ Emit [] switch ∷ [])) x name
           by (inl here) = inr (behind-answers x name here.0 here.1)
           by (inr old) = of_full (known.only x name (across_read full (length plain) (length added) x name old))
 
@@ -430,12 +430,12 @@ module _ (naming : Naming) (count : ℕ) (plain : Script) (script : List ScriptC
           ∙ ap (λ (k : ℕ). ScriptName (answer_of k n.answer)) other
 
       -- one name more is known behind its plain calls
-      pub known-switched : AreKnown extended (count + 1) (plain ++ added) (script ++ Emit switch ∷ [])
+      pub known-switched : AreKnown extended (count + 1) (plain ++ added) (script ++ Emit [] switch ∷ [])
       known-switched = record {
         calls = record {
           reading = across;
           joined = Switching reading plain added script block from ty keys edges switch branches tables known.calls.joined current
-              (emission_placed reading plain_ledger ledger joined switch may)
+              (emission_placed reading plain_ledger ledger joined [] switch may)
               (subst (λ (before : Instruction named.Name named.Name). IsReadInstruction reading before switch) is (emitted-narrow plain-switch switch switch-wide may)) code;
           performed = λ pointer_width. known.calls.performed pointer_width;
         };

@@ -162,7 +162,7 @@ module _ (whole reading : Reading) (plain ledger : Ledger) (joined : IsJoined re
   emitted-parts true true true true true is = (refl, refl, refl)
   emitted-parts _ _ _ _ _ is = absurd (false≢true is)
 
-  pub narrowed-emission : (before after : Instruction Name Name) → IsReadInstruction whole before after → call_allowed plain (Emit before) ≡ true → IsReadInstruction reading before after
+  pub narrowed-emission : (before after : Instruction Name Name) → IsReadInstruction whole before after → call_allowed plain (Emit [] before) ≡ true → IsReadInstruction reading before after
   narrowed-emission before after is may =
       let parts = emitted-parts (list_all (has_value plain) before.contexts) (is_open plain plain.current) (list_all (has_value plain) before.operands) (list_all (can_lead plain) before.edges)
       (can_emit before.operation before.controlling) may in

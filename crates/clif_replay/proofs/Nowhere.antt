@@ -131,7 +131,7 @@ module _ (side : Ledger) where
   deny-build entries a (inr (inl operands)) = left-denied _ _ (left-denied _ _ (left-denied _ _ (right-denied _ _ operands)))
   deny-build entries a (inr (inr edges)) = left-denied _ _ (left-denied _ _ (right-denied _ _ edges))
 
-  deny-emission : (a : Instruction Name Name) → NamesNothing a → call_allowed side (Emit a) ≡ false
+  deny-emission : (a : Instruction Name Name) → NamesNothing a → call_allowed side (Emit [] a) ≡ false
   deny-emission a (inl contexts) = left-denied _ _ (left-denied _ _ (left-denied _ _ (left-denied _ _ contexts)))
   deny-emission a (inr (inl operands)) = left-denied _ _ (left-denied _ _ (right-denied _ _ operands))
   deny-emission a (inr (inr edges)) = left-denied _ _ (right-denied _ _ edges)
@@ -238,7 +238,7 @@ module _ (wide reading : Reading) (plain ledger : Ledger)
       by (inl contexts) (inl operands) (inr denied) = inr (inr (inr denied.0), inr (inr denied.1))
 
   -- one that is emitted
-  pub emitted : (a b : Instruction Name Name) → IsReadInstruction wide a b → IsReadInstruction reading a b ⊎ BothDenied (call_allowed plain (Emit a)) (call_allowed ledger (Emit b))
+  pub emitted : (a b : Instruction Name Name) → IsReadInstruction wide a b → IsReadInstruction reading a b ⊎ BothDenied (call_allowed plain (Emit [] a)) (call_allowed ledger (Emit [] b))
   emitted a b is = elim (named-parts a b is) [ inl read ↦ inl read | inr nothing ↦ inr (deny-emission plain a nothing.0, deny-emission ledger b nothing.1) ]
 
   -- CALLS -----------------------------------------------------------------------------------------------------------------

@@ -203,7 +203,7 @@ module _ (c : Call) (asks : Asks c) (old new : FunctionBuilder) (answers : List 
 
 module _ (called : ImmediateCall) (old new : FunctionBuilder) (answers : List Answer) where
   emission-judged : (result : Result Answer CallError) → MakesEmission called old new answers result → (declared : SignatureShape) (script : List ScriptCall) → IsInStep declared script old answers
-      → IsJudged (call_allowed (ledger_of script) (Emit (emission_under name_of (ledger_of script) called))) false result
+      → IsJudged (call_allowed (ledger_of script) (Emit [] (emission_under name_of (ledger_of script) called))) false result
   emission-judged result makes declared script s =
       let later = later-names s.naming declared s.made old answers s.ready in
       let answered = ready-answered s.naming declared s.made old answers s.ready in
@@ -211,7 +211,7 @@ module _ (called : ImmediateCall) (old new : FunctionBuilder) (answers : List An
       (makes.judged s.naming declared s.made s.ready)
 
   emission-goes-on : (result : Result Answer CallError) → MakesEmission called old new answers result → (declared : SignatureShape) (script : List ScriptCall) → IsInStep declared script old answers
-      → IfOk result (λ answer. IsInStep declared (script ++ Emit (emission_under name_of (ledger_of script) called) ∷ []) new (answers ++ answer ∷ []))
+      → IfOk result (λ answer. IsInStep declared (script ++ Emit [] (emission_under name_of (ledger_of script) called) ∷ []) new (answers ++ answer ∷ []))
   emission-goes-on (Err error) makes declared script s = tt
   emission-goes-on (Ok answer) makes declared script s =
       let later = later-names s.naming declared s.made old answers s.ready in
@@ -228,13 +228,13 @@ module _ (called : ImmediateCall) (old new : FunctionBuilder) (answers : List An
         made = s.made ++ behind.added;
         ready = behind.ready;
         known =
-            subst (λ (n : ℕ). AreKnown behind.extended n (script_of (s.made ++ behind.added)) (script ++ Emit emission ∷ [])) (one-on answers answer)
-            (subst (λ (plain : Script). AreKnown behind.extended (length answers + 1) plain (script ++ Emit emission ∷ [])) (sym (map-append (λ (a : AnsweredCall). a.request) s.made behind.added))
+            subst (λ (n : ℕ). AreKnown behind.extended n (script_of (s.made ++ behind.added)) (script ++ Emit [] emission ∷ [])) (one-on answers answer)
+            (subst (λ (plain : Script). AreKnown behind.extended (length answers + 1) plain (script ++ Emit [] emission ∷ [])) (sym (map-append (λ (a : AnsweredCall). a.request) s.made behind.added))
             (known-emitted s.naming (length answers) (script_of s.made) script s.known s.counts later answered called may (script_of behind.added)
             (behind.asked ∙ ap (λ (n : ℕ). plain_calls_under s.naming (ledger_after (script_of s.made)) n called) (sym counted))
             behind.extended behind.last (omega (arith, counted, long, both, at_end)) behind.earlier behind.results));
-        taken = one_more empty_ledger script (Emit emission) s.taken may refl;
-        counts = one-answer-more script (Emit emission) answers answer s.counts;
+        taken = one_more empty_ledger script (Emit [] emission) s.taken may refl;
+        counts = one-answer-more script (Emit [] emission) answers answer s.counts;
       }
 
   emission-step : (result : Result Answer CallError) → MakesEmission called old new answers result → IsStep (call.Immediate called) old new answers result
@@ -271,7 +271,7 @@ module _ (entries : Vec SwitchEntry) (value otherwise : Name) (old new : Functio
       (makes.judged s.naming declared s.made s.ready)
 
   switch-goes-on : (result : Result Answer CallError) → MakesSwitch entries.items value otherwise old new answers result → (declared : SignatureShape) (script : List ScriptCall) → IsInStep declared script old answers
-      → IfOk result (λ answer. IsInStep declared (script ++ Emit (switch_under name_of (ledger_of script) entries.items value otherwise) ∷ []) new (answers ++ answer ∷ []))
+      → IfOk result (λ answer. IsInStep declared (script ++ Emit [] (switch_under name_of (ledger_of script) entries.items value otherwise) ∷ []) new (answers ++ answer ∷ []))
   switch-goes-on (Err error) makes declared script s = tt
   switch-goes-on (Ok answer) makes declared script s =
       let later = later-names s.naming declared s.made old answers s.ready in
@@ -289,15 +289,15 @@ module _ (entries : Vec SwitchEntry) (value otherwise : Name) (old new : Functio
         made = s.made ++ behind.added;
         ready = behind.ready;
         known =
-            subst (λ (n : ℕ). AreKnown behind.extended n (script_of (s.made ++ behind.added)) (script ++ Emit switch ∷ [])) (one-on answers answer)
-            (subst (λ (plain : Script). AreKnown behind.extended (length answers + 1) plain (script ++ Emit switch ∷ [])) (sym whole)
+            subst (λ (n : ℕ). AreKnown behind.extended n (script_of (s.made ++ behind.added)) (script ++ Emit [] switch ∷ [])) (one-on answers answer)
+            (subst (λ (plain : Script). AreKnown behind.extended (length answers + 1) plain (script ++ Emit [] switch ∷ [])) (sym whole)
             (known-switched s.naming (length answers) (script_of s.made) script s.known s.counts later answered entries.items value otherwise may.0 (script_of behind.added)
             behind.block behind.value behind.ty behind.keys behind.edges behind.branches behind.tables behind.is behind.current behind.code behind.extended behind.last
             (omega (arith, before, long, both, at_end)) behind.given
             (subst (λ (plain : Script). slice_get (ledger_after plain).answers behind.last ≡ Some behind.given) whole behind.at_given)
             (begins-some (script_of behind.added) behind.code.begins) behind.earlier behind.behind));
-        taken = one_more empty_ledger script (Emit switch) s.taken may.0 may.1;
-        counts = one-answer-more script (Emit switch) answers answer s.counts;
+        taken = one_more empty_ledger script (Emit [] switch) s.taken may.0 may.1;
+        counts = one-answer-more script (Emit [] switch) answers answer s.counts;
       }
 
   switch-step : (result : Result Answer CallError) → MakesSwitch entries.items value otherwise old new answers result → IsStep (call.Switch entries value otherwise) old new answers result

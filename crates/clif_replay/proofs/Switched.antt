@@ -129,7 +129,7 @@ module _ {naming : Naming} {declared : SignatureShape} (calls : List AnsweredCal
       list_all-append (can_lead ledger) (map (λ case. bare_edge (naming case.1)) (cases_of entries)) (bare_edge (naming otherwise) ∷ [])
       ∙ ap₂ (λ (c d : Bool). c && d) (cases-same (cases_of entries) ∙ all-cases entries) (and-true (can_lead ledger (bare_edge (naming otherwise))) ∙ bare-same otherwise)
 
-  allowed-is : (entries : List SwitchEntry) (value otherwise : Name) → call_allowed ledger (Emit (switch_under naming ledger entries value otherwise))
+  allowed-is : (entries : List SwitchEntry) (value otherwise : Name) → call_allowed ledger (Emit [] (switch_under naming ledger entries value otherwise))
       ≡ condition (acceptance.is_open ledger ledger.current) (has_value ledger (naming value)) (are_targets b answers entries && is_target b (block_of answers otherwise)) (is_int (or_invalid (type_of ledger (naming value))))
   allowed-is entries value otherwise =
       ap (λ (targets : Bool). condition (acceptance.is_open ledger ledger.current) (has_value ledger (naming value)) targets (is_int (or_invalid (type_of ledger (naming value))))) (edges-same entries otherwise)
@@ -138,7 +138,7 @@ module _ {naming : Naming} {declared : SignatureShape} (calls : List AnsweredCal
 abbrev pub SwitchJudged : List SwitchEntry → (value otherwise : Name) → FunctionBuilder → List Answer → Bool → Type 0
 SwitchJudged entries value otherwise b answers allowed =
     (naming : Naming) (declared : SignatureShape) (calls : List AnsweredCall) → IsReady naming declared calls b answers
-    → call_allowed (ledger_of calls) (Emit (switch_under naming (ledger_of calls) entries value otherwise)) ≡ allowed
+    → call_allowed (ledger_of calls) (Emit [] (switch_under naming (ledger_of calls) entries value otherwise)) ≡ allowed
 
 module _ (entries : List SwitchEntry) (value otherwise : Name) (b : FunctionBuilder) (answers : List Answer) where
   pub value-judged : value_of b.func.now answers value ≡ None → SwitchJudged entries value otherwise b answers false
@@ -588,7 +588,7 @@ module _ (law : RefusalsAreOfKeys) (entries : List SwitchEntry) (value otherwise
       ready = ready-with calls added old new answers answer.Nothing last (length given.0) ready stood.1 newest no-edge tables-are exceptions-are;
     }
 
-    not-refused : is_some (call_refusal at-ledger (Emit (switch_under naming at-ledger entries value otherwise))) ≡ false
+    not-refused : is_some (call_refusal at-ledger (Emit [] (switch_under naming at-ledger entries value otherwise))) ≡ false
     not-refused =
         ap (λ (t : Option «Type»). is_some (option_map OfSwitch (keys_refusal (or_invalid t) (keys_of entries)))) (value-type-same calls old answers ready value val found)
         ∙ taken-keys law entries answers once (value_at old.func.now val).ty stood.2.ranges stood.2.ranges_for

@@ -86,7 +86,7 @@ pub record MakesEmission (called : ImmediateCall) (old new : FunctionBuilder) (a
   pub ready : (naming : Naming) (declared : SignatureShape) (calls : List AnsweredCall) → IsReady naming declared calls old answers
       → IfOk result (IsReadyBehind naming declared calls (plain_calls_under naming (ledger_of calls) (length calls) called) new answers)
   pub judged : (naming : Naming) (declared : SignatureShape) (calls : List AnsweredCall) → IsReady naming declared calls old answers
-      → IsJudged (call_allowed (ledger_of calls) (Emit (emission_under naming (ledger_of calls) called))) false result
+      → IsJudged (call_allowed (ledger_of calls) (Emit [] (emission_under naming (ledger_of calls) called))) false result
   pub sound : OnOk result (new.failed ≡ false)
   pub refused : result ≢ Err error.Refused
   pub full : result ≡ Err error.Full → EmissionMeetsFullTable old.func.now
@@ -96,7 +96,7 @@ pub record MakesEmission (called : ImmediateCall) (old new : FunctionBuilder) (a
 
 -- a switch may be made, and isn't refused, or why it wasn't made
 abbrev pub IsSwitchJudged : Ledger → Instruction named.Name named.Name → Result Answer CallError → Type 0
-IsSwitchJudged ledger switch result = IsCallJudged (call_allowed ledger (Emit switch)) false (is_some (call_refusal ledger (Emit switch))) result
+IsSwitchJudged ledger switch result = IsCallJudged (call_allowed ledger (Emit [] switch)) false (is_some (call_refusal ledger (Emit [] switch))) result
 
 -- The builder stands for some more calls, which are code of the switch. It has no answer: the names at the end of the list lead
 -- behind all answers of the last call. Earlier ones are known as before.

@@ -165,8 +165,8 @@ emission_under naming ledger called = computing (emitted_in called) (operand_typ
 
 -- a call of a list as a call of the script, with its own names: it emits, or asks the builder
 abbrev pub call_of : SignatureShape → Ledger → Call → ScriptCall
-call_of signature ledger (call.Immediate called) = Emit (emission_under name_of ledger called)
-call_of signature ledger (call.Switch entries value otherwise) = Emit (switch_under name_of ledger entries.items value otherwise)
+call_of signature ledger (call.Immediate called) = Emit [] (emission_under name_of ledger called)
+call_of signature ledger (call.Switch entries value otherwise) = Emit [] (switch_under name_of ledger entries.items value otherwise)
 call_of signature ledger call = Ask (request_of signature ledger call)
 
 abbrev pub attempt_of : SignatureShape → Ledger → Call → CallAttempt

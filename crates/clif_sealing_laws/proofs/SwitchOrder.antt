@@ -111,14 +111,14 @@ module _ (declared : SignatureShape) (after : List Call) (first second : Vec Swi
   calls-same : (before : List Call) (ledger : Ledger)
       → calls_from declared ledger (before ++ call.Switch first value otherwise ∷ after) ≡ calls_from declared ledger (before ++ call.Switch second value otherwise ∷ after)
   calls-same [] ledger =
-      ap (λ (this : ScriptCall). this ∷ calls_from declared (ledger_with_call ledger this) after) (ap Emit (switch-same first.items second.items same ledger value otherwise))
+      ap (λ (this : ScriptCall). this ∷ calls_from declared (ledger_with_call ledger this) after) (ap (Emit []) (switch-same first.items second.items same ledger value otherwise))
   calls-same (one ∷ before) ledger = ap (λ (rest : List ScriptCall). call_of declared ledger one ∷ rest) (calls-same before (ledger_with_call ledger (call_of declared ledger one)))
 
   attempts-same : (before : List Call) (ledger : Ledger)
       → attempts_from declared ledger (before ++ call.Switch first value otherwise ∷ after) ≡ attempts_from declared ledger (before ++ call.Switch second value otherwise ∷ after)
   attempts-same [] ledger =
       ap (λ (this : ScriptCall). record { call = this; is_tried = false } ∷ attempts_from declared (ledger_with_call ledger this) after)
-      (ap Emit (switch-same first.items second.items same ledger value otherwise))
+      (ap (Emit []) (switch-same first.items second.items same ledger value otherwise))
   attempts-same (one ∷ before) ledger = ap (λ (rest : List CallAttempt). attempt_of declared ledger one ∷ rest) (attempts-same before (ledger_with_call ledger (call_of declared ledger one)))
 
 pub switch_order_is_free : SwitchOrderIsFree

@@ -43,7 +43,7 @@ BuiltFunctionsAgree =
 abbrev pub requests_in : List ScriptCall → Script
 requests_in [] = []
 requests_in (Ask request ∷ calls) = request ∷ requests_in calls
-requests_in (Emit instruction ∷ calls) = requests_in calls
+requests_in (Emit imports instruction ∷ calls) = requests_in calls
 
 abbrev pub requests_of : SignatureShape → List Call → Script
 requests_of declared calls = requests_in (calls_of declared calls)
