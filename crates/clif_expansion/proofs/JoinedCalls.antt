@@ -13,7 +13,7 @@ use Rattle.clif_expansion.specs.Emission.{line_calls, reading_across, reading_li
 use Rattle.clif_expansion.specs.JoinedCalls.{Asking, Emitting, Giving, HaveCurrent, JoinedCallsHaveJoinedLedgers, Starting, Switching, uses_current}
 use Rattle.clif_expansion.specs.Joining.{IsJoined, IsReadCurrent, reading_after}
 use Rattle.clif_expansion.specs.Reading.{IsReadAs, Reading}
-use Rattle.clif_expansion.specs.ScriptCall.{Ask, Emit, ScriptCall, call_allowed, can_emit, ledger_of, ledger_with_call}
+use Rattle.clif_expansion.specs.ScriptCall.{Ask, Emit, ScriptCall, call_allowed, can_emit, ledger_of, ledger_with_call, takes_byte}
 pub use Rattle.clif_expansion.proofs.Emissions.{fold_on}
 use Rattle.clif_expansion.proofs.Emissions.{emitting_keeps_joins}
 use Rattle.clif_expansion.proofs.GivenCalls.{given_ledger}
@@ -76,13 +76,14 @@ pub emission_placed : (reading : Reading) (plain ledger : Ledger) → IsJoined r
     → call_allowed ledger (Emit imports instruction) ≡ true → HaveCurrent plain ledger
 emission_placed reading plain ledger joined imports instruction may =
     have_current reading plain ledger joined
-    (emitted_open (list_all (has_value ledger) instruction.contexts) (is_open ledger ledger.current) (list_all (has_value ledger) instruction.operands)
+    (emitted_open (list_all (has_value ledger) instruction.contexts) (takes_byte ledger instruction.operation instruction.operands) (is_open ledger ledger.current) (list_all (has_value ledger) instruction.operands)
     (list_all (can_lead ledger) instruction.edges) (can_emit instruction.operation instruction.controlling) may)
   where
-    emitted_open : (a c d e f : Bool) → (a && c && d && e && f) ≡ true → c ≡ true
-    emitted_open true true d e f is = refl
-    emitted_open true false d e f is = is
-    emitted_open false c d e f is = let no_way : false ≡ true = is in cc
+    emitted_open : (a b c d e f : Bool) → (a && b && c && d && e && f) ≡ true → c ≡ true
+    emitted_open true true true d e f is = refl
+    emitted_open true true false d e f is = is
+    emitted_open true false c d e f is = let no_way : false ≡ true = is in cc
+    emitted_open false b c d e f is = let no_way : false ≡ true = is in cc
 
 pub calls_made : (script : Script) → length script ≡ length (ledger_after script).answers
 calls_made script = let all = fold_longer script empty_ledger in omega (arith, all)

@@ -13,7 +13,7 @@ use Rattle.clif_meaning.specs.Name.{Name, same_name}
 use Rattle.clif_meaning.specs.Request.{Request, CreateBlock, SwitchToBlock, SealBlock, SealAllBlocks, InsertBlockAfter, SetColdBlock, EnsureInsertedBlock, AppendBlockParams, AppendFunctionParams, DeclareVar, DefVar, UseVar, MakeEntry, MakeEdge, MakeJumpTable, MakeExceptionTable, Annotate, GivenEntry, ServedBy, TriedBy, Imported, TableItem, TagTo, DefaultTo, InContext, Build, ChangeJumpDestination, Finalize}
 use Rattle.clif_expansion.specs.Joining.{AreJoinedLedgers, Both, ConditionsAreRead, IsOwnState, IsReadAnswer, IsReadCurrent, IsReadException, IsReadLayout, NoMore, Own, StandAmong, IsReadRefusal, IsReadRequest, IsReadState, IsReadTable, IsReadTableItem}
 use Rattle.clif_expansion.specs.Reading.{IsOneToOne, IsReadArgument, IsReadAs, IsReadEdge, IsReadInstruction, Reading}
-use Rattle.clif_expansion.specs.ScriptCall.{Emit, call_allowed, can_emit}
+use Rattle.clif_expansion.specs.ScriptCall.{Emit, call_allowed, can_emit, is_byte, is_second_byte, sets_bytes}
 use Rattle.clif_expansion.proofs.Among.{any_leading, leading_empty, other_generated}
 use Rattle.clif_expansion.proofs.JoinedStates.{inserted_read}
 use Rattle.clif_expansion.proofs.Names.{same_read}
@@ -270,6 +270,16 @@ module _ (reading : Reading) (plain ledger : Ledger) (ledgers : AreJoinedLedgers
       λ i. contexts i && given i && opened i && operands i && edges i && can_operate (operation i) (is.controlling i)
       && list_all (has_entry (ledgers.states.tables i)) (operation_entries (operation i))
 
+  -- the second operand is a byte under both names
+  byte_same : (names' names : List Name) → AllZip (IsReadAs reading) names' names → is_second_byte plain names' ≡ is_second_byte ledger names
+  byte_same [] [] is = refl
+  byte_same (x ∷ []) (name ∷ []) is = refl
+  byte_same (x ∷ y ∷ names') (name ∷ other ∷ names) is = ap is_byte (type_same y other is.1.0)
+  byte_same [] (name ∷ names) is = absurd is
+  byte_same (x ∷ names') [] is = absurd is
+  byte_same (x ∷ []) (name ∷ other ∷ names) is = absurd is.1
+  byte_same (x ∷ y ∷ names') (name ∷ []) is = absurd is.1
+
   -- an instruction that only scripts have may be emitted under both names
   pub emission_same : (imports' imports : List TableEntry) (instruction' instruction : Instruction Name Name) → IsReadInstruction reading instruction' instruction
       → call_allowed plain (Emit imports' instruction') ≡ call_allowed ledger (Emit imports instruction)
@@ -277,7 +287,8 @@ module _ (reading : Reading) (plain ledger : Ledger) (ledgers : AreJoinedLedgers
       let operands = values_same instruction'.operands instruction.operands is.operands in
       let contexts = values_same instruction'.contexts instruction.contexts is.contexts in
       let edges = all_same (IsReadEdge reading) (can_lead plain) (can_lead ledger) lead_same instruction'.edges instruction.edges is.edges in
-      λ i. contexts i && opened i && operands i && edges i && can_emit (is.operation i) (is.controlling i)
+      let byte = byte_same instruction'.operands instruction.operands is.operands in
+      λ i. contexts i && (if sets_bytes (is.operation i) then byte i else true) && opened i && operands i && edges i && can_emit (is.operation i) (is.controlling i)
 
   allowed : (asked request : Request) → IsReadRequest reading asked request → allows plain asked ≡ allows ledger request
   allowed CreateBlock CreateBlock is = refl

@@ -33,7 +33,7 @@ may_compare ty condition size =
     can_emit (Bytes (CompareBytes (record { condition = condition; size = size; left_alignment = 1; right_alignment = 1; flags = no_flags }))) ty
 
 pub record ByteEmissionExamples : Type 0 where
-  -- the size fits the type of pointers, and there are some bytes
+  -- the size fits the type of pointers, and there are some bytes to copy
   pub fits : may_copy i16 65535 1 1 ≡ true
   pub too_many : may_copy i16 65536 1 1 ≡ false
   pub none : may_copy i64 0 1 1 ≡ false
@@ -44,10 +44,10 @@ pub record ByteEmissionExamples : Type 0 where
   pub fill_aligned : may_fill i64 0xab 6 2 ≡ true
   pub fill_too_aligned : may_fill i64 0xab 6 4 ≡ false
   pub no_byte : may_fill i64 256 6 2 ≡ false
-  -- bytes are unsigned
+  -- bytes are unsigned, and no bytes may be compared
   pub unsigned : may_compare i64 cc.UnsignedLessThan 3 ≡ true
   pub signed : may_compare i64 cc.SignedLessThan 3 ≡ false
-  pub compare_none : may_compare i64 cc.Equal 0 ≡ false
+  pub compare_none : may_compare i64 cc.Equal 0 ≡ true
   -- addresses are of a type of pointers
   pub call : can_emit (Bytes (CallLibrary Memcpy)) i64 ≡ true
   pub wide : can_emit (Bytes (CallLibrary Memcpy)) (type.Lane lane.I128) ≡ false

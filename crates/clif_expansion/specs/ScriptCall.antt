@@ -2,20 +2,22 @@
 -- answers are the instruction's results alone, and its change of the ledger and of the program is that of an instruction that is
 -- built. Without one, all is as it is for the builder's own calls. What may be emitted is from the documentation of Cranelift's
 -- `InstBuilder`; the rest is own.
-use Rattle.std.specs.Prelude.{◌≡◌, ℕ, suc, ◌&&◌, ◌^◌, Bool, false, List, [], ◌∷◌, ◌++◌, map, fold, replicate, Option, None, true, option_map, min, nat_le, nat_lt, ℤ, pos, negsuc}
+use Rattle.std.specs.Prelude.{◌≡◌, ℕ, suc, ◌&&◌, ◌^◌, if◌then◌else◌, Bool, false, List, [], ◌∷◌, ◌++◌, map, fold, replicate, Option, None, true, option_map, Some, min, nat_le, nat_lt, ℤ, pos, negsuc}
 use Rattle.std.specs.List.{list_all}
 use Rattle.clif_types.specs.declared.types.LaneType.TheVariants as lane
 use Rattle.clif_types.specs.declared.types.«Type».{«Type»}
 use Rattle.clif_types.specs.declared.types.«Type».TheVariants as type
 use Rattle.clif_types.specs.Types.{bits_of, is_int}
+use Rattle.clif_types.specs.declared.libcall.LibCall.TheVariants.{Memset}
 use Rattle.clif_tables.specs.Entries.{TableEntry, with_entry}
 use Rattle.clif_meaning.specs.Acceptance.{Refusal, allows, can_lead, is_open, refusal_of}
 use Rattle.clif_meaning.specs.ByteOperation.{ByteOperation, Copy, Fill, CompareBytes, CallLibrary, greatest_power, is_unsigned}
 use Rattle.clif_meaning.specs.Instruction.{AddConstant, CompareConstant, Compute, Instruction, Operation, Bytes, Switch}
-use Rattle.clif_meaning.specs.Ledger.{AValue, Answered, Ledger, answers_to, changed_by, empty_ledger, has_value, ledger_after, with_instruction}
+use Rattle.clif_meaning.specs.Ledger.{AValue, Answered, Ledger, answers_to, changed_by, empty_ledger, has_value, ledger_after, type_of, with_instruction}
 use Rattle.clif_meaning.specs.Name.{Name}
 use Rattle.clif_meaning.specs.Program.{Item, Instruct, Program, answers_from, empty_program, program_of, result_types, with_call, with_inserted, with_item}
 use Rattle.clif_meaning.specs.Request.{Request, Script}
+use Rattle.clif_meaning.specs.SameType.{same_type}
 use Rattle.clif_expansion.specs.Keys.{SwitchRefusal, keys_refusal, table_count}
 
 pub data ScriptCall : Type 0 where
@@ -89,16 +91,20 @@ is_pointer (type.Lane lane.I32) = true
 is_pointer (type.Lane lane.I64) = true
 is_pointer ty = false
 
--- There are some bytes, and no more than a pointer of this type can count.
+-- there are no more bytes than a pointer of this type can count
+abbrev pub fits : «Type» → (size : ℕ) → Bool
+fits ty size = nat_lt size (2 ^ bits_of ty)
+
+-- and some
 abbrev pub has_size : «Type» → (size : ℕ) → Bool
-has_size ty size = nat_lt 0 size && nat_lt size (2 ^ bits_of ty)
+has_size ty size = nat_lt 0 size && fits ty size
 
 -- Alignments of copies and fills are at most the greatest power of two that divides the size, for a copy the smaller one;
--- comparisons aren't of signed numbers. Of no bytes nothing is emitted.
+-- comparisons aren't of signed numbers. Of no bytes nothing is copied or filled.
 abbrev pub can_emit_bytes : ByteOperation → «Type» → Bool
 can_emit_bytes (Copy copy) ty = has_size ty copy.size && nat_le (min copy.target_alignment copy.source_alignment) (greatest_power copy.size)
 can_emit_bytes (Fill fill) ty = nat_lt fill.byte 256 && has_size ty fill.size && nat_le fill.alignment (greatest_power fill.size)
-can_emit_bytes (CompareBytes compare) ty = is_unsigned compare.condition && has_size ty compare.size
+can_emit_bytes (CompareBytes compare) ty = is_unsigned compare.condition && fits ty compare.size
 can_emit_bytes (CallLibrary callee) ty = true
 
 -- What may be emitted, at which type, beside operands that are there: the table of what only scripts have.
@@ -109,11 +115,29 @@ can_emit (Switch keys) ty = is_int ty
 can_emit (Bytes operation) ty = is_pointer ty && can_emit_bytes operation ty
 can_emit _ ty = false
 
+-- the value is a byte
+abbrev pub is_byte : Option «Type» → Bool
+is_byte None = false
+is_byte (Some ty) = same_type ty (type.Lane lane.I8)
+
+-- `Memset` sets bytes to its second operand.
+abbrev pub sets_bytes : Operation → Bool
+sets_bytes (Bytes (CallLibrary Memset)) = true
+sets_bytes _ = false
+
+abbrev pub is_second_byte : Ledger → List Name → Bool
+is_second_byte ledger (target ∷ byte ∷ operands) = is_byte (type_of ledger byte)
+is_second_byte ledger _ = false
+
+abbrev pub takes_byte : Ledger → Operation → List Name → Bool
+takes_byte ledger operation operands = if sets_bytes operation then is_second_byte ledger operands else true
+
 -- the condition of each kind of call
 abbrev pub call_allowed : Ledger → ScriptCall → Bool
 call_allowed ledger (Ask request) = allows ledger request
 call_allowed ledger (Emit imports instruction) =
     list_all (has_value ledger) instruction.contexts
+    && takes_byte ledger instruction.operation instruction.operands
     && is_open ledger ledger.current && list_all (has_value ledger) instruction.operands && list_all (can_lead ledger) instruction.edges
     && can_emit instruction.operation instruction.controlling
 

@@ -17,26 +17,24 @@ use Rattle.clif_access_plans.specs.Plans.{is_aligned_load}
 use Rattle.clif_meaning.specs.Acceptance.{is_open}
 use Rattle.clif_meaning.specs.ByteOperation.{CallLibrary, CompareBytes, CompareShape, Fill, FillShape}
 use Rattle.clif_meaning.specs.Instruction.{Bytes, Convert, Iconst, Instruction, Load}
-use Rattle.clif_meaning.specs.Ledger.{Ledger, has_value, ledger_after, ledger_with, type_of}
+use Rattle.clif_meaning.specs.Ledger.{Ledger, has_value, ledger_with, type_of}
 use Rattle.clif_meaning.specs.Library.{pointer_of}
 use Rattle.clif_meaning.specs.Name.{Name, answer_of}
 use Rattle.clif_meaning.specs.Program.{Item, Instruct, answers_from}
 use Rattle.clif_expansion.specs.Code.{NameTypes, PerformsItem}
 use Rattle.clif_expansion.specs.Constants.{computing}
 use Rattle.clif_expansion.specs.Emission.{AreGenerated, AreGiven, building, reading_behind}
-use Rattle.clif_expansion.specs.JoinedCalls.{Emitting}
 use Rattle.clif_expansion.specs.JoinedPrograms.{built_items}
 use Rattle.clif_expansion.specs.Joining.{IsJoined}
 use Rattle.clif_expansion.specs.Laying.{IsLaid}
 use Rattle.clif_expansion.specs.PerformedCalls.{HaveTypes, IsPerformed}
 use Rattle.clif_expansion.specs.Reading.{Generated, IsReadAs, Reading}
-use Rattle.clif_expansion.specs.ScriptCall.{Emit, can_emit, can_emit_bytes, emitted_item, is_pointer, ledger_of}
+use Rattle.clif_expansion.specs.ScriptCall.{Emit, can_emit, can_emit_bytes, emitted_item, is_byte, is_pointer}
 use Rattle.clif_expansion.proofs.EmittedPrograms.{emitted_before, emitted_inner, emitted_none, emitted_result}
-use Rattle.clif_expansion.proofs.JoinedCalls.{emission_placed, joined_calls}
 use Rattle.clif_expansion.proofs.LedgerTypes.{call_types_before, types_before}
 use Rattle.clif_expansion.proofs.ReadConditions
 use Rattle.clif_helper_calls.specs.Codes.{doing, flags_where}
-use Rattle.clif_helper_calls.specs.FillStanding.{FillCallsStand, fill_emission, fill_first, fill_last, fill_line, loads_first, loads_last, set_first, set_last, set_line}
+use Rattle.clif_helper_calls.specs.FillStanding.{FillCallsStand, fill_emission, fill_first, fill_last, fill_line, loads_first, loads_last, loads_line, set_first, set_last, set_line}
 use Rattle.clif_helper_calls.specs.KnownStanding.{compare_emission}
 use Rattle.clif_helper_calls.specs.LibraryCodes.{IsConstant, fill_call_code, i32, i8, set_code}
 use Rattle.clif_helper_calls.specs.Performing.{HasLoads}
@@ -48,7 +46,8 @@ use Rattle.clif_helper_calls.proofs.KnownStanding.{answer_typed, longer, pointer
 use Rattle.clif_helper_calls.proofs.Laid.{codes_are_laid}
 use Rattle.clif_helper_calls.proofs.Loads.{loads_are_performed}
 use Rattle.clif_helper_calls.proofs.Lines.{line_stands}
-use Rattle.clif_helper_calls.proofs.Standing.{own_pointer, three_read}
+use Rattle.clif_helper_calls.proofs.Nothing.{nothing_stands}
+use Rattle.clif_helper_calls.proofs.Standing.{own_pointer, three_read, two_read}
 
 three_types : (a b c p own w : «Type») → a ≡ p → b ≡ w → c ≡ p → own ≡ p → a ∷ b ∷ c ∷ [] ≡ own ∷ w ∷ own ∷ []
 three_types a b c p own w first second third is = cc
@@ -317,7 +316,9 @@ fill_calls_stand = record {
       (λ place. (record { no_edges = refl; goes_on = refl }, tt)) (λ place. record { no_edges = refl; goes_on = refl }) (record { no_edges = refl; goes_on = refl }) (λ place. refl)
       (λ reading later keeps reads. three_read reading later keeps a b c x y z reads)
       (λ reading plain ledger joined reads may.
-      let ready = and_parts (is_open ledger ledger.current && list_all (has_value ledger) (x ∷ y ∷ z ∷ []) && true) (can_emit (Bytes (CallLibrary Memset)) pointer) may in
+      let ready =
+      and_parts (is_byte (type_of ledger y) && is_open ledger ledger.current && list_all (has_value ledger) (x ∷ y ∷ z ∷ []) && true)
+      (can_emit (Bytes (CallLibrary Memset)) pointer) may in
       let pointed = and_parts (is_pointer pointer) true ready.1 in
       set_done pointer signature has a b c x y z reading plain ledger joined reads pointed.0);
   fills = λ pointer signature fill filling number a x has filling_is constant.
@@ -329,18 +330,17 @@ fill_calls_stand = record {
       let ready = and_parts (is_open ledger ledger.current && list_all (has_value ledger) (x ∷ []) && true) (can_emit (Bytes (Fill fill)) pointer) may in
       let pointed = and_parts (is_pointer pointer) (can_emit_bytes (Fill fill) pointer) ready.1 in
       fill_done pointer signature fill filling number has filling_is constant a x reading plain ledger joined read pointed.0);
-  loads_joined = λ pointer ty compare reading plain calls a b x y are may.
-      Emitting AreGiven reading plain calls [] (loads_first compare ty a b) (loads_last compare ty (length (ledger_after plain).answers)) (compare_emission compare pointer x y) are
-      (emission_placed reading (ledger_after plain) (ledger_of calls) (joined_calls reading plain calls are) [] (compare_emission compare pointer x y) may)
-      (record { no_edges = refl; goes_on = refl }, (record { no_edges = refl; goes_on = refl }, tt)) (record { no_edges = refl; goes_on = refl }) (record { no_edges = refl; goes_on = refl }) refl;
-  loads_performed = λ pointer ty compare reading plain calls a b x y int has are done reads may.
-      let ledger : Ledger = ledger_of calls in
-      let ready = and_parts (is_open ledger ledger.current && list_all (has_value ledger) (x ∷ y ∷ []) && true) (can_emit (Bytes (CompareBytes compare)) pointer) may in (
-        done,
-        loads_done pointer ty compare int has a b x y reading (ledger_after plain) ledger (joined_calls reading plain calls are) reads ready.1
-            (λ types name given is which have' have.
-            let open_values = and_parts (is_open ledger ledger.current && list_all (has_value ledger) (x ∷ y ∷ [])) true ready.0 in
-            let values = and_parts (is_open ledger ledger.current) (list_all (has_value ledger) (x ∷ y ∷ [])) open_values.0 in
-            typed_alike reading (ledger_after plain) ledger (joined_calls reading plain calls are) types name given is (one_of_two ledger x y given values.1 which) have' have),
-      );
+  nothing = nothing_stands;
+  loads = λ pointer ty compare a b x y int has.
+      line_stands pointer (loads_line compare pointer ty a b x y) (λ reading. ReadsTwo reading a b x y)
+      (λ place. (record { no_edges = refl; goes_on = refl }, (record { no_edges = refl; goes_on = refl }, tt)))
+      (λ place. record { no_edges = refl; goes_on = refl }) (record { no_edges = refl; goes_on = refl }) (λ place. refl)
+      (λ reading later keeps reads. two_read reading later keeps a b x y reads)
+      (λ reading plain ledger joined reads may.
+      let ready = and_parts (is_open ledger ledger.current && list_all (has_value ledger) (x ∷ y ∷ []) && true) (can_emit (Bytes (CompareBytes compare)) pointer) may in
+      loads_done pointer ty compare int has a b x y reading plain ledger joined reads ready.1
+      (λ types name given is which have' have.
+      let open_values = and_parts (is_open ledger ledger.current && list_all (has_value ledger) (x ∷ y ∷ [])) true ready.0 in
+      let values = and_parts (is_open ledger ledger.current) (list_all (has_value ledger) (x ∷ y ∷ [])) open_values.0 in
+      typed_alike reading plain ledger joined types name given is (one_of_two ledger x y given values.1 which) have' have));
 }

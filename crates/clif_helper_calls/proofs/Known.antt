@@ -24,7 +24,7 @@ use Rattle.clif_byte_laws.proofs.Compared.{comparisons_agree}
 use Rattle.clif_expansion.specs.Code.{IsSound, NameTypes, PerformsIn}
 use Rattle.clif_expansion.specs.Line.{GivesIn}
 use Rattle.clif_expansion.specs.Reading.{Agree, Generated, IsReadAs, Reading}
-use Rattle.clif_expansion.specs.ScriptCall.{can_emit, can_emit_bytes, has_size, is_pointer}
+use Rattle.clif_expansion.specs.ScriptCall.{can_emit, can_emit_bytes, fits, is_pointer}
 use Rattle.clif_expansion.proofs.Names.{assigned_elsewhere, not_generated}
 use Rattle.clif_helper_calls.specs.Codes.{doing}
 use Rattle.clif_helper_calls.specs.LibraryCodes.{IsConstant, calling, compare_call_code, copy_call_code, copying_function, fill_call_code, i32, i8}
@@ -226,7 +226,7 @@ module _ (pointer_width : ℕ) (reading : Reading) (types : NameTypes) (pointer 
   unsigned : IsTrue (is_unsigned compare.condition)
   unsigned =
       let parts = and_parts (is_pointer pointer) (can_emit_bytes (CompareBytes compare) pointer) may in
-      (and_parts (is_unsigned compare.condition) (has_size pointer compare.size) parts.1).0
+      (and_parts (is_unsigned compare.condition) (fits pointer compare.size) parts.1).0
 
   meets : compares (sign_condition compare.condition) 32 told 0 ≡ order_meets compare.condition (byte_order left_bytes right_bytes)
   meets =

@@ -8,6 +8,7 @@ pub mod Laid
 pub mod Lines
 pub mod Standing
 pub mod KnownStanding
+pub mod Nothing
 pub mod FillStanding
 pub mod PieceStanding
 pub mod CodeExamples

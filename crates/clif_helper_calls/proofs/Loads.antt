@@ -29,7 +29,7 @@ use Rattle.clif_expansion.specs.Code.{IsSound, NameTypes, PerformsIn}
 use Rattle.clif_expansion.specs.Constants.{computing}
 use Rattle.clif_expansion.specs.Line.{Contents, RunsTo}
 use Rattle.clif_expansion.specs.Reading.{Agree, Reading}
-use Rattle.clif_expansion.specs.ScriptCall.{can_emit, can_emit_bytes, has_size, is_pointer}
+use Rattle.clif_expansion.specs.ScriptCall.{can_emit, can_emit_bytes, fits, is_pointer}
 use Rattle.clif_expansion.proofs.Names.{not_generated}
 use Rattle.clif_helper_calls.specs.Codes.{compare_code, doing, flags_where, load_at_start, load_pieces}
 use Rattle.clif_helper_calls.specs.Performing.{HasLoads, LoadsArePerformed, NamesCompare}
@@ -149,7 +149,7 @@ module _ (reading : Reading) (types : NameTypes) (pointer ty : «Type») (compar
   emitted : (is_pointer pointer ≡ true) × IsTrue (is_unsigned compare.condition)
   emitted =
       let parts = and_parts (is_pointer pointer) (can_emit_bytes (CompareBytes compare) pointer) may in
-      (parts.0, (and_parts (is_unsigned compare.condition) (has_size pointer size) parts.1).0)
+      (parts.0, (and_parts (is_unsigned compare.condition) (fits pointer size) parts.1).0)
 
   narrow : has.exponent ≤ width
   narrow = let wide = pointer_bits pointer emitted.0 in let few = has.few in omega (arith, few, wide.0)

@@ -12,7 +12,7 @@ use Rattle.clif_meaning.specs.Access.{library_call}
 use Rattle.clif_meaning.specs.Acceptance.{is_open}
 use Rattle.clif_meaning.specs.ByteOperation.{Copy, CopyShape, Fill, FillShape, access_size}
 use Rattle.clif_meaning.specs.Instruction.{Bytes, Iconst, Instruction, Load, Store}
-use Rattle.clif_meaning.specs.Ledger.{Ledger, has_value, ledger_after, ledger_with}
+use Rattle.clif_meaning.specs.Ledger.{Ledger, has_value, ledger_with}
 use Rattle.clif_meaning.specs.Library.{pointer_of}
 use Rattle.clif_meaning.specs.Name.{Name, answer_of}
 use Rattle.clif_meaning.specs.Premises.{IfLibraryCall}
@@ -21,26 +21,27 @@ use Rattle.clif_meaning.specs.Request.{Script}
 use Rattle.clif_expansion.specs.Code.{PerformsItem}
 use Rattle.clif_expansion.specs.Constants.{computing}
 use Rattle.clif_expansion.specs.Emission.{AreGenerated, StaysInLine, building, reading_behind}
-use Rattle.clif_expansion.specs.JoinedCalls.{Emitting}
 use Rattle.clif_expansion.specs.JoinedPrograms.{built_items}
 use Rattle.clif_expansion.specs.Joining.{IsJoined}
 use Rattle.clif_expansion.specs.Laying.{IsLaid}
 use Rattle.clif_expansion.specs.PerformedCalls.{HaveTypes, IsPerformed, IsTypedInLine}
 use Rattle.clif_expansion.specs.Reading.{Generated, IsReadAs, Reading}
-use Rattle.clif_expansion.specs.ScriptCall.{Emit, can_emit, can_emit_bytes, is_pointer, ledger_of}
+use Rattle.clif_expansion.specs.ScriptCall.{Emit, can_emit, can_emit_bytes, is_pointer}
 use Rattle.clif_expansion.proofs.EmittedPrograms.{emitted_before, emitted_inner, emitted_none}
-use Rattle.clif_expansion.proofs.JoinedCalls.{emission_placed, joined_calls}
 use Rattle.clif_expansion.proofs.LedgerTypes.{call_types_before, types_before}
 use Rattle.clif_helper_calls.specs.Codes.{AreDistinct, copy_code, copy_flags, doing, fill_code, fill_flags, load_pieces, store_pieces}
 use Rattle.clif_helper_calls.specs.FillStanding.{fill_emission}
 use Rattle.clif_helper_calls.specs.KnownStanding.{copy_emission}
+use Rattle.clif_helper_calls.specs.Lines.{all_but_last, last_of}
 use Rattle.clif_helper_calls.specs.Performing.{HasAccesses}
 use Rattle.clif_helper_calls.specs.PerformingCalls.{ReadsTwo}
-use Rattle.clif_helper_calls.specs.PieceStanding.{PiecesStand, copy_instructions, fill_instructions, load_instructions, piece_names, store_instructions}
+use Rattle.clif_helper_calls.specs.PieceStanding.{PiecesStand, copied_line, copy_instructions, fill_instructions, filled_line, load_instructions, none_of_it, piece_names, store_instructions}
 use Rattle.clif_helper_calls.proofs.FillStanding.{addressed, int_is_type, one_of_two, typed_alike}
 use Rattle.clif_helper_calls.proofs.KnownStanding.{answer_typed, longer}
 use Rattle.clif_helper_calls.proofs.Laid.{codes_are_laid}
+use Rattle.clif_helper_calls.proofs.Lines.{line_stands}
 use Rattle.clif_helper_calls.proofs.Performed.{pieces_are_performed}
+use Rattle.clif_helper_calls.proofs.Standing.{two_read}
 
 -- LISTS -------------------------------------------------------------------------------------------------------------------
 
@@ -334,38 +335,49 @@ fills_stay : (fill : FillShape) (ty : «Type») (number : ℤ) (a : Name) (place
 fills_stay fill ty number a place count =
     (record { no_edges = refl; goes_on = refl }, stores_stay (fill_flags fill) ty (access_size fill.size) a 0 (replicate count (answer_of place 1)))
 
--- there is an instruction, so that there is a piece
-some_piece : (copy : CopyShape) (ty : «Type») (a b : Name) (place count : ℕ) (code : List (Instruction Name Name)) (last : Instruction Name Name)
-    → code ++ last ∷ [] ≡ copy_instructions copy ty a b place count → suc (count - 1) ≡ count
-some_piece copy ty a b place (suc count) code last is = omega arith
-some_piece copy ty a b place zero code last is = let lengths = one_longer code last in let none = ap length is in absurd (omega (arith, lengths, none))
+-- all but the last one, and the last one
+parts_of : (other one : Instruction Name Name) (more : List (Instruction Name Name)) → all_but_last (one ∷ more) ++ last_of other (one ∷ more) ∷ [] ≡ one ∷ more
+parts_of other one [] = refl
+parts_of other one (next ∷ more) = ap (λ (rest : List (Instruction Name Name)). one ∷ rest) (parts_of one next more)
+
+all_copies : (copy : CopyShape) (ty : «Type») (target source : Name) (place count : ℕ) → 0 < count
+    → all_but_last (copy_instructions copy ty target source place count) ++ last_of (none_of_it ty) (copy_instructions copy ty target source place count) ∷ []
+    ≡ copy_instructions copy ty target source place count
+all_copies copy ty target source place zero some = absurd (omega (arith, some))
+all_copies copy ty target source place (suc count) some = parts_of (none_of_it ty) _ _
+
+all_fills : (fill : FillShape) (ty : «Type») (number : ℤ) (target : Name) (place count : ℕ)
+    → all_but_last (fill_instructions fill ty number target place count) ++ last_of (none_of_it ty) (fill_instructions fill ty number target place count) ∷ []
+    ≡ fill_instructions fill ty number target place count
+all_fills fill ty number target place count = parts_of (none_of_it ty) _ _
 
 pub pieces_stand : PiecesStand
 pieces_stand = record {
-  copies_joined = λ pointer ty copy count reading plain calls a b x y code last is are may.
-      let line = line_of code last (copy_instructions copy ty a b (length (ledger_after plain).answers) count) is (copies_stay copy ty a b (length (ledger_after plain).answers) count) in
-      Emitting AreGenerated reading plain calls [] code last (copy_emission copy pointer x y) are
-      (emission_placed reading (ledger_after plain) (ledger_of calls) (joined_calls reading plain calls are) [] (copy_emission copy pointer x y) may)
-      line.0 line.1 (record { no_edges = refl; goes_on = refl }) refl;
-  copies_performed = λ pointer ty copy count reading plain calls a b x y code last is int has are done reads may.
-      let ledger : Ledger = ledger_of calls in
+  copies = λ pointer ty copy count a b x y int has some.
+      let all = λ (place : ℕ). copy_instructions copy ty a b place count in
+      let line = λ (place : ℕ). line_of (all_but_last (all place)) (last_of (none_of_it ty) (all place)) (all place) (all_copies copy ty a b place count some) (copies_stay copy ty a b place count) in
+      line_stands pointer (copied_line copy pointer ty count a b x y) (λ reading. ReadsTwo reading a b x y)
+      (λ place. (line place).0) (λ place. (line place).1) (record { no_edges = refl; goes_on = refl }) (λ place. refl)
+      (λ reading later keeps reads. two_read reading later keeps a b x y reads)
+      (λ reading plain ledger joined reads may.
       let ready = and_parts (is_open ledger ledger.current && list_all (has_value ledger) (x ∷ y ∷ []) && true) (can_emit (Bytes (Copy copy)) pointer) may in
       let open_values = and_parts (is_open ledger ledger.current && list_all (has_value ledger) (x ∷ y ∷ [])) true ready.0 in
-      let values = and_parts (is_open ledger ledger.current) (list_all (has_value ledger) (x ∷ y ∷ [])) open_values.0 in (
-        done,
-        copy_done pointer ty copy count a b x y reading (ledger_after plain) ledger code last is int has (joined_calls reading plain calls are) reads ready.1
-            (some_piece copy ty a b (length (ledger_after plain).answers) count code last is) values.1,
-      );
-  fills_joined = λ pointer ty fill number count reading plain calls a x code last is are may.
-      let line = line_of code last (fill_instructions fill ty number a (length (ledger_after plain).answers) count) is (fills_stay fill ty number a (length (ledger_after plain).answers) count) in
-      Emitting AreGenerated reading plain calls [] code last (fill_emission fill pointer x) are
-      (emission_placed reading (ledger_after plain) (ledger_of calls) (joined_calls reading plain calls are) [] (fill_emission fill pointer x) may)
-      line.0 line.1 (record { no_edges = refl; goes_on = refl }) refl;
-  fills_performed = λ pointer ty fill number count reading plain calls a x code last is int has repeats are done read may.
-      let ledger : Ledger = ledger_of calls in
+      let values = and_parts (is_open ledger ledger.current) (list_all (has_value ledger) (x ∷ y ∷ [])) open_values.0 in
+      copy_done pointer ty copy count a b x y reading plain ledger (all_but_last (all (length plain.answers))) (last_of (none_of_it ty) (all (length plain.answers)))
+      (all_copies copy ty a b (length plain.answers) count some) int has joined reads ready.1 (omega (arith, some)) values.1);
+  fills = λ pointer ty fill number count a x int has repeats.
+      let all = λ (place : ℕ). fill_instructions fill ty number a place count in
+      let line = λ (place : ℕ). line_of (all_but_last (all place)) (last_of (none_of_it ty) (all place)) (all place) (all_fills fill ty number a place count) (fills_stay fill ty number a place count) in
+      line_stands pointer (filled_line fill pointer ty number count a x) (λ reading. IsReadAs reading a x)
+      (λ place. (line place).0) (λ place. (line place).1) (record { no_edges = refl; goes_on = refl }) (λ place. refl)
+      (λ reading later keeps read. keeps a x read)
+      (λ reading plain ledger joined read may.
       let ready = and_parts (is_open ledger ledger.current && list_all (has_value ledger) (x ∷ []) && true) (can_emit (Bytes (Fill fill)) pointer) may in
       let open_values = and_parts (is_open ledger ledger.current && list_all (has_value ledger) (x ∷ [])) true ready.0 in
       let values = and_parts (is_open ledger ledger.current) (list_all (has_value ledger) (x ∷ [])) open_values.0 in
       let value = and_parts (has_value ledger x) true values.1 in
-      (done, fill_done pointer ty fill number count a x reading (ledger_after plain) ledger code last is int has repeats (joined_calls reading plain calls are) read ready.1 value.0);
+      fill_done pointer ty fill number count a x reading plain ledger (all_but_last (all (length plain.answers))) (last_of (none_of_it ty) (all (length plain.answers)))
+      (all_fills fill ty number a (length plain.answers) count) int has repeats joined read ready.1 value.0);
+  all_copies = all_copies;
+  all_fills = all_fills;
 }

@@ -24,7 +24,7 @@ use Rattle.clif_expansion.specs.Joining.{IsJoined}
 use Rattle.clif_expansion.specs.Laying.{IsLaid}
 use Rattle.clif_expansion.specs.PerformedCalls.{IsPerformed, IsTypedInLine}
 use Rattle.clif_expansion.specs.Reading.{IsReadAs, Reading}
-use Rattle.clif_expansion.specs.ScriptCall.{can_emit, emitted_item, is_pointer}
+use Rattle.clif_expansion.specs.ScriptCall.{can_emit, emitted_item, is_pointer, takes_byte}
 use Rattle.clif_expansion.proofs.EmittedPrograms.{emitted_before}
 use Rattle.clif_expansion.proofs.Joins.{KeepsReading, read_there}
 use Rattle.clif_helper_calls.specs.LibraryCodes.{call_code, calling}
@@ -139,7 +139,9 @@ module _ (how : LastResults) (callee : LibCall)
       (λ place. answered pointer signature a b n x y z (has.returns ∙ returns (pointer_of (bits_of pointer))))
       (λ reading later keeps reads. three_read reading later keeps a b n x y z reads)
       (λ reading plain ledger joined reads may.
-      let ready = and_parts (is_open ledger ledger.current && list_all (has_value ledger) (x ∷ y ∷ z ∷ []) && true) (can_emit (Bytes (CallLibrary callee)) pointer) may in
+      let ready =
+      and_parts (takes_byte ledger (Bytes (CallLibrary callee)) (x ∷ y ∷ z ∷ []) && is_open ledger ledger.current && list_all (has_value ledger) (x ∷ y ∷ z ∷ []) && true)
+      (can_emit (Bytes (CallLibrary callee)) pointer) may in
       let pointed = and_parts (is_pointer pointer) true (sym (emits pointer) ∙ ready.1) in
       done pointer signature has a b n x y z reading plain ledger joined reads pointed.0)
 

@@ -1,13 +1,14 @@
--- Calls of `Memset` stand for the fill that is emitted, and two loads for a comparison: joined calls stay joined with the emission at the
--- script's end and the plain calls at the plain one's, and if each emission was performed so far, each is. Own.
-use Rattle.std.specs.Prelude.{ℕ, suc, ℤ, pos, List, [], ◌∷◌, ◌++◌, IsTrue, map}
+-- Calls of `Memset` stand for the fill that is emitted, and two loads, or of no bytes a constant, for a comparison. Own.
+use Rattle.std.specs.Prelude.{◌≡◌, if◌then◌else◌, ℕ, suc, ℤ, pos, List, [], ◌∷◌, ◌++◌, IsTrue, map}
 use Rattle.clif_opcodes.specs.declared.opcodes.ConvertOpcode.TheVariants.{Uextend}
+use Rattle.std.specs.declared.cmp.Ordering.TheVariants.{Equal as SameBytes}
 use Rattle.clif_types.specs.Signature.{SignatureShape}
+use Rattle.clif_types.specs.declared.condcodes.IntCC.{IntCC}
 use Rattle.clif_types.specs.Types.{bits_of, is_int}
 use Rattle.clif_types.specs.declared.libcall.LibCall.TheVariants.{Memset}
 use Rattle.clif_types.specs.declared.types.«Type».{«Type»}
 use Rattle.clif_access_plans.specs.Plans.{is_aligned_load}
-use Rattle.clif_meaning.specs.ByteOperation.{CompareShape, Fill, FillShape}
+use Rattle.clif_meaning.specs.ByteOperation.{CompareShape, Fill, FillShape, order_meets}
 use Rattle.clif_meaning.specs.Instruction.{Bytes, Compare, Convert, Iconst, Instruction, Load}
 use Rattle.clif_meaning.specs.Ledger.{ledger_after}
 use Rattle.clif_meaning.specs.Name.{Name, answer_of}
@@ -70,6 +71,27 @@ fill_line fill signature pointer filling number target given_target = record {
   emission = fill_emission fill pointer given_target;
 }
 
+-- loads of both sides, and their comparison
+abbrev pub loads_line : CompareShape → (pointer ty : «Type») (left right given_left given_right : Name) → Line
+loads_line compare pointer ty left right given_left given_right = record {
+  how = AreGiven;
+  code = λ place. loads_first compare ty left right;
+  last = λ place. loads_last compare ty place;
+  emission = compare_emission compare pointer given_left given_right;
+}
+
+-- a comparison of no bytes: a constant
+abbrev pub told_of_none : IntCC → ℤ
+told_of_none condition = if order_meets condition SameBytes then pos 1 else pos 0
+
+abbrev pub constant_line : CompareShape → «Type» → (given_left given_right : Name) → Line
+constant_line compare pointer given_left given_right = record {
+  how = AreGiven;
+  code = λ place. [];
+  last = λ place. computing (Iconst (told_of_none compare.condition)) i8 [];
+  emission = compare_emission compare pointer given_left given_right;
+}
+
 pub record FillCallsStand : Type 0 where
   pub sets : (pointer : «Type») (signature : SignatureShape) (target byte size given_target given_byte given_size : Name)
       → HasSignature (bits_of pointer) Memset signature
@@ -78,18 +100,8 @@ pub record FillCallsStand : Type 0 where
   pub fills : (pointer : «Type») (signature : SignatureShape) (fill : FillShape) (filling number : ℤ) (target given_target : Name)
       → HasSignature (bits_of pointer) Memset signature → IsConstant i8 filling fill.byte → IsConstant pointer number fill.size
       → LineStands pointer (fill_line fill signature pointer filling number target given_target) (λ reading. IsReadAs reading target given_target)
-  pub loads_joined : (pointer ty : «Type») (compare : CompareShape) (reading : Reading) (plain : Script) (calls : List ScriptCall)
-      (left right given_left given_right : Name)
-      → AreJoinedCalls reading plain calls → IsTrue (call_allowed (ledger_of calls) (Emit [] (compare_emission compare pointer given_left given_right)))
-      → AreJoinedCalls (reading_behind AreGiven reading (ledger_after plain) (ledger_of calls) (loads_first compare ty left right))
-      (plain ++ (map building (loads_first compare ty left right) ++ building (loads_last compare ty (next_place plain)) ∷ []))
-      (calls ++ Emit [] (compare_emission compare pointer given_left given_right) ∷ [])
-  pub loads_performed : (pointer ty : «Type») (compare : CompareShape) (reading : Reading) (plain : Script) (calls : List ScriptCall)
-      (left right given_left given_right : Name)
+  pub nothing : (pointer : «Type») (compare : CompareShape) (left right given_left given_right : Name) → compare.size ≡ 0
+      → LineStands pointer (constant_line compare pointer given_left given_right) (λ reading. ReadsTwo reading left right given_left given_right)
+  pub loads : (pointer ty : «Type») (compare : CompareShape) (left right given_left given_right : Name)
       → IsTrue (is_int ty) → HasLoads ty compare
-      → (are : AreJoinedCalls reading plain calls) → ArePerformed (bits_of pointer) reading plain calls are → ReadsTwo reading left right given_left given_right
-      → (may : IsTrue (call_allowed (ledger_of calls) (Emit [] (compare_emission compare pointer given_left given_right))))
-      → ArePerformed (bits_of pointer) (reading_behind AreGiven reading (ledger_after plain) (ledger_of calls) (loads_first compare ty left right))
-      (plain ++ (map building (loads_first compare ty left right) ++ building (loads_last compare ty (next_place plain)) ∷ []))
-      (calls ++ Emit [] (compare_emission compare pointer given_left given_right) ∷ [])
-      (loads_joined pointer ty compare reading plain calls left right given_left given_right are may)
+      → LineStands pointer (loads_line compare pointer ty left right given_left given_right) (λ reading. ReadsTwo reading left right given_left given_right)

@@ -1,5 +1,4 @@
--- Calls with a constant size stand for the copy or the comparison that is emitted: joined calls stay joined with the emission at the
--- script's end and the plain calls at the plain one's, and if each emission was performed so far, each is. Own.
+-- Calls with a constant size stand for the copy or the comparison that is emitted. Own.
 use Rattle.std.specs.Prelude.{ℕ, suc, ℤ, pos, List, [], ◌∷◌, length}
 use Rattle.clif_types.specs.Signature.{SignatureShape}
 use Rattle.clif_types.specs.Types.{bits_of}

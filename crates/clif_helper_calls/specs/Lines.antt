@@ -1,5 +1,5 @@
--- Lines of code that call a function of the C library, and that stand for an emission: the function's signature and the function are
--- imported first, and the call is given the function. Own.
+-- Lines of code that stand for an emission: for a call of the C library the function's signature and the function are imported first,
+-- and the call is given the function. Own.
 use Rattle.std.specs.Prelude.{ℕ, List, [], ◌∷◌, ◌++◌, IsTrue, length}
 use Rattle.std.specs.List.{AllByRecursion}
 use Rattle.clif_types.specs.Types.{bits_of}
@@ -21,6 +21,16 @@ pub record Line : Type 0 where
   pub code : (place : ℕ) → List (Instruction Name Name)
   pub last : (place : ℕ) → Instruction Name Name
   pub emission : Instruction Name Name
+
+-- of instructions all but the last one, and the last one, or this one where there is none
+abbrev pub all_but_last : List (Instruction Name Name) → List (Instruction Name Name)
+all_but_last [] = []
+all_but_last (one ∷ []) = []
+all_but_last (one ∷ next ∷ more) = one ∷ all_but_last (next ∷ more)
+
+abbrev pub last_of : Instruction Name Name → List (Instruction Name Name) → Instruction Name Name
+last_of other [] = other
+last_of other (one ∷ more) = last_of one more
 
 -- the place of the next call behind imports
 abbrev pub place_importing : Script → List TableEntry → ℕ

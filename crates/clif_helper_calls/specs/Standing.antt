@@ -1,5 +1,4 @@
--- A call of a function of the C library with a size that is a value stands for its emission: joined calls stay joined with the emission
--- at the script's end and the call at the plain one's, and if each emission was performed so far, each is. Own.
+-- A call of a function of the C library with a size that is a value stands for its emission. Own.
 use Rattle.std.specs.Prelude.{[], ◌∷◌}
 use Rattle.clif_types.specs.Signature.{SignatureShape}
 use Rattle.clif_types.specs.Types.{bits_of}
