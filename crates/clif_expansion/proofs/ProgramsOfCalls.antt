@@ -160,7 +160,6 @@ module _ (Known : Reading → List Item → Item → Type 0) (lasts : LastsLater
       (program_with_call program (Emit [] switch)) script_end
       (ap (λ (p : Program). p.place) (fold_on with_call empty_program script more) ∙ places_on more (program_of script) ∙ ap (λ (n : ℕ). n + length more) (script_place script))
       (currents_same (script ++ more))))
-
   go reading plain calls (Giving old script given earlier are is) known =
       subst (λ (l : Ledger). Goes old l (ledger_of earlier) (program_of given) (program_of_calls earlier)) (given_ledger script given is)
       (subst (λ (p : Program). Goes old (ledger_after script) (ledger_of earlier) p (program_of_calls earlier)) (given_program script given is) (go old script earlier are known))
