@@ -48,7 +48,7 @@ test_false a b other = grind (arith, common_steps, other)
 
 -- a state that has one record more, with the blocks of another
 abbrev pub recorded_state : SsaState → SsaState → ℕ → ℕ → ℕ → SsaState
-recorded_state s t x b v = record { records = map.insert s.records (x, b) (record { value = Some v; lookups = 0 }); blocks = t.blocks }
+recorded_state s t x b v = record t { records = map.insert s.records (x, b) (record { value = Some v; lookups = 0 }) }
 
 pub recorded_state_is : (s t : SsaState) (x b v : ℕ) → Records s (recorded_state s t x b v) x b v
 recorded_state_is s t x b v = record_at-insert s.records x b (record { value = Some v; lookups = 0 })
