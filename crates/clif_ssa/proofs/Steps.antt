@@ -131,7 +131,7 @@ ends_typed ty same g answer is ends = subst (λ (t : «Type»). StepEnds (UseIsF
 
 -- A RECORD --------------------------------------------------------------------------------------------------------
 
-stay_recorded : (s t : SsaState) (x b v : ℕ) → record_of s x b ≡ None → Records s t x b v → RecordsStay s t
+pub stay_recorded : (s t : SsaState) (x b v : ℕ) → record_of s x b ≡ None → Records s t x b v → RecordsStay s t
 stay_recorded s t x b v none recorded y c w is = recorded y c ∙ by (y == x && c == b) refl
   where
     by : (test : Bool) → (y == x && c == b) ≡ test → (if test then Some v else record_of s y c) ≡ Some w

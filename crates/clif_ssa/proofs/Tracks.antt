@@ -104,15 +104,15 @@ tracks_none count s below = record {
   where
     by : (v : ℕ) → IsTrue (has s.tracking.recorded v) ⊎ IsMadeForMarked count s s v → IsTrue (has s.tracking.recorded v)
     by v (inl is) = is
-    by v (inr made) = absurd (omega (arith, made.is_new, below made.variable made.block v made.on_record))
+    by v (inr param) = absurd (omega (arith, param.is_new, below param.variable param.block v param.on_record))
 
 made_stays : (count : ℕ) (s m k : SsaState) (v : ℕ) → RecordsStay m k → IsMadeForMarked count s m v → IsMadeForMarked count s k v
-made_stays count s m k v stay made = record {
-  variable = made.variable;
-  marked = made.marked;
-  is_new = made.is_new;
-  block = made.block;
-  on_record = stay made.variable made.block v made.on_record;
+made_stays count s m k v stay param = record {
+  variable = param.variable;
+  marked = param.marked;
+  is_new = param.is_new;
+  block = param.block;
+  on_record = stay param.variable param.block v param.on_record;
 }
 
 -- what is tracked stays, and nothing comes on record that wasn't there
@@ -172,19 +172,19 @@ tracks_bound count s m k x b n new stay here read tracking before = record {
     there v is =
         elim (bound_either m.tracking x n v (subst (λ (t : Tracked). has t.recorded v ≡ true) tracking is)) [
           | inr last ↦ inr (itself v last.0 last.1)
-          | inl old ↦ elim ((before.recorded v).0 old) [ inl first ↦ inl first | inr made ↦ inr (made_stays count s m k v stay made) ]
+          | inl old ↦ elim ((before.recorded v).0 old) [ inl first ↦ inl first | inr param ↦ inr (made_stays count s m k v stay param) ]
         ]
 
     back : (v : ℕ) → IsTrue (has s.tracking.recorded v) ⊎ IsMadeForMarked count s k v → IsTrue (has k.tracking.recorded v)
     back v (inl old) = bound v (bound_old m.tracking x n v ((before.recorded v).1 (inl old)))
-    back v (inr made) =
-        elim (read made.variable made.block v made.on_record) [
+    back v (inr param) =
+        elim (read param.variable param.block v param.on_record) [
           | inl last ↦
-              let marked : has m.tracking.marked x ≡ true = ap (λ marks. has marks x) before.marks ∙ ap (λ y. has s.tracking.marked y) (sym last.0) ∙ made.marked in
+              let marked : has m.tracking.marked x ≡ true = ap (λ marks. has marks x) before.marks ∙ ap (λ y. has s.tracking.marked y) (sym last.0) ∙ param.marked in
               bound v (subst (λ w. has (with_binding m.tracking x n).recorded w ≡ true) (sym last.1) (bound_new m.tracking x n marked))
           | inr old ↦
               bound v (bound_old m.tracking x n v ((before.recorded v).1
-              (inr (record { variable = made.variable; marked = made.marked; is_new = made.is_new; block = made.block; on_record = old }))))
+              (inr (record { variable = param.variable; marked = param.marked; is_new = param.is_new; block = param.block; on_record = old }))))
         ]
 
 -- what is read where one value was written for a variable into some blocks
@@ -233,13 +233,13 @@ ended_values param block value branches results zeros g h ends = (by ends).value
 
 completed_values : (ps : List Pending) (f : Body) → length f.values ≤ length (completed f ps).values
 completed_values [] f = omega arith
-completed_values (p ∷ ps) f = by (param_home f p.param)
+completed_values (p ∷ ps) f = by (param_home f p.param) (λ g. completed_values ps g)
   where
-    by : (home : Option ℕ) → length f.values ≤ length (completed (zeroed_in home f p.param) ps).values
-    by None = completed_values ps f
-    by (Some b) =
+    by : (home : Option ℕ) → ((g : Body) → length g.values ≤ length (completed g ps).values) → length f.values ≤ length (completed (zeroed_in home f p.param) ps).values
+    by None rest = rest f
+    by (Some b) rest =
         let first : length f.values ≤ length (zeroed f b p.param).values = (grown_zeroed anywhere f b p.param refl).values in
-        omega (arith, first, completed_values ps (zeroed f b p.param))
+        omega (arith, first, rest (zeroed f b p.param))
 
 -- `count` and `s` are from before the first step
 record Gains (count : ℕ) (s : SsaState) (m : Stage) : Type 0 where

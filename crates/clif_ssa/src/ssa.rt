@@ -24,6 +24,7 @@ ghost use Rattle.clif_ssa.specs.LookUp.{branch_block, LooksUp, MakesCall, UsesVa
 ghost use Rattle.clif_ssa.specs.Running.{stage, found, with_call, CallsFit, CompletesAll, MakesAll, ToComplete};
 ghost use Rattle.clif_ssa.specs.Sealing.{SealsBelow, SealsOne, SealsLocally, SealsByLookUp};
 ghost use Rattle.clif_ssa.specs.Steps.{SealKeeps, SealMakes, StepEnds, StepKeeps, StepLeaves, StepPools, UsesLocally};
+ghost use Rattle.clif_ssa.specs.Tracked.{TracksMade};
 ghost use Rattle.clif_ssa.specs.Zeros.{steps_before};
 ghost use Rattle.clif_ssa.specs.Within.{HoldsBranches, HoldsWaiting, StaysWithin};
 ghost use Rattle.clif_ssa.specs.Ssa.{no_state, record_of, sealed_of, predecessors_of, lookups_of, completed, completing_blocks, CountsEach, CountsLookup, Declares, HasMore, IsLocal, MayBind, Named, NamesExist, Records, KnowsNoMore, RecordsStay, Removes, SamePredecessors, SameBlocks, SameLookups, SameRecords, SealedStays, Seals, Waits, Zeroes};
@@ -342,6 +343,7 @@ impl SSABuilder {
         ensures more { HasMore func.old func.new }
         ensures constructs { OnlyConstructs func.old func.new }
         ensures tells { IfOk result (λ r. TellsZeros func.old func.new r.1.instructions_added_to_blocks.items) }
+        ensures tracks { NamesExist func.old self.old → OnOk result (TracksMade (length func.old.values) self.old self.new) }
         ensures within { (holds : ℕ → Bool) → HoldsBranches func.old self.old holds → holds block ≡ true → IfOk result (λ r. StaysWithin holds func.old func.new r.1.instructions_added_to_blocks.items) }
         ensures names { NamesExist func.old self.old → NamesExist func.new self.new }
         ensures exists { NamesExist func.old self.old → IfOk result (λ r. r.0 < length func.new.values) }
@@ -619,6 +621,7 @@ impl SSABuilder {
         ensures more { HasMore func.old func.new }
         ensures constructs { OnlyConstructs func.old func.new }
         ensures tells { IfOk result (λ r. TellsZeros func.old func.new r.instructions_added_to_blocks.items) }
+        ensures tracks { NamesExist func.old self.old → OnOk result (TracksMade (length func.old.values) self.old self.new) }
         ensures within { (holds : ℕ → Bool) → HoldsBranches func.old self.old holds → HoldsWaiting func.old self.old holds block → IfOk result (λ r. StaysWithin holds func.old func.new r.instructions_added_to_blocks.items) }
         ensures names { NamesExist func.old self.old → NamesExist func.new self.new }
         ensures pools { NamesExist func.old self.old → MayPoolAll (types_of func.old (pending_of (sealed_of self.old block))) func.old.tables func.new.tables }
@@ -649,6 +652,7 @@ impl SSABuilder {
         ensures more { HasMore func.old func.new }
         ensures constructs { OnlyConstructs func.old func.new }
         ensures tells { IfOk result (λ r. TellsZeros func.old func.new r.instructions_added_to_blocks.items) }
+        ensures tracks { NamesExist func.old self.old → OnOk result (TracksMade (length func.old.values) self.old self.new) }
         ensures within { (holds : ℕ → Bool) → HoldsBranches func.old self.old holds → ((b : ℕ) → b < length func.old.blocks → HoldsWaiting func.old self.old holds b) → IfOk result (λ r. StaysWithin holds func.old func.new r.instructions_added_to_blocks.items) }
         ensures names { NamesExist func.old self.old → NamesExist func.new self.new }
         ensures pools { NamesExist func.old self.old → MayPoolWaiting func.old self.old func.new.tables }
