@@ -1,9 +1,8 @@
 -- Stack maps are asked for: what is tracked changes, and nothing else does.
-use Rattle.std.proofs.Common.{◌≡◌, ◌≢◌, ℕ, ◌<◌, Bool, true, false, List, [], length, refl, sym, ◌∙◌, ap, subst, arith}
-use Rattle.std.specs.Prelude.{Result, Ok, Err, OnOk, OnErr, Some, IsTrue, is_err}
+use Rattle.std.proofs.Common.{◌≡◌, ◌≢◌, ℕ, ◌<◌, Bool, true, false, [], length, refl, sym, ◌∙◌, ap, subst}
+use Rattle.std.specs.Prelude.{Result, Ok, Err, OnOk, OnErr, is_err}
 use Rattle.clif_types.specs.declared.error.BuildError.{BuildError}
 use Rattle.clif_types.specs.declared.error.BuildError.TheVariants.{Memory, Full, Failed}
-use Rattle.clif_types.specs.declared.types.«Type».{«Type»}
 use Rattle.clif_ir.specs.Body.{Body}
 use Rattle.clif_records.specs.Tracking.{Tracked}
 use Rattle.clif_ssa.specs.Ssa.{SsaState, NamesExist}
@@ -12,7 +11,7 @@ use Rattle.clif_ssa.proofs.Structuring.{same_structured}
 use Rattle.clif_builder.specs.declared.builder.FunctionBuilder.{FunctionBuilder}
 use Rattle.clif_builder.specs.Builder.{HasCurrent, SameLoans}
 use Rattle.clif_builder.specs.Context.{ContextState, status_of}
-use Rattle.clif_builder.specs.Growth.{Grows, TypesStay}
+use Rattle.clif_builder.specs.Growth.{TypesStay}
 use Rattle.clif_builder.specs.Marks.{TracksFrom}
 use Rattle.clif_builder.specs.Tracking.{with_tracking}
 use Rattle.clif_builder.specs.Order.{IsInOrder, IsKept}

@@ -1,4 +1,5 @@
-//! The builder's calls that ask for stack maps, by which a collector finds the objects that it moves.
+//! The builder's calls that ask for stack maps, by which a collector finds the objects that it moves. Which values stack
+//! maps need is recorded; `finalize` makes no stack map yet.
 ghost use Rattle.clif_builder.specs.Marks.{IsUnused, MarksVariable, RecordsValue, ValueFits, VariableFits};
 
 use crate::builder::FunctionBuilder;

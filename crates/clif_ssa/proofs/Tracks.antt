@@ -1,13 +1,12 @@
 -- Which values stack maps need after uses and sealings.
-use Rattle.std.proofs.Common.{◌≡◌, ◌≢◌, ℕ, suc, ◌+◌, ◌<◌, ◌≤◌, ◌==◌, ◌&&◌, ◌||◌, Bool, true, false, List, [], ◌∷◌, length, refl, ap, arith, sym, ◌∙◌, subst, ◌⊎◌, inl, inr}
-use Rattle.std.specs.Prelude.{Option, Some, None, Contains, Result, Ok, Err, OnOk, IfOk, IsTrue, reverse, if◌then◌else◌}
+use Rattle.std.proofs.Common.{◌≡◌, ◌≢◌, ℕ, ◌+◌, ◌<◌, ◌≤◌, ◌==◌, ◌&&◌, ◌||◌, Bool, true, false, List, [], ◌∷◌, length, refl, ap, arith, sym, ◌∙◌, subst, ◌⊎◌, inl, inr}
+use Rattle.std.specs.Prelude.{Option, Some, None, Result, Ok, Err, OnOk, IfOk, IsTrue, reverse, if◌then◌else◌}
 use Rattle.std.proofs.lemmas.Grind.{common_steps}
 use Rattle.clif_types.specs.declared.error.BuildError.{BuildError}
 use Rattle.clif_types.specs.declared.types.«Type».{«Type»}
 use Rattle.clif_types.specs.EntitySet.{has, with_member}
 use Rattle.clif_types.proofs.Marks.{has-with_member}
 use Rattle.clif_ir.specs.Body.{Body, value_at}
-use Rattle.clif_ir.specs.Changes.{with_param}
 use Rattle.clif_ir.specs.Reading.{param_home}
 use Rattle.clif_instructions.specs.Members.{stands_in}
 use Rattle.clif_records.specs.declared.side_effects.SideEffects.{SideEffects}
@@ -17,9 +16,9 @@ use Rattle.clif_records.specs.Stacks.{LookUpState, no_look_up}
 use Rattle.clif_records.specs.Tables.{is_yes, pending_of}
 use Rattle.clif_records.specs.Tracking.{Tracked, with_binding}
 use Rattle.clif_ssa.specs.Ssa.{SsaState, record_of, sealed_of, predecessors_of, zeroed, zeroed_in, completed, NamesExist, Records, RecordsStay, SameRecords, Waits, Zeroes}
-use Rattle.clif_ssa.specs.LookUp.{Stage, Copies, AddsParameter, FindsRecord, LooksUp, MakesCall, MakesCalls, none_made, made, IsNoParameter, EndsLookUp, CompletesParameter, with_calls, branch_block}
+use Rattle.clif_ssa.specs.LookUp.{Stage, AddsParameter, FindsRecord, LooksUp, MakesCall, MakesCalls, none_made, made, IsNoParameter, EndsLookUp, CompletesParameter, with_calls, branch_block}
 use Rattle.clif_ssa.specs.Running.{stage, CompletesAll, MakesAll}
-use Rattle.clif_ssa.specs.Sealing.{SealsLocally, SealsByLookUp, SealsWith, SealsBelow, none_sealed, next_sealed}
+use Rattle.clif_ssa.specs.Sealing.{SealsLocally, SealsByLookUp, SealsBelow, none_sealed, next_sealed}
 use Rattle.clif_ssa.specs.Tracked.{IsMadeForMarked, TracksMade}
 use Rattle.clif_ssa.specs.Zeros.{steps_before}
 use Rattle.clif_ssa.proofs.Grown.{Grown, grown_none, grown_param, grown_alias, grown_zeroed, grown_arguments}

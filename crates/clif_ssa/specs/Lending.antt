@@ -3,7 +3,6 @@ use Rattle.std.specs.Prelude.{ℕ, List}
 use Rattle.std.specs.Borrow.{Lends, Fml, MutBor}
 use Rattle.clif_types.specs.contracts.entity_set.EntitySet as entity_set
 use Rattle.clif_entities.specs.contracts.code.Value as value
-use Rattle.clif_records.specs.Tracking.{Tracked}
 use Rattle.clif_ssa.specs.contracts.ssa.SSABuilder as builder
 use Rattle.clif_ssa.specs.contracts.ssa_tables.SsaTables as tables
 use Rattle.clif_ssa.specs.Ssa.{SsaState}
