@@ -43,3 +43,4 @@ pub mod Ordered
 pub mod Framed
 pub mod StandingParameters
 pub mod Lasting
+pub mod Tracking

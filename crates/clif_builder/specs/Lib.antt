@@ -5,6 +5,8 @@ pub mod Construction
 pub mod Redirecting
 pub mod Order
 pub mod Labels
+pub mod Tracking
+pub mod Marks
 pub mod Ledger
 pub mod Growth
 pub mod StandsFor
