@@ -1,0 +1,9 @@
+-- Proofs of this crate.
+mod Lines
+mod Chains
+mod Pieces
+mod Loads
+mod LibraryCalls
+mod Plans
+mod Helped
+pub mod HelperLines

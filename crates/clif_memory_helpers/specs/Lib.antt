@@ -1,0 +1,5 @@
+-- What the contracts of this crate cite.
+pub mod Helpers
+pub mod Lines
+pub mod Steps
+pub mod HelperLines
