@@ -1,6 +1,9 @@
 //! Functions of one helper's call, and their texts.
 #![tactic(auto)]
 
+ghost use Rattle.std.specs.Prelude.{◌≡◌};
+ghost use Rattle.clif_ir.specs.Body.{empty_body};
+
 use crate::asserted::{
     CONFIG, asserts_current, asserts_pointer, asserts_typed, asserts_unsigned, enter, parameter,
     return_values, undefined,
@@ -222,7 +225,9 @@ fn call(
 }
 
 /// The function without its block.
-pub(crate) fn empty(rt: &impl Abort, alloc: Global, sample: Sample<'_>) -> Function {
+pub(crate) fn empty(rt: &impl Abort, alloc: Global, sample: Sample<'_>) -> Function
+    ensures { result ≡ empty_body result.name result.signature }
+{
     let name = String::from_str(alloc, sample.name).expect(rt, "a name");
     let mut signature = Signature::new(alloc, CallConv::SystemV);
     for ty in sample.parameters {
