@@ -1,5 +1,5 @@
 -- When an emission may be made, and what is known once it was made or wasn't.
-use Rattle.std.proofs.Common.{◌≡◌, ◌+◌, ◌-◌, ℕ, ℤ, pos, negsuc, ◌^◌, List, length, refl, ap, sym, ◌∙◌, subst, ◌⊎◌, inl, inr, w64}
+use Rattle.std.proofs.Common.{◌≡◌, ◌+◌, ◌-◌, ℕ, ℤ, pos, negsuc, ◌^◌, List, [], length, refl, ap, sym, ◌∙◌, subst, ◌⊎◌, inl, inr, w64}
 use Rattle.std.specs.Prelude.{Some, None, Bool, true, false, ◌&&◌, Result, Ok, Err}
 use Rattle.std.proofs.lemmas.Bool.{lt-ltb}
 use mir.Val.{SFits}

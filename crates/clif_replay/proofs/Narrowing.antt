@@ -12,7 +12,7 @@ use Rattle.clif_meaning.specs.Name.{Name, same_name}
 use Rattle.clif_meaning.specs.Request.{Request, CreateBlock, SwitchToBlock, SealBlock, SealAllBlocks, InsertBlockAfter, SetColdBlock, EnsureInsertedBlock, AppendBlockParams, AppendFunctionParams, DeclareVar, DefVar, UseVar, MakeEntry, MakeEdge, MakeExceptionTable, MakeJumpTable, Annotate, Build, ChangeJumpDestination, Finalize, TableItem, TagTo, DefaultTo, InContext}
 use Rattle.clif_expansion.specs.Joining.{Both, IsJoined, IsOwnState, IsReadLayout, IsReadRequest, IsReadState, IsReadTableItem, Own, StandAmong}
 use Rattle.clif_expansion.specs.Reading.{IsReadArgument, IsReadAs, IsReadEdge, IsReadInstruction, Reading}
-use Rattle.clif_expansion.specs.ScriptCall.{Emit, call_allowed, can_emit}
+use Rattle.clif_expansion.specs.ScriptCall.{Emit, call_allowed, can_emit, takes_byte}
 use Rattle.clif_expansion.specs.Walk.{IsGenerated}
 use Rattle.clif_expansion.proofs.Names.{names_equal}
 use Rattle.clif_builder.proofs.LedgerLists.{and-then-some}
@@ -158,13 +158,14 @@ module _ (whole reading : Reading) (plain ledger : Ledger) (joined : IsJoined re
   built-parts _ _ _ _ _ _ _ is = absurd (false≢true is)
 
   -- an instruction that may be emitted
-  emitted-parts : (contexts opens operands edges can : Bool) → ((((contexts && opens) && operands) && edges) && can) ≡ true → (contexts ≡ true) × (operands ≡ true) × (edges ≡ true)
-  emitted-parts true true true true true is = (refl, refl, refl)
-  emitted-parts _ _ _ _ _ is = absurd (false≢true is)
+  emitted-parts : (contexts byte opens operands edges can : Bool) → (((((contexts && byte) && opens) && operands) && edges) && can) ≡ true → (contexts ≡ true) × (operands ≡ true) × (edges ≡ true)
+  emitted-parts true true true true true true is = (refl, refl, refl)
+  emitted-parts _ _ _ _ _ _ is = absurd (false≢true is)
 
   pub narrowed-emission : (before after : Instruction Name Name) → IsReadInstruction whole before after → call_allowed plain (Emit [] before) ≡ true → IsReadInstruction reading before after
   narrowed-emission before after is may =
-      let parts = emitted-parts (list_all (has_value plain) before.contexts) (is_open plain plain.current) (list_all (has_value plain) before.operands) (list_all (can_lead plain) before.edges)
+      let parts = emitted-parts (list_all (has_value plain) before.contexts) (takes_byte plain before.operation before.operands) (is_open plain plain.current)
+      (list_all (has_value plain) before.operands) (list_all (can_lead plain) before.edges)
       (can_emit before.operation before.controlling) may in
       instruction before after is parts.0 parts.1 parts.2
 

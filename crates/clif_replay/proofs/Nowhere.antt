@@ -132,7 +132,7 @@ module _ (side : Ledger) where
   deny-build entries a (inr (inr edges)) = left-denied _ _ (left-denied _ _ (right-denied _ _ edges))
 
   deny-emission : (a : Instruction Name Name) → NamesNothing a → call_allowed side (Emit [] a) ≡ false
-  deny-emission a (inl contexts) = left-denied _ _ (left-denied _ _ (left-denied _ _ (left-denied _ _ contexts)))
+  deny-emission a (inl contexts) = left-denied _ _ (left-denied _ _ (left-denied _ _ (left-denied _ _ (left-denied _ _ contexts))))
   deny-emission a (inr (inl operands)) = left-denied _ _ (left-denied _ _ (right-denied _ _ operands))
   deny-emission a (inr (inr edges)) = left-denied _ _ (right-denied _ _ edges)
 
