@@ -43,4 +43,3 @@ pub mod Ordered
 pub mod Framed
 pub mod StandingParameters
 pub mod Lasting
-pub mod Tracking

@@ -11,7 +11,6 @@ use Rattle.clif_ssa.specs.Sound.{Keeps, KeepsAndKnows, SparesIfEntry}
 use Rattle.clif_ssa.specs.SoundLaws.{DescribesSoundly}
 use Rattle.clif_ssa.specs.Structure.{HasRecordOf, Remembers}
 use Rattle.clif_ssa.specs.Structured.{HasType, Structured, VariableTypes}
-use Rattle.clif_ssa.specs.Tracked.{TracksMade}
 use Rattle.clif_ssa.specs.Constructs.{OnlyConstructs, TellsZeros}
 use Rattle.clif_ssa.specs.Within.{HoldsBranches, HoldsWaiting, StaysWithin}
 use Rattle.clif_records.specs.Tables.{is_yes}
@@ -27,7 +26,6 @@ pub record IsUse (f : Body) (s : SsaState) (g : Body) (t : SsaState) (variable :
   pub stay : RecordsStay s t
   pub remembers : (x b : ℕ) → Remembers x b f s g t
   pub recorded : HasRecordOf g t variable block value
-  pub tracks : TracksMade (length f.values) s t
   pub structured : (types : VariableTypes) (own : Own) → ty ≡ types variable → Structured types own f s []
       → Structured types own g t [] × HasType g value ty
   pub keeps : (own : Own) (tables : Blocks) → DescribesSoundly own f s tables → KeepsAndKnows own tables g t block variable value
@@ -40,7 +38,6 @@ pub record IsSealingOf (f : Body) (s : SsaState) (g : Body) (t : SsaState) (seal
   pub predecessors : SamePredecessors s t
   pub sealed : (b : ℕ) → is_yes (sealed_of t b) ≡ (if seals b then true else is_yes (sealed_of s b))
   pub stay : RecordsStay s t
-  pub tracks : TracksMade (length f.values) s t
   pub remembers : (x b : ℕ) → Remembers x b f s g t
   pub structured : (types : VariableTypes) (own : Own) → Structured types own f s [] → Structured types own g t []
   pub keeps : (own : Own) (tables : Blocks) → ((b : ℕ) → seals b ≡ true → SparesIfEntry f s b) → DescribesSoundly own f s tables → Keeps own tables g t

@@ -5,8 +5,6 @@ pub mod Construction
 pub mod Redirecting
 pub mod Order
 pub mod Labels
-pub mod Tracking
-pub mod Marks
 pub mod Ledger
 pub mod Growth
 pub mod StandsFor

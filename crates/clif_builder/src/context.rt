@@ -114,8 +114,6 @@ impl FunctionBuilderContext {
     ghost use Rattle.clif_instructions.specs.Members.{Stands};
     ghost use Rattle.clif_ssa.specs.Moving.{MovesBranch};
     ghost use Rattle.clif_records.specs.Stacks.{no_look_up};
-    ghost use Rattle.clif_records.specs.Tracking.{with_binding, with_mark, with_recorded};
-    ghost use Rattle.clif_builder.specs.Tracking.{with_tracking};
     ghost use Rattle.clif_ssa.specs.LookUp.{UsesVariable};
     ghost use Rattle.clif_ssa.specs.Running.{stage, found};
     ghost use Rattle.clif_ssa.specs.Sealing.{SealsBelow, SealsByLookUp};
@@ -223,28 +221,8 @@ impl FunctionBuilderContext {
         self.variables.get(variable.index()).copied()
     }
 
-    /// Marks a variable. After an error nothing has changed.
-    pub(crate) fn mark_var(&mut self, variable: Variable) -> Result<(), BuildError>
-        ensures ok { OnOk result (self.new ≡ with_tracking self.old (with_mark self.old.ssa.tracking variable)) }
-        ensures err { OnErr result (self.new ≡ self.old) }
-        ensures only_memory { OnErr result (result ≡ Err BuildError.Memory) }
-    {
-        self.ssa.mark_var_needs_stack_map(variable)
-    }
-
-    /// Records a value for stack maps. After an error nothing has changed.
-    pub(crate) fn record_value(&mut self, value: Value) -> Result<(), BuildError>
-        ensures ok { OnOk result (self.new ≡ with_tracking self.old (with_recorded self.old.ssa.tracking value)) }
-        ensures err { OnErr result (self.new ≡ self.old) }
-        ensures only_memory { OnErr result (result ≡ Err BuildError.Memory) }
-    {
-        self.ssa.stack_map_values_mut().insert(value)?;
-        Ok(())
-    }
-
     #[tactic(auto, using(crate::proofs::Named::names_rules))]
-    /// Records that a variable has a value in a block from here on. Stack maps need the value, if the
-    /// variable is marked.
+    /// Records that a variable has a value in a block from here on.
     pub(crate) fn def_var(
         &mut self,
         variable: Variable,
@@ -252,7 +230,6 @@ impl FunctionBuilderContext {
         block: Block,
     ) -> Result<(), BuildError>
         ensures ok { OnOk result (Records self.old.ssa self.new.ssa variable block value) }
-        ensures tracking { OnOk result (self.new.ssa.tracking ≡ with_binding self.old.ssa.tracking variable value) }
         ensures blocks { self.new.ssa.blocks ≡ self.old.ssa.blocks }
         ensures names { (f : Body) → value < length f.values → NamesExist f self.old.ssa → NamesExist f self.new.ssa }
         ensures looks_once { LooksOnce self.old.ssa → LooksOnce self.new.ssa }

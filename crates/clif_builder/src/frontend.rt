@@ -5,7 +5,6 @@ ghost use Rattle.clif_builder.specs.Growth.{Grows, HasRecordIn, RemembersIn};
 ghost use Rattle.clif_builder.specs.Construction.{IsUse, IsSealing, IsSealingAll, SealsAtMost};
 ghost use Rattle.clif_builder.specs.Calls.{IsCall, IsTold, answered};
 ghost use Rattle.clif_builder.specs.Order.{IsUntouched};
-ghost use Rattle.clif_builder.specs.Tracking.{TracksBinding};
 ghost use Rattle.clif_builder.specs.Builder.{with_position, with_srcloc, is_unreachable, is_free, HasCurrent, Uses, UsesIn};
 ghost use Rattle.clif_types.specs.Types.{is_type};
 ghost use Rattle.clif_ssa.specs.Pools.{types_of, MayPool, MayPoolAll, MayPoolWaiting, SealingIsFull, UseIsFull, WaitsWithType};
@@ -317,8 +316,7 @@ impl<'a> FunctionBuilder<'a> {
         declared
     }
 
-    /// Assigns a value to a variable, from this point of the current block on. Stack maps need the value, if the
-    /// variable is marked ([`FunctionBuilder::declare_var_needs_stack_map`]).
+    /// Assigns a value to a variable, from this point of the current block on.
     ///
     /// The variable is declared, and its type is the value's. There is a current block, which isn't filled. An
     /// assignment makes no instruction. After an error the variable is what it was, and the builder has failed.
@@ -330,7 +328,6 @@ impl<'a> FunctionBuilder<'a> {
         ensures call { IsCall self.old self.new result }
         ensures function { self.new.func.now ≡ self.old.func.now }
         ensures records { IfSome self.old.position (λ block. OnOk result (Records self.old.ctx.now.ssa self.new.ctx.now.ssa variable block value)) }
-        ensures tracks { OnOk result (TracksBinding self.old.ctx.now self.new.ctx.now variable value) }
         ensures sealed { self.new.ctx.now.ssa.blocks ≡ self.old.ctx.now.ssa.blocks }
         ensures status { self.new.ctx.now.status ≡ self.old.ctx.now.status }
         ensures variables { self.new.ctx.now.variables ≡ self.old.ctx.now.variables }

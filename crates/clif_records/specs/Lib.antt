@@ -2,5 +2,3 @@ pub mod Tables
 pub mod Passed
 pub mod Records
 pub mod Stacks
-pub mod Tracking
-pub mod Lends

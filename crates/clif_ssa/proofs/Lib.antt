@@ -68,6 +68,5 @@ pub mod Grown
 pub mod Within
 pub mod WithinUses
 pub mod CallersParameters
-pub mod Tracks
 pub mod Moved
 pub mod MovedState

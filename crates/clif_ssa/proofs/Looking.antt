@@ -48,7 +48,7 @@ test_false a b other = grind (arith, common_steps, other)
 
 -- a state that has one record more, with the blocks of another
 abbrev pub recorded_state : SsaState → SsaState → ℕ → ℕ → ℕ → SsaState
-recorded_state s t x b v = record t { records = map.insert s.records (x, b) (record { value = Some v; lookups = 0 }) }
+recorded_state s t x b v = record { records = map.insert s.records (x, b) (record { value = Some v; lookups = 0 }); blocks = t.blocks }
 
 pub recorded_state_is : (s t : SsaState) (x b v : ℕ) → Records s (recorded_state s t x b v) x b v
 recorded_state_is s t x b v = record_at-insert s.records x b (record { value = Some v; lookups = 0 })
@@ -155,7 +155,7 @@ walk_reaches f s x (b ∷ passed) block reached stand walk there =
     walk_reaches f s x passed walk.2.0 reached stand walk.2.2 (omega (arith, exists, at))
 
 -- to the first time that it comes to the block
-pub walk_first : (f : Body) (s : SsaState) (x : ℕ) (passed : List ℕ) (block reached : ℕ) → IsWalk f s x block passed reached → IsWalk f s x block (before_first reached passed) reached
+walk_first : (f : Body) (s : SsaState) (x : ℕ) (passed : List ℕ) (block reached : ℕ) → IsWalk f s x block passed reached → IsWalk f s x block (before_first reached passed) reached
 walk_first f s x passed block reached walk = by (stands_in reached passed) refl
   where
     by : (test : Bool) → stands_in reached passed ≡ test → IsWalk f s x block (before_first reached passed) reached

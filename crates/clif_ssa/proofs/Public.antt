@@ -102,13 +102,12 @@ popped_nothing ty f s l nothing = subst (λ k. Popped ty (stage f s k)) (sym not
 -- SEALING ---------------------------------------------------------------------------------------------------------
 
 pub seals_by_look_up : (f g : Body) (s r t : SsaState) (b : ℕ) (waiting : List Pending) (first last : LookUpState) (told : List ℕ)
-    → r.records ≡ s.records → r.tracking ≡ s.tracking → Seals s r b → SamePredecessors s r → waiting ≡ pending_of (sealed_of s b) → first ≡ no_look_up
+    → r.records ≡ s.records → Seals s r b → SamePredecessors s r → waiting ≡ pending_of (sealed_of s b) → first ≡ no_look_up
     → CompletesAll b waiting (stage f r first) (stage g t last) → told ≡ last.zeros → SealsByLookUp f s g t b told
-seals_by_look_up f g s r t b waiting first last told records tracking seals same list nothing completes is_told = record {
+seals_by_look_up f g s r t b waiting first last told records seals same list nothing completes is_told = record {
   sealed = r;
   look_up = last;
   records = λ v c. ap (λ rows. record_at rows v c) records;
-  tracking = tracking;
   seals = seals;
   predecessors = same;
   completes =
