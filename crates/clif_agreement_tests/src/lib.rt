@@ -6,11 +6,17 @@
 #[cfg(test)]
 mod agreement;
 #[cfg(test)]
+mod calls;
+#[cfg(test)]
 mod changes;
 #[cfg(test)]
 mod constants;
 #[cfg(test)]
+mod helpers;
+#[cfg(test)]
 mod instructions;
+#[cfg(test)]
+mod library;
 #[cfg(test)]
 mod memory;
 #[cfg(test)]

@@ -9,8 +9,8 @@ use std::alloc::Global;
 use std::process::Abort;
 use std::test::Fail;
 
-// What is told of a run, or that it ended.
-fn told(alloc: Global, run: Result<Ending, RunError>) -> Result<String, Fail> {
+/// What is told of a run, or that it ended.
+pub fn told(alloc: Global, run: Result<Ending, RunError>) -> Result<String, Fail> {
     match run {
         Ok(ending) => match ending.end {
             End::OutOfSteps => Ok(format!(in alloc; "no end")?),
@@ -130,6 +130,112 @@ const WRONG: [(&str, &str, &str); 11] = [
         "the arguments of an edge don't fit its target's parameters at inst1",
     ),
 ];
+
+/// A block with an address whose number 8 divides, and one four bytes on, in calls 0 to 5.
+const ADDRESSES: &str =
+    "b = create_block\nn = append_block_param b i8\nswitch_to_block b\nseal_block b\np = iconst.i64 4096\nq = iconst.i64 4100\n";
+
+/// What is told of helpers that follow, and what their functions do. A function may do more than is promised.
+const HELPERS: [(&str, &str, &str); 18] = [
+    (
+        "emit_small_memory_copy p q 8 1 1 nonoverlap",
+        "bytes overlap, and a memory helper says that they don't at call 6",
+        "ended",
+    ),
+    (
+        "emit_small_memory_copy q p 5 1 1 nonoverlap",
+        "bytes overlap, and a memory helper says that they don't at call 6",
+        "Memcpy copies between bytes that overlap at inst3",
+    ),
+    (
+        "emit_small_memory_copy p q 4 1 1 nonoverlap",
+        "ended",
+        "ended",
+    ),
+    (
+        "call_memcpy p q n",
+        "call isn't defined at such types at call 6",
+        "the operands of a call don't fit its signature at inst2",
+    ),
+    (
+        "call_memcpy q p q",
+        "a function of the C library touches a byte that isn't accessible at call 6",
+        "a function of the C library touches a byte that isn't accessible at inst2",
+    ),
+    (
+        "z = iconst.i64 5\ncall_memcpy q p z",
+        "Memcpy copies between bytes that overlap at call 7",
+        "Memcpy copies between bytes that overlap at inst3",
+    ),
+    ("z = iconst.i64 4\ncall_memmove q p z", "ended", "ended"),
+    // alignments that aren't true, or that are no powers of two
+    (
+        "emit_small_memory_copy q p 8 8 8 overlap",
+        "an address doesn't have the alignment that a memory helper says at call 6",
+        "the address isn't aligned, as the flag aligned claims at inst3",
+    ),
+    (
+        "emit_small_memory_copy p q 8 8 8 overlap",
+        "an address doesn't have the alignment that a memory helper says at call 6",
+        "the address isn't aligned, as the flag aligned claims at inst2",
+    ),
+    (
+        "emit_small_memory_copy p q 8 3 1 overlap",
+        "an address doesn't have the alignment that a memory helper says at call 6",
+        "ended",
+    ),
+    (
+        "emit_small_memset p 1 8 0",
+        "an address doesn't have the alignment that a memory helper says at call 6",
+        "ended",
+    ),
+    (
+        "emit_small_memory_compare eq p q 4 8 8",
+        "an address doesn't have the alignment that a memory helper says at call 6",
+        "ended",
+    ),
+    // flags
+    (
+        "emit_small_memset q 1 8 1 aligned",
+        "the address isn't aligned, as the flag aligned claims at call 6",
+        "the address isn't aligned, as the flag aligned claims at inst3",
+    ),
+    ("emit_small_memset q 1 12 1 aligned", "ended", "ended"),
+    (
+        "emit_small_memory_compare ult p q 8 1 1 aligned",
+        "ended",
+        "ended",
+    ),
+    // bytes that aren't accessible
+    (
+        "z = iconst.i64 4127\nemit_small_memset z 1 2 1",
+        "a memory helper touches a byte that isn't accessible at call 7",
+        "ended",
+    ),
+    (
+        "z = iconst.i64 0\nemit_small_memory_compare eq p z 3 1 1",
+        "a memory helper touches a byte that isn't accessible at call 7",
+        "a function of the C library touches a byte that isn't accessible at inst4",
+    ),
+    // a size of 0 touches nothing, wherever it is
+    (
+        "z = iconst.i64 0\nemit_small_memory_copy z q 0 1 1 overlap\ny = emit_small_memory_compare eq z q 0 1 1",
+        "ended",
+        "ended",
+    ),
+];
+
+/// Helpers, on both interpreters.
+#[test]
+fn helpers(rt: HostRuntime) -> Result<(), Fail> {
+    let alloc = rt.alloc();
+    for (lines, of_script, of_function) in HELPERS.iter() {
+        let lines = format!(in alloc; "{ADDRESSES}{lines}\nreturn n")?;
+        script_tells(&rt, alloc, lines.as_str(), &[7], of_script)?;
+        function_tells(&rt, alloc, lines.as_str(), &[7], of_function)?;
+    }
+    Ok(())
+}
 
 /// Wrong types, claims and targets, on both interpreters.
 #[test]

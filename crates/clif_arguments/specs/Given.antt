@@ -1,15 +1,17 @@
 -- What names stand for, behind the calls so far. Source: own; docs/SCRIPTS.md describes the same.
-use Rattle.std.specs.Prelude.{◌≡◌, ◌≢◌, ℕ, ◌+◌, ◌==◌, ◌⊎◌, ◌++◌, Bool, true, false, List, [], ◌∷◌, Option, Some, None, slice_get, unwrap_or, codes, if◌then◌else◌}
+use Rattle.std.specs.Prelude.{◌≡◌, ◌≢◌, ℕ, ◌+◌, ◌==◌, ◌⊎◌, ◌++◌, Bool, true, false, List, [], ◌∷◌, Option, Some, None, slice_get, unwrap_or, is_some, codes, if◌then◌else◌}
 use Rattle.clif_calls.specs.declared.call.Name.{Name}
 use Rattle.clif_calls.specs.declared.call.Call.{Call}
 use Rattle.clif_calls.specs.declared.call.Call.TheVariants as call
 use Rattle.clif_calls.specs.declared.entry.EntryCall.TheVariants as entry
+use Rattle.clif_calls.specs.Memory.{called_function}
 use Rattle.clif_calls.specs.Switches.{table_count}
 use Rattle.clif_arguments.specs.declared.scope.Kind.{Kind}
 use Rattle.clif_arguments.specs.declared.scope.Kind.TheVariants as kind
 use Rattle.clif_arguments.specs.declared.scope.Numbered.{Numbered}
 use Rattle.clif_arguments.specs.declared.scope.Numbered.TheVariants as numbered
 use Rattle.clif_arguments.specs.declared.scope.Totals.{Totals}
+use Rattle.clif_arguments.specs.declared.scope.Unnamed.{Unnamed}
 use Rattle.clif_arguments.specs.Arguments.{Names}
 
 -- of what kind the call answers one, if it answers any by number
@@ -60,18 +62,23 @@ totals_behind (Some kind.ExceptionTable) totals = record totals { exception_tabl
 totals_behind (Some kind.Signature) totals = record totals { signatures = totals.signatures + 1 }
 totals_behind (Some kind.Function) totals = record totals { functions = totals.functions + 1 }
 
--- how many jump tables the call makes that no name leads to
-abbrev pub unnamed_tables : Call → ℕ
-unnamed_tables (call.Switch entries value otherwise) = table_count entries.items
-unnamed_tables _ = 0
+-- how many entries of tables the call makes that no name leads to
+abbrev pub unnamed_in : Call → Unnamed
+unnamed_in (call.Switch entries value otherwise) = record { jump_tables = table_count entries.items; imports = 0 }
+unnamed_in (call.Memory called) = record { jump_tables = 0; imports = if is_some (called_function called) then 1 else 0 }
+unnamed_in _ = record { jump_tables = 0; imports = 0 }
 
--- so many jump tables more
-abbrev pub with_tables : ℕ → Totals → Totals
-with_tables count totals = record totals { jump_tables = totals.jump_tables + count }
+-- with these entries more; a function is imported with its signature
+abbrev pub with_unnamed : Unnamed → Totals → Totals
+with_unnamed made totals = record totals {
+  jump_tables = totals.jump_tables + made.jump_tables;
+  signatures = totals.signatures + made.imports;
+  functions = totals.functions + made.imports;
+}
 
 -- how many there are of each kind behind a call
 abbrev pub totals_after : Call → Totals → Totals
-totals_after call totals = with_tables (unnamed_tables call) (totals_behind (numbered_kind call) totals)
+totals_after call totals = with_unnamed (unnamed_in call) (totals_behind (numbered_kind call) totals)
 
 -- what such a call answers by number
 abbrev pub next_of : Option Kind → Totals → Numbered

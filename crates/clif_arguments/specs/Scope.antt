@@ -6,7 +6,8 @@ use Rattle.std.specs.Ordering.{nat_cmp}
 use Rattle.clif_calls.specs.declared.call.Name.{Name}
 use Rattle.clif_arguments.specs.declared.scope.Scope.{Scope}
 use Rattle.clif_arguments.specs.declared.scope.Kind.{Kind}
-use Rattle.clif_arguments.specs.Given.{names_with, next_of, number_in, totals_behind, with_tables, GivesName}
+use Rattle.clif_arguments.specs.declared.scope.Unnamed.{Unnamed}
+use Rattle.clif_arguments.specs.Given.{names_with, next_of, number_in, totals_behind, with_unnamed, GivesName}
 use Rattle.clif_arguments.specs.Arguments.{Names}
 
 -- the number of the one of this kind that is this answer, or else the number that comes next
@@ -31,11 +32,11 @@ pub record Counts (answered : Option Kind) (old new : Scope) : Type 0 where
   pub numbered : new.numbered.items ≡ old.numbered.items ++ next_of answered old.totals ∷ []
   pub totals : new.totals ≡ totals_behind answered old.totals
 
--- so many jump tables more, which no name leads to
-pub record AddsTables (count : ℕ) (old new : Scope) : Type 0 where
+-- entries more, which no name leads to
+pub record AddsUnnamed (made : Unnamed) (old new : Scope) : Type 0 where
   pub names : new.names ≡ old.names
   pub numbered : new.numbered.items ≡ old.numbered.items
-  pub totals : new.totals ≡ with_tables count old.totals
+  pub totals : new.totals ≡ with_unnamed made old.totals
 
 -- one name more
 pub record Gives (word : List ℕ) (name : Name) (old new : Scope) : Type 0 where

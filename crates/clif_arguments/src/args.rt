@@ -18,6 +18,7 @@ use clif_words::error::{Expected, LineError};
 use clif_words::number::{decimal, magnitude, number, offset, wide_magnitude};
 use clif_words::types::{condition_named, lib_call_named, trap_code_named, type_named};
 use std::alloc::Global;
+use std::num::NonZeroU8;
 
 /// The words that are left, and what names in them stand for.
 #[derive(Drop)]
@@ -33,7 +34,8 @@ impl<'w, 'a> Args<'w, 'a> {
     ghost use Rattle.std.specs.Prelude.{IfOk, OnOk};
     ghost use Rattle.clif_types.specs.Texts.{int_cc_text};
     ghost use Rattle.clif_words.specs.Cursor.{TakesFlags, texts, words_left};
-    ghost use Rattle.clif_words.specs.Spelling.{IsBytes, IsMagnitude, IsNumber, IsTrapCode, IsTypeWord, flag_word};
+    ghost use Rattle.std.specs.Int.NonZero.{non_zero_u8_get};
+    ghost use Rattle.clif_words.specs.Spelling.{IsBytes, IsMagnitude, IsNumber, IsTrapCode, IsTypeWord, flag_word, overlap_word};
     ghost use Rattle.clif_arguments.specs.Arguments.{AreAnswers, AreClosed, AreItems, AreLast, AreLastPassed, ArePassed, AreSwitchCases, IsEdge, IsExceptionTable, IsExternalName, IsFunctionRef, IsInst, IsItem, IsJumpTable, IsLastEdge, IsLastOffset, IsNumbered, IsPassed, IsSignatureName, IsSlot, IsSwitchCase, IsTableEdge, IsVariable};
     ghost use Rattle.clif_arguments.specs.Header.{IsSignature};
     ghost use Rattle.clif_arguments.specs.Taking.{TakesAnswer, TakesAnswers, TakesWord, TakesWords, names_in, numbers_in};
@@ -235,6 +237,17 @@ impl<'w, 'a> Args<'w, 'a> {
         Ok((first, second))
     }
 
+    /// Three values.
+    pub fn three_values(&mut self) -> Result<(Name, Name, Name), LineError<'a>>
+        ensures scope { self.new.scope ≡ self.old.scope }
+        ensures ok { IfOk result (λ three. TakesAnswers self.old self.new
+            (three.0 ∷ three.1 ∷ three.2 ∷ [])) }
+    {
+        let first = self.value()?;
+        let (second, third) = self.two_values()?;
+        Ok((first, second, third))
+    }
+
     /// A number without a sign, which the line should have as `expected`.
     pub fn magnitude(&mut self, expected: Expected) -> Result<u64, LineError<'a>>
         ensures scope { self.new.scope ≡ self.old.scope }
@@ -283,14 +296,45 @@ impl<'w, 'a> Args<'w, 'a> {
         self.short_magnitude(Expected::SlotSize)
     }
 
+    /// A number of 8 bits without a sign, which the line should have as `expected`.
+    pub fn byte(&mut self, expected: Expected) -> Result<u8, LineError<'a>>
+        ensures scope { self.new.scope ≡ self.old.scope }
+        ensures ok { IfOk result (TakesWord self.old self.new IsMagnitude) }
+    {
+        match u8::try_from(self.magnitude(expected)?) {
+            Ok(number) => Ok(number),
+            Err(_) => Err(LineError::wanted(expected)),
+        }
+    }
+
     /// The shift that makes the alignment of a stack slot.
     pub fn align_shift(&mut self) -> Result<u8, LineError<'a>>
         ensures scope { self.new.scope ≡ self.old.scope }
         ensures ok { IfOk result (TakesWord self.old self.new IsMagnitude) }
     {
-        match u8::try_from(self.magnitude(Expected::AlignShift)?) {
-            Ok(shift) => Ok(shift),
-            Err(_) => Err(LineError::wanted(Expected::AlignShift)),
+        self.byte(Expected::AlignShift)
+    }
+
+    /// An alignment, which isn't 0.
+    pub fn non_zero_alignment(&mut self) -> Result<NonZeroU8, LineError<'a>>
+        ensures scope { self.new.scope ≡ self.old.scope }
+        ensures ok { IfOk result (TakesWord self.old self.new
+            (λ word alignment. IsMagnitude word (non_zero_u8_get alignment))) }
+    {
+        let alignment = self.byte(Expected::NonZeroAlignment)?;
+        NonZeroU8::new(alignment).ok_or(LineError::wanted(Expected::NonZeroAlignment))
+    }
+
+    /// Whether bytes are said not to overlap.
+    pub fn non_overlapping(&mut self) -> Result<bool, LineError<'a>>
+        ensures scope { self.new.scope ≡ self.old.scope }
+        ensures ok { IfOk result (TakesWord self.old self.new (λ word apart. word ≡
+            overlap_word apart)) }
+    {
+        match self.words.take(Expected::Overlap)? {
+            "overlap" => Ok(false),
+            "nonoverlap" => Ok(true),
+            _ => Err(LineError::wanted(Expected::Overlap)),
         }
     }
 

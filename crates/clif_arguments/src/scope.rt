@@ -1,5 +1,5 @@
 //! What names stand for.
-ghost use Rattle.std.specs.Prelude.{◌≡◌, ◌≤◌, IfSome, vec_len};
+ghost use Rattle.std.specs.Prelude.{◌≡◌, ◌≤◌, ◌+◌, IfOk, IfSome, vec_len};
 ghost use Rattle.clif_arguments.specs.Given.{number_as, total_of};
 ghost use Rattle.clif_arguments.specs.Arguments.{IsPlaceName};
 
@@ -48,6 +48,15 @@ pub struct Totals {
     functions: usize,
 }
 
+/// How many entries of tables a call makes that no name leads to.
+#[derive(Clone, Copy)]
+pub struct Unnamed {
+    /// The jump tables of a switch.
+    pub jump_tables: usize,
+    /// The functions of the C library that a memory helper imports, each with a signature.
+    pub imports: usize,
+}
+
 /// The names that the lines so far gave, and what their calls answered by number.
 #[derive(Drop)]
 pub struct Scope<'a> {
@@ -58,8 +67,6 @@ pub struct Scope<'a> {
     ghost variables_counted: { totals.variables ≤ vec_len numbered },
     ghost slots_counted: { totals.stack_slots ≤ vec_len numbered },
     ghost exceptions_counted: { totals.exception_tables ≤ vec_len numbered },
-    ghost signatures_counted: { totals.signatures ≤ vec_len numbered },
-    ghost functions_counted: { totals.functions ≤ vec_len numbered },
 }
 
 impl Numbered {
@@ -95,6 +102,16 @@ impl Totals {
     }
 }
 
+// So many more.
+fn more(total: usize, count: usize) -> Result<usize, AllocError>
+    ensures { IfOk result (λ sum. sum ≡ total + count) }
+{
+    match total.checked_add(count) {
+        Some(sum) => Ok(sum),
+        None => Err(AllocError),
+    }
+}
+
 // The answer that `$P.K` names.
 fn place_name(word: &str) -> Option<Name>
     ensures { IfSome result (IsPlaceName word.now) }
@@ -123,7 +140,7 @@ impl<'a> Scope<'a> {
     ghost use Rattle.std.specs.Prelude.{[], IfNone, OnOk};
     ghost use Rattle.clif_arguments.specs.Given.{no_totals};
     ghost use Rattle.clif_arguments.specs.Arguments.{IsAnswer};
-    ghost use Rattle.clif_arguments.specs.Scope.{AddsTables, Counts, Gives, given_in, names_of, number_of};
+    ghost use Rattle.clif_arguments.specs.Scope.{AddsUnnamed, Counts, Gives, given_in, names_of, number_of};
 
     pub fn new(alloc: Global) -> Scope<'a>
         ensures names { result.names.entries ≡ [] }
@@ -175,17 +192,17 @@ impl<'a> Scope<'a> {
         Ok(())
     }
 
-    /// So many more jump tables were made, which no name leads to. There is no memory for the keys of as many as have no number.
-    pub fn add_tables(&mut self, count: usize) -> Result<(), AllocError>
-        ensures { OnOk result (AddsTables count self.old self.new) }
+    /// Entries more were made, which no name leads to. There is no memory for the calls of as many as have no number.
+    pub fn add_unnamed(&mut self, made: Unnamed) -> Result<(), AllocError>
+        ensures { OnOk result (AddsUnnamed made self.old self.new) }
     {
-        match self.totals.jump_tables.checked_add(count) {
-            Some(total) => {
-                self.totals.jump_tables = total;
-                Ok(())
-            }
-            None => Err(AllocError),
-        }
+        let jump_tables = more(self.totals.jump_tables, made.jump_tables)?;
+        let signatures = more(self.totals.signatures, made.imports)?;
+        let functions = more(self.totals.functions, made.imports)?;
+        self.totals.jump_tables = jump_tables;
+        self.totals.signatures = signatures;
+        self.totals.functions = functions;
+        Ok(())
     }
 
     /// One more call was read, which answers one of this kind or none.
@@ -205,7 +222,7 @@ impl<'a> Scope<'a> {
             }
             Some(Kind::JumpTable) => {
                 let number = self.totals.jump_tables;
-                self.add_tables(1)?;
+                self.totals.jump_tables = more(number, 1)?;
                 self.numbered.push(Numbered::JumpTable(number))?;
             }
             Some(Kind::ExceptionTable) => {
@@ -215,13 +232,13 @@ impl<'a> Scope<'a> {
             }
             Some(Kind::Signature) => {
                 let number = self.totals.signatures;
+                self.totals.signatures = more(number, 1)?;
                 self.numbered.push(Numbered::Signature(number))?;
-                self.totals.signatures += 1;
             }
             Some(Kind::Function) => {
                 let number = self.totals.functions;
+                self.totals.functions = more(number, 1)?;
                 self.numbered.push(Numbered::Function(number))?;
-                self.totals.functions += 1;
             }
             None => self.numbered.push(Numbered::Nothing)?,
         }

@@ -88,6 +88,7 @@ declared_none s inst = record {
   once = λ j k before inside. absurd (omega (arith, inside));
   each = λ b. refl;
   along = ((λ v b. refl), (λ b. refl), λ b. refl);
+  tracking = refl;
 }
 
 -- ONE MORE EDGE ---------------------------------------------------------------------------------------------------------
@@ -135,6 +136,7 @@ declare_skipped s t inst edges i d edge inside read new done last = record {
   once = done.once;
   each = λ b. done.each b ∙ by b (cases_eq edge.block b) ∙ sym (targets_more edges i d edge b inside read);
   along = done.along;
+  tracking = done.tracking;
 }
   where
     stood : (test : Bool) → stands_in edge.block done.told ≡ test → stands_in edge.block done.told ≡ true
@@ -154,12 +156,13 @@ declare_skipped s t inst edges i d edge inside read new done last = record {
 -- it is told
 pub declare_more : (s t u : SsaState) (inst : ℕ) (edges : List BlockCall) (i : ℕ) (d edge : BlockCall) → i < length edges → edge ≡ get_or edges i d
     → IsDeclared s inst (targets (take i edges)) t → (slice_get (predecessors_of t edge.block) (length (predecessors_of t edge.block) - 1) ≡ Some inst → ⊥)
-    → u.records ≡ t.records → SameBlocks t u → Declares t u edge.block inst → IsDeclared s inst (targets (take (i + 1) edges)) u
-declare_more s t u inst edges i d edge inside read done not_last records blocks declares = record {
+    → u.records ≡ t.records → SameBlocks t u → u.tracking ≡ t.tracking → Declares t u edge.block inst → IsDeclared s inst (targets (take (i + 1) edges)) u
+declare_more s t u inst edges i d edge inside read done not_last records blocks tracking declares = record {
   told = done.told ++ edge.block ∷ [];
   once = Once-outside done.told edge.block done.once (λ here. not_last (told_last s inst (targets (take i edges)) t done edge.block (test-from_Stands edge.block done.told here)));
   each = λ b. push b ∙ ap (λ test. test || (edge.block == b)) (done.each b) ∙ sym (targets_more edges i d edge b inside read);
   along = along_last done.told s t u inst edge.block done.along (λ v b. ap (λ (m : RecordMap). record_at m v b) records) blocks declares;
+  tracking = tracking ∙ done.tracking;
 }
   where
     or_none : (test : Bool) → (test || false) ≡ test

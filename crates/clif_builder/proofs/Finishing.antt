@@ -16,7 +16,11 @@ use Rattle.clif_meaning.specs.Name.{Name}
 use Rattle.clif_meaning.specs.Ledger.{BlockState, is_filled, state_has}
 use Rattle.clif_meaning.specs.Request.{AnsweredCall, script_of}
 use Rattle.clif_meaning.specs.View.{view_of}
+use Rattle.clif_meaning.specs.Tracked.{TracksNothing}
+use Rattle.clif_types.specs.EntitySet.{has}
+use Rattle.clif_records.specs.Tracking.{recorded_of}
 use Rattle.clif_meaning.specs.Headline.{MeansTheSame}
+use Rattle.clif_simulation.specs.Marked.{MeansTheSameMoving}
 use Rattle.clif_meaning.specs.Premises.{CallersEdgesMatch, PlacementPremises}
 use Rattle.clif_meaning.specs.Typing.{EdgesMatch}
 use Rattle.clif_meaning.specs.WellPlaced.{Records, RecordsWellPlaced, WellPlaced}
@@ -29,6 +33,7 @@ use Rattle.clif_simulation.proofs.Shape.CarriedStructure.{no_parameters}
 use Rattle.clif_simulation.proofs.Shape.Defined.{well_placed}
 use Rattle.clif_simulation.proofs.Shape.RecordsDefined.{records_well_placed}
 use Rattle.clif_simulation.proofs.Finished.Assembly.{means}
+use Rattle.clif_simulation.proofs.Tracking.Agreeing.{means_tracked}
 use Rattle.clif_builder.specs.declared.error.FinalizeError.{FinalizeError}
 use Rattle.clif_builder.specs.declared.error.FinalizeError.TheVariants.{Unsealed, Unfilled, Failed}
 use Rattle.clif_builder.specs.declared.context.BlockStatus.{BlockStatus}
@@ -168,11 +173,19 @@ on_finished declared calls b stands consistent P holds = by b.failed
 
 -- what `finalize` answers where it succeeds
 pub finished_means : (declared : SignatureShape) (calls : List AnsweredCall) (b : FunctionBuilder) (width : PointerWidth) → StandsFor declared calls b → IsConsistent b.func.now
-    → OnOk (verdict_of b.failed b.ctx.now (length b.func.now.blocks)) (MeansTheSame (script_of calls) declared width (view_of b.func.now))
-finished_means declared calls b width stands consistent =
+    → TracksNothing (script_of calls) → OnOk (verdict_of b.failed b.ctx.now (length b.func.now.blocks)) (MeansTheSame (script_of calls) declared width (view_of b.func.now))
+finished_means declared calls b width stands consistent asks =
     on_finished declared calls b stands consistent (MeansTheSame (script_of calls) declared width (view_of b.func.now)) (λ finished.
     subst (λ (s : SignatureShape). MeansTheSame (script_of calls) s width (view_of b.func.now)) stands.signature
-    (means calls b.func.now b.ctx.now.ssa width consistent stands.carries finished))
+    (means calls b.func.now b.ctx.now.ssa width consistent stands.carries finished asks))
+
+-- and under a collector over what is recorded, whatever stack maps were asked for
+pub finished_moves : (declared : SignatureShape) (calls : List AnsweredCall) (b : FunctionBuilder) (width : PointerWidth) → StandsFor declared calls b → IsConsistent b.func.now
+    → OnOk (verdict_of b.failed b.ctx.now (length b.func.now.blocks)) (MeansTheSameMoving (script_of calls) declared width (view_of b.func.now) (has (recorded_of b.ctx.now.ssa.tracking)))
+finished_moves declared calls b width stands consistent =
+    on_finished declared calls b stands consistent (MeansTheSameMoving (script_of calls) declared width (view_of b.func.now) (has (recorded_of b.ctx.now.ssa.tracking))) (λ finished.
+    subst (λ (s : SignatureShape). MeansTheSameMoving (script_of calls) s width (view_of b.func.now) (has (recorded_of b.ctx.now.ssa.tracking))) stands.signature
+    (means_tracked calls b.func.now b.ctx.now.ssa width consistent stands.carries finished stands.ledger.tracks.marks))
 
 pub finished_parameters : (declared : SignatureShape) (calls : List AnsweredCall) (b : FunctionBuilder) → StandsFor declared calls b → IsConsistent b.func.now
     → OnOk (verdict_of b.failed b.ctx.now (length b.func.now.blocks)) (LeavesNoParameter calls b.func.now b.ctx.now.ssa)

@@ -1,5 +1,5 @@
 -- Labels of values: what a builder stands for doesn't depend on them.
-use Rattle.std.proofs.Common.{◌≡◌, ◌∙◌, ℕ, List, length, refl, subst, sym, ap, arith, false}
+use Rattle.std.proofs.Common.{◌≡◌, ◌∙◌, ℕ, refl, subst, sym, ap, arith, false}
 use Rattle.std.specs.Prelude.{true, is_err, Option, Result, Ok, Err, OnOk, OnErr}
 use Rattle.clif_types.specs.declared.error.BuildError.{BuildError}
 use Rattle.clif_types.specs.declared.error.BuildError.TheVariants.{Failed, Memory}

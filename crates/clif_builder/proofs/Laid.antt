@@ -22,6 +22,7 @@ use Rattle.clif_builder.proofs.LedgerBlocks.{agrees-kept}
 use Rattle.clif_builder.proofs.LedgerKept.{answers-none, concluded}
 use Rattle.clif_builder.proofs.LedgerNames.{name-number, named-block, same-block}
 use Rattle.clif_builder.proofs.StandingCallers.{alone_after, kept_alone, same_callers}
+use Rattle.clif_builder.proofs.Tracks.{tracks_still}
 
 -- a block behind another one, by names and by numbers
 after-same : (ledger : Ledger) (block after : Name) (b a : ℕ) (names : List Name) (numbers : List ℕ)
@@ -67,6 +68,7 @@ laid-agrees calls ledger f c p b a layout agrees same = record {
   layout = same;
   variables = agrees.variables;
   tables = agrees.tables;
+  tracks = agrees.tracks;
   own = agrees.own;
   structured = λ types are.
       blocks_structured f f.blocks (put_behind b a f.layout) f.tables (λ constant bytes here. here) types agrees.own c.ssa [] (λ x. refl) (λ x. refl) (agrees.structured types are);
@@ -96,7 +98,7 @@ laid calls f c p block after b a agrees names_block names_after =
     let is_laid = laid-agrees calls ledger f c p b a between.layout agrees
     (after-same ledger block after b a ledger.layout f.layout (λ j x named. same-block calls ledger numbered j a x after named at_after) at_block agrees.layout) in
     concluded calls call g c p
-    (agrees-kept calls call between new g c c p p [] is_laid refl refl refl refl is_laid.current is_laid.variables (λ d. refl) (λ d. refl) (λ d. refl) is_laid.structured
+    (agrees-kept calls call between new g c c p p [] is_laid refl refl refl refl is_laid.current is_laid.variables (λ d. refl) (λ d. refl) (λ d. refl) (tracks_still calls call c tt is_laid.tracks) is_laid.structured
     (answers-none new g (length calls)))
 
 -- what the construction names exists in it

@@ -1,5 +1,5 @@
 -- What names lead to goes on being what they lead to as calls follow.
-use Rattle.std.proofs.Common.{◌≡◌, ℕ, zero, suc, List, [], ◌∷◌, ◌++◌, length, refl, ap, sym, ◌∙◌, subst}
+use Rattle.std.proofs.Common.{◌≡◌, ℕ, List, [], ◌∷◌, ◌++◌, refl, ap, ◌∙◌}
 use Rattle.std.specs.Prelude.{fold, slice_get, Option, Some, None, option_and_then, is_some, true}
 use Rattle.std.proofs.lemmas.List.{map-append, map_push}
 use Rattle.std.proofs.lemmas.List.Sums.{fold-append}
@@ -9,7 +9,7 @@ use Rattle.clif_instructions.specs.declared.block_call.BlockArg.TheVariants as a
 use Rattle.clif_instructions.specs.declared.block_call.BlockCall.{BlockCall}
 use Rattle.clif_meaning.specs.Instruction.{Argument, CallPayload, CallResult, Edge, Known}
 use Rattle.clif_meaning.specs.Name.{Name}
-use Rattle.clif_meaning.specs.Request.{AnsweredCall, Request, Script, number_of, script_of}
+use Rattle.clif_meaning.specs.Request.{AnsweredCall, Script, number_of, script_of}
 use Rattle.clif_meaning.specs.Ledger.{ABlock, Answered, Ledger, answer_at, answers_to, empty_ledger, has_value, ledger_with, value_answer_type}
 use Rattle.clif_builder.specs.declared.builder.FunctionBuilder.{FunctionBuilder}
 use Rattle.clif_builder.specs.Ledger.{NamesArgument, NamesArguments, NamesBlock, NamesEdge, NamesEdges, NamesValue, block_name, ledger_of}

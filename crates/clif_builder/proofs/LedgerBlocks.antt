@@ -25,12 +25,13 @@ use Rattle.clif_builder.specs.declared.context.BlockStatus.TheVariants.{Empty}
 use Rattle.clif_builder.specs.Context.{Begins, ContextState, SameStatus, status_of}
 use Rattle.clif_builder.specs.Builder.{is_empty_status, is_filled_status}
 use Rattle.clif_builder.specs.Construction.{IsSealing}
-use Rattle.clif_builder.specs.Ledger.{AnswersAgree, AreTypesOf, BlockAgrees, HaveTypes, IsBegun, IsEnded, IsStructured, LedgerAgrees, NamesBlock, block_name, ledger_of, value_type, tables_of_calls}
+use Rattle.clif_builder.specs.Ledger.{AnswersAgree, AreTypesOf, BlockAgrees, HaveTypes, IsBegun, IsEnded, IsStructured, LedgerAgrees, NamesBlock, block_name, ledger_of, value_type, tables_of_calls, TracksAgree}
 use Rattle.clif_builder.proofs.LedgerLists.{get-front, get-last, get-push, if-yes, if-no, named-more, one-named-more, map-some}
 use Rattle.clif_builder.proofs.LedgerNames.{name-number, named-block, state-entries}
 use Rattle.clif_builder.proofs.LedgerKept.{answer-still, Extends, Keeps, extends-constructs, keeps-block, keeps-itself, keeps-of, answers-after, places-after, answers-none, answers-one, concluded, types-kept}
 use Rattle.clif_builder.proofs.LedgerMade.{block-exists, changed-names, numbers-kept}
 use Rattle.clif_builder.proofs.Placed.{in_order, are_listed, listed_structured, listed_types, sealed_alone, sealed_branches, sealed_layout, sealed_status}
+use Rattle.clif_builder.proofs.Tracks.{tracks_on, tracks_still, untracked_made, untracked_same}
 
 -- a block that doesn't exist has no parameters
 past_params : (nodes : List BlockNode) (b : ℕ) → length nodes ≤ b → (slice_index_or nodes b empty_block).params ≡ []
@@ -72,9 +73,9 @@ block-kept calls call f g c d k s was cold sealed leads status =
 pub agrees-kept : (calls : List AnsweredCall) (call : AnsweredCall) (old new : Ledger) (f : Body) (c d : ContextState) (p q : Option ℕ) (answered : List Answered)
     (agrees : LedgerAgrees calls old f c p) → new.answers ≡ old.answers ++ answered ∷ [] → new.blocks ≡ old.blocks → new.layout ≡ old.layout → new.tables ≡ old.tables
     → option_map Some new.current ≡ option_map (block_name old) q → map (λ (v : VariableState). v.ty) new.variables ≡ d.variables
-    → ((b : ℕ) → is_yes (sealed_of d.ssa b) ≡ is_yes (sealed_of c.ssa b)) → SamePredecessors c.ssa d.ssa → SameStatus c d → IsStructured agrees.own f d
+    → ((b : ℕ) → is_yes (sealed_of d.ssa b) ≡ is_yes (sealed_of c.ssa b)) → SamePredecessors c.ssa d.ssa → SameStatus c d → TracksAgree (calls ++ call ∷ []) d → IsStructured agrees.own f d
     → AnswersAgree new f (length calls) answered call.numbers → LedgerAgrees (calls ++ call ∷ []) new f d q
-agrees-kept calls call old new f c d p q answered agrees answers blocks layout tables current variables sealed leads status structured fresh =
+agrees-kept calls call old new f c d p q answered agrees answers blocks layout tables current variables sealed leads status tracks structured fresh =
     record {
       places = places-after calls call old new answered agrees.places answers;
       answers = answers-after calls call old new f f c p answered agrees answers names (keeps-itself f) fresh;
@@ -88,6 +89,7 @@ agrees-kept calls call old new f c d p q answered agrees answers blocks layout t
       layout = ap (map Some) layout ∙ named-more (block_name old) (block_name new) old.layout f.layout names agrees.layout;
       variables = variables;
       tables = tables ∙ agrees.tables;
+      tracks = tracks;
       own = agrees.own;
       structured = structured;
       callers_types = λ k s there. agrees.callers_types k s (ap (λ (states : List BlockState). slice_get states k) (sym blocks) ∙ there);
@@ -118,7 +120,7 @@ pub agrees-switched : (calls : List AnsweredCall) (ledger : Ledger) (f : Body) (
 agrees-switched calls ledger f c p name block agrees named =
     let call : AnsweredCall = record { request = SwitchToBlock name; numbers = [] } in
     let new : Ledger = ledger_with ledger (SwitchToBlock name) in
-    agrees-kept calls call ledger new f c c p (Some block) [] agrees refl refl refl refl (ap Some (sym named)) agrees.variables (λ b. refl) (λ b. refl) (λ b. refl) agrees.structured
+    agrees-kept calls call ledger new f c c p (Some block) [] agrees refl refl refl refl (ap Some (sym named)) agrees.variables (λ b. refl) (λ b. refl) (λ b. refl) (tracks_still calls call c tt agrees.tracks) agrees.structured
     (answers-none new f (length calls))
 
 pub switched : (calls : List AnsweredCall) (f : Body) (c : ContextState) (p : Option ℕ) (name : Name) (block : ℕ)
@@ -131,9 +133,9 @@ switched calls f c p name block agrees names =
 -- a new block
 pub agrees-created : (calls : List AnsweredCall) (ledger : Ledger) (f g : Body) (c d : ContextState) (p : Option ℕ) (block : ℕ)
     → LedgerAgrees calls ledger f c p → g ≡ with_block f → block ≡ length f.blocks
-    → d.ssa.records ≡ c.ssa.records → SameBlocks c.ssa d.ssa → SamePredecessors c.ssa d.ssa → d.status ≡ c.status → d.variables ≡ c.variables
+    → d.ssa.records ≡ c.ssa.records → SameBlocks c.ssa d.ssa → SamePredecessors c.ssa d.ssa → d.status ≡ c.status → d.variables ≡ c.variables → d.ssa.tracking ≡ c.ssa.tracking
     → LedgerAgrees (calls ++ record { request = CreateBlock; numbers = block ∷ [] } ∷ []) (ledger_with ledger CreateBlock) g d p
-agrees-created calls ledger f g c d p block agrees function number records sealed leads status variables =
+agrees-created calls ledger f g c d p block agrees function number records sealed leads status variables tracking =
     record {
       places = places-after calls (record { request = CreateBlock; numbers = block ∷ [] }) ledger (ledger_with ledger CreateBlock) (ABlock ∷ []) agrees.places refl;
       answers = answers-after calls (record { request = CreateBlock; numbers = block ∷ [] }) ledger (ledger_with ledger CreateBlock) f g c p (ABlock ∷ []) agrees refl names keeps
@@ -146,6 +148,7 @@ agrees-created calls ledger f g c d p block agrees function number records seale
           ∙ ap (λ (h : Body). map (block_name (ledger_with ledger CreateBlock)) h.layout) (sym function);
       variables = agrees.variables ∙ sym variables;
       tables = agrees.tables ∙ ap (λ (h : Body). tables_of_calls h.tables) (sym function);
+      tracks = tracks_on calls _ c d tt (untracked_same c d tracking) agrees.tracks;
       own = agrees.own;
       structured = λ types are.
           let own : Own = agrees.own in
@@ -255,12 +258,12 @@ agrees-created calls ledger f g c d p block agrees function number records seale
 -- what comes of a creation
 pub created : {E : Type 0} (calls : List AnsweredCall) (f g : Body) (c d : ContextState) (p : Option ℕ) (r : Result ℕ E)
     → LedgerAgrees calls (ledger_of calls) f c p → OnOk r (g ≡ with_block f) → IfOk r (λ block. block ≡ length f.blocks)
-    → d.ssa.records ≡ c.ssa.records → SameBlocks c.ssa d.ssa → SamePredecessors c.ssa d.ssa → d.status ≡ c.status → d.variables ≡ c.variables
+    → d.ssa.records ≡ c.ssa.records → SameBlocks c.ssa d.ssa → SamePredecessors c.ssa d.ssa → d.status ≡ c.status → d.variables ≡ c.variables → d.ssa.tracking ≡ c.ssa.tracking
     → IfOk r (λ block. LedgerAgrees (calls ++ record { request = CreateBlock; numbers = block ∷ [] } ∷ []) (ledger_of (calls ++ record { request = CreateBlock; numbers = block ∷ [] } ∷ [])) g d p)
-created calls f g c d p (Err e) agrees function number records sealed leads status variables = tt
-created calls f g c d p (Ok block) agrees function number records sealed leads status variables =
+created calls f g c d p (Err e) agrees function number records sealed leads status variables tracking = tt
+created calls f g c d p (Ok block) agrees function number records sealed leads status variables tracking =
     concluded calls (record { request = CreateBlock; numbers = block ∷ [] }) g d p
-    (agrees-created calls (ledger_of calls) f g c d p block agrees function number records sealed leads status variables)
+    (agrees-created calls (ledger_of calls) f g c d p block agrees function number records sealed leads status variables tracking)
 
 -- a sealed block
 module _ (calls : List AnsweredCall) (ledger : Ledger) (f g : Body) (c d : ContextState) (p : Option ℕ) (name : Name) (block : ℕ) (told : List ℕ)
@@ -326,6 +329,7 @@ module _ (calls : List AnsweredCall) (ledger : Ledger) (f g : Body) (c d : Conte
         layout = named-more (block_name ledger) (block_name new) ledger.layout f.layout names agrees.layout ∙ ap (map (block_name new)) (sym layout);
         variables = agrees.variables ∙ sym variables;
         tables = agrees.tables ∙ sym extends.tables;
+        tracks = tracks_on calls call c d tt (untracked_made (length f.values) c d sealing.tracks) agrees.tracks;
         own = agrees.own;
         structured = structured;
         callers_types = λ k t there.

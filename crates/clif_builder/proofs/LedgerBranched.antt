@@ -27,6 +27,7 @@ use Rattle.clif_builder.proofs.LedgerNames.{IsNumbered, name-number}
 use Rattle.clif_builder.proofs.LedgerKept.{answers-kept, keeps-itself}
 use Rattle.clif_builder.proofs.LedgerMade.{block-exists}
 use Rattle.clif_builder.proofs.LedgerLeads.{LeadTo, LedLedger, blocks-along, goes, goes-to, leads-along, led, led-block, unheard}
+use Rattle.clif_builder.proofs.Tracks.{untracked_same, tracks_same}
 
 -- `calls` ends with the call that makes the branch; the ledger `old` and the context `c` have all of it but its edges
 module _ (calls : List AnsweredCall) (old new : Ledger) (g : Body) (c d : ContextState) (p : Option ℕ) (branch : Name) (inst : ℕ) (edges : List (Edge Name Name)) (made : List BlockCall)
@@ -163,6 +164,7 @@ module _ (calls : List AnsweredCall) (old new : Ledger) (g : Body) (c d : Contex
         layout = ap (map Some) ledger.layout ∙ named-more (block_name old) (block_name new) old.layout g.layout names agrees.layout;
         variables = ap (map (λ (v : VariableState). v.ty)) ledger.variables ∙ agrees.variables ∙ sym variables;
         tables = ledger.tables ∙ agrees.tables;
+        tracks = tracks_same calls c d (untracked_same c d declared.tracking) agrees.tracks;
         own = mine;
         structured = structured;
         callers_types = λ k t there.

@@ -52,6 +52,7 @@ use Rattle.clif_builder.proofs.LedgerUsed.{begun-agrees, begun-not-empty}
 use Rattle.clif_builder.proofs.LedgerLeads.{LedLedger, lead-still, lead-to, led-ledger}
 use Rattle.clif_builder.proofs.LedgerBranched.{agrees-led}
 use Rattle.clif_builder.proofs.Placed.{in_order, branch_exists}
+use Rattle.clif_builder.proofs.Tracks.{untracked_ssa}
 
 -- what the caller made, with one more instruction
 pub appended-structured : (place : ℕ) (types : VariableTypes) (own : Own) (f : Body) (s : SsaState) (block : ℕ) (shape : InstructionData) (results : List «Type») → IsConsistent f → block < length f.blocks
@@ -84,6 +85,7 @@ appends-make place f g c d block shape types status order consistent exists func
       sealed = λ b. ap (λ (s : SsaState). is_yes (sealed_of s b)) ssa;
       predecessors = λ b. ap (λ (s : SsaState). predecessors_of s b) ssa;
       variables = variables;
+      untracked = untracked_ssa c d ssa;
       own = with_own order.own block (length (inserted_in f block).insts) shape;
       structured = appended-is-structured _ f g c d block shape types consistent exists function ssa variables order.own order.structured;
       callers = λ b. refl;
@@ -142,7 +144,7 @@ agrees-plain place calls ledger f g c d p block shape entries operation controll
     let current = name-of-some (block_name ledger) ledger.current block (agrees.current ∙ ap (option_map (block_name ledger)) at) in
     let new : Ledger = ledger_with ledger request in
     let changed : MadeLedger ledger new current.0 unpristine = begun_by (is_terminator operation) goes_on current.0 current.1 in
-    agrees-made calls call ledger new f g c d p block current.0 unpristine (begun (status_of c block)) (AnInstruction ∷ map AValue types) agrees current.2
+    agrees-made calls call ledger new f g c d p block current.0 unpristine (begun (status_of c block)) (AnInstruction ∷ map AValue types) agrees tt current.2
     (ap (λ (ts : List «Type»). ledger.answers ++ (AnInstruction ∷ map AValue ts) ∷ []) typed) changed
     (begun-agrees (status_of c block)) sets
     (appends-make _ f g c d block shape types (begun (status_of c block)) (in_order agrees) consistent exists function sets (begun-not-empty (status_of c block)) (λ filled. ap begun filled) ssa variables)
@@ -269,13 +271,13 @@ module _ (place : ℕ) (calls : List AnsweredCall) (f g : Body) (c d : ContextSt
   abbrev ended : LedgerAgrees (calls ++ call ∷ []) (record ended_ledger { answers = answered }) g undeclared p
   ended =
       agrees-made calls call ledger (record ended_ledger { answers = answered }) f g c undeclared p block current.0 (λ (t : BlockState). filled (unpristine t)) Filled (AnInstruction ∷ [])
-      agrees current.2 refl changed (filled-agrees (status_of c block)) sets makes
+      agrees tt current.2 refl changed (filled-agrees (status_of c block)) sets makes
       (answers-one (record ended_ledger { answers = answered }) g (length calls) AnInstruction inst (node, there) (node, there, refl))
 
   same_callers : (b : ℕ) → agrees.own.params b ≡ ended.own.params b
   same_callers b = sym
       (made-callers calls call ledger (record ended_ledger { answers = answered }) f g c undeclared p block current.0 (λ (t : BlockState). filled (unpristine t)) Filled (AnInstruction ∷ [])
-      agrees current.2 refl changed (filled-agrees (status_of c block)) sets makes
+      agrees tt current.2 refl changed (filled-agrees (status_of c block)) sets makes
       (answers-one (record ended_ledger { answers = answered }) g (length calls) AnInstruction inst (node, there) (node, there, refl)) b)
 
   number : number_of (calls ++ call ∷ []) (next_answer ledger) ≡ Some inst

@@ -1,12 +1,12 @@
 -- The ledger agrees with a new builder, and tells what `finalize` answers.
-use Rattle.std.proofs.Common.{◌≡◌, ◌+◌, ℕ, suc, List, [], ◌∷◌, length, refl, sym, subst, arith, inl}
+use Rattle.std.proofs.Common.{◌≡◌, ◌+◌, ℕ, suc, List, [], ◌∷◌, length, refl, sym, subst, arith, inl, zero}
 use Rattle.std.specs.Prelude.{slice_get, Option, Some, None, Err, Bool, true, false, if◌then◌else◌, not, ◌&&◌, find}
 use Rattle.std.proofs.lemmas.Option.{none-some}
 use Rattle.clif_types.specs.Signature.{SignatureShape}
 use Rattle.clif_types.specs.declared.extname.UserFuncName.{UserFuncName}
 use Rattle.clif_ir.specs.Body.{Body, empty_body}
 use Rattle.clif_meaning.specs.Request.{AnsweredCall, number_of, Finalize}
-use Rattle.clif_meaning.specs.Ledger.{BlockState, empty_ledger}
+use Rattle.clif_meaning.specs.Ledger.{BlockState, empty_ledger, marked}
 use Rattle.clif_meaning.specs.Acceptance.{refusal_of, is_unfinished, unfinished}
 use Rattle.clif_meaning.specs.Acceptance as refusal
 use Rattle.clif_records.specs.Tables.{is_yes}
@@ -23,6 +23,10 @@ use Rattle.clif_builder.specs.Context.{ContextState, empty_context, status_of}
 use Rattle.clif_builder.specs.Builder.{answer_of, block_fault, first_fault, is_empty_status, is_filled_status, or_else, verdict_of}
 use Rattle.clif_builder.specs.Ledger.{AgreesWithLedger, BlockAgrees, LedgerAgrees, RefusalAgrees, ledger_of}
 
+none_marked : (x : ℕ) → marked (slice_get [] x) ≡ false
+none_marked zero = refl
+none_marked (suc x) = refl
+
 -- no calls, and nothing made
 pub agrees-empty : (name : UserFuncName) (signature : SignatureShape) → LedgerAgrees [] empty_ledger (empty_body name signature) empty_context None
 agrees-empty name signature =
@@ -36,6 +40,7 @@ agrees-empty name signature =
       layout = refl;
       variables = refl;
       tables = refl;
+      tracks = record { marks = none_marked; untracked = λ asks. refl };
       own = no_own;
       structured = λ types are. first_structured types name signature;
       callers_types = λ k s there. absurd (none-some s there);

@@ -10,6 +10,7 @@ use Rattle.clif_ir.specs.Changes as body
 use Rattle.clif_instructions.specs.Members.{stands_in}
 use Rattle.clif_meaning.specs.Name.{Name, same_name}
 use Rattle.clif_meaning.specs.Request.{AnsweredCall, number_of}
+use Rattle.clif_meaning.specs.Tracked.{AsksForNoMaps}
 use Rattle.clif_meaning.specs.Ledger.{ABlock, Answered, BlockState, Ledger, VariableState, with_state, with_layout, with_begun, with_begun_at, is_inserted}
 use Rattle.clif_meaning.proofs.CallLists.{kept}
 use Rattle.clif_ssa.specs.Own.{Own}
@@ -24,6 +25,8 @@ use Rattle.clif_builder.specs.Ledger.{AloneUnlessBegun, AnswersAgree, BlockAgree
 use Rattle.clif_builder.proofs.LedgerLists.{if-yes, if-no, named-more, numbered-more, one-named-more, map-some}
 use Rattle.clif_builder.proofs.LedgerNames.{IsNumbered, name-number, block-inserted, state-names, state-entries}
 use Rattle.clif_builder.proofs.LedgerKept.{answer-still, Extends, keeps-of, answers-after, places-after, stands-inserted, stands-still, types-kept}
+use Rattle.clif_builder.proofs.Tracks.{tracks_on}
+use Rattle.clif_builder.specs.Tracking.{StaysUntracked}
 
 -- a change of a block's state leaves what it is, and has it agree with another status
 pub record ChangeAgrees (change : BlockState → BlockState) (old new : BlockStatus) : Type 0 where
@@ -55,6 +58,7 @@ pub record Makes (mine : Own) (f : Body) (c : ContextState) (g : Body) (d : Cont
   pub callers : (b : ℕ) → own.params b ≡ mine.params b
   pub callers_alone : (b : ℕ) → AloneUnlessBegun own g d b
   pub branches : (b branch : ℕ) → Contains (predecessors_of d.ssa b) branch → IsEnded g d (branch_block g branch)
+  pub untracked : StaysUntracked c d
 
 -- what was begun or ended is so when something was made in a block
 pub begun-still : (f g : Body) (c d : ContextState) (block : ℕ) (status : BlockStatus) → g.layout ≡ (inserted_in f block).layout → SetsStatus c d block status → status ≢ Empty
@@ -177,11 +181,11 @@ layout-after calls old new f block name numbered same named names =
         ∙ sym (map_push (block_name new) f.layout block)
 
 pub agrees-made : (calls : List AnsweredCall) (call : AnsweredCall) (old new : Ledger) (f g : Body) (c d : ContextState) (p : Option ℕ) (block : ℕ) (name : Name) (change : BlockState → BlockState) (status : BlockStatus) (answered : List Answered)
-    (agrees : LedgerAgrees calls old f c p) → block_name old block ≡ Some name
+    (agrees : LedgerAgrees calls old f c p) → AsksForNoMaps call.request → block_name old block ≡ Some name
     → new.answers ≡ old.answers ++ answered ∷ [] → MadeLedger old new name change
     → ChangeAgrees change (status_of c block) status → SetsStatus c d block status → Makes agrees.own f c g d block
     → AnswersAgree new g (length calls) answered call.numbers → LedgerAgrees (calls ++ call ∷ []) new g d p
-agrees-made calls call old new f g c d p block name change status answered agrees named answers ledger changes sets makes fresh =
+agrees-made calls call old new f g c d p block name change status answered agrees asks named answers ledger changes sets makes fresh =
     record {
       places = places-after calls call old new answered agrees.places answers;
       answers = answers-after calls call old new f g c p answered agrees answers names (keeps-of f g makes.extends) fresh;
@@ -193,6 +197,7 @@ agrees-made calls call old new f g c d p block name change status answered agree
       layout = ap (map Some) ledger.layout ∙ layout-after calls old new f block name numbered agrees.layout named names ∙ ap (map (block_name new)) (sym makes.layout);
       variables = ledger.variables ∙ agrees.variables ∙ sym makes.variables;
       tables = ledger.tables ∙ agrees.tables ∙ sym makes.extends.tables;
+      tracks = tracks_on calls call c d asks makes.untracked agrees.tracks;
       own = makes.own;
       structured = makes.structured;
       callers_types = λ k t there.
@@ -230,13 +235,13 @@ agrees-made calls call old new f g c d p block name change status answered agree
 
 -- the caller's parameters then
 pub made-callers : (calls : List AnsweredCall) (call : AnsweredCall) (old new : Ledger) (f g : Body) (c d : ContextState) (p : Option ℕ) (block : ℕ) (name : Name) (change : BlockState → BlockState) (status : BlockStatus) (answered : List Answered)
-    (agrees : LedgerAgrees calls old f c p) (named : block_name old block ≡ Some name)
+    (agrees : LedgerAgrees calls old f c p) (asks : AsksForNoMaps call.request) (named : block_name old block ≡ Some name)
     (answers : new.answers ≡ old.answers ++ answered ∷ []) (ledger : MadeLedger old new name change)
     (changes : ChangeAgrees change (status_of c block) status) (sets : SetsStatus c d block status) (makes : Makes agrees.own f c g d block)
     (fresh : AnswersAgree new g (length calls) answered call.numbers)
-    → (b : ℕ) → (agrees-made calls call old new f g c d p block name change status answered agrees named answers ledger changes sets makes fresh).own.params b ≡ agrees.own.params b
+    → (b : ℕ) → (agrees-made calls call old new f g c d p block name change status answered agrees asks named answers ledger changes sets makes fresh).own.params b ≡ agrees.own.params b
 unfolding agrees-made
-made-callers calls call old new f g c d p block name change status answered agrees named answers ledger changes sets makes fresh b = makes.callers b
+made-callers calls call old new f g c d p block name change status answered agrees asks named answers ledger changes sets makes fresh b = makes.callers b
 
 -- the ledger in which something was made in the current block
 abbrev pub unpristine : BlockState → BlockState

@@ -24,6 +24,7 @@ use Rattle.clif_builder.proofs.LedgerLists.{name-of-some}
 use Rattle.clif_builder.proofs.LedgerKept.{Extends-inserted, Extends-then, answers-one, concluded, extends-constructs}
 use Rattle.clif_builder.proofs.LedgerMade.{ChangeAgrees, MadeLedger, Makes, agrees-made, begun-ledger, unpristine}
 use Rattle.clif_builder.proofs.Placed.{in_order, are_listed, listed_types, used_alone, used_branches, used_layout, used_status}
+use Rattle.clif_builder.proofs.Tracks.{untracked_made}
 
 -- a mark on a variable leaves the types
 pub types-touched : (variable : ℕ) (states : List VariableState) → map (λ (v : VariableState). v.ty) (touched_at variable states) ≡ map (λ (v : VariableState). v.ty) states
@@ -95,6 +96,7 @@ module _ (f g : Body) (c d : ContextState) (variable : ℕ) (ty : «Type») (blo
         sealed = use_of.flags;
         predecessors = use_of.predecessors;
         variables = variables;
+        untracked = untracked_made (length (inserted_in f block).values) c d use_of.tracks;
         own = order.own;
         structured = λ types are. (used-structured types (subst (λ (xs : List «Type»). AreTypesOf xs types) variables are)).0;
         callers = λ b. refl;
@@ -129,7 +131,7 @@ module _ (calls : List AnsweredCall) (ledger : Ledger) (f g : Body) (c d : Conte
         tables = begun_ledger.tables;
       } in
       let typed : variable_type ledger variable ≡ Some ty = ledger-type calls ledger f c p agrees variable ∙ declared in
-      agrees-made calls call ledger new f g c d p block name unpristine (begun (status_of c block)) (AValue ty ∷ []) agrees current.2
+      agrees-made calls call ledger new f g c d p block name unpristine (begun (status_of c block)) (AValue ty ∷ []) agrees tt current.2
       (ap (λ (o : Option «Type»). ledger.answers ++ (AValue (or_invalid o) ∷ []) ∷ []) typed) changed
       (begun-agrees (status_of c block)) (used_status f c (in_order agrees) g d variable ty block value told use_of begins)
       (use-makes f g c d variable ty block value told (in_order agrees) declared use_of begins consistent variables)

@@ -19,6 +19,8 @@ use Rattle.clif_builder.proofs.LedgerLists.{get-front}
 use Rattle.clif_builder.proofs.LedgerKept.{answers-none, answers-one, concluded}
 use Rattle.clif_builder.proofs.LedgerBlocks.{agrees-kept}
 use Rattle.clif_builder.proofs.LedgerUsed.{types-touched}
+use Rattle.clif_records.specs.Tracking.{with_binding}
+use Rattle.clif_builder.proofs.Tracks.{tracks_on, untracked_bound, untracked_same}
 
 -- as many variables
 pub variable-count : (calls : List AnsweredCall) (ledger : Ledger) (f : Body) (c : ContextState) (p : Option ℕ) → LedgerAgrees calls ledger f c p → length ledger.variables ≡ length c.variables
@@ -33,7 +35,7 @@ agrees-declared calls ledger f c p ty variable agrees number =
     let d : ContextState = record c { variables = c.variables ++ ty ∷ [] } in
     agrees-kept calls call ledger new f c d p p (AVariable (length ledger.variables) ∷ []) agrees refl refl refl refl agrees.current
     (map_push (λ (v : VariableState). v.ty) ledger.variables (new_variable ty) ∙ ap (λ (types : List «Type»). types ++ ty ∷ []) agrees.variables)
-    (λ b. refl) (λ b. refl) (λ b. refl)
+    (λ b. refl) (λ b. refl) (λ b. refl) (tracks_on calls call c d tt (untracked_same c d refl) agrees.tracks)
     (λ types are. agrees.structured types (λ x t is. are x t (get-front c.variables _ x t is)))
     (answers-one new f (length calls) (AVariable (length ledger.variables)) variable (number ∙ sym (variable-count calls ledger f c p agrees)) tt)
 
@@ -49,15 +51,16 @@ declared calls f c d p ty (Ok variable) agrees context number =
 
 pub agrees-assigned : (calls : List AnsweredCall) (ledger : Ledger) (f : Body) (c d : ContextState) (p : Option ℕ) (variable : ℕ) (name : Name) (block value : ℕ) (ty : «Type»)
     → LedgerAgrees calls ledger f c p → slice_get c.variables variable ≡ Some ty → HasType f value ty
-    → Records c.ssa d.ssa variable block value → d.ssa.blocks ≡ c.ssa.blocks → d.status ≡ c.status → d.variables ≡ c.variables
+    → Records c.ssa d.ssa variable block value → d.ssa.tracking ≡ with_binding c.ssa.tracking variable value → d.ssa.blocks ≡ c.ssa.blocks → d.status ≡ c.status → d.variables ≡ c.variables
     → LedgerAgrees (calls ++ record { request = DefVar variable name; numbers = [] } ∷ []) (ledger_with ledger (DefVar variable name)) f d p
-agrees-assigned calls ledger f c d p variable name block value ty agrees declared typed records blocks status variables =
+agrees-assigned calls ledger f c d p variable name block value ty agrees declared typed records tracking blocks status variables =
     let call : AnsweredCall = record { request = DefVar variable name; numbers = [] } in
     let new : Ledger = ledger_with ledger (DefVar variable name) in
     agrees-kept calls call ledger new f c d p p [] agrees refl refl refl refl agrees.current
     (types-touched variable ledger.variables ∙ agrees.variables ∙ sym variables)
     (λ b. ap (λ (xs : List SsaBlock). is_yes (sealed_at xs b)) blocks) leads
     (λ b. ap (λ (xs : List BlockStatus). status_of (record c { status = xs }) b) status)
+    (tracks_on calls call c d tt (untracked_bound c d variable value tracking) agrees.tracks)
     (λ types are.
     let before : AreTypesOf c.variables types = subst (λ (xs : List «Type»). AreTypesOf xs types) variables are in
     let has : HasType f value (types variable) = subst (HasType f value) (sym (before variable ty declared)) typed in
@@ -71,9 +74,9 @@ agrees-assigned calls ledger f c d p variable name block value ty agrees declare
 -- what comes of an assignment
 pub assigned : {E : Type 0} (calls : List AnsweredCall) (f : Body) (c d : ContextState) (p : Option ℕ) (variable : ℕ) (name : Name) (block value : ℕ) (r : Result (Unit {0}) E)
     → LedgerAgrees calls (ledger_of calls) f c p → value < length f.values → slice_get c.variables variable ≡ Some (value_at f value).ty
-    → OnOk r (Records c.ssa d.ssa variable block value) → d.ssa.blocks ≡ c.ssa.blocks → d.status ≡ c.status → d.variables ≡ c.variables
+    → OnOk r (Records c.ssa d.ssa variable block value) → OnOk r (d.ssa.tracking ≡ with_binding c.ssa.tracking variable value) → d.ssa.blocks ≡ c.ssa.blocks → d.status ≡ c.status → d.variables ≡ c.variables
     → OnOk r (LedgerAgrees (calls ++ record { request = DefVar variable name; numbers = [] } ∷ []) (ledger_of (calls ++ record { request = DefVar variable name; numbers = [] } ∷ [])) f d p)
-assigned calls f c d p variable name block value (Err e) agrees exists declared records blocks status variables = tt
-assigned calls f c d p variable name block value (Ok done) agrees exists declared records blocks status variables =
+assigned calls f c d p variable name block value (Err e) agrees exists declared records tracking blocks status variables = tt
+assigned calls f c d p variable name block value (Ok done) agrees exists declared records tracking blocks status variables =
     concluded calls (record { request = DefVar variable name; numbers = [] }) f d p
-    (agrees-assigned calls (ledger_of calls) f c d p variable name block value (value_at f value).ty agrees declared (exists, refl) records blocks status variables)
+    (agrees-assigned calls (ledger_of calls) f c d p variable name block value (value_at f value).ty agrees declared (exists, refl) records tracking blocks status variables)

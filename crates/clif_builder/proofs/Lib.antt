@@ -43,3 +43,7 @@ pub mod Ordered
 pub mod Framed
 pub mod StandingParameters
 pub mod Lasting
+pub mod Tracking
+mod Needing
+pub mod Tracks
+pub mod Ending

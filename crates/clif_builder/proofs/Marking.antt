@@ -36,6 +36,7 @@ use Rattle.clif_builder.proofs.LedgerUsed.{begun-agrees, begun-not-empty}
 use Rattle.clif_builder.proofs.Placed.{in_order, branch_exists}
 use Rattle.clif_builder.proofs.Standing.{current_name, first_cases}
 use Rattle.clif_builder.proofs.StandingCallers.{alone_after, kept_alone, same_callers}
+use Rattle.clif_builder.proofs.Tracks.{untracked_ssa, tracks_still}
 
 -- COLD BLOCKS -------------------------------------------------------------------------------------------------------------
 
@@ -118,6 +119,7 @@ module _ (calls : List AnsweredCall) (f : Body) (c : ContextState) (p : Option �
     layout = named-more (block_name old) (block_name new) old.layout f.layout names agrees.layout;
     variables = agrees.variables;
     tables = agrees.tables;
+    tracks = tracks_still calls marks c tt agrees.tracks;
     own = agrees.own;
     structured = λ types are.
         blocks_structured f g.blocks f.layout f.tables (λ constant bytes here. here) types agrees.own c.ssa [] (cold_params f.blocks b) (cold_insts f.blocks b)
@@ -175,6 +177,7 @@ ensured-makes f c d block order sets ssa variables =
       sealed = λ b. ap (λ (s : SsaState). is_yes (sealed_of s b)) ssa;
       predecessors = λ b. ap (λ (s : SsaState). predecessors_of s b) ssa;
       variables = variables;
+      untracked = untracked_ssa c d ssa;
       own = order.own;
       structured = λ types are.
           subst (λ (s : SsaState). Structured types order.own g s []) (sym ssa)
@@ -205,7 +208,7 @@ ensured calls f g c d p block (Ok u) agrees at is sets ssa variables =
     record { blocks = begins.blocks; layout = begins.layout; current = begins.current; variables = begins.variables; tables = begins.tables } in
     concluded calls call g d p
     (subst (λ (h : Body). LedgerAgrees (calls ++ call ∷ []) new h d p) (sym is)
-    (agrees-made calls call ledger new f (inserted_in f block) c d p block current.0 unpristine (begun (status_of c block)) [] agrees current.2 refl changed
+    (agrees-made calls call ledger new f (inserted_in f block) c d p block current.0 unpristine (begun (status_of c block)) [] agrees tt current.2 refl changed
     (begun-agrees (status_of c block)) sets (ensured-makes f c d block (in_order agrees) sets ssa variables) (answers-none new (inserted_in f block) (length calls))))
 
 -- one block has another status than empty, if it had one, or is the one in which something was made

@@ -102,7 +102,7 @@ pub order-cleared : (f : Body) (c d : ContextState) → d ≡ empty_context → 
 order-cleared f c d empty order = subst (IsInOrder f) (sym empty) (cleared f c order)
 
 -- the function and what is known of its blocks stay
-order-kept : (f : Body) (c d : ContextState) (order : IsInOrder f c) → ((b : ℕ) → is_yes (sealed_of d.ssa b) ≡ is_yes (sealed_of c.ssa b)) → SamePredecessors c.ssa d.ssa → SameStatus c d
+pub order-kept : (f : Body) (c d : ContextState) (order : IsInOrder f c) → ((b : ℕ) → is_yes (sealed_of d.ssa b) ≡ is_yes (sealed_of c.ssa b)) → SamePredecessors c.ssa d.ssa → SameStatus c d
     → IsStructured order.own f d → IsInOrder f d
 order-kept f c d order sealed leads status structured = record {
   own = order.own;

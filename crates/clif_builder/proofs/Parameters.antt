@@ -17,6 +17,7 @@ use Rattle.clif_ssa.proofs.Bodies.{firm_from}
 use Rattle.clif_paths.proofs.Tables.{updated-same}
 use Rattle.clif_meaning.specs.Name.{Name, answer_of, same_name}
 use Rattle.clif_meaning.specs.Request.{AnsweredCall, Request, AppendBlockParams, AppendFunctionParams}
+use Rattle.clif_meaning.specs.Tracked.{AsksForNoMaps}
 use Rattle.clif_meaning.specs.Ledger.{ABlock, AValue, Answered, BlockState, Ledger, VariableState, ledger_with, with_parameter_types, with_state}
 use Rattle.clif_meaning.proofs.CallLists.{kept}
 use Rattle.clif_simulation.specs.Carries.{numbers_from, with_params}
@@ -31,6 +32,7 @@ use Rattle.clif_builder.proofs.LedgerKept.{answer-still, answers-after, branch-k
 use Rattle.clif_builder.proofs.LedgerMade.{block-exists, changed-names, numbers-kept}
 use Rattle.clif_builder.proofs.LedgerUsed.{typed-value}
 use Rattle.clif_builder.proofs.Placed.{in_order, branch_exists}
+use Rattle.clif_builder.proofs.Tracks.{tracks_still}
 
 -- THE FUNCTION ----------------------------------------------------------------------------------------------------------
 
@@ -91,6 +93,10 @@ params-answered ledger f b place types = record {
 module _ (calls : List AnsweredCall) (ledger : Ledger) (f : Body) (c : ContextState) (p : Option ℕ) (agrees : LedgerAgrees calls ledger f c p) (consistent : IsConsistent f)
     (b : ℕ) (B : Name) (named : block_name ledger b ≡ Some B) (empty : status_of c b ≡ Empty)
     (types : List «Type») (call : AnsweredCall) (makes : Makes call.request B types) (numbers : call.numbers ≡ numbers_from (length f.values) types) where
+  asks_none : Makes call.request B types → AsksForNoMaps call.request
+  asks_none (inl is) = subst AsksForNoMaps (sym is) tt
+  asks_none (inr is) = subst AsksForNoMaps (sym is) tt
+
   abbrev g : Body
   g = with_params f b types
 
@@ -215,6 +221,7 @@ module _ (calls : List AnsweredCall) (ledger : Ledger) (f : Body) (c : ContextSt
         ∙ ap (map (block_name new)) (sym (same_layout f b types));
     variables = ap (map (λ (v : VariableState). v.ty)) variables_are ∙ agrees.variables;
     tables = tables_are ∙ agrees.tables ∙ sym extends.tables;
+    tracks = tracks_still calls call c (asks_none makes) agrees.tracks;
     own = mine;
     structured = λ declared are. params_structured b (length calls) declared agrees.own f c.ssa types (firm_from f consistent) there bare (agrees.structured declared are);
     callers_types = λ k t at.

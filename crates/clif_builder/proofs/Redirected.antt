@@ -53,6 +53,7 @@ use Rattle.clif_builder.proofs.LedgerMade.{block-exists, numbers-kept}
 use Rattle.clif_builder.proofs.LedgerNames.{IsNumbered, by-number, name-number, named-block, same-block, state-by-name}
 use Rattle.clif_builder.proofs.Placed.{in_order}
 use Rattle.clif_builder.proofs.StandingCallers.{alone_after, kept_alone, same_callers}
+use Rattle.clif_builder.proofs.Tracks.{untracked_same, tracks_on}
 
 -- WHAT THE CALLER PASSED ------------------------------------------------------------------------------------------------
 
@@ -488,6 +489,7 @@ module _ (declared : SignatureShape) (calls : List AnsweredCall) (f : Body) (c :
         ∙ ap (map (block_name new)) (sym (same_layout f c g d i a b redirects within open_a open_b leads));
     variables = agrees.variables ∙ sym redirects.variables;
     tables = agrees.tables ∙ sym extends.tables;
+    tracks = tracks_on calls _ c d tt (untracked_same c d redirects.tracking) agrees.tracks;
     own = own_passing agrees.own f b;
     structured = λ types are.
         structured_still f c g d i a b redirects within open_a open_b leads agrees.own consistent types
@@ -521,7 +523,7 @@ module _ (declared : SignatureShape) (calls : List AnsweredCall) (f : Body) (c :
   stands_redirected = record {
     signature = same_signature f c g d i a b redirects within open_a open_b leads ∙ stands.signature;
     ledger = concluded calls call g d p agrees_redirected;
-    carries = carries_redirected calls f g c.ssa d.ssa consistent stands.carries branch from to may redirects.records by_names;
+    carries = carries_redirected calls f g c.ssa d.ssa consistent stands.carries branch from to may redirects.records by_names redirects.tracking;
     leads_built = leads_on calls call is_branch stands.leads_built;
     begun = λ e there empty.
         stands.begun e (ap (λ (layout : List ℕ). slice_get layout 0) (sym (same_layout f c g d i a b redirects within open_a open_b leads)) ∙ there)
@@ -599,9 +601,9 @@ module _ {E : Type 0} (r : Result (Unit {0}) E) (f : Body) (c : ContextState) (g
       both (Ok u) done alike = record { recorded = λ v is. ap (λ (m : RecordMap). record_at m x block) done.records ∙ is; alike = alike }
 
 pub redirects_from : {E : Type 0} (r : Result (Unit {0}) E) (f : Body) (c : ContextState) (g : Body) (d : ContextState) (i a b : ℕ) → OnOk r (MovesBranch f c.ssa g d.ssa i a b)
-    → d.ssa.records ≡ c.ssa.records → d.status ≡ c.status → d.variables ≡ c.variables → OnOk r (Redirects f c g d i a b)
-redirects_from r f c g d i a b moved records status variables =
-    on_ok_step r _ _ (λ (done : MovesBranch f c.ssa g d.ssa i a b). record { moved = done; records = records; status = status; variables = variables }) moved
+    → d.ssa.records ≡ c.ssa.records → d.ssa.tracking ≡ c.ssa.tracking → d.status ≡ c.status → d.variables ≡ c.variables → OnOk r (Redirects f c g d i a b)
+redirects_from r f c g d i a b moved records tracking status variables =
+    on_ok_step r _ _ (λ (done : MovesBranch f c.ssa g d.ssa i a b). record { moved = done; records = records; tracking = tracking; status = status; variables = variables }) moved
 
 pub order_after : {E : Type 0} (r : Result (Unit {0}) E) (f : Body) (c : ContextState) (g : Body) (d : ContextState) (i a b : ℕ) → OnOk r (Redirects f c g d i a b) → i < length f.insts
     → is_yes (sealed_of c.ssa a) ≡ false → is_yes (sealed_of c.ssa b) ≡ false → Stands i (predecessors_of c.ssa a) → IsConsistent f → b < length f.blocks

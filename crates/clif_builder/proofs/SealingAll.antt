@@ -29,6 +29,7 @@ use Rattle.clif_builder.proofs.Standing.{begins_not_empty}
 use Rattle.clif_builder.proofs.StandingCallers.{alone_after, same_callers}
 use Rattle.clif_simulation.proofs.Whole.{declared_types}
 use Rattle.clif_simulation.proofs.Calls.{structured_so_far}
+use Rattle.clif_builder.proofs.Tracks.{tracks_made, tracks_on, untracked_made}
 
 abbrev seals_all : AnsweredCall
 seals_all = record { request = SealAllBlocks; numbers = [] }
@@ -95,6 +96,7 @@ module _ (calls : List AnsweredCall) (ledger : Ledger) (f g : Body) (c d : Conte
     layout = named-more (block_name ledger) (block_name new) ledger.layout f.layout names agrees.layout ∙ ap (map (block_name new)) (sym layout);
     variables = agrees.variables ∙ sym variables;
     tables = agrees.tables ∙ sym extends.tables;
+    tracks = tracks_on calls seals_all c d tt (untracked_made (length f.values) c d sealing.tracks) agrees.tracks;
     own = agrees.own;
     structured = structured;
     callers_types = λ k t there.
@@ -132,7 +134,8 @@ sealed_all_stands declared calls f g c d p (Ok u) stands consistent are after le
     record {
       signature = ap (λ (h : Body). h.signature) seals.constructs.same ∙ stands.signature;
       ledger = ledger;
-      carries = carries_sealed_all calls f c.ssa stands.carries g d.ssa (λ b. ltb b (length f.blocks)) consistent seals.sealed seals.keeps seals.structured seals.constructs layout seals.predecessors;
+      carries = carries_sealed_all calls f c.ssa stands.carries g d.ssa (λ b. ltb b (length f.blocks)) consistent seals.sealed seals.keeps seals.structured seals.constructs layout seals.predecessors after
+          (tracks_made seals.tracks) seals.stay;
       leads_built = leads_on calls seals_all tt stands.leads_built;
       begun = λ b there. begins_not_empty c d are.0 are.2 b (inl (stands.begun b (ap (λ (blocks : List ℕ). slice_get blocks 0) (sym layout) ∙ there)));
       callers_alone = λ b.

@@ -10,7 +10,6 @@ use Rattle.clif_instructions.specs.declared.instructions.InstructionData.TheVari
 use Rattle.clif_instructions.specs.Instruction.{destinations, is_branch, is_terminator}
 use Rattle.clif_tables.specs.Callees.{types_of_results}
 use Rattle.clif_tables.specs.Lists.{TableLists}
-use Rattle.clif_meaning.specs.View.{operation_of}
 
 -- it stays in its block, which goes on; with results of any number
 pub record StaysInBlock (shape : InstructionData) : Type 0 where

@@ -10,6 +10,7 @@ use Rattle.clif_ir.specs.Consistent.{IsConsistent}
 use Rattle.clif_ir.specs.Changes.{with_block, inserted_in, with_layout}
 use Rattle.clif_instructions.specs.Members.{stands_in}
 use Rattle.clif_records.specs.Tables.{RecordMap, record_at}
+use Rattle.clif_records.specs.Tracking.{with_binding}
 use Rattle.clif_ssa.specs.Ssa.{sealed_of, predecessors_of, Records, SameBlocks, SamePredecessors}
 use Rattle.clif_meaning.specs.Name.{Name}
 use Rattle.clif_meaning.specs.Request.{AnsweredCall, CreateBlock, SwitchToBlock, SealBlock, DeclareVar, DefVar, UseVar}
@@ -38,6 +39,7 @@ use Rattle.clif_builder.specs.Laws.{StandingMatchesEdges}
 use Rattle.clif_builder.specs.StandsFor.{StandsIn}
 use Rattle.clif_builder.proofs.LedgerNames.{state-by-name, name-number}
 use Rattle.clif_builder.proofs.Placed.{in_order, sealed_alone, used_alone}
+use Rattle.clif_builder.proofs.Tracks.{tracks_made}
 use Rattle.clif_builder.proofs.StandingCallers.{alone_after, created_callers, kept_alone, same_callers}
 
 pub begun_not_empty : (s : BlockStatus) → begun s ≢ Empty
@@ -95,13 +97,14 @@ module _ (declared : SignatureShape) (calls : List AnsweredCall) (f : Body) (c :
       (stands.callers_alone b)
 
   pub stands_created : (g : Body) (d : ContextState) (numbers : List ℕ) → g ≡ with_block f → d.ssa.records ≡ c.ssa.records → SameBlocks c.ssa d.ssa → SamePredecessors c.ssa d.ssa → d.status ≡ c.status
+      → d.ssa.tracking ≡ c.ssa.tracking
       → LedgerAgrees (calls ++ record { request = CreateBlock; numbers = numbers } ∷ []) (ledger_of (calls ++ record { request = CreateBlock; numbers = numbers } ∷ [])) g d p
       → StandsIn declared (calls ++ record { request = CreateBlock; numbers = numbers } ∷ []) g d p
-  stands_created g d numbers is records same leads status ledger = record {
+  stands_created g d numbers is records same leads status tracking ledger = record {
     signature = ap (λ (h : Body). h.signature) is ∙ stands.signature;
     ledger = ledger;
     carries = subst (λ (h : Body). Carries (calls ++ record { request = CreateBlock; numbers = numbers } ∷ []) h d.ssa) (sym is)
-        (carries_created calls f c.ssa stands.carries d.ssa numbers stands.ledger.block_count (λ v b. ap (λ (m : RecordMap). record_at m v b) records) same leads);
+        (carries_created calls f c.ssa stands.carries d.ssa numbers stands.ledger.block_count (λ v b. ap (λ (m : RecordMap). record_at m v b) records) same leads tracking);
     leads_built = leads_on calls (record { request = CreateBlock; numbers = numbers }) tt stands.leads_built;
     begun = λ b there empty. stands.begun b (ap (λ (h : Body). slice_get h.layout 0) (sym is) ∙ there) (ap (λ (s : List BlockStatus). status_of (record c { status = s }) b) (sym status) ∙ empty);
     callers_alone = λ b.
@@ -142,7 +145,8 @@ module _ (declared : SignatureShape) (calls : List AnsweredCall) (f : Body) (c :
   stands_sealed g d name block told consistent seals begins after layout ledger = record {
     signature = ap (λ (h : Body). h.signature) seals.constructs.same ∙ stands.signature;
     ledger = ledger;
-    carries = carries_sealed calls f c.ssa stands.carries g d.ssa name [] (λ b. b == block) consistent seals.sealed seals.keeps seals.structured seals.constructs layout seals.predecessors;
+    carries = carries_sealed calls f c.ssa stands.carries g d.ssa name [] (λ b. b == block) consistent seals.sealed seals.keeps seals.structured seals.constructs layout seals.predecessors after
+        (tracks_made seals.tracks) seals.stay;
     leads_built = leads_on calls (record { request = SealBlock name; numbers = [] }) tt stands.leads_built;
     begun = λ b there. begins_not_empty c d told begins b (inl (stands.begun b (ap (λ (blocks : List ℕ). slice_get blocks 0) (sym layout) ∙ there)));
     callers_alone = λ b.
@@ -172,17 +176,17 @@ module _ (declared : SignatureShape) (calls : List AnsweredCall) (f : Body) (c :
 
   pub stands_assigned : (d : ContextState) (variable value block : ℕ) (name : Name) → p ≡ Some block → IsConsistent f → status_of c block ≢ Filled
       → value < length f.values → slice_get c.variables variable ≡ Some (value_at f value).ty → NamesValue calls name value → Records c.ssa d.ssa variable block value
-      → d.ssa.blocks ≡ c.ssa.blocks → d.status ≡ c.status
+      → d.ssa.tracking ≡ with_binding c.ssa.tracking variable value → d.ssa.blocks ≡ c.ssa.blocks → d.status ≡ c.status
       → LedgerAgrees (calls ++ record { request = DefVar variable name; numbers = [] } ∷ []) (ledger_of (calls ++ record { request = DefVar variable name; numbers = [] } ∷ [])) f d p
       → StandsIn declared (calls ++ record { request = DefVar variable name; numbers = [] } ∷ []) f d p
-  stands_assigned d variable value block name at consistent open_block exists typed names records blocks status ledger =
+  stands_assigned d variable value block name at consistent open_block exists typed names records tracking blocks status ledger =
       let current = current_name block at in
       record {
         signature = stands.signature;
         ledger = ledger;
         carries = carries_assigned calls f c.ssa stands.carries consistent block current.0 current.1 (current_unfilled block current.0 current.1 open_block) d.ssa variable name value (value_at f value).ty []
             names.number names.is_value (ledger_type variable (value_at f value).ty typed) (exists, refl) records
-            (λ b. ap (λ bs. sealed_of (record c.ssa { blocks = bs }) b) blocks) (λ b. ap (λ bs. predecessors_of (record c.ssa { blocks = bs }) b) blocks);
+            (λ b. ap (λ bs. sealed_of (record c.ssa { blocks = bs }) b) blocks) (λ b. ap (λ bs. predecessors_of (record c.ssa { blocks = bs }) b) blocks) tracking;
         begun = λ b there empty. stands.begun b there (ap (λ (s : List BlockStatus). status_of (record c { status = s }) b) (sym status) ∙ empty);
         leads_built = leads_on calls (record { request = DefVar variable name; numbers = [] }) tt stands.leads_built;
         callers_alone = λ b. unchanged_alone (record { request = DefVar variable name; numbers = [] }) d tt tt (λ e. sym (same_status d status e)) b;
@@ -203,7 +207,8 @@ module _ (declared : SignatureShape) (calls : List AnsweredCall) (f : Body) (c :
         signature = ap (λ (h : Body). h.signature) (constructs_then f (inserted_in f block) g (inserted_constructs f block) is_use.constructs).same ∙ stands.signature;
         ledger = ledger;
         carries = carries_used calls f c.ssa stands.carries consistent block current.0 current.1 (current_unfilled block current.0 current.1 open_block) g d.ssa variable value ty of_ledger
-            is_use.keeps (λ types own same before. (is_use.structured types own (sym same) before).0) is_use.constructs layout is_use.predecessors is_use.flags answer.1;
+            is_use.keeps (λ types own same before. (is_use.structured types own (sym same) before).0) is_use.constructs layout is_use.predecessors is_use.flags answer.1
+            after (tracks_made is_use.tracks) is_use.stay;
         leads_built = leads_on calls (record { request = UseVar variable; numbers = value ∷ [] }) tt stands.leads_built;
         begun = λ b there. begins_not_empty c d (block ∷ told) begins b (was b (first_cases f block b (ap (λ (blocks : List ℕ). slice_get blocks 0) (sym layout) ∙ there)));
         callers_alone = λ b.

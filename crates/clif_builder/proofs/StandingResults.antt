@@ -6,6 +6,7 @@ use Rattle.clif_types.specs.declared.types.«Type».{«Type»}
 use Rattle.clif_ir.specs.Body.{Body, value_at}
 use Rattle.clif_ir.specs.Consistent.{IsConsistent}
 use Rattle.clif_ir.specs.Changes.{with_block, inserted_in}
+use Rattle.clif_records.specs.Tracking.{with_binding}
 use Rattle.clif_ssa.specs.Ssa.{Records, SameBlocks, SamePredecessors}
 use Rattle.clif_meaning.specs.Name.{Name}
 use Rattle.clif_meaning.specs.Request.{AnsweredCall, CreateBlock, SealBlock, DeclareVar, DefVar, UseVar}
@@ -19,12 +20,12 @@ use Rattle.clif_builder.proofs.Standing.{stands_created, stands_declared, stands
 
 module _ {E : Type 0} (declared : SignatureShape) (calls : List AnsweredCall) where
   pub created_stands : (f g : Body) (c d : ContextState) (p : Option ℕ) (r : Result ℕ E) → StandsIn declared calls f c p
-      → OnOk r (g ≡ with_block f) → d.ssa.records ≡ c.ssa.records → SameBlocks c.ssa d.ssa → SamePredecessors c.ssa d.ssa → d.status ≡ c.status
+      → OnOk r (g ≡ with_block f) → d.ssa.records ≡ c.ssa.records → SameBlocks c.ssa d.ssa → SamePredecessors c.ssa d.ssa → d.status ≡ c.status → d.ssa.tracking ≡ c.ssa.tracking
       → IfOk r (λ block. LedgerAgrees (calls ++ record { request = CreateBlock; numbers = block ∷ [] } ∷ []) (ledger_of (calls ++ record { request = CreateBlock; numbers = block ∷ [] } ∷ [])) g d p)
       → IfOk r (λ block. StandsIn declared (calls ++ record { request = CreateBlock; numbers = block ∷ [] } ∷ []) g d p)
-  created_stands f g c d p (Err e) stands function records same leads status ledger = tt
-  created_stands f g c d p (Ok block) stands function records same leads status ledger =
-      stands_created declared calls f c p stands g d (block ∷ []) function records same leads status ledger
+  created_stands f g c d p (Err e) stands function records same leads status tracking ledger = tt
+  created_stands f g c d p (Ok block) stands function records same leads status tracking ledger =
+      stands_created declared calls f c p stands g d (block ∷ []) function records same leads status tracking ledger
 
   pub declared_stands : (f : Body) (c d : ContextState) (p : Option ℕ) (ty : «Type») (r : Result ℕ E) → StandsIn declared calls f c p
       → OnOk r (d ≡ record c { variables = c.variables ++ ty ∷ [] })
@@ -45,12 +46,13 @@ module _ {E : Type 0} (declared : SignatureShape) (calls : List AnsweredCall) wh
 
   pub assigned_stands : (f : Body) (c d : ContextState) (p : Option ℕ) (variable value block : ℕ) (name : Name) (r : Result (Unit {0}) E) → StandsIn declared calls f c p
       → p ≡ Some block → IsConsistent f → status_of c block ≢ Filled → value < length f.values → slice_get c.variables variable ≡ Some (value_at f value).ty
-      → NamesValue calls name value → OnOk r (Records c.ssa d.ssa variable block value) → d.ssa.blocks ≡ c.ssa.blocks → d.status ≡ c.status
+      → NamesValue calls name value → OnOk r (Records c.ssa d.ssa variable block value) → OnOk r (d.ssa.tracking ≡ with_binding c.ssa.tracking variable value)
+      → d.ssa.blocks ≡ c.ssa.blocks → d.status ≡ c.status
       → OnOk r (LedgerAgrees (calls ++ record { request = DefVar variable name; numbers = [] } ∷ []) (ledger_of (calls ++ record { request = DefVar variable name; numbers = [] } ∷ [])) f d p)
       → OnOk r (StandsIn declared (calls ++ record { request = DefVar variable name; numbers = [] } ∷ []) f d p)
-  assigned_stands f c d p variable value block name (Err e) stands at consistent open_block exists typed names records blocks status ledger = tt
-  assigned_stands f c d p variable value block name (Ok u) stands at consistent open_block exists typed names records blocks status ledger =
-      stands_assigned declared calls f c p stands d variable value block name at consistent open_block exists typed names records blocks status ledger
+  assigned_stands f c d p variable value block name (Err e) stands at consistent open_block exists typed names records tracking blocks status ledger = tt
+  assigned_stands f c d p variable value block name (Ok u) stands at consistent open_block exists typed names records tracking blocks status ledger =
+      stands_assigned declared calls f c p stands d variable value block name at consistent open_block exists typed names records tracking blocks status ledger
 
   pub used_stands : (f g : Body) (c d : ContextState) (p : Option ℕ) (variable : ℕ) (ty : «Type») (block : ℕ) (r : Result ℕ E) → StandsIn declared calls f c p → IsConsistent f
       → p ≡ Some block → status_of c block ≢ Filled → slice_get c.variables variable ≡ Some ty

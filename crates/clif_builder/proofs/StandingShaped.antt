@@ -71,6 +71,7 @@ declared_nowhere s t inst same = record {
     λ b. ap (λ (u : SsaState). sealed_of u b) same,
     λ b. ap (λ (u : SsaState). predecessors_of u b) same,
   );
+  tracking = ap (λ (u : SsaState). u.tracking) same;
 }
 
 -- AN INSTRUCTION --------------------------------------------------------------------------------------------------------
@@ -157,7 +158,7 @@ module _ (place : ℕ) (declared : SignatureShape) (calls : List AnsweredCall) (
       (carries_branch calls f c.ssa stands.carries consistent block here.0 here.1 unfilled there shape entries instruction place numbers branch [] (program_types ∙ known.none) (controlled_at [] known.none) (λ k below. absurd (omega (arith, below)))
       (ap (λ (n : ℕ). Some n) appends.number) declares.told d.ssa (same_end calls f instruction shape ty has ∙ known.ends) declares.once
       exactly (λ x told. let to = (exactly x).0 told in target_unsealed f c (destinations shape) to.0 x edges to.1 to.2)
-      (subst (λ (i : ℕ). DeclaredAlong c.ssa i declares.told d.ssa) appends.number declares.along))
+      (subst (λ (i : ℕ). DeclaredAlong c.ssa i declares.told d.ssa) appends.number declares.along) declares.tracking)
     where
       exactly : (x : ℕ) → (Contains declares.told x → Contains (targets (destinations shape)) x) × (Contains (targets (destinations shape)) x → Contains declares.told x)
       exactly x = (

@@ -1,6 +1,6 @@
 -- Tables change that the calls of a list don't make: the agreement with the ledger is kept, and the builder
 -- stands for the same calls.
-use Rattle.std.proofs.Common.{◌≡◌, ◌≢◌, ◌<◌, ◌≤◌, ◌++◌, ◌∷◌, [], ℕ, List, Bool, length, refl, sym, ◌∙◌, ap, subst, arith, false, inl, inr}
+use Rattle.std.proofs.Common.{◌≡◌, ◌≢◌, ◌<◌, ◌≤◌, ◌++◌, ◌∷◌, [], ℕ, List, length, refl, sym, ◌∙◌, ap, subst, arith, false, inl, inr}
 use Rattle.std.proofs.lemmas.Grind.{common_steps}
 use Rattle.std.specs.Prelude.{Option, Some, true, is_err, slice_get, Result, Ok, Err, IfOk, OnOk, OnErr}
 use Rattle.clif_types.specs.declared.error.BuildError.{BuildError}

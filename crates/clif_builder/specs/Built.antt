@@ -1,6 +1,6 @@
 -- What building an instruction makes of a builder, whatever it answers. Source: own, after the crate's documentation of
 -- `InstBuilder`.
-use Rattle.std.specs.Prelude.{◌≡◌, ◌<◌, ◌≤◌, ◌-◌, ◌^◌, ◌⊎◌, ◌↔◌, ℕ, List, [], ◌∷◌, ◌++◌, length, true, false, is_err, map, IsTrue, Option, Result, Err, IfOk, OnOk, IfSome}
+use Rattle.std.specs.Prelude.{◌≡◌, ◌<◌, ◌≤◌, ◌-◌, ◌^◌, ◌⊎◌, ◌↔◌, ℕ, List, [], ◌∷◌, ◌++◌, length, true, false, is_err, map, IsTrue, Result, Err, IfOk, OnOk, IfSome}
 use Rattle.clif_types.specs.declared.error.BuildError.{BuildError}
 use Rattle.clif_types.specs.declared.error.BuildError.TheVariants.{Full, Failed}
 use Rattle.clif_types.specs.declared.types.«Type».{«Type»}

@@ -1,6 +1,6 @@
 -- What each call that makes an entry of a table of the function makes of a builder. Source: own, after the crate's
 -- documentation of `FunctionBuilder`.
-use Rattle.std.specs.Prelude.{◌≡◌, ◌≢◌, ◌-◌, ◌^◌, ◌↔◌, ℕ, List, [], ◌∷◌, length, Bool, true, false, slice_get, Option, Some, Result, Err, IfOk, OnOk, OnErr}
+use Rattle.std.specs.Prelude.{◌≡◌, ◌≢◌, ◌-◌, ◌^◌, ◌↔◌, ℕ, List, [], ◌∷◌, length, false, slice_get, Option, Some, Result, Err, IfOk, OnOk, OnErr}
 use Rattle.clif_types.specs.declared.error.BuildError.{BuildError}
 use Rattle.clif_types.specs.declared.error.BuildError.TheVariants.{Failed, Full}
 use Rattle.clif_tables.specs.Entries.{TableEntry, count_for, with_entry}

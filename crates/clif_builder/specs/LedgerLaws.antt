@@ -1,5 +1,5 @@
 -- What a ledger and requests say by names, where it agrees with a builder, as this crate's law functions state it. Own.
-use Rattle.std.specs.Prelude.{◌≡◌, ℕ, ◌<◌, ◌==◌, List, [], ◌∷◌, ◌++◌, length, map, slice_get, Option, Some, true, ℤ}
+use Rattle.std.specs.Prelude.{◌≡◌, ℕ, ◌<◌, ◌==◌, List, [], ◌∷◌, ◌++◌, length, map, slice_get, Bool, Option, Some, true, ℤ}
 use Rattle.clif_types.specs.declared.condcodes.IntCC.{IntCC}
 use Rattle.clif_types.specs.declared.trapcode.TrapCode.{TrapCode}
 use Rattle.clif_types.specs.MemFlags.{MemFlagsShape}
@@ -117,10 +117,10 @@ pub record TableCallsAddNothing : Type 0 where
 
 -- Nor do the notes that a list makes.
 pub record NotesAddNothing : Type 0 where
-  pub ledger : (calls : List AnsweredCall) (b : FunctionBuilder) (values : List Name)
-      → AgreesWithLedger calls b → AgreesWithLedger (calls ++ answered (Annotate values) [] ∷ []) b
-  pub stands : (signature : SignatureShape) (calls : List AnsweredCall) (b : FunctionBuilder) (values : List Name)
-      → StandsFor signature calls b → StandsFor signature (calls ++ answered (Annotate values) [] ∷ []) b
+  pub ledger : (calls : List AnsweredCall) (b : FunctionBuilder) (inside : Bool) (values : List Name)
+      → AgreesWithLedger calls b → AgreesWithLedger (calls ++ answered (Annotate inside values) [] ∷ []) b
+  pub stands : (signature : SignatureShape) (calls : List AnsweredCall) (b : FunctionBuilder) (inside : Bool) (values : List Name)
+      → StandsFor signature calls b → StandsFor signature (calls ++ answered (Annotate inside values) [] ∷ []) b
 
 -- They do where the ledger agrees with a builder's parts.
 abbrev pub RequestsAskForTheirShapes : Type 0

@@ -2,9 +2,12 @@ pub mod Errors
 pub mod Context
 pub mod Builder
 pub mod Construction
+pub mod Ending
 pub mod Redirecting
 pub mod Order
 pub mod Labels
+pub mod Tracking
+pub mod Marks
 pub mod Ledger
 pub mod Growth
 pub mod StandsFor

@@ -8,5 +8,6 @@ use Rattle.clif_builder.specs.Context.{ContextState}
 pub record Redirects (f : Body) (c : ContextState) (g : Body) (d : ContextState) (branch from to : ℕ) : Type 0 where
   pub moved : MovesBranch f c.ssa g d.ssa branch from to
   pub records : d.ssa.records ≡ c.ssa.records
+  pub tracking : d.ssa.tracking ≡ c.ssa.tracking
   pub status : d.status ≡ c.status
   pub variables : d.variables ≡ c.variables

@@ -18,6 +18,7 @@ ghost use Rattle.clif_builder.specs.Context.{Begins, SetsStatus, begun, status_o
 ghost use Rattle.clif_builder.specs.Growth.{Grows, HasRecordIn, RemembersIn};
 ghost use Rattle.clif_builder.specs.Ledger.{AgreesWithLedger, NamesValue};
 ghost use Rattle.clif_builder.specs.StandsFor.{StandsFor};
+ghost use Rattle.clif_builder.specs.Tracking.{TracksBinding};
 
 use crate::builder::FunctionBuilder;
 use crate::error::{DefVariableError, UseVariableError};
@@ -86,6 +87,7 @@ impl<'a> FunctionBuilder<'a> {
         ensures refused { IfOk result (λ answer. IfErr answer (RefusesAssignment self.old self.new variable value)) }
         ensures function { self.new.func.now ≡ self.old.func.now }
         ensures records { IfSome self.old.position (λ block. IfOk result (λ answer. OnOk answer (Records self.old.ctx.now.ssa self.new.ctx.now.ssa variable block value))) }
+        ensures tracks { IfOk result (λ answer. OnOk answer (TracksBinding self.old.ctx.now self.new.ctx.now variable value)) }
         ensures sealed { self.new.ctx.now.ssa.blocks ≡ self.old.ctx.now.ssa.blocks }
         ensures status { self.new.ctx.now.status ≡ self.old.ctx.now.status }
         ensures variables { self.new.ctx.now.variables ≡ self.old.ctx.now.variables }

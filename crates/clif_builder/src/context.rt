@@ -3,7 +3,7 @@ ghost use Rattle.std.specs.Prelude.{◌≡◌, ◌==◌, ◌≢◌, ◌↔◌, �
 
 use clif_ir::{BlockCall, Function};
 use clif_ssa::{SSABuilder, Variable};
-use clif_types::{Block, BuildError, EntityRef, Inst, Type, Value};
+use clif_types::{Block, BuildError, EntityRef, EntitySet, Inst, Type, Value};
 use std::alloc::Global;
 use std::marker::Model;
 
@@ -114,6 +114,8 @@ impl FunctionBuilderContext {
     ghost use Rattle.clif_instructions.specs.Members.{Stands};
     ghost use Rattle.clif_ssa.specs.Moving.{MovesBranch};
     ghost use Rattle.clif_records.specs.Stacks.{no_look_up};
+    ghost use Rattle.clif_records.specs.Tracking.{recorded_of, with_binding, with_mark, with_recorded};
+    ghost use Rattle.clif_builder.specs.Tracking.{with_tracking};
     ghost use Rattle.clif_ssa.specs.LookUp.{UsesVariable};
     ghost use Rattle.clif_ssa.specs.Running.{stage, found};
     ghost use Rattle.clif_ssa.specs.Sealing.{SealsBelow, SealsByLookUp};
@@ -188,6 +190,7 @@ impl FunctionBuilderContext {
         ensures blocks { SameBlocks self.old.ssa self.new.ssa }
         ensures predecessors { SamePredecessors self.old.ssa self.new.ssa }
         ensures names { (f : Body) → NamesExist f self.old.ssa → NamesExist f self.new.ssa }
+        ensures tracking { self.new.ssa.tracking ≡ self.old.ssa.tracking }
         ensures status { self.new.status ≡ self.old.status }
         ensures variables { self.new.variables ≡ self.old.variables }
         ensures looks_once { LooksOnce self.old.ssa → LooksOnce self.new.ssa }
@@ -221,8 +224,35 @@ impl FunctionBuilderContext {
         self.variables.get(variable.index()).copied()
     }
 
+    /// Marks a variable. After an error nothing has changed.
+    pub(crate) fn mark_var(&mut self, variable: Variable) -> Result<(), BuildError>
+        ensures ok { OnOk result (self.new ≡ with_tracking self.old (with_mark self.old.ssa.tracking variable)) }
+        ensures err { OnErr result (self.new ≡ self.old) }
+        ensures only_memory { OnErr result (result ≡ Err BuildError.Memory) }
+    {
+        self.ssa.mark_var_needs_stack_map(variable)
+    }
+
+    /// Records a value for stack maps. After an error nothing has changed.
+    pub(crate) fn record_value(&mut self, value: Value) -> Result<(), BuildError>
+        ensures ok { OnOk result (self.new ≡ with_tracking self.old (with_recorded self.old.ssa.tracking value)) }
+        ensures err { OnErr result (self.new ≡ self.old) }
+        ensures only_memory { OnErr result (result ≡ Err BuildError.Memory) }
+    {
+        self.ssa.stack_map_values_mut().insert(value)?;
+        Ok(())
+    }
+
+    /// The values that stack maps need.
+    pub(crate) fn stack_map_values(&self) -> &EntitySet<Value>
+        ensures { result.now ≡ recorded_of self.now.ssa.tracking }
+    {
+        self.ssa.stack_map_values()
+    }
+
     #[tactic(auto, using(crate::proofs::Named::names_rules))]
-    /// Records that a variable has a value in a block from here on.
+    /// Records that a variable has a value in a block from here on. Stack maps need the value, if the
+    /// variable is marked.
     pub(crate) fn def_var(
         &mut self,
         variable: Variable,
@@ -230,6 +260,7 @@ impl FunctionBuilderContext {
         block: Block,
     ) -> Result<(), BuildError>
         ensures ok { OnOk result (Records self.old.ssa self.new.ssa variable block value) }
+        ensures tracking { OnOk result (self.new.ssa.tracking ≡ with_binding self.old.ssa.tracking variable value) }
         ensures blocks { self.new.ssa.blocks ≡ self.old.ssa.blocks }
         ensures names { (f : Body) → value < length f.values → NamesExist f self.old.ssa → NamesExist f self.new.ssa }
         ensures looks_once { LooksOnce self.old.ssa → LooksOnce self.new.ssa }
@@ -337,6 +368,7 @@ impl FunctionBuilderContext {
         ensures moved { OnOk result (MovesBranch func.old self.old.ssa func.new self.new.ssa inst from to) }
         ensures err { OnErr result ((func.new ≡ func.old) × SamePredecessors self.old.ssa self.new.ssa) }
         ensures records { self.new.ssa.records ≡ self.old.ssa.records }
+        ensures tracking { self.new.ssa.tracking ≡ self.old.ssa.tracking }
         ensures blocks { SameBlocks self.old.ssa self.new.ssa }
         ensures status { self.new.status ≡ self.old.status }
         ensures variables { self.new.variables ≡ self.old.variables }

@@ -5,6 +5,7 @@ ghost use Rattle.clif_builder.specs.Growth.{Grows, HasRecordIn, RemembersIn};
 ghost use Rattle.clif_builder.specs.Construction.{IsUse, IsSealing, IsSealingAll, SealsAtMost};
 ghost use Rattle.clif_builder.specs.Calls.{IsCall, IsTold, answered};
 ghost use Rattle.clif_builder.specs.Order.{IsUntouched};
+ghost use Rattle.clif_builder.specs.Tracking.{TracksBinding};
 ghost use Rattle.clif_builder.specs.Builder.{with_position, with_srcloc, is_unreachable, is_free, HasCurrent, Uses, UsesIn};
 ghost use Rattle.clif_types.specs.Types.{is_type};
 ghost use Rattle.clif_ssa.specs.Pools.{types_of, MayPool, MayPoolAll, MayPoolWaiting, SealingIsFull, UseIsFull, WaitsWithType};
@@ -192,6 +193,7 @@ impl<'a> FunctionBuilder<'a> {
         ensures records { self.new.ctx.now.ssa.records ≡ self.old.ctx.now.ssa.records }
         ensures sealed { SameBlocks self.old.ctx.now.ssa self.new.ctx.now.ssa }
         ensures predecessors { SamePredecessors self.old.ctx.now.ssa self.new.ctx.now.ssa }
+        ensures tracking { self.new.ctx.now.ssa.tracking ≡ self.old.ctx.now.ssa.tracking }
         ensures untouched { IfOk result (IsUntouched self.new.ctx.now) }
         ensures status { self.new.ctx.now.status ≡ self.old.ctx.now.status }
         ensures variables { self.new.ctx.now.variables ≡ self.old.ctx.now.variables }
@@ -316,7 +318,8 @@ impl<'a> FunctionBuilder<'a> {
         declared
     }
 
-    /// Assigns a value to a variable, from this point of the current block on.
+    /// Assigns a value to a variable, from this point of the current block on. Stack maps need the value, if the
+    /// variable is marked ([`FunctionBuilder::declare_var_needs_stack_map`]).
     ///
     /// The variable is declared, and its type is the value's. There is a current block, which isn't filled. An
     /// assignment makes no instruction. After an error the variable is what it was, and the builder has failed.
@@ -328,6 +331,7 @@ impl<'a> FunctionBuilder<'a> {
         ensures call { IsCall self.old self.new result }
         ensures function { self.new.func.now ≡ self.old.func.now }
         ensures records { IfSome self.old.position (λ block. OnOk result (Records self.old.ctx.now.ssa self.new.ctx.now.ssa variable block value)) }
+        ensures tracks { OnOk result (TracksBinding self.old.ctx.now self.new.ctx.now variable value) }
         ensures sealed { self.new.ctx.now.ssa.blocks ≡ self.old.ctx.now.ssa.blocks }
         ensures status { self.new.ctx.now.status ≡ self.old.ctx.now.status }
         ensures variables { self.new.ctx.now.variables ≡ self.old.ctx.now.variables }
@@ -470,6 +474,7 @@ fn make_block(func: &mut Function, ctx: &mut FunctionBuilderContext) -> Result<B
     ensures predecessors { SamePredecessors ctx.old.ssa ctx.new.ssa }
     ensures names { NamesExist func.old ctx.old.ssa → NamesExist func.new ctx.new.ssa }
     ensures looks_once { LooksOnce ctx.old.ssa → LooksOnce ctx.new.ssa }
+    ensures tracking { ctx.new.ssa.tracking ≡ ctx.old.ssa.tracking }
     ensures status { ctx.new.status ≡ ctx.old.status }
     ensures variables { ctx.new.variables ≡ ctx.old.variables }
     ensures full { result ≡ Err BuildError.Full → length func.old.blocks ≡ 2 ^ 32 - 1 }

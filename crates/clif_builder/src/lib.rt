@@ -13,6 +13,7 @@ pub mod frontend;
 pub mod instructions;
 pub mod labels;
 pub mod laws;
+pub mod marks;
 
 pub use builder::FunctionBuilder;
 pub use clif_constant_operands::ConstantOperands;

@@ -1,6 +1,7 @@
 //! The calls of a script, and the names of their answers.
 use crate::entry::EntryCall;
 use crate::immediate::ImmediateCall;
+use crate::memory::MemoryCall;
 use crate::outside::OutsideCall;
 use crate::switch::SwitchEntry;
 use crate::table::{TableEdge, TableItem, ThrowingCall};
@@ -215,7 +216,7 @@ pub enum PlainInstruction {
 
 /// One call on a builder, with names in place of what earlier calls answered.
 ///
-/// Each variant but `Entry`, `Plain`, `Cursor`, `Outside`, `Immediate`, `Switch` and `Throwing` is the builder's method, or the
+/// Each variant but `Entry`, `Plain`, `Cursor`, `Outside`, `Immediate`, `Memory`, `Switch` and `Throwing` is the builder's method, or the
 /// instruction, of its name, and has its conditions. A variable is named by its number.
 #[derive(Drop)]
 pub enum Call {
@@ -316,6 +317,8 @@ pub enum Call {
     /// An instruction with a constant as an operand, which makes the constant and the plain instruction: its answer 0 is the
     /// value.
     Immediate(ImmediateCall),
+    /// A copy, a fill or a comparison of bytes, in a current block that isn't filled: its answer 0 is the value, if it compares.
+    Memory(MemoryCall),
     /// `set_srcloc(srcloc)`: answers nothing, and has no condition. Each later instruction gets this place in the source.
     SetSrcloc {
         srcloc: SourceLoc,

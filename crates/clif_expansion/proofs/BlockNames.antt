@@ -5,7 +5,7 @@ use Rattle.std.specs.List.{AllByRecursion}
 use Rattle.clif_meaning.specs.Instruction.{Edge, Instruction, Operation}
 use Rattle.clif_meaning.specs.Ledger.{BlockState, Ledger, answers_to, changed_by, empty_ledger, is_inserted, is_terminator, led_by, ledger_after, ledger_with, new_block, next_answer, redirected_state, sealed, state_has, with_begun, with_begun_at, with_cold_mark, with_filled_at, with_instruction, with_parameter_types, with_predecessor, with_terminator}
 use Rattle.clif_meaning.specs.Name.{Name, same_name}
-use Rattle.clif_meaning.specs.Request.{Request, CreateBlock, SwitchToBlock, SealBlock, SealAllBlocks, InsertBlockAfter, SetColdBlock, EnsureInsertedBlock, AppendBlockParams, AppendFunctionParams, DeclareVar, DefVar, UseVar, MakeEntry, MakeEdge, MakeJumpTable, MakeExceptionTable, Annotate, Build, ChangeJumpDestination, Finalize, Script}
+use Rattle.clif_meaning.specs.Request.{Request, CreateBlock, SwitchToBlock, SealBlock, SealAllBlocks, InsertBlockAfter, SetColdBlock, EnsureInsertedBlock, AppendBlockParams, AppendFunctionParams, DeclareVar, DefVar, UseVar, MakeEntry, MakeEdge, MakeJumpTable, MakeExceptionTable, Annotate, NeedStackMap, Build, ChangeJumpDestination, Finalize, Script}
 use Rattle.clif_expansion.proofs.Among.{KeepsEnds, changed_at, keeps_at, keeps_beginning, keeps_cold, keeps_filling, keeps_leading, keeps_redirecting, keeps_sealing, keeps_taking}
 use Rattle.clif_expansion.proofs.EmittedPrograms.{one_longer}
 use Rattle.clif_expansion.proofs.Names.{equal_names, names_equal}
@@ -80,7 +80,8 @@ asked_names ledger (MakeEntry entry) = none_more _ (names_of ledger.blocks) refl
 asked_names ledger (MakeEdge edge) = none_more _ (names_of ledger.blocks) refl
 asked_names ledger (MakeJumpTable default entries) = none_more _ (names_of ledger.blocks) refl
 asked_names ledger (MakeExceptionTable signature normal items) = none_more _ (names_of ledger.blocks) refl
-asked_names ledger (Annotate values) = none_more _ (names_of ledger.blocks) refl
+asked_names ledger (Annotate inside values) = none_more _ (names_of ledger.blocks) refl
+asked_names ledger (NeedStackMap need) = none_more _ (names_of ledger.blocks) refl
 asked_names ledger Finalize = none_more _ (names_of ledger.blocks) refl
 
 -- APART -------------------------------------------------------------------------------------------------------------------

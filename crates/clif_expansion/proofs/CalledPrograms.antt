@@ -8,7 +8,7 @@ use Rattle.clif_meaning.specs.Instruction.{Edge, Instruction, Operation, Switch}
 use Rattle.clif_meaning.specs.Ledger.{Ledger, answers_to, changed_by, is_terminator, ledger_with, with_begun, with_filled_at, with_instruction, with_predecessor, with_terminator}
 use Rattle.clif_meaning.specs.Name.{Name, answer_of, same_name}
 use Rattle.clif_meaning.specs.Program.{Program, Item, Instruct, Use, Assign, answers_from, extended, redirected_item, result_names, result_types, with_call, with_inserted, with_item_at, with_parameters}
-use Rattle.clif_meaning.specs.Request.{Request, CreateBlock, SwitchToBlock, SealBlock, SealAllBlocks, InsertBlockAfter, SetColdBlock, EnsureInsertedBlock, AppendBlockParams, AppendFunctionParams, DeclareVar, DefVar, UseVar, MakeEntry, MakeEdge, MakeJumpTable, MakeExceptionTable, Annotate, Build, ChangeJumpDestination, Finalize}
+use Rattle.clif_meaning.specs.Request.{Request, CreateBlock, SwitchToBlock, SealBlock, SealAllBlocks, InsertBlockAfter, SetColdBlock, EnsureInsertedBlock, AppendBlockParams, AppendFunctionParams, DeclareVar, DefVar, UseVar, MakeEntry, MakeEdge, MakeJumpTable, MakeExceptionTable, Annotate, NeedStackMap, Build, ChangeJumpDestination, Finalize}
 use Rattle.clif_expansion.specs.Emission.{AreAnswered, AreGenerated, AreGiven, LastResults, StaysInLine, reading_behind}
 use Rattle.clif_expansion.specs.Expansion.{AreCut, IsCutProgram, IsReadBlock}
 use Rattle.clif_expansion.specs.JoinedCalls.{HaveCurrent, uses_current}
@@ -55,7 +55,8 @@ extended_current program (MakeEntry entry) = refl
 extended_current program (MakeEdge edge) = refl
 extended_current program (MakeJumpTable default entries) = refl
 extended_current program (MakeExceptionTable signature normal items) = refl
-extended_current program (Annotate values) = refl
+extended_current program (Annotate inside values) = refl
+extended_current program (NeedStackMap need) = refl
 extended_current program (ChangeJumpDestination branch from to) = refl
 extended_current program Finalize = refl
 
@@ -94,7 +95,8 @@ asked_current ledger (MakeEntry entry) = refl
 asked_current ledger (MakeEdge edge) = refl
 asked_current ledger (MakeJumpTable default entries) = refl
 asked_current ledger (MakeExceptionTable signature normal items) = refl
-asked_current ledger (Annotate values) = refl
+asked_current ledger (Annotate inside values) = refl
+asked_current ledger (NeedStackMap need) = refl
 asked_current ledger (ChangeJumpDestination branch from to) = refl
 asked_current ledger Finalize = refl
 
@@ -347,7 +349,8 @@ module _ (Known : Reading → List Item → Item → Type 0) (lasts : LastsLater
     asked (MakeEdge edge') (MakeEdge edge) is placed = cut
     asked (MakeJumpTable first names) (MakeJumpTable default entries) is placed = cut
     asked (MakeExceptionTable number first listed) (MakeExceptionTable signature normal items) is placed = cut
-    asked (Annotate names) (Annotate values) is placed = cut
+    asked (Annotate inside names) (Annotate within values) is placed = cut
+    asked (NeedStackMap asked_need) (NeedStackMap need) is placed = cut
     asked (Build entries' instruction') (Build entries instruction) is placed =
         added (with_inserted plain) (with_inserted program) plain.current program.current (Instruct plain.place instruction' (result_names plain.place instruction'))
         (Instruct program.place instruction (result_names program.place instruction)) (current (placed refl)) (inserted (placed refl)) (instruction_called instruction' instruction is.1)
@@ -395,7 +398,8 @@ module _ (Known : Reading → List Item → Item → Type 0) (lasts : LastsLater
     own_asked (MakeEdge edge') (MakeEdge edge) is placed x own = (refl, refl)
     own_asked (MakeJumpTable first names) (MakeJumpTable default entries) is placed x own = (refl, refl)
     own_asked (MakeExceptionTable number first listed) (MakeExceptionTable signature normal items) is placed x own = (refl, refl)
-    own_asked (Annotate names) (Annotate values) is placed x own = (refl, refl)
+    own_asked (Annotate inside names) (Annotate within values) is placed x own = (refl, refl)
+    own_asked (NeedStackMap asked_need) (NeedStackMap need) is placed x own = (refl, refl)
     own_asked (Build entries' instruction') (Build entries instruction) is placed x own =
         own_added (with_inserted plain) plain.current program.current (Instruct plain.place instruction' (result_names plain.place instruction')) (read_before_call (placed refl)) x own (refl, refl)
     own_asked (ChangeJumpDestination jump at there) (ChangeJumpDestination branch from to) is placed x own = (by (goes.own x own).1, refl)
@@ -438,7 +442,8 @@ module _ (Known : Reading → List Item → Item → Type 0) (lasts : LastsLater
     stays_asked (MakeEdge edge') (MakeEdge edge) is block item other switch emitted unread there = there
     stays_asked (MakeJumpTable first names) (MakeJumpTable default entries) is block item other switch emitted unread there = there
     stays_asked (MakeExceptionTable number first listed) (MakeExceptionTable signature normal items) is block item other switch emitted unread there = there
-    stays_asked (Annotate names) (Annotate values) is block item other switch emitted unread there = there
+    stays_asked (Annotate inside names) (Annotate within values) is block item other switch emitted unread there = there
+    stays_asked (NeedStackMap asked_need) (NeedStackMap need) is block item other switch emitted unread there = there
     stays_asked Finalize Finalize is block item other switch emitted unread there = there
     stays_asked _ _ is block item other switch emitted unread there = absurd is
 
@@ -477,7 +482,8 @@ module _ (Known : Reading → List Item → Item → Type 0) (lasts : LastsLater
   bare_extended place program (MakeEdge edge) before takes bare = bare
   bare_extended place program (MakeJumpTable default entries) before takes bare = bare
   bare_extended place program (MakeExceptionTable signature normal items) before takes bare = bare
-  bare_extended place program (Annotate values) before takes bare = bare
+  bare_extended place program (Annotate inside values) before takes bare = bare
+  bare_extended place program (NeedStackMap need) before takes bare = bare
   bare_extended place program (Build entries instruction) before takes bare =
       bare_item place (with_inserted program) program.current (Instruct program.place instruction (result_names program.place instruction)) before bare
   bare_extended place program (ChangeJumpDestination branch from to) before takes bare =
@@ -519,7 +525,8 @@ module _ (Known : Reading → List Item → Item → Type 0) (lasts : LastsLater
     takes' (MakeEdge edge') (MakeEdge edge) is = (tt, tt)
     takes' (MakeJumpTable first names) (MakeJumpTable default entries) is = (tt, tt)
     takes' (MakeExceptionTable number first listed) (MakeExceptionTable signature normal items) is = (tt, tt)
-    takes' (Annotate names) (Annotate values) is = (tt, tt)
+    takes' (Annotate inside names) (Annotate within values) is = (tt, tt)
+    takes' (NeedStackMap asked_need) (NeedStackMap need) is = (tt, tt)
     takes' (Build entries' instruction') (Build entries instruction) is = (tt, tt)
     takes' (ChangeJumpDestination jump at there) (ChangeJumpDestination branch from to) is = (tt, tt)
     takes' Finalize Finalize is = (tt, tt)

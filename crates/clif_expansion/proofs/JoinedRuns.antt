@@ -9,7 +9,7 @@ use Rattle.clif_meaning.specs.Instruction.{Instruction}
 use Rattle.clif_meaning.specs.Ledger.{Ledger, VariableState, answers_to, empty_ledger, is_marked, ledger_after, ledger_with, marked, or_invalid, type_of}
 use Rattle.clif_meaning.specs.Name.{Name, answer_of}
 use Rattle.clif_meaning.specs.Program.{Program, Item, empty_program, program_of, with_call}
-use Rattle.clif_meaning.specs.Request.{Request, CreateBlock, SwitchToBlock, SealBlock, SealAllBlocks, InsertBlockAfter, SetColdBlock, EnsureInsertedBlock, AppendBlockParams, AppendFunctionParams, DeclareVar, DefVar, UseVar, MakeEntry, MakeEdge, MakeJumpTable, MakeExceptionTable, Annotate, Build, ChangeJumpDestination, Finalize, Script}
+use Rattle.clif_meaning.specs.Request.{Request, CreateBlock, SwitchToBlock, SealBlock, SealAllBlocks, InsertBlockAfter, SetColdBlock, EnsureInsertedBlock, AppendBlockParams, AppendFunctionParams, DeclareVar, DefVar, UseVar, MakeEntry, MakeEdge, MakeJumpTable, MakeExceptionTable, Annotate, Build, ChangeJumpDestination, Finalize, Script, OfVariable, OfValue, NeedStackMap}
 use Rattle.clif_meaning.specs.Tracked.{tracked_by, tracked_from}
 use Rattle.clif_meaning.specs.World.{World}
 use Rattle.clif_expansion.specs.Code.{DecidesItem, Does, NameTypes, PerformsItem}
@@ -234,7 +234,11 @@ module _ (marks' marks : Ledger) (same : (v : ℕ) → is_marked marks' v ≡ is
   call_tracks reading ledger' ledger joined (MakeEdge edge') (MakeEdge edge) is = tt
   call_tracks reading ledger' ledger joined (MakeJumpTable first names) (MakeJumpTable default entries) is = tt
   call_tracks reading ledger' ledger joined (MakeExceptionTable number first listed) (MakeExceptionTable signature normal items) is = tt
-  call_tracks reading ledger' ledger joined (Annotate names) (Annotate values) is = tt
+  call_tracks reading ledger' ledger joined (Annotate inside names) (Annotate within values) is = tt
+  call_tracks reading ledger' ledger joined (NeedStackMap (OfVariable number)) (NeedStackMap (OfVariable variable)) is = tt
+  call_tracks reading ledger' ledger joined (NeedStackMap (OfValue x)) (NeedStackMap (OfValue value)) is = (Joins.keeps reading ledger' ledger joined x value is, tt)
+  call_tracks reading ledger' ledger joined (NeedStackMap (OfVariable number)) (NeedStackMap (OfValue value)) is = absurd is
+  call_tracks reading ledger' ledger joined (NeedStackMap (OfValue x)) (NeedStackMap (OfVariable variable)) is = absurd is
   call_tracks reading ledger' ledger joined (Build entries' instruction') (Build entries instruction) is = tt
   call_tracks reading ledger' ledger joined (ChangeJumpDestination jump at there) (ChangeJumpDestination branch from to) is = tt
   call_tracks reading ledger' ledger joined Finalize Finalize is = tt

@@ -8,12 +8,12 @@ use Rattle.clif_types.specs.declared.types.«Type».{«Type»}
 use Rattle.clif_tables.specs.Entries.{count_for, with_entry}
 use Rattle.clif_meaning.specs.Event.{Tag}
 use Rattle.clif_meaning.specs.Instruction.{Argument, Known, CallResult, CallPayload, Edge, Instruction, Operation}
-use Rattle.clif_meaning.specs.Ledger.{ABlock, AVariable, AValue, AnInstruction, AnEntry, AnEdge, AJumpTable, AnExceptionTable, Answered, BlockState, ExceptionTable, Ledger, VariableState, answer_at, answered_edge, answers_to, changed_by, edge_named, edges_named, edges_of_items, empty_ledger, exception_table, item_context, item_edge, item_kind, ledger_with, new_block, new_variable, next_answer, or_invalid, redirected_state, sealed, touched_at, with_begun, with_cold_mark, with_instruction, with_parameter_types, with_served, with_tried}
+use Rattle.clif_meaning.specs.Ledger.{ABlock, AVariable, AValue, AnInstruction, AnEntry, AnEdge, AJumpTable, AnExceptionTable, Answered, BlockState, ExceptionTable, Ledger, VariableState, answer_at, answered_edge, answers_to, changed_by, edge_named, edges_named, edges_of_items, empty_ledger, exception_table, item_context, item_edge, item_kind, ledger_with, new_block, new_variable, next_answer, or_invalid, redirected_state, sealed, touched_at, with_begun, with_cold_mark, with_instruction, with_parameter_types, with_served, with_tried, marked_at, with_need}
 use Rattle.clif_meaning.specs.Name.{Name, answer_of}
 use Rattle.clif_meaning.specs.Program.{result_types}
-use Rattle.clif_meaning.specs.Request.{Request, CreateBlock, SwitchToBlock, SealBlock, SealAllBlocks, InsertBlockAfter, SetColdBlock, EnsureInsertedBlock, AppendBlockParams, AppendFunctionParams, DeclareVar, DefVar, UseVar, MakeEntry, MakeEdge, MakeJumpTable, MakeExceptionTable, Annotate, GivenEntry, TableItem, TagTo, DefaultTo, InContext, Build, ChangeJumpDestination, Finalize}
+use Rattle.clif_meaning.specs.Request.{Request, CreateBlock, SwitchToBlock, SealBlock, SealAllBlocks, InsertBlockAfter, SetColdBlock, EnsureInsertedBlock, AppendBlockParams, AppendFunctionParams, DeclareVar, DefVar, UseVar, MakeEntry, MakeEdge, MakeJumpTable, MakeExceptionTable, Annotate, GivenEntry, TableItem, TagTo, DefaultTo, InContext, Build, ChangeJumpDestination, Finalize, StackMapNeed, OfVariable, OfValue, NeedStackMap}
 use Rattle.clif_expansion.specs.Expansion.{IsReadBlock}
-use Rattle.clif_expansion.specs.Joining.{AreJoinedStates, AskingKeepsJoins, Both, IsJoined, IsOwnState, IsReadAnswer, IsReadCurrent, IsReadException, IsReadExceptionTable, IsReadLayout, IsReadRequest, IsReadState, IsReadTable, IsReadTableItem, IsUnread, NoMore, NoneLeads, answers_at, reading_after, reading_with}
+use Rattle.clif_expansion.specs.Joining.{AreJoinedStates, AskingKeepsJoins, Both, IsJoined, IsOwnState, IsReadAnswer, IsReadCurrent, IsReadException, IsReadExceptionTable, IsReadLayout, IsReadRequest, IsReadState, IsReadTable, IsReadTableItem, IsUnread, NoMore, NoneLeads, answers_at, reading_after, reading_with, IsReadNeed}
 use Rattle.clif_expansion.specs.Reading.{Generated, IsOneToOne, IsReadArgument, IsReadAs, IsReadEdge, IsReadInstruction, NotMade, Reading, ScriptName, StandsFor}
 use Rattle.clif_expansion.specs.Walk.{IsGenerated}
 use Rattle.clif_expansion.proofs.Among.{among_each, among_joined, ended_joined, keeps_cold, keeps_redirecting, keeps_sealing, keeps_taking, leading_later}
@@ -405,6 +405,12 @@ module _ (reading : Reading) (plain ledger : Ledger) (joined : IsJoined reading 
       (subst (λ (es : List GivenEntry). AllZip (IsReadException later) (with_tried plain.exception_tables es) (with_tried ledger.exception_tables entries)) (sym same)
       (tried_read later entries plain.exception_tables ledger.exception_tables states.exception_tables))
 
+  needed : (asked need : StackMapNeed) → IsReadNeed reading asked need → with_need asked plain.variables ≡ with_need need ledger.variables
+  needed (OfVariable number) (OfVariable variable) is = ap₂ marked_at is states.variables
+  needed (OfValue x) (OfValue value) is = states.variables
+  needed (OfVariable number) (OfValue value) is = absurd is
+  needed (OfValue x) (OfVariable variable) is = absurd is
+
   changed : (asked request : Request) → IsReadRequest reading asked request → Joined (changed_by plain asked) (changed_by ledger request)
   changed CreateBlock CreateBlock is =
       record {
@@ -481,7 +487,8 @@ module _ (reading : Reading) (plain ledger : Ledger) (joined : IsJoined reading 
       with_exceptions plain ledger _ _ states (zip_joined (IsReadException later) plain.exception_tables (Some (exception_table plain number first listed) ∷ [])
       ledger.exception_tables (Some (exception_table ledger signature normal items) ∷ []) states.exception_tables
       (table_read number signature first normal listed items is.0 is.1 is.2, tt))
-  changed (Annotate names) (Annotate values) is = states
+  changed (Annotate inside names) (Annotate within values) is = states
+  changed (NeedStackMap asked_need) (NeedStackMap need) is = with_variables plain ledger _ _ states (needed asked_need need is)
   changed (Build entries' instruction') (Build entries instruction) is = built entries' entries instruction' instruction is.0 is.1
   changed (ChangeJumpDestination jump at there) (ChangeJumpDestination branch from to) is =
       all_changed later (suc here) one_to_one plain ledger (redirected_state jump at there) (redirected_state branch from to) states (keeps_redirecting jump at there)
@@ -514,7 +521,8 @@ module _ (reading : Reading) (plain ledger : Ledger) (joined : IsJoined reading 
   answered (MakeJumpTable first names) (MakeJumpTable default entries) is = (same_length (IsReadTable later) plain.jump_tables ledger.jump_tables states.jump_tables, tt)
   answered (MakeExceptionTable number first listed) (MakeExceptionTable signature normal items) is =
       (same_length (IsReadException later) plain.exception_tables ledger.exception_tables states.exception_tables, tt)
-  answered (Annotate names) (Annotate values) is = tt
+  answered (Annotate inside names) (Annotate within values) is = tt
+  answered (NeedStackMap asked_need) (NeedStackMap need) is = tt
   answered (Build entries' instruction') (Build entries instruction) is = (tt, types_given _ _ (ap₂ result_types is.1.operation is.1.controlling))
   answered (ChangeJumpDestination jump at there) (ChangeJumpDestination branch from to) is = tt
   answered Finalize Finalize is = tt

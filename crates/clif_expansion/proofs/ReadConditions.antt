@@ -6,12 +6,12 @@ use Rattle.clif_tables.specs.Lists.{TableLists}
 use Rattle.clif_types.specs.Types.{is_type}
 use Rattle.clif_types.specs.declared.types.«Type».{«Type»}
 use Rattle.clif_tables.specs.Entries.{TableEntry}
-use Rattle.clif_meaning.specs.Acceptance.{allows, blames_variable, can_assign, can_lead, can_leave, can_make, can_operate, has_argument, has_entry, has_item, is_open, is_unfinished, may_give, may_give_all, refusal_of, tables_differ, unfinished, Unfilled, Unsealed}
+use Rattle.clif_meaning.specs.Acceptance.{allows, blames_variable, can_assign, can_lead, can_leave, can_make, can_operate, has_argument, has_entry, has_item, is_open, is_unfinished, may_give, may_give_all, refusal_of, tables_differ, unfinished, Unfilled, Unsealed, may_need, may_mark, fits_stack_map}
 use Rattle.clif_meaning.specs.Instruction.{Argument, Known, CallResult, CallPayload, Edge, Instruction, operation_entries}
-use Rattle.clif_meaning.specs.Ledger.{ABlock, AVariable, AValue, AnInstruction, AnEntry, AnEdge, AJumpTable, AnExceptionTable, Answered, BlockState, ExceptionTable, Ledger, VariableState, answer_at, answered_edge, begins_with, block_state, edge_named, has_block, has_predecessors, has_value, is_empty, is_filled, is_inserted, is_instruction_answer, is_pristine, is_sealed, is_unreachable, leads_to, state_has, type_of, value_answer_type, variable_type}
+use Rattle.clif_meaning.specs.Ledger.{ABlock, AVariable, AValue, AnInstruction, AnEntry, AnEdge, AJumpTable, AnExceptionTable, Answered, BlockState, ExceptionTable, Ledger, VariableState, answer_at, answered_edge, begins_with, block_state, edge_named, has_block, has_predecessors, has_value, is_empty, is_filled, is_inserted, is_instruction_answer, is_pristine, is_sealed, is_unreachable, leads_to, state_has, type_of, value_answer_type, variable_type, variable_state, or_invalid}
 use Rattle.clif_meaning.specs.Name.{Name, same_name}
-use Rattle.clif_meaning.specs.Request.{Request, CreateBlock, SwitchToBlock, SealBlock, SealAllBlocks, InsertBlockAfter, SetColdBlock, EnsureInsertedBlock, AppendBlockParams, AppendFunctionParams, DeclareVar, DefVar, UseVar, MakeEntry, MakeEdge, MakeJumpTable, MakeExceptionTable, Annotate, GivenEntry, ServedBy, TriedBy, Imported, TableItem, TagTo, DefaultTo, InContext, Build, ChangeJumpDestination, Finalize}
-use Rattle.clif_expansion.specs.Joining.{AreJoinedLedgers, Both, ConditionsAreRead, IsOwnState, IsReadAnswer, IsReadCurrent, IsReadException, IsReadLayout, NoMore, Own, StandAmong, IsReadRefusal, IsReadRequest, IsReadState, IsReadTable, IsReadTableItem}
+use Rattle.clif_meaning.specs.Request.{Request, CreateBlock, SwitchToBlock, SealBlock, SealAllBlocks, InsertBlockAfter, SetColdBlock, EnsureInsertedBlock, AppendBlockParams, AppendFunctionParams, DeclareVar, DefVar, UseVar, MakeEntry, MakeEdge, MakeJumpTable, MakeExceptionTable, Annotate, GivenEntry, ServedBy, TriedBy, Imported, TableItem, TagTo, DefaultTo, InContext, Build, ChangeJumpDestination, Finalize, StackMapNeed, OfVariable, OfValue, NeedStackMap}
+use Rattle.clif_expansion.specs.Joining.{AreJoinedLedgers, Both, ConditionsAreRead, IsOwnState, IsReadAnswer, IsReadCurrent, IsReadException, IsReadLayout, NoMore, Own, StandAmong, IsReadRefusal, IsReadRequest, IsReadState, IsReadTable, IsReadTableItem, IsReadNeed}
 use Rattle.clif_expansion.specs.Reading.{IsOneToOne, IsReadArgument, IsReadAs, IsReadEdge, IsReadInstruction, Reading}
 use Rattle.clif_expansion.specs.ScriptCall.{Emit, call_allowed, can_emit, is_byte, is_second_byte, sets_bytes}
 use Rattle.clif_expansion.proofs.Among.{any_leading, leading_empty, other_generated}
@@ -290,6 +290,13 @@ module _ (reading : Reading) (plain ledger : Ledger) (ledgers : AreJoinedLedgers
       let byte = byte_same instruction'.operands instruction.operands is.operands in
       λ i. contexts i && (if sets_bytes (is.operation i) then byte i else true) && opened i && operands i && edges i && can_emit (is.operation i) (is.controlling i)
 
+  needed : (asked need : StackMapNeed) → IsReadNeed reading asked need → may_need plain asked ≡ may_need ledger need
+  needed (OfVariable number) (OfVariable variable) is =
+      ap₂ (λ (variables : List VariableState) (v : ℕ). may_mark (slice_get variables v)) ledgers.states.variables is
+  needed (OfValue x) (OfValue value) is = λ i. has_value_same x value is i && fits_stack_map (or_invalid (type_same x value is i))
+  needed (OfVariable number) (OfValue value) is = absurd is
+  needed (OfValue x) (OfVariable variable) is = absurd is
+
   allowed : (asked request : Request) → IsReadRequest reading asked request → allows plain asked ≡ allows ledger request
   allowed CreateBlock CreateBlock is = refl
   allowed (SwitchToBlock x) (SwitchToBlock block) is =
@@ -311,7 +318,8 @@ module _ (reading : Reading) (plain ledger : Ledger) (ledgers : AreJoinedLedgers
   allowed (MakeJumpTable first names) (MakeJumpTable default entries) is = edges_same (first ∷ names) (default ∷ entries) is
   allowed (MakeExceptionTable number first listed) (MakeExceptionTable signature normal items) is =
       ap₂ (λ (a b : Bool). a && b) (named_same first normal is.1) (all_same (IsReadTableItem reading) (has_item plain) (has_item ledger) item_same listed items is.2)
-  allowed (Annotate names) (Annotate values) is = values_same names values is
+  allowed (Annotate inside names) (Annotate within values) is = λ i. (if is.0 i then opened i else true) && values_same names values is.1 i
+  allowed (NeedStackMap asked_need) (NeedStackMap need) is = needed asked_need need is
   allowed (Build entries' instruction') (Build entries instruction) is = built entries' entries instruction' instruction is.0 is.1
   allowed (ChangeJumpDestination jump at there) (ChangeJumpDestination branch from to) is =
       let branches = instruction_same reading (answer_at plain jump) (answer_at ledger branch) (ledgers.answers jump branch is.0) in
@@ -337,7 +345,8 @@ module _ (reading : Reading) (plain ledger : Ledger) (ledgers : AreJoinedLedgers
   blamed (MakeEdge edge') (MakeEdge edge) is = refl
   blamed (MakeJumpTable first names) (MakeJumpTable default entries) is = refl
   blamed (MakeExceptionTable number first listed) (MakeExceptionTable signature normal items) is = refl
-  blamed (Annotate names) (Annotate values) is = refl
+  blamed (Annotate inside names) (Annotate within values) is = refl
+  blamed (NeedStackMap asked_need) (NeedStackMap need) is = refl
   blamed (Build entries' instruction') (Build entries instruction) is = refl
   blamed (ChangeJumpDestination jump at there) (ChangeJumpDestination branch from to) is = refl
   blamed Finalize Finalize is = refl
@@ -386,7 +395,8 @@ module _ (reading : Reading) (plain ledger : Ledger) (ledgers : AreJoinedLedgers
   refused (MakeEdge edge') (MakeEdge edge) is = tt
   refused (MakeJumpTable first names) (MakeJumpTable default entries) is = tt
   refused (MakeExceptionTable number first listed) (MakeExceptionTable signature normal items) is = tt
-  refused (Annotate names) (Annotate values) is = tt
+  refused (Annotate inside names) (Annotate within values) is = tt
+  refused (NeedStackMap asked_need) (NeedStackMap need) is = tt
   refused (Build entries' instruction') (Build entries instruction) is = tt
   refused (ChangeJumpDestination jump at there) (ChangeJumpDestination branch from to) is = tt
   refused _ _ is = absurd is

@@ -7,4 +7,5 @@ pub mod Given
 pub mod Headline
 pub mod Verdicts
 pub mod Alone
+pub mod Asked
 pub mod HeadlineExamples

@@ -7,7 +7,7 @@ use Rattle.clif_meaning.specs.Acceptance.{Refusal, Unfilled, Unsealed, allows, b
 use Rattle.clif_meaning.specs.Instruction.{Edge}
 use Rattle.clif_meaning.specs.Ledger.{ABlock, AVariable, AValue, AnInstruction, AnEntry, AnEdge, AJumpTable, AnExceptionTable, Answered, BlockState, ExceptionTable, Ledger, answer_at, empty_ledger, ledger_with, state_has}
 use Rattle.clif_meaning.specs.Name.{Name, answer_of, same_name}
-use Rattle.clif_meaning.specs.Request.{Request, CreateBlock, SwitchToBlock, SealBlock, SealAllBlocks, InsertBlockAfter, SetColdBlock, EnsureInsertedBlock, AppendBlockParams, AppendFunctionParams, DeclareVar, DefVar, UseVar, MakeEntry, MakeEdge, MakeJumpTable, MakeExceptionTable, Annotate, TableItem, TagTo, DefaultTo, InContext, Build, ChangeJumpDestination, Finalize}
+use Rattle.clif_meaning.specs.Request.{Request, CreateBlock, SwitchToBlock, SealBlock, SealAllBlocks, InsertBlockAfter, SetColdBlock, EnsureInsertedBlock, AppendBlockParams, AppendFunctionParams, DeclareVar, DefVar, UseVar, MakeEntry, MakeEdge, MakeJumpTable, MakeExceptionTable, Annotate, TableItem, TagTo, DefaultTo, InContext, Build, ChangeJumpDestination, Finalize, StackMapNeed, OfVariable, OfValue, NeedStackMap}
 use Rattle.clif_expansion.specs.Reading.{Generated, IsOneToOne, IsReadAs, IsReadEdge, IsReadInstruction, NotMade, Reading, ScriptName, StandsFor}
 use Rattle.clif_expansion.specs.Walk.{IsGenerated}
 
@@ -19,6 +19,12 @@ IsReadTableItem reading (TagTo plain x) (TagTo tag edge) = (plain ≡ tag) × Is
 IsReadTableItem reading (DefaultTo x) (DefaultTo edge) = IsReadAs reading x edge
 IsReadTableItem reading (InContext x) (InContext value) = IsReadAs reading x value
 IsReadTableItem reading _ _ = ⊥
+
+-- what stack maps are asked to name, with its name read
+abbrev pub IsReadNeed : Reading → (plain need : StackMapNeed) → Type 0
+IsReadNeed reading (OfVariable number) (OfVariable variable) = number ≡ variable
+IsReadNeed reading (OfValue x) (OfValue value) = IsReadAs reading x value
+IsReadNeed reading _ _ = ⊥
 
 -- the request with its names read
 abbrev pub IsReadRequest : Reading → (plain request : Request) → Type 0
@@ -39,7 +45,8 @@ IsReadRequest reading (MakeEdge plain) (MakeEdge edge) = IsReadEdge reading plai
 IsReadRequest reading (MakeJumpTable first names) (MakeJumpTable default entries) = IsReadAs reading first default × AllZip (IsReadAs reading) names entries
 IsReadRequest reading (MakeExceptionTable number first listed) (MakeExceptionTable signature normal items) =
     (number ≡ signature) × IsReadAs reading first normal × AllZip (IsReadTableItem reading) listed items
-IsReadRequest reading (Annotate names) (Annotate values) = AllZip (IsReadAs reading) names values
+IsReadRequest reading (Annotate inside names) (Annotate within values) = (inside ≡ within) × AllZip (IsReadAs reading) names values
+IsReadRequest reading (NeedStackMap plain) (NeedStackMap need) = IsReadNeed reading plain need
 IsReadRequest reading (Build given plain) (Build entries instruction) = (given ≡ entries) × IsReadInstruction reading plain instruction
 IsReadRequest reading (ChangeJumpDestination jump here there) (ChangeJumpDestination branch from to) =
     IsReadAs reading jump branch × IsReadAs reading here from × IsReadAs reading there to

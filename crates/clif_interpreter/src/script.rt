@@ -3,11 +3,13 @@
 use crate::error::{Cause, Operand, Place, RunError};
 use crate::outside::{Callee, Event, Outside, Payload, call_library, cut, show};
 use crate::run::{End, Ending, World};
-use clif_calls::{Call, Edge, ImmediateCall, Name, OutsideCall, Passed, TableEdge, ThrowingCall};
+use clif_calls::{
+    Call, Edge, ImmediateCall, MemoryCall, Name, OutsideCall, Passed, TableEdge, ThrowingCall,
+};
 use clif_operations::{Fault, Operation, Outcome, Store, Typed, bits_of, carry_out, kept};
 use clif_script_program::instruction::{
-    Edges, Instruction, branch_by_table, constant_of, edge_of, instruction_of, plan_of,
-    with_constant_of,
+    Edges, Instruction, branch_by_table, byte_operation_of, constant_of, edge_of, instruction_of,
+    operands_of, plan_of, with_constant_of,
 };
 use clif_script_program::program::{Program, ProgramBlock};
 use clif_types::{
@@ -268,6 +270,19 @@ impl<O: Outside> State<'_, '_, '_, O> {
         Ok(Next::Block(target))
     }
 
+    // Makes the memory helper at a place, which gives its answer, if it has one.
+    fn help(&mut self, place: usize, called: &MemoryCall) -> Result<Next, Cause> {
+        let (alloc, width) = (self.alloc, self.pointer_width);
+        let names = operands_of(alloc, called)?;
+        let operands = self.values(names.as_slice())?;
+        let memory = &mut self.store.memory;
+        let given = byte_operation_of(*called).run(alloc, width, operands.as_slice(), memory)?;
+        if let Some(value) = given {
+            self.give(Name { place, answer: 0 }, value)?;
+        }
+        Ok(Next::Item)
+    }
+
     // The bits of a call's arguments, which have the types of the signature's parameters.
     fn arguments(&self, signature: &Signature, names: &[Name]) -> Result<Vec<u128>, Cause> {
         let params = signature.params.as_slice();
@@ -311,13 +326,13 @@ impl<O: Outside> State<'_, '_, '_, O> {
 
     // Makes the outside call at a place.
     fn call_outside(&mut self, place: usize, called: &OutsideCall) -> Result<Next, Cause> {
-        let (program, calls) = (self.program, self.calls);
-        let Some(signature) = program.imports.called_by(calls, called) else {
+        let program = self.program;
+        let Some(signature) = program.imports.called_by(called) else {
             return Err(Cause::NoFunction);
         };
         match called {
             OutsideCall::Call { function, args } => {
-                let Some(data) = program.imports.function(calls, *function) else {
+                let Some(data) = program.imports.function(*function) else {
                     return Err(Cause::NoFunction);
                 };
                 let arguments = self.arguments(signature, args.as_slice())?;
@@ -414,10 +429,10 @@ impl<O: Outside> State<'_, '_, '_, O> {
     // Makes the try call at a place, by the signature of its table. The promise asks that the contexts are given before it, though
     // nothing reads them.
     fn try_call(&mut self, place: usize, called: &ThrowingCall) -> Result<Next, Cause> {
-        let (program, calls, table) = (self.program, self.calls, called.table());
+        let (program, table) = (self.program, called.table());
         let (Some(held), Some(signature)) = (
             program.exceptions.get(table),
-            program.exception_signature(calls, table),
+            program.exception_signature(table),
         ) else {
             return Err(Cause::NoFunction);
         };
@@ -426,7 +441,7 @@ impl<O: Outside> State<'_, '_, '_, O> {
         }
         match called {
             ThrowingCall::TryCall { function, args, .. } => {
-                let Some(data) = program.imports.function(calls, *function) else {
+                let Some(data) = program.imports.function(*function) else {
                     return Err(Cause::NoFunction);
                 };
                 let arguments = self.arguments(signature, args.as_slice())?;
@@ -476,6 +491,7 @@ impl<O: Outside> State<'_, '_, '_, O> {
                 Ok(Next::Item)
             }
             Call::Immediate(called) => self.with_constant(place, *called),
+            Call::Memory(called) => self.help(place, called),
             Call::Switch { value, .. } => self.switch(place, *value),
             _ => self.call(place, call),
         }
@@ -603,9 +619,8 @@ fn check_targets(program: &Program, calls: usize) -> Result<(), RunError> {
 /// # Errors
 ///
 /// Where a premise of the theorem doesn't hold of the run: a branch leads to the entry block or to a block without a
-/// terminator, a name has no value yet, types don't fit, what a load or a store claims isn't true, or a function of the C
-/// library can't do its work. And where memory
-/// is refused, a value has more than 128 bits, or a stack slot has no place.
+/// terminator, a name has no value yet, types don't fit, what a load, a store or a memory helper claims isn't true, or a function of
+/// the C library can't do its work. And where memory is refused, a value has more than 128 bits, or a stack slot has no place.
 pub fn run<O: Outside>(
     alloc: Global,
     calls: &[Call],
@@ -613,7 +628,7 @@ pub fn run<O: Outside>(
     world: &World<'_, O>,
     bound: u64,
 ) -> Result<Ending, RunError> {
-    let program = match Program::of(alloc, calls, signature) {
+    let program = match Program::of(alloc, calls, signature, world.pointer_width) {
         Ok(program) => program,
         Err(_) => return Err(RunError::memory()),
     };

@@ -28,8 +28,8 @@ use Rattle.clif_meaning.specs.Event.{CallShape}
 use Rattle.clif_meaning.specs.SameType.{same_type}
 use Rattle.clif_meaning.specs.Instruction.{Iconst, FloatConst, PooledConst, Unary, Binary, Compare, Concat, Split, Convert, Select, AddConstant, CompareConstant, Operation, operation_entries, Instruction, Compute, Load, Store, Stack, StackStore, Trap, CondTrap, Jump, Brif, BrTable, Switch, Bytes, Return, Call, CallIndirect, TryCall, TryCallIndirect, Argument, Known, CallResult, CallPayload, Edge}
 use Rattle.clif_meaning.specs.Name.{Name}
-use Rattle.clif_meaning.specs.Request.{Request, CreateBlock, SwitchToBlock, SealBlock, SealAllBlocks, InsertBlockAfter, SetColdBlock, EnsureInsertedBlock, AppendBlockParams, AppendFunctionParams, DeclareVar, DefVar, UseVar, MakeEntry, MakeEdge, MakeJumpTable, MakeExceptionTable, Annotate, GivenEntry, ServedBy, TriedBy, Imported, TableItem, TagTo, DefaultTo, InContext, Build, ChangeJumpDestination, Finalize, Script, Attempt, outright}
-use Rattle.clif_meaning.specs.Ledger.{BlockState, ExceptionTable, Ledger, empty_ledger, unserved_exceptions, type_of, or_invalid, has_value, has_block, has_instruction, leads_to, edge_named, unserved_edges, is_filled, is_sealed, is_inserted, is_pristine, has_predecessors, is_unreachable, variable_type, ledger_with}
+use Rattle.clif_meaning.specs.Request.{Request, CreateBlock, SwitchToBlock, SealBlock, SealAllBlocks, InsertBlockAfter, SetColdBlock, EnsureInsertedBlock, AppendBlockParams, AppendFunctionParams, DeclareVar, DefVar, UseVar, MakeEntry, MakeEdge, MakeJumpTable, MakeExceptionTable, Annotate, StackMapNeed, OfVariable, OfValue, NeedStackMap, GivenEntry, ServedBy, TriedBy, Imported, TableItem, TagTo, DefaultTo, InContext, Build, ChangeJumpDestination, Finalize, Script, Attempt, outright}
+use Rattle.clif_meaning.specs.Ledger.{BlockState, VariableState, ExceptionTable, Ledger, variable_state, empty_ledger, unserved_exceptions, type_of, or_invalid, has_value, has_block, has_instruction, leads_to, edge_named, unserved_edges, is_filled, is_sealed, is_inserted, is_pristine, has_predecessors, is_unreachable, variable_type, ledger_with}
 
 -- there is a current block, and it isn't filled
 abbrev pub is_open : Ledger → Option Name → Bool
@@ -117,6 +117,20 @@ can_make tables (AStackSlot slot) = nat_lt slot.align_shift 32
 can_make tables (AFunction function) = nat_lt function.signature (length tables.signatures)
 can_make tables _ = true
 
+-- a stack map has room for a value of this type: it has 1 to 16 bytes
+abbrev pub fits_stack_map : «Type» → Bool
+fits_stack_map ty = nat_lt 0 (bytes_of ty) && nat_lt (bytes_of ty) 17
+
+-- the variable was declared, was neither used nor assigned so far, and its type fits
+abbrev pub may_mark : Option VariableState → Bool
+may_mark None = false
+may_mark (Some state) = fits_stack_map state.ty && not state.is_touched
+
+-- stack maps may be asked for this
+abbrev pub may_need : Ledger → StackMapNeed → Bool
+may_need ledger (OfVariable variable) = may_mark (variable_state ledger variable)
+may_need ledger (OfValue value) = has_value ledger value && fits_stack_map (or_invalid (type_of ledger value))
+
 -- The condition of each kind of call.
 abbrev pub allows : Ledger → Request → Bool
 allows ledger CreateBlock = true
@@ -136,7 +150,8 @@ allows ledger (MakeEdge edge) = has_block ledger edge.target && list_all (has_ar
 allows ledger (MakeJumpTable default entries) = list_all (λ name. is_some (edge_named ledger name)) (default ∷ entries)
 allows ledger (MakeExceptionTable signature normal items) =
     is_some (edge_named ledger normal) && list_all (has_item ledger) items
-allows ledger (Annotate values) = list_all (has_value ledger) values
+allows ledger (Annotate inside values) = (if inside then is_open ledger ledger.current else true) && list_all (has_value ledger) values
+allows ledger (NeedStackMap need) = may_need ledger need
 allows ledger (Build entries instruction) =
     list_all (has_value ledger) instruction.contexts && may_give_all ledger entries
     && is_open ledger ledger.current && list_all (has_value ledger) instruction.operands && list_all (can_lead ledger) instruction.edges

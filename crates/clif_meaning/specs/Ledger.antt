@@ -10,7 +10,7 @@ use Rattle.clif_tables.specs.Lists.{TableLists, no_entries}
 use Rattle.clif_meaning.specs.Event.{CallItem, Context, Default, Tag}
 use Rattle.clif_meaning.specs.Instruction.{Operation, operation_typing, Edge, Instruction}
 use Rattle.clif_meaning.specs.Name.{Name, answer_of, same_name}
-use Rattle.clif_meaning.specs.Request.{Request, CreateBlock, SwitchToBlock, SealBlock, SealAllBlocks, InsertBlockAfter, SetColdBlock, EnsureInsertedBlock, AppendBlockParams, AppendFunctionParams, DeclareVar, DefVar, UseVar, MakeEntry, MakeEdge, MakeJumpTable, MakeExceptionTable, Annotate, GivenEntry, ServedBy, TriedBy, Imported, TableItem, TagTo, DefaultTo, InContext, Build, ChangeJumpDestination, Finalize, Script}
+use Rattle.clif_meaning.specs.Request.{Request, CreateBlock, SwitchToBlock, SealBlock, SealAllBlocks, InsertBlockAfter, SetColdBlock, EnsureInsertedBlock, AppendBlockParams, AppendFunctionParams, DeclareVar, DefVar, UseVar, MakeEntry, MakeEdge, MakeJumpTable, MakeExceptionTable, Annotate, StackMapNeed, OfVariable, OfValue, NeedStackMap, GivenEntry, ServedBy, TriedBy, Imported, TableItem, TagTo, DefaultTo, InContext, Build, ChangeJumpDestination, Finalize, Script}
 use Rattle.clif_meaning.specs.Program.{result_types}
 
 -- what an answer is
@@ -266,6 +266,17 @@ touched_at (suc variable) (state ∷ states) = state ∷ touched_at variable sta
 abbrev pub with_touched : Ledger → ℕ → Ledger
 with_touched ledger variable = record ledger { variables = touched_at variable ledger.variables }
 
+-- the variable with this number is marked
+abbrev pub marked_at : ℕ → List VariableState → List VariableState
+marked_at variable [] = []
+marked_at zero (state ∷ states) = record state { is_marked = true } ∷ states
+marked_at (suc variable) (state ∷ states) = state ∷ marked_at variable states
+
+-- the variables, once stack maps are asked for this
+abbrev pub with_need : StackMapNeed → List VariableState → List VariableState
+with_need (OfVariable variable) states = marked_at variable states
+with_need (OfValue value) states = states
+
 -- What each kind of call answers.
 abbrev pub answers_to : Ledger → Request → List Answered
 answers_to ledger CreateBlock = ABlock ∷ []
@@ -284,7 +295,8 @@ answers_to ledger (MakeEntry entry) = AnEntry entry (count_for ledger.tables ent
 answers_to ledger (MakeEdge edge) = AnEdge edge ∷ []
 answers_to ledger (MakeJumpTable default entries) = AJumpTable (length ledger.jump_tables) ∷ []
 answers_to ledger (MakeExceptionTable signature normal items) = AnExceptionTable (length ledger.exception_tables) ∷ []
-answers_to ledger (Annotate values) = []
+answers_to ledger (Annotate inside values) = []
+answers_to ledger (NeedStackMap need) = []
 answers_to ledger (Build entries instruction) = AnInstruction ∷ map AValue (result_types instruction.operation instruction.controlling)
 answers_to ledger (ChangeJumpDestination branch from to) = []
 answers_to ledger Finalize = []
@@ -367,7 +379,8 @@ changed_by ledger (MakeJumpTable default entries) =
     record ledger { jump_tables = ledger.jump_tables ++ Some (edges_named ledger (default ∷ entries)) ∷ [] }
 changed_by ledger (MakeExceptionTable signature normal items) =
     record ledger { exception_tables = ledger.exception_tables ++ Some (exception_table ledger signature normal items) ∷ [] }
-changed_by ledger (Annotate values) = ledger
+changed_by ledger (Annotate inside values) = ledger
+changed_by ledger (NeedStackMap need) = record ledger { variables = with_need need ledger.variables }
 changed_by ledger (Build entries instruction) =
     record (with_instruction ledger instruction) {
       jump_tables = with_served ledger.jump_tables entries;

@@ -7,7 +7,7 @@ use Rattle.clif_opcodes.specs.Kinds.{result_type}
 use Rattle.clif_tables.specs.Callees.{types_of}
 use Rattle.clif_meaning.specs.Instruction.{Edge, Operation, operation_returns, operation_typing, Instruction}
 use Rattle.clif_meaning.specs.Name.{Name, answer_of, same_name}
-use Rattle.clif_meaning.specs.Request.{Request, CreateBlock, SwitchToBlock, SealBlock, SealAllBlocks, InsertBlockAfter, SetColdBlock, EnsureInsertedBlock, AppendBlockParams, AppendFunctionParams, DeclareVar, DefVar, UseVar, MakeEntry, MakeEdge, MakeJumpTable, MakeExceptionTable, Annotate, Build, ChangeJumpDestination, Finalize, Script}
+use Rattle.clif_meaning.specs.Request.{Request, CreateBlock, SwitchToBlock, SealBlock, SealAllBlocks, InsertBlockAfter, SetColdBlock, EnsureInsertedBlock, AppendBlockParams, AppendFunctionParams, DeclareVar, DefVar, UseVar, MakeEntry, MakeEdge, MakeJumpTable, MakeExceptionTable, Annotate, NeedStackMap, Build, ChangeJumpDestination, Finalize, Script}
 
 -- the types of an instruction's results, at the controlling type: by its row of the typing table, and those of what a plain
 -- call gives
@@ -105,7 +105,8 @@ extended program (MakeEntry entry) = program
 extended program (MakeEdge edge) = program
 extended program (MakeJumpTable default entries) = program
 extended program (MakeExceptionTable signature normal items) = program
-extended program (Annotate values) = program
+extended program (Annotate inside values) = program
+extended program (NeedStackMap need) = program
 extended program (Build entries instruction) =
     with_item (with_inserted program) (Instruct program.place instruction (result_names program.place instruction))
 extended program (ChangeJumpDestination branch from to) = with_redirected program branch from to

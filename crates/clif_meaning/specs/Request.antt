@@ -22,6 +22,11 @@ pub data TableItem : Type 0 where
   DefaultTo : (edge : Name) → TableItem
   InContext : (value : Name) → TableItem
 
+-- What stack maps are asked to name, by which a moving collector finds what it moves: each value that a variable gets, or one value.
+pub data StackMapNeed : Type 0 where
+  OfVariable : (variable : ℕ) → StackMapNeed
+  OfValue : (value : Name) → StackMapNeed
+
 pub data Request : Type 0 where
   CreateBlock : Request
   SwitchToBlock : (block : Name) → Request
@@ -47,8 +52,11 @@ pub data Request : Type 0 where
   -- an exception table of a signature that is known by its number, and of edges that were made: the one along which a call
   -- returns, and those of the items. It is known by its number among the exception tables.
   MakeExceptionTable : (signature : ℕ) (normal : Name) (items : List TableItem) → Request
-  -- a note on these values, or on none, for a debugger: a place in the source, or a label. The function means the same with it.
-  Annotate : (values : List Name) → Request
+  -- A note on these values, or on none: a place in the source or a label for a debugger, or, inside a block, a copy of no bytes. The
+  -- function means the same with it.
+  Annotate : (inside : Bool) (values : List Name) → Request
+  -- stack maps name this where it is live across a call: it is tracked
+  NeedStackMap : StackMapNeed → Request
   -- an instruction at the end of the current block, with the entries that it is given. It answers its number, and then its
   -- results.
   Build : (entries : List GivenEntry) → Instruction Name Name → Request

@@ -1,7 +1,7 @@
 -- Worked examples of ledgers, names and paths.
 use Rattle.std.specs.Prelude.{◌≡◌, ℕ, zero, suc, true, false, List, [], ◌∷◌, Some, None, pos}
 use Rattle.clif_meaning.specs.Name.{answer_of}
-use Rattle.clif_meaning.specs.Request.{Annotate, CreateBlock, SwitchToBlock, DeclareVar, UseVar, AnsweredCall, number_of}
+use Rattle.clif_meaning.specs.Request.{Annotate, CreateBlock, SwitchToBlock, DeclareVar, UseVar, AnsweredCall, number_of, NeedStackMap, OfVariable, OfValue, Script}
 use Rattle.clif_meaning.specs.Program.{program_of}
 use Rattle.clif_meaning.specs.Ledger.{ledger_after, type_of, is_filled, is_sealed, is_pristine, is_inserted, variable_type}
 use Rattle.clif_meaning.specs.Acceptance.{allows, iconst}
@@ -22,6 +22,15 @@ answered_calls =
     ∷ record { request = UseVar 0; numbers = 0 ∷ [] }
     ∷ record { request = iconst i32 (pos 7); numbers = 0 ∷ 1 ∷ [] } ∷ []
 
+-- a variable, and then stack maps that are asked for it; a use of it, and a constant that stack maps are asked for
+abbrev pub declared_calls : Script
+declared_calls = CreateBlock ∷ SwitchToBlock block0 ∷ DeclareVar i32 ∷ []
+
+abbrev pub marked_calls : Script
+marked_calls =
+    CreateBlock ∷ SwitchToBlock block0 ∷ DeclareVar i32 ∷ NeedStackMap (OfVariable 0) ∷ UseVar 0 ∷ iconst i32 (pos 7)
+    ∷ NeedStackMap (OfValue (answer_of 5 1)) ∷ []
+
 -- What the ledger of the row `first` tells, on the way and at its end.
 pub record LedgerExamples : Type 0 where
   pub used : type_of (ledger_after first_script) (answer_of 3 0) ≡ Some i32
@@ -40,9 +49,20 @@ pub record LedgerExamples : Type 0 where
   pub entry : (program_of first_script).entry ≡ Some block0
   pub no_entry : (program_of (CreateBlock ∷ SwitchToBlock block0 ∷ [])).entry ≡ None
   pub untracked : tracked_names first_script ≡ []
-  -- a note on a value may be made, and one on a block may not
-  pub noted : allows (ledger_after first_calls) (Annotate (answer_of 3 0 ∷ [])) ≡ true
-  pub unnoted : allows (ledger_after first_calls) (Annotate (block0 ∷ [])) ≡ false
+  -- a note on a value may be made, and one on a block may not; one inside a block asks for a current one
+  pub noted : allows (ledger_after first_calls) (Annotate false (answer_of 3 0 ∷ [])) ≡ true
+  pub unnoted : allows (ledger_after first_calls) (Annotate false (block0 ∷ [])) ≡ false
+  pub inside : allows (ledger_after first_calls) (Annotate true []) ≡ true
+  pub outside : allows (ledger_after []) (Annotate true []) ≡ false
+  pub anywhere : allows (ledger_after []) (Annotate false []) ≡ true
+  -- A variable is marked before it is used, where it was declared. What a use of it answers is tracked, and so is a value that was
+  -- declared; a block is no value.
+  pub marked : allows (ledger_after declared_calls) (NeedStackMap (OfVariable 0)) ≡ true
+  pub marked_late : allows (ledger_after first_calls) (NeedStackMap (OfVariable 0)) ≡ false
+  pub marked_nothing : allows (ledger_after declared_calls) (NeedStackMap (OfVariable 1)) ≡ false
+  pub asked : allows (ledger_after first_calls) (NeedStackMap (OfValue (answer_of 4 1))) ≡ true
+  pub asked_block : allows (ledger_after first_calls) (NeedStackMap (OfValue block0)) ≡ false
+  pub tracked : tracked_names marked_calls ≡ answer_of 4 0 ∷ answer_of 5 1 ∷ []
   -- the constant is value 1, and instruction 0
   pub constant : number_of answered_calls (answer_of 4 1) ≡ Some 1
   pub instruction : number_of answered_calls (answer_of 4 0) ≡ Some 0

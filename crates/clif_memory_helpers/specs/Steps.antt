@@ -1,5 +1,5 @@
 -- What the steps of memory helpers make of a builder. Own.
-use Rattle.std.specs.Prelude.{◌≡◌, ◌<◌, ◌≤◌, ℕ, ℤ, pos, suc, List, [], ◌∷◌, ◌++◌, drop, length, map, replicate, take, Result, IfOk, IsTrue}
+use Rattle.std.specs.Prelude.{◌≡◌, ◌<◌, ◌≤◌, ◌&&◌, nat_le, ℕ, ℤ, pos, suc, List, [], ◌∷◌, ◌++◌, drop, length, map, replicate, take, Result, IfOk, IsTrue}
 use Rattle.std.specs.List.{AllByRecursion}
 use Rattle.clif_types.specs.MemFlags.{MemFlagsShape}
 use Rattle.clif_types.specs.Signature.{SignatureShape}
@@ -25,13 +25,18 @@ use Rattle.clif_meaning.specs.Request.{Build, Imported, Request, Script}
 use Rattle.clif_expansion.specs.Constants.{computing}
 use Rattle.clif_expansion.specs.Emission.{building, importing}
 use Rattle.clif_builder.specs.declared.builder.FunctionBuilder.{FunctionBuilder}
-use Rattle.clif_helper_calls.specs.Codes.{doing}
+use Rattle.clif_helper_calls.specs.Codes.{doing, flags_where}
 use Rattle.clif_helper_calls.specs.FillStanding.{fill_first, fill_last, set_first, set_last}
 use Rattle.clif_helper_calls.specs.KnownStanding.{compare_first}
-use Rattle.clif_helper_calls.specs.LibraryCodes.{calling, i32}
+use Rattle.clif_helper_calls.specs.LibraryCodes.{calling, i8, i32}
 use Rattle.clif_helper_calls.specs.PieceStanding.{load_instructions, piece_names, store_instructions}
+use Rattle.clif_memory_helpers.specs.declared.accesses.Side.{Side}
 use Rattle.clif_memory_helpers.specs.Helpers.{behind_imports, by_call, library_entries, library_signature, size_constant}
-use Rattle.clif_memory_helpers.specs.Lines.{HasType, Makes, Requests, Results, no_results, no_values, nth, one_value}
+use Rattle.clif_memory_helpers.specs.Lines.{HasType, Makes, Requests, Results, last_result, no_results, no_values, nth, one_value}
+
+-- calls in a line, which answer nothing
+abbrev pub MakesLine : List ℕ → Requests → FunctionBuilder → FunctionBuilder → Result (Unit {0}) BuildError → Type 0
+MakesLine operands made old new answer = Makes operands made no_results no_values old new answer
 
 -- LOADS AND STORES --------------------------------------------------------------------------------------------------------
 
@@ -49,6 +54,9 @@ loads accesses flags count place names = map building (load_instructions flags a
 abbrev pub stores : Accesses → MemFlagsShape → (count : ℕ) → Requests
 stores accesses flags count place names = map building (store_instructions flags accesses.ty accesses.bytes (nth names 0) 0 (take count (drop 1 names)))
 
+abbrev pub StoresPieces : Accesses → MemFlagsShape → (target : ℕ) → List ℕ → FunctionBuilder → FunctionBuilder → Result (Unit {0}) BuildError → Type 0
+StoresPieces accesses flags target values old new answer = MakesLine (target ∷ values) (stores accesses flags accesses.count) old new answer
+
 abbrev pub AllTyped : FunctionBuilder → «Type» → List ℕ → Type 0
 AllTyped b ty values = AllByRecursion (λ value. HasType b value ty) values
 
@@ -63,6 +71,13 @@ abbrev pub copied : Accesses → MemFlagsShape → Requests
 copied accesses flags place names =
     map building (load_instructions flags accesses.ty accesses.bytes (nth names 1) 0 accesses.count
     ++ store_instructions flags accesses.ty accesses.bytes (nth names 0) 0 (piece_names place accesses.count))
+
+abbrev pub CopiesPieces : Accesses → MemFlagsShape → (target source : ℕ) → FunctionBuilder → FunctionBuilder → Result (Unit {0}) BuildError → Type 0
+CopiesPieces accesses flags target source old new answer = MakesLine (target ∷ source ∷ []) (copied accesses flags) old new answer
+
+-- the flags of a copy's accesses, which are aligned where both addresses are
+abbrev pub copy_flags : MemFlagsShape → Accesses → (target_alignment source_alignment : ℕ) → MemFlagsShape
+copy_flags flags accesses target source = flags_where flags (nat_le accesses.bytes target && nat_le accesses.bytes source)
 
 -- a fill with a constant
 abbrev pub filled : Accesses → MemFlagsShape → ℤ → Requests
@@ -85,10 +100,23 @@ compared condition ty left right place names =
 abbrev pub third_result : Results
 third_result place names = answer_of (suc (suc place)) 1 ∷ []
 
+-- and of the first
+abbrev pub first_result : Results
+first_result place names = answer_of place 1 ∷ []
+
 -- A value of this type is made.
 pub record MakesTyped (ty : «Type») (operands : List ℕ) (requests : Requests) (results : Results) (old new : FunctionBuilder) (answer : Result ℕ BuildError) : Type 0 where
   pub typed : IfOk answer (λ value. HasType new value ty)
   pub made : Makes operands requests results one_value old new answer
+
+-- the result of the last call
+abbrev pub MakesLast : «Type» → List ℕ → Requests → FunctionBuilder → FunctionBuilder → Result ℕ BuildError → Type 0
+MakesLast ty operands made old new answer = MakesTyped ty operands made (last_result made) old new answer
+
+-- what is loaded on both sides is compared
+abbrev pub ComparesLoads : IntCC → «Type» → (left right : Side) → FunctionBuilder → FunctionBuilder → Result ℕ BuildError → Type 0
+ComparesLoads condition ty left right old new answer =
+    MakesTyped i8 (left.address ∷ right.address ∷ []) (compared condition ty left.flags right.flags) third_result old new answer
 
 -- THE C LIBRARY -----------------------------------------------------------------------------------------------------------
 
@@ -122,6 +150,14 @@ call_request tables function names =
 abbrev pub calls_function : TableLists → (function : ℕ) → Requests
 calls_function tables function place names = call_request tables function names ∷ []
 
+-- a call of a function that the builder knows
+abbrev pub CallsFunction : (function : ℕ) → List ℕ → FunctionBuilder → FunctionBuilder → Result (Unit {0}) BuildError → Type 0
+CallsFunction function values old new answer = MakesLine values (calls_function old.func.now.tables function) old new answer
+
+-- for its one result
+abbrev pub CallsForNumber : (function : ℕ) → List ℕ → FunctionBuilder → FunctionBuilder → Result ℕ BuildError → Type 0
+CallsForNumber function values old new answer = MakesTyped i32 values (calls_function old.func.now.tables function) first_result old new answer
+
 -- it gives one I32
 abbrev pub GivesNumber : TableLists → (function : ℕ) → Type 0
 GivesNumber tables function = types_of (signature_at tables (function_at tables function).signature).returns ≡ i32 ∷ []
@@ -151,3 +187,23 @@ compares_known config condition size tables place names =
     by_call config Memcmp tables
     (compare_first (library_signature config Memcmp) (pointer_type_of config.pointer_width) (size_constant size) (behind_imports place) (nth names 0) (nth names 1))
     (computing (Compare condition) i32 (answer_of (suc (behind_imports place)) 1 ∷ answer_of (suc (suc (behind_imports place))) 1 ∷ []))
+
+-- WHAT EACH STEP MAKES ----------------------------------------------------------------------------------------------------
+
+abbrev pub CopiesSized : TargetFrontendConfig → LibCall → List ℕ → FunctionBuilder → FunctionBuilder → Result (Unit {0}) BuildError → Type 0
+CopiesSized config callee operands old new answer = MakesLine operands (copies_sized config callee old.func.now.tables) old new answer
+
+abbrev pub CopiesKnown : TargetFrontendConfig → LibCall → (size : ℕ) → List ℕ → FunctionBuilder → FunctionBuilder → Result (Unit {0}) BuildError → Type 0
+CopiesKnown config callee size operands old new answer = MakesLine operands (copies_known config callee size old.func.now.tables) old new answer
+
+abbrev pub FillsSized : TargetFrontendConfig → List ℕ → FunctionBuilder → FunctionBuilder → Result (Unit {0}) BuildError → Type 0
+FillsSized config operands old new answer = MakesLine operands (fills_sized config old.func.now.tables) old new answer
+
+abbrev pub FillsKnown : TargetFrontendConfig → (byte size : ℕ) → List ℕ → FunctionBuilder → FunctionBuilder → Result (Unit {0}) BuildError → Type 0
+FillsKnown config byte size operands old new answer = MakesLine operands (fills_known config byte size old.func.now.tables) old new answer
+
+abbrev pub ComparesSized : TargetFrontendConfig → List ℕ → FunctionBuilder → FunctionBuilder → Result ℕ BuildError → Type 0
+ComparesSized config operands old new answer = MakesLast i32 operands (copies_sized config Memcmp old.func.now.tables) old new answer
+
+abbrev pub ComparesKnown : TargetFrontendConfig → IntCC → (size : ℕ) → List ℕ → FunctionBuilder → FunctionBuilder → Result ℕ BuildError → Type 0
+ComparesKnown config condition size operands old new answer = MakesLast i8 operands (compares_known config condition size old.func.now.tables) old new answer

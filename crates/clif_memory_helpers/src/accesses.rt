@@ -1,13 +1,11 @@
 //! Copies, fills and comparisons by loads and stores.
 #![tactic(auto)]
 
-ghost use Rattle.std.specs.Prelude.{◌≡◌, ◌<◌, ◌*◌, ◌&&◌, [], ◌∷◌, false, length, nat_le, IsTrue, pos};
+ghost use Rattle.std.specs.Prelude.{◌≡◌, ◌<◌, ◌*◌, false, length, IsTrue, pos};
 ghost use Rattle.clif_types.specs.Types.{is_type};
 ghost use Rattle.clif_builder.specs.Builder.{HasCurrent};
 ghost use Rattle.clif_helper_calls.specs.Codes.{flags_where};
-ghost use Rattle.clif_helper_calls.specs.LibraryCodes.{i8};
-ghost use Rattle.clif_memory_helpers.specs.Lines.{Makes, no_results, no_values};
-ghost use Rattle.clif_memory_helpers.specs.Steps.{AllTyped, ArePlanned, FillsPieces, LoadsPieces, MakesTyped, compared, copied, stores, third_result};
+ghost use Rattle.clif_memory_helpers.specs.Steps.{AllTyped, ArePlanned, ComparesLoads, CopiesPieces, FillsPieces, LoadsPieces, StoresPieces, copy_flags};
 
 use clif_access_plans::{Accesses, repeated_byte};
 use clif_builder::laws::{ledger_is_read_by_number, requests_ask_for_their_shapes};
@@ -37,7 +35,7 @@ pub(crate) fn copy_pieces(
     requires target_exists { target < length bx.old.func.now.values }
     requires source_exists { source < length bx.old.func.now.values }
     requires sound { bx.old.failed ≡ false }
-    ensures { Makes (target ∷ source ∷ []) (copied accesses flags) no_results no_values bx.old bx.new result }
+    ensures { CopiesPieces accesses flags target source bx.old bx.new result }
 {
     ledger_is_read_by_number();
     let loaded = load_pieces(bx, accesses, flags, source)?;
@@ -112,7 +110,7 @@ fn store_pieces(
     requires target_exists { target < length bx.old.func.now.values }
     requires typed { AllTyped bx.old accesses.ty values.now }
     requires sound { bx.old.failed ≡ false }
-    ensures { Makes (target ∷ values.now) (stores accesses flags accesses.count) no_results no_values bx.old bx.new result }
+    ensures { StoresPieces accesses flags target values.now bx.old bx.new result }
 {
     ledger_is_read_by_number();
     requests_ask_for_their_shapes();
@@ -142,7 +140,7 @@ pub(crate) fn compare_loads(
     requires valid { IsTrue (is_type ty) }
     requires left_exists { left.address < length bx.old.func.now.values }
     requires right_exists { right.address < length bx.old.func.now.values }
-    ensures { MakesTyped i8 (left.address ∷ right.address ∷ []) (compared cond ty left.flags right.flags) third_result bx.old bx.new result }
+    ensures { ComparesLoads cond ty left right bx.old bx.new result }
 {
     ledger_is_read_by_number();
     requests_ask_for_their_shapes();
@@ -158,7 +156,7 @@ pub(crate) fn copy_flags(
     dest_align: u8,
     src_align: u8,
 ) -> MemFlagsData
-    ensures { result ≡ flags_where flags (nat_le accesses.bytes dest_align && nat_le accesses.bytes src_align) }
+    ensures { result ≡ copy_flags flags accesses dest_align src_align }
 {
     flags_where(
         flags,

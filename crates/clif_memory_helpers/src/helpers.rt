@@ -55,7 +55,8 @@ pub trait MemoryHelpers {
         size: Value,
     ) -> Result<(), BuildError>
         requires { may_help self.old config (CallLibrary Memcpy) (dest ∷ src ∷ size ∷ []) }
-        ensures { helps config (CallLibrary Memcpy) (dest ∷ src ∷ size ∷ []) self.old self.new result };
+        ensures { helps config (CallLibrary Memcpy)
+            (dest ∷ src ∷ size ∷ []) self.old self.new result };
 
     /// Calls `Memmove`, which copies `size` bytes from `src` to `dest`. They may overlap: all is read before anything is written.
     fn call_memmove(
@@ -66,7 +67,8 @@ pub trait MemoryHelpers {
         size: Value,
     ) -> Result<(), BuildError>
         requires { may_help self.old config (CallLibrary Memmove) (dest ∷ src ∷ size ∷ []) }
-        ensures { helps config (CallLibrary Memmove) (dest ∷ src ∷ size ∷ []) self.old self.new result };
+        ensures { helps config (CallLibrary Memmove)
+            (dest ∷ src ∷ size ∷ []) self.old self.new result };
 
     /// Calls `Memset`, which writes `ch`, an I8, to `size` bytes from `buffer` on. `ch` is widened first.
     fn call_memset(
@@ -77,7 +79,8 @@ pub trait MemoryHelpers {
         size: Value,
     ) -> Result<(), BuildError>
         requires { may_help self.old config (CallLibrary Memset) (buffer ∷ ch ∷ size ∷ []) }
-        ensures { helps config (CallLibrary Memset) (buffer ∷ ch ∷ size ∷ []) self.old self.new result };
+        ensures { helps config (CallLibrary Memset)
+            (buffer ∷ ch ∷ size ∷ []) self.old self.new result };
 
     /// Calls `Memcmp`, which compares `size` bytes from `left` on with as many from `right` on. Returns an I32, which is 0 where they
     /// are the same, and else has the sign of the difference of the first two that differ, as unsigned numbers.
@@ -89,7 +92,8 @@ pub trait MemoryHelpers {
         size: Value,
     ) -> Result<Value, BuildError>
         requires { may_help self.old config (CallLibrary Memcmp) (left ∷ right ∷ size ∷ []) }
-        ensures { answers config (CallLibrary Memcmp) (left ∷ right ∷ size ∷ []) self.old self.new result };
+        ensures { answers config (CallLibrary Memcmp)
+            (left ∷ right ∷ size ∷ []) self.old self.new result };
 
     /// Copies `size` bytes from `src` to `dest`: by at most four loads and then as many stores, each of the greatest power of two that
     /// divides the size, at most 8; else by a call of `Memcpy` or, unless `non_overlapping` says that the bytes don't overlap, of
@@ -108,8 +112,10 @@ pub trait MemoryHelpers {
         non_overlapping: bool,
         flags: MemFlagsData,
     ) -> Result<(), BuildError>
-        requires { may_help self.old config (copying size dest_align src_align non_overlapping flags) (dest ∷ src ∷ []) }
-        ensures { helps config (copying size dest_align src_align non_overlapping flags) (dest ∷ src ∷ []) self.old self.new result };
+        requires { may_help self.old config (copying size dest_align src_align non_overlapping flags)
+            (dest ∷ src ∷ []) }
+        ensures { helps config (copying size dest_align src_align non_overlapping flags)
+            (dest ∷ src ∷ []) self.old self.new result };
 
     /// Writes the byte `ch` to `size` bytes from `buffer` on: by one constant and at most four stores of it, each of the greatest power
     /// of two that divides the size, at most 8; else by a call of `Memset`. Of no bytes nothing is appended.
@@ -125,8 +131,10 @@ pub trait MemoryHelpers {
         buffer_align: u8,
         flags: MemFlagsData,
     ) -> Result<(), BuildError>
-        requires { may_help self.old config (filling_with ch size buffer_align flags) (buffer ∷ []) }
-        ensures { helps config (filling_with ch size buffer_align flags) (buffer ∷ []) self.old self.new result };
+        requires { may_help self.old config (filling_with ch size buffer_align flags)
+            (buffer ∷ []) }
+        ensures { helps config (filling_with ch size buffer_align flags)
+            (buffer ∷ []) self.old self.new result };
 
     /// Compares `size` bytes from `left` on with as many from `right` on, the first two that differ as unsigned numbers. Returns an I8,
     /// which is 1 if the condition holds, and else 0: for equality by a load of each side where an integer has as many bytes, for the
@@ -145,8 +153,10 @@ pub trait MemoryHelpers {
         right_align: NonZeroU8,
         flags: MemFlagsData,
     ) -> Result<Value, BuildError>
-        requires { may_help self.old config (comparing int_cc size (non_zero_u8_get left_align) (non_zero_u8_get right_align) flags) (left ∷ right ∷ []) }
-        ensures { answers config (comparing int_cc size (non_zero_u8_get left_align) (non_zero_u8_get right_align) flags) (left ∷ right ∷ []) self.old self.new result };
+        requires { may_help self.old config (comparing int_cc size (non_zero_u8_get left_align) (non_zero_u8_get right_align) flags)
+            (left ∷ right ∷ []) }
+        ensures { answers config (comparing int_cc size (non_zero_u8_get left_align) (non_zero_u8_get right_align) flags)
+            (left ∷ right ∷ []) self.old self.new result };
 }
 
 impl<'a> MemoryHelpers for FunctionBuilder<'a> {

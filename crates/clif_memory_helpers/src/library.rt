@@ -2,13 +2,10 @@
 #![tactic(auto)]
 
 ghost use Rattle.std.specs.Prelude.{◌≡◌, ◌<◌, [], ◌∷◌, length, All, IfOk};
-ghost use Rattle.clif_types.specs.declared.libcall.LibCall.TheVariants.{Memcmp};
-ghost use Rattle.clif_meaning.specs.Name.{answer_of};
 ghost use Rattle.clif_builder.specs.Builder.{HasCurrent};
-ghost use Rattle.clif_helper_calls.specs.LibraryCodes.{copying_function, i8, i32};
+ghost use Rattle.clif_helper_calls.specs.LibraryCodes.{copying_function};
 ghost use Rattle.clif_memory_helpers.specs.Helpers.{library_signature};
-ghost use Rattle.clif_memory_helpers.specs.Lines.{Makes, last_result, no_results, no_values};
-ghost use Rattle.clif_memory_helpers.specs.Steps.{GivesNumber, ImportsFunction, MakesTyped, calls_function, compares_known, copies_known, copies_sized, fills_known, fills_sized};
+ghost use Rattle.clif_memory_helpers.specs.Steps.{CallsForNumber, CallsFunction, ComparesKnown, ComparesSized, CopiesKnown, CopiesSized, FillsKnown, FillsSized, GivesNumber, ImportsFunction};
 
 use clif_builder::laws::{ledger_is_read_by_number, requests_ask_for_their_shapes};
 use clif_builder::{FunctionBuilder, InstBuilder, InstBuilderBase};
@@ -87,7 +84,7 @@ pub(crate) fn copy_by_call(
     requires target_exists { target < length bx.old.func.now.values }
     requires source_exists { source < length bx.old.func.now.values }
     requires size_exists { size < length bx.old.func.now.values }
-    ensures { Makes (target ∷ source ∷ size ∷ []) (copies_sized config callee bx.old.func.now.tables) no_results no_values bx.old bx.new result }
+    ensures { CopiesSized config callee (target ∷ source ∷ size ∷ []) bx.old bx.new result }
 {
     ledger_is_read_by_number();
     requests_ask_for_their_shapes();
@@ -107,7 +104,7 @@ pub(crate) fn copy_known_by_call(
     requires current { HasCurrent bx.old }
     requires target_exists { target < length bx.old.func.now.values }
     requires source_exists { source < length bx.old.func.now.values }
-    ensures { Makes (target ∷ source ∷ []) (copies_known config callee size bx.old.func.now.tables) no_results no_values bx.old bx.new result }
+    ensures { CopiesKnown config callee size (target ∷ source ∷ []) bx.old bx.new result }
 {
     ledger_is_read_by_number();
     requests_ask_for_their_shapes();
@@ -128,7 +125,7 @@ pub(crate) fn fill_by_call(
     requires target_exists { target < length bx.old.func.now.values }
     requires byte_exists { byte < length bx.old.func.now.values }
     requires size_exists { size < length bx.old.func.now.values }
-    ensures { Makes (target ∷ byte ∷ size ∷ []) (fills_sized config bx.old.func.now.tables) no_results no_values bx.old bx.new result }
+    ensures { FillsSized config (target ∷ byte ∷ size ∷ []) bx.old bx.new result }
 {
     ledger_is_read_by_number();
     requests_ask_for_their_shapes();
@@ -147,7 +144,7 @@ pub(crate) fn fill_known_by_call(
 ) -> Result<(), BuildError>
     requires current { HasCurrent bx.old }
     requires target_exists { target < length bx.old.func.now.values }
-    ensures { Makes (target ∷ []) (fills_known config byte size bx.old.func.now.tables) no_results no_values bx.old bx.new result }
+    ensures { FillsKnown config byte size (target ∷ []) bx.old bx.new result }
 {
     ledger_is_read_by_number();
     requests_ask_for_their_shapes();
@@ -170,7 +167,7 @@ pub(crate) fn compare_by_call(
     requires left_exists { left < length bx.old.func.now.values }
     requires right_exists { right < length bx.old.func.now.values }
     requires size_exists { size < length bx.old.func.now.values }
-    ensures { MakesTyped i32 (left ∷ right ∷ size ∷ []) (copies_sized config Memcmp bx.old.func.now.tables) (last_result (copies_sized config Memcmp bx.old.func.now.tables)) bx.old bx.new result }
+    ensures { ComparesSized config (left ∷ right ∷ size ∷ []) bx.old bx.new result }
 {
     ledger_is_read_by_number();
     requests_ask_for_their_shapes();
@@ -190,7 +187,7 @@ pub(crate) fn compare_known_by_call(
     requires current { HasCurrent bx.old }
     requires left_exists { left < length bx.old.func.now.values }
     requires right_exists { right < length bx.old.func.now.values }
-    ensures { MakesTyped i8 (left ∷ right ∷ []) (compares_known config cond size bx.old.func.now.tables) (last_result (compares_known config cond size bx.old.func.now.tables)) bx.old bx.new result }
+    ensures { ComparesKnown config cond size (left ∷ right ∷ []) bx.old bx.new result }
 {
     ledger_is_read_by_number();
     requests_ask_for_their_shapes();
@@ -210,7 +207,7 @@ fn call_library(
     requires current { HasCurrent bx.old }
     requires function_exists { function < length bx.old.func.now.tables.functions }
     requires args_exist { All (λ value. value < length bx.old.func.now.values) args.now }
-    ensures { Makes args.now (calls_function bx.old.func.now.tables function) no_results no_values bx.old bx.new result }
+    ensures { CallsFunction function args.now bx.old bx.new result }
 {
     ledger_is_read_by_number();
     requests_ask_for_their_shapes();
@@ -228,7 +225,7 @@ fn call_for_number(
     requires function_exists { function < length bx.old.func.now.tables.functions }
     requires args_exist { All (λ value. value < length bx.old.func.now.values) args.now }
     requires gives { GivesNumber bx.old.func.now.tables function }
-    ensures { MakesTyped i32 args.now (calls_function bx.old.func.now.tables function) (λ place names. answer_of place 1 ∷ []) bx.old bx.new result }
+    ensures { CallsForNumber function args.now bx.old bx.new result }
 {
     ledger_is_read_by_number();
     requests_ask_for_their_shapes();

@@ -31,6 +31,12 @@ pub enum Fault {
     Overlap,
     /// A function of the C library is called by another signature than its own.
     LibrarySignature,
+    /// A memory helper of a known size touches a byte that isn't accessible.
+    HelperBytes,
+    /// Bytes overlap, and a memory helper says that they don't.
+    HelperOverlap,
+    /// An address doesn't have the alignment that a memory helper says, or that is no power of two.
+    HelperAlignment,
 }
 
 impl Fault {
@@ -52,6 +58,11 @@ impl Fault {
             Fault::Overlap => "Memcpy copies between bytes that overlap",
             Fault::LibrarySignature => {
                 "a function of the C library is called by another signature than its own"
+            }
+            Fault::HelperBytes => "a memory helper touches a byte that isn't accessible",
+            Fault::HelperOverlap => "bytes overlap, and a memory helper says that they don't",
+            Fault::HelperAlignment => {
+                "an address doesn't have the alignment that a memory helper says"
             }
             _ => "the instruction doesn't give its results",
         }

@@ -4,6 +4,7 @@
 #![tactic(auto)]
 
 pub mod arithmetic;
+pub mod bytes;
 pub mod fault;
 pub mod library;
 pub mod memory;
@@ -11,8 +12,9 @@ pub mod operation;
 pub mod switch;
 pub mod with_constant;
 
+pub use bytes::{ByteOperation, Promise};
 pub use fault::Fault;
-pub use library::{LibraryCall, is_library_signature, library_result};
+pub use library::{LibraryCall, is_library_signature, library_result, library_signature};
 pub use memory::{Memory, Slots};
 pub use operation::{Operation, Outcome, Store, Typed, bits_of, carry_out, kept};
 pub use switch::SwitchMap;

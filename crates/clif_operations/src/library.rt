@@ -2,8 +2,8 @@
 use crate::arithmetic::greatest;
 use crate::fault::Fault;
 use crate::memory::Memory;
-use clif_types::{LibCall, PointerWidth, Signature, Type, types};
-use std::alloc::Global;
+use clif_types::{AbiParam, CallConv, LibCall, PointerWidth, Signature, Type, types};
+use std::alloc::{AllocError, Global};
 use std::cmp::Ordering;
 
 /// A call of a function of the C library, by its three arguments: two addresses and how many bytes there are from each,
@@ -39,18 +39,23 @@ pub fn library_result(callee: LibCall, pointer_width: PointerWidth) -> Type {
     }
 }
 
+// The types of what a function takes.
+fn library_parameters(callee: LibCall, pointer_width: PointerWidth) -> [Type; 3] {
+    let pointer = pointer_type(pointer_width);
+    let second = match callee {
+        LibCall::Memset => types::I32,
+        LibCall::Memcpy | LibCall::Memmove | LibCall::Memcmp => pointer,
+    };
+    [pointer, second, pointer]
+}
+
 /// Whether a signature is the function's, by its types.
 pub fn is_library_signature(
     callee: LibCall,
     pointer_width: PointerWidth,
     signature: &Signature,
 ) -> bool {
-    let pointer = pointer_type(pointer_width);
-    let second = match callee {
-        LibCall::Memset => types::I32,
-        LibCall::Memcpy | LibCall::Memmove | LibCall::Memcmp => pointer,
-    };
-    let takes = [pointer, second, pointer];
+    let takes = library_parameters(callee, pointer_width);
     let params = signature.params.as_slice();
     let returns = signature.returns.as_slice();
     params.len() == 3
@@ -60,6 +65,26 @@ pub fn is_library_signature(
             .zip(takes.iter())
             .all(|(param, ty)| param.value_type == *ty)
         && returns.iter().all(|given| given.value_type == library_result(callee, pointer_width))
+}
+
+/// The signature of a function, with this convention.
+pub fn library_signature(
+    alloc: Global,
+    callee: LibCall,
+    pointer_width: PointerWidth,
+    call_conv: CallConv,
+) -> Result<Signature, AllocError> {
+    let mut params = Vec::new(alloc);
+    for ty in library_parameters(callee, pointer_width).iter() {
+        params.push(AbiParam::new(*ty))?;
+    }
+    let mut returns = Vec::new(alloc);
+    returns.push(AbiParam::new(library_result(callee, pointer_width)))?;
+    Ok(Signature {
+        params,
+        returns,
+        call_conv,
+    })
 }
 
 impl LibraryCall {

@@ -3,12 +3,12 @@ use Rattle.std.proofs.Common.{◌≡◌, ◌≢◌, ℕ, true, [], ◌∷◌, �
 use Rattle.clif_paths.specs.Places.{Place, start, Arm, Edges, Path, end_of, Follows, Visits, VisitsBefore, Dominates, StrictlyBefore}
 use Rattle.clif_paths.specs.State.{Program, Kind, unborn, born, pending, complete, zero_of, Function, State, home_of}
 use Rattle.clif_paths.specs.Denotation.{zero, variable, instances, defined, denotes}
-use Rattle.clif_paths.specs.Sound.{Allowed, ArgumentsThere, SoundUnder, Sound}
+use Rattle.clif_paths.specs.Sound.{Allowed, ArgumentsThere, ParametersTake, SoundUnder, Sound}
 use Rattle.clif_paths.specs.Steps.{aliased, Incoming, with_alias, CanDrop, CanUndefine}
 use Rattle.clif_paths.proofs.Tables.{aliased_cases}
 use Rattle.clif_paths.proofs.PathLemmas.{dec_place, unvisited}
 use Rattle.clif_paths.proofs.Executing.{denotes-here, denotes-past}
-use Rattle.clif_paths.specs.Laws.{ChangesOnlyAt, AgreeAtVisits}
+use Rattle.clif_paths.specs.Laws.{ChangesOnlyAt, AgreeAtVisits, entered}
 use Rattle.clif_paths.proofs.Keep.{keep}
 use Rattle.clif_paths.proofs.Refine.{Rooted, rooted_allowed, never_at_start, dominator_written, SameAt, same_at, Refines, holds_refined}
 use Rattle.clif_paths.proofs.Born.{dominates_itself}
@@ -64,7 +64,7 @@ alias_by_kind :
 alias_by_kind program function v target stands there u arm path f at before unborn k = refl
 alias_by_kind program function v target stands there u arm path f at before (born n) k = refl
 alias_by_kind program function v target stands there u arm path f at before (pending x) k = refl
-alias_by_kind {edges} program function v target stands there u arm path f at before complete k =
+alias_by_kind {edges} program function v target stands there u arm path f at before (complete x) k =
     let a : ℕ = function.argument (function.resolve u) arm in
     let d : Dominates edges (home_of function a) (end_of path) =
     subst (λ p. Dominates edges (home_of function a) p) f.1 (there.at_source u arm k at f.0) in
@@ -105,7 +105,7 @@ alias_refines program function v target r there stands = record {
 }
 
 -- each value at the end of the new aliases was one at the end of the old ones
-alias_root :
+pub alias_root :
     (function : Function) (v target u : ℕ) → function.resolve target ≡ target →
     ((function.resolve u ≡ v) × (aliased function.resolve v target u ≡ target)) ⊎
     ((function.resolve u ≢ v) × (aliased function.resolve v target u ≡ function.resolve u)) →
@@ -115,11 +115,22 @@ alias_root function v target u no_alias (inr c) = (u, sym c.1)
 
 argument_at_root :
     {edges : Edges} (function : Function) → ArgumentsThere edges function →
-    (z : ℕ) (arm : Arm) → (function.definition z).kind ≡ complete → (function.definition z).home ≡ arm.target → edges arm ≡ true →
+    (x z : ℕ) (arm : Arm) → (function.definition z).kind ≡ complete x → (function.definition z).home ≡ arm.target → edges arm ≡ true →
     (w : ℕ) × (function.resolve w ≡ z) → Dominates edges (home_of function (function.argument z arm)) arm.source
-argument_at_root {edges} function there z arm k at e (w, root) =
+argument_at_root {edges} function there x z arm k at e (w, root) =
     subst (λ r. Dominates edges (home_of function (function.argument r arm)) arm.source) root
     (there.at_source w arm (ap (λ r. (function.definition r).kind) root ∙ k) (ap (λ r. (function.definition r).home) root ∙ at) e)
+
+take_at_root :
+    {edges : Edges} (program : Program) (function function' : Function) → Rooted edges → ParametersTake edges program function →
+    (x z : ℕ) (arm : Arm) (path : Path) → (function.definition z).kind ≡ complete x → (function.definition z).home ≡ arm.target →
+    Follows edges (arm ∷ path) → SameAt edges program function function' (arm ∷ path) →
+    (w : ℕ) × (function.resolve w ≡ z) → denotes program function' (arm ∷ path) z ≡ entered program arm path x
+take_at_root {edges} program function function' r take x z arm path k at f same (w, root) =
+    let at_root : home_of function w ≡ arm.target = ap (λ q. (function.definition q).home) root ∙ at in
+    ap (λ q. denotes program function' (arm ∷ path) q) (sym root) ∙
+    same.same w (dominates_itself arm.target (home_of function w) (never_at_start r arm f.0) at_root) ∙
+    take.at_visit w arm path (ap (λ q. (function.definition q).kind) root ∙ k) at_root f
 
 alias_under :
     {edges : Edges} (s : State) (v target : ℕ) → Rooted edges → SoundUnder edges s →
@@ -129,11 +140,17 @@ alias_under {edges} s v target r sound stands =
     alias_refines s.program s.function v target r sound.arguments stands in
     record {
       arguments = record {
-        at_source = λ u arm k at e.
+        at_source = λ {x} u arm k at e.
             let z : ℕ = aliased s.function.resolve v target u in
             refines.there (s.function.argument z arm) arm.source
-            (argument_at_root s.function sound.arguments z arm k at e
+            (argument_at_root s.function sound.arguments x z arm k at e
             (alias_root s.function v target u stands.no_alias (aliased_cases s.function.resolve v target u)));
+      };
+      parameters = record {
+        at_visit = λ {x} u arm path k at f.
+            take_at_root s.program s.function (with_resolve s.function v target) r sound.parameters x (aliased s.function.resolve v target u) arm path k at f
+            (alias_same_at s.program s.function v target r sound.arguments stands (arm ∷ path) f)
+            (alias_root s.function v target u stands.no_alias (aliased_cases s.function.resolve v target u));
       };
       records = λ q y w e. holds_refined refines (sound.records q y w e);
       answers = λ n there. holds_refined refines (sound.answers n there);

@@ -12,7 +12,7 @@ use Rattle.clif_paths.proofs.Executing.{entered-sealed, entered-unsealed, instan
 use Rattle.clif_paths.specs.Laws.{ChangesOnlyAt}
 use Rattle.clif_paths.proofs.Keep.{keep}
 use Rattle.clif_paths.proofs.Alias.{denotes_changes}
-use Rattle.clif_paths.proofs.Naming.{EntersAlike, denotes_alike, holds_alike}
+use Rattle.clif_paths.proofs.Naming.{EntersAlike, denotes_alike, holds_alike, take_alike}
 
 -- a name's instance changes only at its home
 name_changes : (program : Program) (n : ℕ) → ChangesOnlyAt (program.naming n).home (λ path. instances program path (name n))
@@ -188,6 +188,7 @@ assign_under s place x n can allowed sound =
     let leaves : NoneLeaves s.program place = record { none = can.none_leaves } in
     record {
       arguments = sound.arguments;
+      parameters = take_alike s.program (with_assignment s.program place x n) s.function (enters_assigned s.program place x n leaves allowed) sound.parameters;
       records = λ q y w e. assign_records s place x n can leaves allowed sound q y w (record_cases s.recorded place x (s.answer n) q y w e);
       answers = λ m there.
           holds_alike s.program (with_assignment s.program place x n) s.function (s.answer m) (name m) (s.program.naming m).home

@@ -9,6 +9,7 @@ use Rattle.clif_paths.specs.BlockLaws.{BlocksSound}
 use Rattle.clif_paths.proofs.Tables.{updated-same, updated-other}
 use Rattle.clif_paths.proofs.BlockTables.{recorded_at-last, recorded_at-some}
 use Rattle.clif_paths.proofs.Checked.{second_of_and}
+use Rattle.clif_paths.proofs.Labelled.{forgotten_labelled, restated_labelled}
 use Rattle.clif_paths.proofs.Recording.{record_keeps}
 use Rattle.clif_paths.proofs.Restating.{restate_keeps}
 
@@ -81,6 +82,7 @@ can_restate blocks blocks' fronts same = record {
 -- tables that say the same are as sound
 pub restated_keeps : (blocks blocks' : Blocks) → CompleteAtFronts blocks → SaysTheSame blocks blocks' → BlocksSound blocks → BlocksSound blocks'
 restated_keeps blocks blocks' fronts same before = record {
+  labelled = restated_labelled blocks blocks' same before.labelled;
   sound = subst (λ s. Sound s) (same_state blocks blocks' same)
       (restate_keeps (state_of blocks) blocks'.function.definition blocks'.function.argument (can_restate blocks blocks' fronts same) before.sound);
 }
@@ -90,6 +92,7 @@ pub forget_keeps :
     (blocks : Blocks) (recorded : ℕ → ℕ → Option ℕ) → ((b x v : ℕ) → recorded b x ≡ Some v → blocks.recorded b x ≡ Some v) → BlocksSound blocks →
     BlocksSound (record blocks { recorded = recorded })
 forget_keeps blocks recorded fewer before = record {
+  labelled = forgotten_labelled blocks recorded fewer before.labelled;
   sound = record_keeps (state_of blocks) (λ place x. recorded_at blocks.count recorded place x)
       (record {
         each = λ place x v e.

@@ -12,6 +12,7 @@ use Rattle.clif_paths.specs.BlockLaws.{BlocksSound}
 use Rattle.clif_paths.proofs.Tables.{updated-same, updated-other, record_new, record_other}
 use Rattle.clif_paths.proofs.PathLemmas.{same_place-true, same_place-equal, same_place-other, same_place-refl}
 use Rattle.clif_paths.proofs.BlockTables.{same_program, inside-block, inside-step, recorded_at-last, recorded_at-some, block_record_cases, block_sealed, arm_on, item_written}
+use Rattle.clif_paths.proofs.Labelled.{first_labelled, block_sealed_labelled, blocks_sealed_labelled, item_labelled, born_labelled, read_labelled, write_labelled, record_labelled, parameter_labelled, filled_labelled, known_dropped, zero_labelled, zero_dropped}
 use Rattle.clif_paths.proofs.Refine.{rooted_allowed, holds_refined}
 use Rattle.clif_paths.proofs.Born.{refines_new, wait_keeps, zero_keeps, pending_holds}
 use Rattle.clif_paths.proofs.Fill.{fill_keeps}
@@ -41,11 +42,13 @@ no_record (inside b k) x = none_either (k == 0)
 
 pub first_sound : BlocksSound no_blocks
 first_sound = record {
+  labelled = first_labelled;
   sound = record {
     known_sealed = λ arm e. let none = no_arm arm arm.target in absurd cc;
     rooted = λ arm at. no_arm arm arm.target;
     under = λ edges allowed. record {
       arguments = record { at_source = λ u arm k at e. absurd cc };
+      parameters = record { at_visit = λ u arm path k at f. absurd cc };
       records = λ place x v e. let none = no_record place x in absurd cc;
       answers = λ n there. absurd (there refl);
     };
@@ -64,6 +67,7 @@ can_seal_one s place unsealed written = record {
 pub seal_block_keeps :
     (blocks : Blocks) (b : ℕ) (into : Edges) → blocks.sealed b ≡ false → BlocksSound blocks → BlocksSound (with_block_sealed blocks b into)
 seal_block_keeps blocks b into unsealed before = record {
+  labelled = block_sealed_labelled blocks b into unsealed before.labelled;
   sound = subst (λ s. Sound s) (sym (block_sealed blocks b into))
       (seal_keeps (state_of blocks) (only (front b)) into (can_seal_one (state_of blocks) (front b) unsealed (inside_written b 0)) before.sound);
 }
@@ -118,6 +122,7 @@ pub seal_blocks_keeps :
     (blocks : Blocks) (chosen : ℕ → Bool) (into : Edges) → ((b : ℕ) → chosen b ≡ true → blocks.sealed b ≡ false) → BlocksSound blocks →
     BlocksSound (with_blocks_sealed blocks chosen into)
 seal_blocks_keeps blocks chosen into unsealed before = record {
+  labelled = blocks_sealed_labelled blocks chosen into unsealed before.labelled;
   sound = subst (λ s. Sound s) (sym (blocks_sealed blocks chosen into))
       (seal_keeps (state_of blocks) (chosen_front chosen) into
       (record { unsealed = unsealed_front blocks chosen unsealed; written = refl }) before.sound);
@@ -196,16 +201,21 @@ item_keeps blocks b can before =
           (record_keeps (with_sealed (state_of blocks) (only next) (arm_on blocks b))
           (λ place x. recorded_at (updated blocks.count b (suc (blocks.count b))) blocks.recorded place x)
           (item_records blocks b can) sealed);
+      labelled = item_labelled blocks b before.labelled;
     }
 
 -- GIVE, USE, ASSIGN -----------------------------------------------------------------------------------------------
 
 pub born_keeps :
     (blocks : Blocks) (place : Place) (n v : ℕ) → CanGive (state_of blocks) place n v → BlocksSound blocks → BlocksSound (with_born blocks place n v)
-born_keeps blocks place n v can before = record { sound = give_keeps (state_of blocks) place n v can before.sound }
+born_keeps blocks place n v can before = record {
+  sound = give_keeps (state_of blocks) place n v can before.sound;
+  labelled = born_labelled blocks place n v can before.labelled;
+}
 
 pub read_keeps : (blocks : Blocks) (b n x v : ℕ) → CanRead blocks b n x v → BlocksSound blocks → BlocksSound (with_read blocks b n x v)
 read_keeps blocks b n x v can before = record {
+  labelled = read_labelled blocks b n x v can before.labelled;
   sound = use_keeps (state_of blocks) (last_place blocks b) n x v
       (record {
         written = inside_written b (blocks.count b);
@@ -269,6 +279,7 @@ write_keeps blocks b x n can before =
                 inl (write_record blocks b x n place y w (block_record_cases blocks.count blocks.recorded b x (blocks.answer n) place y w here));
           })
           assigned;
+      labelled = write_labelled blocks b x n can before.labelled;
     }
 
 -- COPY ------------------------------------------------------------------------------------------------------------
@@ -364,6 +375,7 @@ record_stands program function blocks b x v held others place y w (inr old) = ot
 
 pub copy_keeps : (blocks : Blocks) (b x v : ℕ) → CanCopy blocks b x v → BlocksSound blocks → BlocksSound (with_record blocks b x v)
 copy_keeps blocks b x v can before = record {
+  labelled = record_labelled blocks b x v can.somewhere before.labelled;
   sound = records_stand (state_of blocks)
       (λ place y. recorded_at blocks.count (with_record blocks b x v).recorded place y)
       before.sound
@@ -404,6 +416,7 @@ chain_keeps blocks x v from (block ∷ chain) is_recorded is_chain before =
         is_recorded = is_recorded;
         resolves = refl;
       };
+      somewhere = record { block = from; known = record { value = v; is_recorded = is_recorded; resolves = refl } };
     })
     before)
 
@@ -437,10 +450,11 @@ parameter_keeps blocks b x v can before =
           (refines_new (state_of blocks).program blocks.function v new (rooted_allowed allowed) (before.sound.under edges allowed).arguments can.new_value)
           ((before.sound.under edges allowed).records q z u e)) place y w
           (block_record_cases blocks.count blocks.recorded b x v place y w here));
+      labelled = parameter_labelled blocks b x v can before.labelled;
     }
 
 -- an arm that the state knows into a block's front is a join
-front_join :
+pub front_join :
     (blocks : Blocks) (b : ℕ) (arm : Arm) → (state_of blocks).program.arms arm ≡ true → arm.target ≡ front b → blocks.joins arm ≡ true
 front_join blocks b arm e at =
     second_of_and (blocks.sealed b) (blocks.joins arm) (ap (λ p. arm_into blocks.count blocks.sealed blocks.joins arm p) (sym at) ∙ e)
@@ -462,8 +476,9 @@ waits_at blocks b x v waits = record {
 }
 
 pub filled_keeps :
-    (blocks : Blocks) (b x v : ℕ) (given : Arm → ℕ) → CanFillIn blocks b x v given → BlocksSound blocks → BlocksSound (with_filled blocks v given)
+    (blocks : Blocks) (b x v : ℕ) (given : Arm → ℕ) → CanFillIn blocks b x v given → BlocksSound blocks → BlocksSound (with_filled blocks x v given)
 filled_keeps blocks b x v given can before = record {
+  labelled = filled_labelled blocks b x v given can before.labelled;
   sound = fill_keeps (state_of blocks) x v given
       (record {
         waits = waits_at blocks b x v can.waits;
@@ -482,6 +497,7 @@ either_incoming blocks arm x v target (inr carries) = inr (incoming_of blocks ar
 pub dropped_keeps :
     (blocks : Blocks) (b x v target : ℕ) → CanDropIn blocks b x v target → BlocksSound blocks → BlocksSound (with_dropped blocks v target)
 dropped_keeps blocks b x v target can before = record {
+  labelled = known_dropped blocks b x v target can.waits can.no_alias can.somewhere before.labelled;
   sound = drop_keeps (state_of blocks) x v target
       (record {
         waits = waits_at blocks b x v can.waits;
@@ -495,6 +511,7 @@ dropped_keeps blocks b x v target can before = record {
 pub zero_in_keeps :
     (blocks : Blocks) (b x z : ℕ) → (blocks.function.definition z).home ≡ start → BlocksSound blocks → BlocksSound (with_zero_in blocks b x z)
 zero_in_keeps blocks b x z new_value before = record {
+  labelled = zero_labelled blocks b x z new_value before.labelled;
   sound = zero_keeps (state_of blocks) (front b) x z (record { written = inside_written b 0; new_value = new_value }) before.sound;
 }
 
@@ -506,6 +523,7 @@ start_or_incoming blocks arm x v (inr carries) = inr (incoming_of blocks arm x v
 pub undefined_keeps :
     (blocks : Blocks) (b x v z : ℕ) → CanUndefineIn blocks b x v z → BlocksSound blocks → BlocksSound (with_dropped blocks v z)
 undefined_keeps blocks b x v z can before = record {
+  labelled = zero_dropped blocks b x v z can.waits can.no_alias can.is_zero before.labelled;
   sound = undefine_keeps (state_of blocks) x v z
       (record {
         waits = waits_at blocks b x v can.waits;

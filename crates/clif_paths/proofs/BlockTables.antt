@@ -52,7 +52,7 @@ recorded_at-some count recorded (inside block k) x v here =
     let (at, is_recorded) = recorded_by count recorded block k x v (k == count block) refl here in
     (block, at, is_recorded)
 
-record_in_block :
+pub record_in_block :
     (recorded : ℕ → ℕ → Option ℕ) (b x v c y w : ℕ) → updated recorded b (updated (recorded b) x (Some v)) c y ≡ Some w →
     ((c ≡ b) × (updated recorded b (updated (recorded b) x (Some v)) c ≡ updated (recorded b) x (Some v))) ⊎
     ((c ≢ b) × (updated recorded b (updated (recorded b) x (Some v)) c ≡ recorded c)) →

@@ -1,9 +1,9 @@
 -- New values: a waiting parameter, a zero. A value that nothing named before refines whatever it is.
 use Rattle.std.proofs.Common.{◌≡◌, ◌≢◌, ℕ, true, None, Some, [], ◌∷◌, ◌⊎◌, inl, inr, refl, sym, ◌∙◌, ap, subst}
-use Rattle.clif_paths.specs.Places.{Place, start, Arm, Edges, Path, end_of, Visits, Dominates}
+use Rattle.clif_paths.specs.Places.{Place, start, Arm, Edges, Path, end_of, Follows, Visits, Dominates}
 use Rattle.clif_paths.specs.State.{Program, pending, complete, zero_of, Definition, Function, State, home_of}
 use Rattle.clif_paths.specs.Denotation.{variable, instances, defined, denotes, denotation}
-use Rattle.clif_paths.specs.Sound.{Allowed, ArgumentsThere, Holds, SoundUnder, Sound}
+use Rattle.clif_paths.specs.Sound.{Allowed, ArgumentsThere, ParametersTake, Holds, SoundUnder, Sound}
 use Rattle.clif_paths.specs.Steps.{updated, with_pending, CanWait, with_zero, CanPutZero}
 use Rattle.clif_paths.proofs.Tables.{updated-same, updated-other, updated_cases, record_cases}
 use Rattle.clif_paths.specs.Laws.{entered}
@@ -14,7 +14,7 @@ use Rattle.clif_paths.proofs.Refine.{Rooted, rooted_allowed, never_at_start, ali
 abbrev pub with_definition : Function → ℕ → Definition → Function
 with_definition function v new = record function { definition = updated function.definition v new }
 
-other_value : (function : Function) (v u : ℕ) → (function.definition v).home ≡ start → home_of function u ≢ start → function.resolve u ≢ v
+pub other_value : (function : Function) (v u : ℕ) → (function.definition v).home ≡ start → home_of function u ≢ start → function.resolve u ≢ v
 other_value function v u new there e = there (ap (λ w. (function.definition w).home) e ∙ new)
 
 -- a value that was not there
@@ -29,33 +29,33 @@ refines_new {edges} program function v new r arguments unborn_before =
           alike_visit edges program function (with_definition function v new) arguments u arm path f e before
           (updated-other function.definition v new (function.resolve u)
           (other_value function v u unborn_before (λ h. never_at_start r arm f.0 (sym e ∙ h))))
-          (λ k. refl);
+          (λ x k. refl);
     })
 
 arguments_new_by :
     {edges : Edges} (program : Program) (function : Function) (v : ℕ) (new : Definition) → Rooted edges → ArgumentsThere edges function →
     Refines edges program function (with_definition function v new) →
-    new.kind ≢ complete →
-    (u : ℕ) (arm : Arm) →
-    (updated function.definition v new (function.resolve u)).kind ≡ complete →
+    ((x : ℕ) → new.kind ≢ complete x) →
+    (u x : ℕ) (arm : Arm) →
+    (updated function.definition v new (function.resolve u)).kind ≡ complete x →
     (updated function.definition v new (function.resolve u)).home ≡ arm.target →
     edges arm ≡ true →
     ((function.resolve u ≡ v) × (updated function.definition v new (function.resolve u) ≡ new)) ⊎
     ((function.resolve u ≢ v) × (updated function.definition v new (function.resolve u) ≡ function.definition (function.resolve u))) →
     Dominates edges (home_of (with_definition function v new) (function.argument (function.resolve u) arm)) arm.source
-arguments_new_by program function v new r arguments refines ne u arm k h e (inl c) =
-    absurd (ne (sym (ap (λ (d : Definition). d.kind) c.1) ∙ k))
-arguments_new_by program function v new r arguments refines ne u arm k h e (inr c) =
+arguments_new_by program function v new r arguments refines ne u x arm k h e (inl c) =
+    absurd (ne x (sym (ap (λ (d : Definition). d.kind) c.1) ∙ k))
+arguments_new_by program function v new r arguments refines ne u x arm k h e (inr c) =
     refines.there (function.argument (function.resolve u) arm) arm.source
     (arguments.at_source u arm (sym (ap (λ (d : Definition). d.kind) c.1) ∙ k) (sym (ap (λ (d : Definition). d.home) c.1) ∙ h) e)
 
 pub arguments_new :
     {edges : Edges} (program : Program) (function : Function) (v : ℕ) (new : Definition) → Rooted edges → ArgumentsThere edges function →
     Refines edges program function (with_definition function v new) →
-    new.kind ≢ complete → ArgumentsThere edges (with_definition function v new)
+    ((x : ℕ) → new.kind ≢ complete x) → ArgumentsThere edges (with_definition function v new)
 arguments_new program function v new r arguments refines ne = record {
-  at_source = λ u arm k h e.
-      arguments_new_by program function v new r arguments refines ne u arm k h e (updated_cases function.definition v new (function.resolve u));
+  at_source = λ {x} u arm k h e.
+      arguments_new_by program function v new r arguments refines ne u x arm k h e (updated_cases function.definition v new (function.resolve u));
 }
 
 -- a value is there at its own home
@@ -65,6 +65,42 @@ ends_at_home p q written e (arm ∷ path) at_end = inl (e ∙ sym at_end)
 
 pub dominates_itself : {edges : Edges} (p q : Place) → p ≢ start → q ≡ p → Dominates edges q p
 dominates_itself p q written e = record { on_every_path = λ path f at_end. ends_at_home p q written e path at_end }
+
+-- a complete parameter takes what it took, where what was denoted still is
+pub take_refined :
+    {edges : Edges} (program : Program) (function function' : Function) → Rooted edges → Refines edges program function function' →
+    ParametersTake edges program function →
+    (u x : ℕ) (arm : Arm) (path : Path) → (function.definition (function.resolve u)).kind ≡ complete x → home_of function u ≡ arm.target →
+    Follows edges (arm ∷ path) → denotation program function' (arm ∷ path) u ≡ entered program arm path x
+take_refined program function function' r refines take u x arm path k at f =
+    refines.same u (arm ∷ path) f (dominates_itself arm.target (home_of function u) (never_at_start r arm f.0) at) ∙
+    take.at_visit u arm path k at f
+
+take_new_by :
+    {edges : Edges} (program : Program) (function : Function) (v : ℕ) (new : Definition) → Rooted edges →
+    Refines edges program function (with_definition function v new) → ParametersTake edges program function →
+    ((x : ℕ) → new.kind ≢ complete x) →
+    (u x : ℕ) (arm : Arm) (path : Path) →
+    (updated function.definition v new (function.resolve u)).kind ≡ complete x →
+    (updated function.definition v new (function.resolve u)).home ≡ arm.target →
+    Follows edges (arm ∷ path) →
+    ((function.resolve u ≡ v) × (updated function.definition v new (function.resolve u) ≡ new)) ⊎
+    ((function.resolve u ≢ v) × (updated function.definition v new (function.resolve u) ≡ function.definition (function.resolve u))) →
+    denotation program (with_definition function v new) (arm ∷ path) u ≡ entered program arm path x
+take_new_by program function v new r refines take ne u x arm path k h f (inl c) =
+    absurd (ne x (sym (ap (λ (d : Definition). d.kind) c.1) ∙ k))
+take_new_by program function v new r refines take ne u x arm path k h f (inr c) =
+    take_refined program function (with_definition function v new) r refines take u x arm path
+    (sym (ap (λ (d : Definition). d.kind) c.1) ∙ k) (sym (ap (λ (d : Definition). d.home) c.1) ∙ h) f
+
+pub take_new :
+    {edges : Edges} (program : Program) (function : Function) (v : ℕ) (new : Definition) → Rooted edges →
+    Refines edges program function (with_definition function v new) → ParametersTake edges program function →
+    ((x : ℕ) → new.kind ≢ complete x) → ParametersTake edges program (with_definition function v new)
+take_new program function v new r refines take ne = record {
+  at_visit = λ {x} u arm path k h f.
+      take_new_by program function v new r refines take ne u x arm path k h f (updated_cases function.definition v new (function.resolve u));
+}
 
 pending_agrees :
     (program : Program) (function : Function) (place : Place) (x v : ℕ) → place ≢ start → program.assigned place x ≡ None →
@@ -115,7 +151,8 @@ wait_under {edges} s place x v can allowed sound =
     let refines : Refines edges s.program s.function (with_definition s.function v new) =
     refines_new s.program s.function v new r sound.arguments can.new_value in
     record {
-      arguments = arguments_new s.program s.function v new r sound.arguments refines (λ e. cc);
+      arguments = arguments_new s.program s.function v new r sound.arguments refines (λ y e. cc);
+      parameters = take_new s.program s.function v new r refines sound.parameters (λ y e. cc);
       records = λ q y w e. wait_records s place x v can sound refines q y w (record_cases s.recorded place x v q y w e);
       answers = λ n there. holds_refined refines (sound.answers n there);
     }
@@ -137,7 +174,8 @@ zero_under {edges} s place x z can allowed sound =
     let refines : Refines edges s.program s.function (with_definition s.function z new) =
     refines_new s.program s.function z new r sound.arguments can.new_value in
     record {
-      arguments = arguments_new s.program s.function z new r sound.arguments refines (λ e. cc);
+      arguments = arguments_new s.program s.function z new r sound.arguments refines (λ y e. cc);
+      parameters = take_new s.program s.function z new r refines sound.parameters (λ y e. cc);
       records = λ q y w e. holds_refined refines (sound.records q y w e);
       answers = λ n there. holds_refined refines (sound.answers n there);
     }

@@ -6,7 +6,7 @@ use Rattle.clif_paths.specs.Places.{Place, start, inside, same_place, Arm}
 use Rattle.clif_paths.specs.State.{Kind, unborn, born, pending, complete, zero_of, Definition}
 use Rattle.clif_paths.specs.Steps.{IsNewName}
 use Rattle.clif_paths.specs.Blocks.{Blocks, front, state_of, AssignsNot, Carries, WaitsIn}
-use Rattle.clif_paths.specs.Moves.{Write, Sheet, same_arm, listed, each_arm, each_write, differs, is_none_at, says, is_pending, is_zero, none_below, assigns_not, resolves_to, carries_from, each_into, is_new_name, is_new_value, waits_in}
+use Rattle.clif_paths.specs.Moves.{Write, Sheet, same_arm, listed, each_arm, some_arm, each_write, differs, is_none_at, says, is_pending, is_zero, none_below, assigns_not, resolves_to, carries_from, each_into, is_new_name, is_new_value, waits_in}
 use Rattle.clif_paths.proofs.PathLemmas.{same_place-true, same_place-equal}
 
 pub first_of_and : (b c : Bool) → (b && c) ≡ true → b ≡ true
@@ -65,7 +65,7 @@ unfolding is_pending
 pending_kind unborn x e = absurd cc
 pending_kind (born n) x e = absurd cc
 pending_kind (pending y) x e = ap (λ z. pending z) (number_true y x e)
-pending_kind complete x e = absurd cc
+pending_kind (complete y) x e = absurd cc
 pending_kind (zero_of y) x e = absurd cc
 
 pub zero_kind : (k : Kind) (x : ℕ) → is_zero k x ≡ true → k ≡ zero_of x
@@ -73,7 +73,7 @@ unfolding is_zero
 zero_kind unborn x e = absurd cc
 zero_kind (born n) x e = absurd cc
 zero_kind (pending y) x e = absurd cc
-zero_kind complete x e = absurd cc
+zero_kind (complete y) x e = absurd cc
 zero_kind (zero_of y) x e = ap (λ z. zero_of z) (number_true y x e)
 
 pub same_definition : (d : Definition) (p : Place) (k : Kind) → d.home ≡ p → d.kind ≡ k → d ≡ record { home = p; kind = k }
@@ -107,6 +107,18 @@ each_listed test [] arm each is_listed = absurd cc
 each_listed test (a ∷ arms) arm each is_listed =
     let rest : listed arms arm ≡ true → test arm ≡ true = each_listed test arms arm (second_of_and (test a) (each_arm test arms) each) in
     listed_step test a arms arm each rest (of_or (same_arm arm a) (listed arms arm) is_listed)
+
+-- some arm passes where the test of some says so
+pub some_passes : (test : Arm → Bool) (arms : List Arm) → some_arm test arms ≡ true → (arm : Arm) × (test arm ≡ true)
+unfolding some_arm
+some_passes test [] some = absurd cc
+some_passes test (a ∷ arms) some = found (of_or (test a) (some_arm test arms) some) (λ later. some_passes test arms later)
+  where
+    found :
+        (test a ≡ true) ⊎ (some_arm test arms ≡ true) → (some_arm test arms ≡ true → (arm : Arm) × (test arm ≡ true)) →
+        (arm : Arm) × (test arm ≡ true)
+    found (inl here) further = (a, here)
+    found (inr later) further = further later
 
 pub listed_first : (arms more : List Arm) (arm : Arm) → listed arms arm ≡ true → listed (arms ++ more) arm ≡ true
 unfolding listed

@@ -55,7 +55,7 @@ alone_by_kind :
 alone_by_kind function nothing program program' arm path before u unborn k = refl
 alone_by_kind function nothing program program' arm path before u (born n) k = refl
 alone_by_kind function nothing program program' arm path before u (pending x) k = absurd (nothing.none u x k)
-alone_by_kind function nothing program program' arm path before u complete k = before (function.argument (function.resolve u) arm)
+alone_by_kind function nothing program program' arm path before u (complete x) k = before (function.argument (function.resolve u) arm)
 alone_by_kind function nothing program program' arm path before u (zero_of x) k = refl
 
 alone_step :

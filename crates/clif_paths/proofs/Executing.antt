@@ -90,5 +90,5 @@ function_steps program function arm path = record {
   born_here = λ v n e. at_home_defined program function arm path v (record { home = arm.target; kind = born n }) e refl;
   zero_here = λ v x e. at_home_defined program function arm path v (record { home = arm.target; kind = zero_of x }) e refl;
   pending_here = λ v x e. at_home_defined program function arm path v (record { home = arm.target; kind = pending x }) e refl;
-  complete_here = λ v e. at_home_defined program function arm path v (record { home = arm.target; kind = complete }) e refl;
+  complete_here = λ v x e. at_home_defined program function arm path v (record { home = arm.target; kind = complete x }) e refl;
 }

@@ -1,26 +1,28 @@
 -- The wrong changes, each refuted on one path.
 use Rattle.std.proofs.Common.{◌≡◌, ◌≢◌, ℕ, refl, Some, [], ◌∷◌}
-use Rattle.clif_paths.specs.Places.{Place, Path, Follows, end_of}
+use Rattle.clif_paths.specs.Places.{Place, Path, Follows, end_of, same_place}
 use Rattle.clif_paths.specs.Denotation.{Instance, given, variable, instances, denotation}
+use Rattle.clif_paths.specs.Sound.{Sound}
 use Rattle.clif_paths.specs.Laws.{AssignsGiven}
 use Rattle.clif_paths.specs.Blocks.{Blocks, front, state_of, with_dropped, with_record}
-use Rattle.clif_paths.specs.BlockLaws.{BlocksSound}
-use Rattle.clif_paths.specs.Moves.{Sheet, blank, write_variable, after, after_all}
-use Rattle.clif_paths.specs.Examples.{entry, on, jump, first_witness, two_values}
-use Rattle.clif_paths.specs.Failures.{two_values_waiting, two_witnesses, DropBreaks, CopyBreaks, left_already, left_witnesses, AssignBreaks, value_comes, ZeroBreaks}
+use Rattle.clif_paths.specs.Moves.{Sheet, blank, write_variable, after, after_all, differs, agrees, agree_all}
+use Rattle.clif_paths.specs.Examples.{entry, on, jump, first_witness, two_values, from_seven}
+use Rattle.clif_paths.specs.Failures.{two_values_waiting, two_witnesses, DropBreaks, CopyBreaks, left_already, left_witnesses, AssignBreaks, value_comes, ZeroBreaks, nothing_leads, eight_at_one, CopyFromNowhereBreaks}
 use Rattle.clif_paths.proofs.Concluding.{arms_allowed}
 use Rattle.clif_paths.proofs.Moving.{allowed_moves, fits_written}
 use Rattle.clif_paths.proofs.Finishing.{given_moves, assigns_given}
+use Rattle.clif_paths.proofs.Checked.{differs_place, each_listed}
+use Rattle.clif_paths.proofs.LabelExamples.{agreeing_moves, other_label}
 use Rattle.clif_paths.proofs.ExampleProofs.{computing}
 
 -- in sound tables a record agrees with its variable on every path along the known arms
 record_agrees :
-    (blocks : Blocks) → BlocksSound blocks → AssignsGiven (state_of blocks).program →
+    (blocks : Blocks) → Sound (state_of blocks) → AssignsGiven (state_of blocks).program →
     (place : Place) (x v : ℕ) → (state_of blocks).recorded place x ≡ Some v →
     (path : Path) → Follows (state_of blocks).program.arms path → end_of path ≡ place →
     denotation (state_of blocks).program blocks.function path v ≡ instances (state_of blocks).program path (variable x)
 record_agrees blocks sound assigns place x v is_recorded path follows at_end =
-    ((sound.sound.under (state_of blocks).program.arms (arms_allowed (state_of blocks) sound.sound assigns)).records place x v is_recorded).agrees
+    ((sound.under (state_of blocks).program.arms (arms_allowed (state_of blocks) sound assigns)).records place x v is_recorded).agrees
     path follows at_end
 
 -- two instances that were given by different names are different
@@ -99,4 +101,15 @@ zero_breaks = record {
       record_agrees blocks sound (given_moves value_comes first_witness refl refl) (front 1) 0 1 refl into_one
       (refl, refl, (refl, refl, (refl, refl, (refl, refl, (refl, refl, tt))))) refl in
       zero_differs 0 0 given_zero same;
+}
+
+pub copy_from_nowhere_breaks : CopyFromNowhereBreaks
+unfolding computing agrees agree_all
+copy_from_nowhere_breaks = record {
+  none_comes = λ arm joined.
+      differs_place arm.target (front 1)
+      (each_listed (λ a. differs (same_place a.target (front 1))) (after_all blank nothing_leads).arms arm refl
+      ((allowed_moves nothing_leads refl).fits.arms arm joined));
+  kept = agreeing_moves nothing_leads refl from_seven eight_at_one refl;
+  lost = λ kept. other_label ((kept.records 1 0 1 refl).by_kind);
 }

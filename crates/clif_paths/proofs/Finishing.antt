@@ -18,7 +18,7 @@ unfolding is_settled
 settled_told unborn e x h = cc
 settled_told (born n) e x h = cc
 settled_told (pending y) e x h = cc
-settled_told complete e x h = cc
+settled_told (complete y) e x h = cc
 settled_told (zero_of y) e x h = cc
 
 same_number : (a b : ℕ) → a ≡ b → (a == b) ≡ true

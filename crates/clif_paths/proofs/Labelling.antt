@@ -111,7 +111,7 @@ value_by_kind edges program function fits of_variable of_name of_value labels va
 value_by_kind edges program function fits of_variable of_name of_value labels values arm path f before u at (pending x) k =
     ap (λ l. fits l (entered program arm path x)) (values.pending_same u x k) ∙
     entered_fits program fits of_variable of_name labels arm path (program_keeps program fits of_variable of_name labels path) x (program.is_sealed arm.target) refl
-value_by_kind edges program function fits of_variable of_name of_value labels values arm path f before u at complete k =
+value_by_kind edges program function fits of_variable of_name of_value labels values arm path f before u at (complete x) k =
     argument_fits edges program function fits of_variable of_name of_value labels path before u (function.argument (function.resolve u) arm)
     (values.argument_same u arm k at f.0)
 value_by_kind edges program function fits of_variable of_name of_value labels values arm path f before u at (zero_of x) k = values.zero_fits u x k

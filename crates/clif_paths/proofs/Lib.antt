@@ -16,8 +16,10 @@ pub mod Assigning
 pub mod Sealing
 pub mod Restating
 pub mod Concluding
+pub mod Taking
 -- Tables by block, links and look-ups.
 pub mod BlockTables
+pub mod Labelled
 pub mod BlockSteps
 pub mod Checked
 pub mod BlockRestating
@@ -26,12 +28,14 @@ pub mod LookingUp
 -- Labels and structure.
 pub mod Labelling
 pub mod Running
+pub mod LabelsAlong
 pub mod ShapeLemmas
 pub mod ShapeSteps
 -- Examples and failures.
 pub mod Moving
 pub mod Finishing
 pub mod ExampleProofs
+pub mod LabelExamples
 pub mod FailureProofs
 pub mod LookUpExample
 pub mod ShapeExample

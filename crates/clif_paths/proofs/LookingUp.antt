@@ -3,11 +3,12 @@ use Rattle.std.proofs.Common.{◌≡◌, ◌≢◌, ℕ, true, Option, None, Som
 use Rattle.clif_paths.specs.Places.{start, Arm}
 use Rattle.clif_paths.specs.State.{pending, complete, zero_of, Definition}
 use Rattle.clif_paths.specs.Steps.{updated, aliased}
-use Rattle.clif_paths.specs.Blocks.{Blocks, front, last_place, Knows, with_record, Carries, IsChain, with_chain, with_parameter, CanAddParameter, WaitsIn, with_filled, with_dropped, with_zero_in}
+use Rattle.clif_paths.specs.Blocks.{Blocks, front, last_place, Knows, with_record, Carries, KnownSomewhere, IsChain, with_chain, with_parameter, CanAddParameter, WaitsIn, with_filled, with_dropped, with_zero_in}
 use Rattle.clif_paths.specs.BlockLaws.{BlocksSound}
 use Rattle.clif_paths.specs.LookUp.{Frame, back_onto, AllKnow, FrameFits, NotFor, Expects, GoesTo, AtRest, Finds, Delivers, last_of, Unrecorded, InList, Paired, LeavesOneOf}
 use Rattle.clif_paths.proofs.Tables.{updated-same, updated-other, updated_cases, aliased_cases}
 use Rattle.clif_paths.proofs.Links.{same_ends}
+use Rattle.clif_paths.proofs.Labelled.{front_written}
 use Rattle.clif_paths.proofs.BlockSteps.{block_record_new, chain_keeps, parameter_keeps, filled_keeps, dropped_keeps, zero_in_keeps, undefined_keeps}
 
 -- What growing tables keep ----------------------------------------------------------------------------------------
@@ -238,9 +239,6 @@ record_is_found blocks predecessors x first frames from v chain sound expects is
 
 -- A parameter is added --------------------------------------------------------------------------------------------
 
-front_written : (b : ℕ) → front b ≢ start
-front_written b e = cc
-
 -- a waiting parameter is none that isn't there
 waits_other : (blocks : Blocks) (b x w v : ℕ) → WaitsIn blocks b x w → (blocks.function.definition v).home ≡ start → w ≢ v
 waits_other blocks b x w v waits new_value same =
@@ -356,6 +354,14 @@ known_of blocks x (c ∷ bs) (r ∷ rs) b all (inr later) =
     let (s, found, knows) = known_of blocks x bs rs b all.1 later in
     (s, inr found, knows)
 
+-- each result is what some block knows
+pub known_by : (blocks : Blocks) (x : ℕ) (bs rs : List ℕ) (r : ℕ) → AllKnow blocks x bs rs → InList rs r → (b : ℕ) × Knows blocks b x r
+known_by blocks x [] [] r all found = absurd found
+known_by blocks x [] (s ∷ rs) r all found = absurd all
+known_by blocks x (c ∷ bs) [] r all found = absurd found
+known_by blocks x (c ∷ bs) (s ∷ rs) r all (inl here) = (c, subst (λ u. Knows blocks c x u) (sym here) all.0)
+known_by blocks x (c ∷ bs) (s ∷ rs) r all (inr later) = known_by blocks x bs rs r all.1 later
+
 known_paired : (blocks : Blocks) (x : ℕ) (bs rs : List ℕ) (b r : ℕ) → AllKnow blocks x bs rs → Paired bs rs b r → Knows blocks b x r
 known_paired blocks x [] rs b r all pair = absurd pair
 known_paired blocks x (c ∷ bs) [] b r all pair = absurd pair
@@ -430,8 +436,9 @@ pub dropping_finishes :
     BlocksSound blocks → AtRest blocks predecessors x first f frames → f.todo ≡ [] → LeavesOneOf blocks f.block (predecessors f.block) →
     blocks.function.resolve target ≡ target → target ≢ f.parameter →
     ((r : ℕ) → InList f.results r → (blocks.function.resolve r ≡ target) ⊎ (blocks.function.resolve r ≡ f.parameter)) →
+    ((r : ℕ) × (InList f.results r) × (blocks.function.resolve r ≡ target)) →
     Delivers (with_dropped blocks f.parameter target) predecessors x first frames target
-dropping_finishes blocks predecessors x first f frames target sound rest none leaves target_root other each = record {
+dropping_finishes blocks predecessors x first f frames target sound rest none leaves target_root other each some = record {
   sound =
       dropped_keeps blocks f.block x f.parameter target
       (record {
@@ -441,24 +448,33 @@ dropping_finishes blocks predecessors x first f frames target sound rest none le
             let (b, among, source) = leaves.from arm joined at in
             let (r, found, knows) = known_of blocks x f.done f.results b rest.fits.known (is_done blocks predecessors x first f frames rest none b among) in
             either arm b r source knows (each r found);
+        somewhere = brought some;
       })
       sound;
   goes = alias_goes blocks predecessors x first frames f.parameter target rest.apart rest.fits.no_alias target_root other rest.below;
 }
   where
+    brought : (r : ℕ) × (InList f.results r) × (blocks.function.resolve r ≡ target) → KnownSomewhere blocks x target
+    brought (r, found, ends) =
+        let (b, knows) = known_by blocks x f.done f.results r rest.fits.known found in
+        record {
+          block = b;
+          known = record { value = knows.value; is_recorded = knows.is_recorded; resolves = knows.resolves ∙ ends ∙ sym target_root };
+        }
+
     either : (arm : Arm) (b r : ℕ) → arm.source ≡ last_place blocks b → Knows blocks b x r → (blocks.function.resolve r ≡ target) ⊎ (blocks.function.resolve r ≡ f.parameter) → Carries blocks arm x target ⊎ Carries blocks arm x f.parameter
     either arm b r source knows (inl e) = inl (carries_known blocks arm b x r target source knows e)
     either arm b r source knows (inr e) = inr (carries_known blocks arm b x r f.parameter source knows e)
 
 filled_frames :
-    (blocks : Blocks) (x v : ℕ) (given : Arm → ℕ) (frames : List Frame) → NotFor v frames → KeepsFrames blocks (with_filled blocks v given) x frames
+    (blocks : Blocks) (x v : ℕ) (given : Arm → ℕ) (frames : List Frame) → NotFor v frames → KeepsFrames blocks (with_filled blocks x v given) x frames
 unfolding KeepsFrames
 filled_frames blocks x v given [] apart = tt
 filled_frames blocks x v given (f ∷ frames) apart = (
   record {
     waits = λ b waits root. record {
       is_parameter =
-          updated-other blocks.function.definition v (record { home = (blocks.function.definition v).home; kind = complete }) f.parameter
+          updated-other blocks.function.definition v (record { home = (blocks.function.definition v).home; kind = complete x }) f.parameter
           (λ e. apart.0 (sym e)) ∙ waits.is_parameter;
       is_sealed = waits.is_sealed;
     };
@@ -489,7 +505,7 @@ pub filling_finishes :
     BlocksSound blocks → AtRest blocks predecessors x first f frames → f.todo ≡ [] →
     ((arm : Arm) → blocks.joins arm ≡ true → arm.target ≡ front f.block →
     (b : ℕ) × (Paired (predecessors f.block) (back_onto f.results []) b (given arm)) × (arm.source ≡ last_place blocks b)) →
-    Delivers (with_filled blocks f.parameter given) predecessors x first frames f.parameter
+    Delivers (with_filled blocks x f.parameter given) predecessors x first frames f.parameter
 filling_finishes blocks predecessors x first f frames given sound rest none along = record {
   sound =
       filled_keeps blocks f.block x f.parameter given
@@ -506,7 +522,7 @@ filling_finishes blocks predecessors x first f frames given sound rest none alon
       })
       sound;
   goes =
-      goes_kept blocks (with_filled blocks f.parameter given) predecessors x first frames f.parameter
+      goes_kept blocks (with_filled blocks x f.parameter given) predecessors x first frames f.parameter
       (record { recorded_kept = λ b w e. e; ends_kept = λ u w e. e }) (filled_frames blocks x f.parameter given frames rest.apart) rest.below;
 }
 

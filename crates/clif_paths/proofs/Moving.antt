@@ -3,13 +3,13 @@ use Rattle.std.proofs.Common.{◌≡◌, ◌≢◌, ℕ, suc, Bool, true, cond, 
 use Rattle.clif_paths.specs.Places.{Place, start, inside, same_place, Arm, Edges}
 use Rattle.clif_paths.specs.State.{unborn, born, pending, complete, zero_of, Definition}
 use Rattle.clif_paths.specs.Steps.{updated, aliased}
-use Rattle.clif_paths.specs.Blocks.{Blocks, front, last_place, CanAppend, Carries, WaitsIn}
+use Rattle.clif_paths.specs.Blocks.{Blocks, front, last_place, CanAppend, Carries, KnownSomewhere, WaitsIn}
 use Rattle.clif_paths.specs.BlockLaws.{BlocksSound}
-use Rattle.clif_paths.specs.Moves.{Write, Sheet, blank, Move, seal_with, go_on, give_name, read_variable, write_variable, copy_record, add_parameter, fill_parameter, drop_parameter, add_zero, undefine_parameter, listed, each_arm, differs, is_none_at, says, is_zero, assigns_not, carries_from, each_into, is_new_name, is_new_value, waits_in, allows, after, after_all, allows_all}
+use Rattle.clif_paths.specs.Moves.{Write, Sheet, blank, Move, seal_with, go_on, give_name, read_variable, write_variable, copy_record, add_parameter, fill_parameter, drop_parameter, add_zero, undefine_parameter, listed, each_arm, some_arm, differs, is_none_at, says, is_zero, assigns_not, carries_from, each_into, is_new_name, is_new_value, waits_in, allows, after, after_all, allows_all}
 use Rattle.clif_paths.proofs.Tables.{updated_cases, aliased_cases, record_cases}
 use Rattle.clif_paths.proofs.PathLemmas.{same_place-true, same_place-equal, same_place-other, dec_place}
 use Rattle.clif_paths.proofs.BlockSteps.{first_sound, seal_block_keeps, item_keeps, born_keeps, read_keeps, write_keeps, copy_keeps, parameter_keeps, filled_keeps, dropped_keeps, zero_in_keeps, undefined_keeps}
-use Rattle.clif_paths.proofs.Checked.{first_of_and, second_of_and, of_or, differs_false, differs_place, number_true, says_some, none_at, zero_kind, same_definition, each_listed, listed_first, listed_second, HasWrite, each_has, HasValue, SheetFits, assigns_not_told, carries_told, into_told, new_name_told, new_value_home, new_value_end, waits_told}
+use Rattle.clif_paths.proofs.Checked.{first_of_and, second_of_and, of_or, differs_false, differs_place, number_true, says_some, none_at, zero_kind, same_definition, each_listed, some_passes, listed_first, listed_second, HasWrite, each_has, HasValue, SheetFits, assigns_not_told, carries_told, into_told, new_name_told, new_value_home, new_value_end, waits_told}
 
 -- a sheet that fits, with sound tables
 pub record SheetSound (sheet : Sheet) : Type 0 where
@@ -196,20 +196,32 @@ move_write sheet b x n e before =
       fits = fits_written sheet b x n before.fits;
     }
 
+-- what an arm carries is known somewhere
+known_somewhere : (blocks : Blocks) (arm : Arm) (x v w : ℕ) → blocks.function.resolve v ≡ w → Carries blocks arm x w → KnownSomewhere blocks x v
+known_somewhere blocks arm x v w ends carries = record {
+  block = carries.from;
+  known = record { value = carries.value; is_recorded = carries.is_recorded; resolves = carries.resolves ∙ sym ends };
+}
+
 move_copy : (sheet : Sheet) (b x v : ℕ) → allows sheet (copy_record b x v) ≡ true → SheetSound sheet → SheetSound (after sheet (copy_record b x v))
 unfolding allows after
 move_copy sheet b x v e before =
     let test : Arm → Bool = λ arm. carries_from sheet.blocks arm.source x (sheet.blocks.function.resolve v) in
-    let rest : (assigns_not sheet.blocks b x && each_into sheet b test) ≡ true =
-    second_of_and (sheet.blocks.sealed b) (assigns_not sheet.blocks b x && each_into sheet b test) e in
+    let both : Bool = each_into sheet b test && some_arm test sheet.arms in
+    let rest : (assigns_not sheet.blocks b x && both) ≡ true = second_of_and (sheet.blocks.sealed b) (assigns_not sheet.blocks b x && both) e in
+    let told : both ≡ true = second_of_and (assigns_not sheet.blocks b x) both rest in
+    let (arm, brings) = some_passes test sheet.arms (second_of_and (each_into sheet b test) (some_arm test sheet.arms) told) in
     record {
       tables = copy_keeps sheet.blocks b x v
           (record {
-            is_sealed = first_of_and (sheet.blocks.sealed b) (assigns_not sheet.blocks b x && each_into sheet b test) e;
-            assigns_not = assigns_not_told sheet.blocks b x (first_of_and (assigns_not sheet.blocks b x) (each_into sheet b test) rest);
+            is_sealed = first_of_and (sheet.blocks.sealed b) (assigns_not sheet.blocks b x && both) e;
+            assigns_not = assigns_not_told sheet.blocks b x (first_of_and (assigns_not sheet.blocks b x) both rest);
             along = λ arm joined at.
                 carries_told sheet.blocks arm x (sheet.blocks.function.resolve v)
-                (into_told sheet b test before.fits (second_of_and (assigns_not sheet.blocks b x) (each_into sheet b test) rest) arm joined at);
+                (into_told sheet b test before.fits (first_of_and (each_into sheet b test) (some_arm test sheet.arms) told) arm joined at);
+            somewhere =
+                known_somewhere sheet.blocks arm x v (sheet.blocks.function.resolve v) refl
+                (carries_told sheet.blocks arm x (sheet.blocks.function.resolve v) brings);
           }) before.tables;
       fits = record { arms = before.fits.arms; writes = before.fits.writes; values = before.fits.values; ends = before.fits.ends };
     }
@@ -241,7 +253,7 @@ unfolding allows after
 move_fill sheet b x v given e before =
     let test : Arm → Bool = λ arm. carries_from sheet.blocks arm.source x (sheet.blocks.function.resolve (given arm)) in
     let waits : WaitsIn sheet.blocks b x v = waits_told sheet b x v (first_of_and (waits_in sheet b x v) (each_into sheet b test) e) in
-    let new : Definition = record { home = (sheet.blocks.function.definition v).home; kind = complete } in
+    let new : Definition = record { home = (sheet.blocks.function.definition v).home; kind = complete x } in
     record {
       tables = filled_keeps sheet.blocks b x v given
           (record {
@@ -271,18 +283,23 @@ unfolding allows after
 move_drop sheet b x v target e before =
     let test : Arm → Bool = λ arm. carries_from sheet.blocks arm.source x target || carries_from sheet.blocks arm.source x v in
     let root : Bool = sheet.blocks.function.resolve target == target in
-    let rest : (root && each_into sheet b test) ≡ true = second_of_and (waits_in sheet b x v) (root && each_into sheet b test) e in
+    let brings : Arm → Bool = λ arm. carries_from sheet.blocks arm.source x target in
+    let both : Bool = each_into sheet b test && some_arm brings sheet.arms in
+    let rest : (root && both) ≡ true = second_of_and (waits_in sheet b x v) (root && both) e in
+    let told : both ≡ true = second_of_and root both rest in
+    let (arm, brought) = some_passes brings sheet.arms (second_of_and (each_into sheet b test) (some_arm brings sheet.arms) told) in
     let no_alias : sheet.blocks.function.resolve target ≡ target =
-    number_true (sheet.blocks.function.resolve target) target (first_of_and root (each_into sheet b test) rest) in
+    number_true (sheet.blocks.function.resolve target) target (first_of_and root both rest) in
     record {
       tables = dropped_keeps sheet.blocks b x v target
           (record {
-            waits = waits_told sheet b x v (first_of_and (waits_in sheet b x v) (root && each_into sheet b test) e);
+            waits = waits_told sheet b x v (first_of_and (waits_in sheet b x v) (root && both) e);
             no_alias = no_alias;
+            somewhere = known_somewhere sheet.blocks arm x target target no_alias (carries_told sheet.blocks arm x target brought);
             along = λ arm joined at.
                 either_told sheet.blocks arm x v target
                 (of_or (carries_from sheet.blocks arm.source x target) (carries_from sheet.blocks arm.source x v)
-                (into_told sheet b test before.fits (second_of_and root (each_into sheet b test) rest) arm joined at));
+                (into_told sheet b test before.fits (first_of_and (each_into sheet b test) (some_arm brings sheet.arms) told) arm joined at));
           }) before.tables;
       fits = record {
         arms = before.fits.arms;

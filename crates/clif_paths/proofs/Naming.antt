@@ -3,14 +3,14 @@ use Rattle.std.proofs.Common.{◌≡◌, ◌≢◌, ℕ, cond, Option, None, Som
 use Rattle.clif_paths.specs.Places.{Place, start, Arm, Edges, Path, end_of, Follows, StrictlyBefore, Dominates}
 use Rattle.clif_paths.specs.State.{Origin, fresh, reads, Naming, Program, Kind, unborn, born, pending, complete, zero_of, Definition, Function, State, home_of}
 use Rattle.clif_paths.specs.Denotation.{unknown, given, Holder, variable, name, after_assignment, at_home, instances, defined, denotes, denotation}
-use Rattle.clif_paths.specs.Sound.{Allowed, Holds, SoundUnder, Sound}
+use Rattle.clif_paths.specs.Sound.{Allowed, ParametersTake, Holds, SoundUnder, Sound}
 use Rattle.clif_paths.specs.Steps.{updated, with_given, CanGive, with_use, CanUse}
 use Rattle.clif_paths.proofs.Tables.{updated-same, updated-other, updated_cases}
 use Rattle.clif_paths.proofs.PathLemmas.{dec_place}
 use Rattle.clif_paths.specs.Laws.{entered}
 use Rattle.clif_paths.proofs.Executing.{name-past, name-here, variable-entered, denotes-past, denotes-here}
 use Rattle.clif_paths.proofs.Refine.{Rooted, rooted_allowed, Refines, holds_refined}
-use Rattle.clif_paths.proofs.Born.{with_definition, refines_new, arguments_new, dominates_itself}
+use Rattle.clif_paths.proofs.Born.{with_definition, refines_new, arguments_new, take_new, dominates_itself}
 
 -- where entering a place is the same on both programs, values denote the same
 pub record EntersAlike (edges : Edges) (program program' : Program) : Type 0 where
@@ -25,7 +25,7 @@ denotes_by_kind :
 denotes_by_kind program program' function enters arm path f before v unborn = refl
 denotes_by_kind program program' function enters arm path f before v (born n) = refl
 denotes_by_kind program program' function enters arm path f before v (pending x) = enters.same arm path f x
-denotes_by_kind program program' function enters arm path f before v complete = before (function.resolve (function.argument v arm))
+denotes_by_kind program program' function enters arm path f before v (complete x) = before (function.resolve (function.argument v arm))
 denotes_by_kind program program' function enters arm path f before v (zero_of x) = refl
 
 denotes_alike_by :
@@ -60,6 +60,16 @@ holds_alike program program' function u h place enters same held = record {
   there = held.there;
   agrees = λ path f at_end.
       denotes_alike program program' function enters path f (function.resolve u) ∙ held.agrees path f at_end ∙ sym (same path f at_end);
+}
+
+-- a complete parameter takes what it took, where entering is the same
+pub take_alike :
+    {edges : Edges} (program program' : Program) (function : Function) → EntersAlike edges program program' →
+    ParametersTake edges program function → ParametersTake edges program' function
+take_alike program program' function enters take = record {
+  at_visit = λ {x} u arm path k at f.
+      denotes_alike program program' function enters (arm ∷ path) f (function.resolve u) ∙ take.at_visit u arm path k at f ∙
+      sym (enters.same arm path f x);
 }
 
 -- A new name ------------------------------------------------------------------------------------------------------
@@ -201,7 +211,8 @@ give_under {edges} s place n v can allowed sound =
     let refines : Refines edges program s.function function = refines_new program s.function v definition r sound.arguments can.new_value in
     let enters : EntersAlike edges s.program program = enters_but s.program n new can.name.unassigned in
     record {
-      arguments = arguments_new program s.function v definition r sound.arguments refines (λ e. cc);
+      arguments = arguments_new program s.function v definition r sound.arguments refines (λ y e. cc);
+      parameters = take_new program s.function v definition r refines (take_alike s.program program s.function enters sound.parameters) (λ y e. cc);
       records = λ q y w e.
           holds_refined refines
           (holds_alike s.program program s.function w (variable y) q enters
@@ -270,6 +281,7 @@ use_under {edges} s place n x v can sound =
     (records place x can.known.value can.known.is_recorded) in
     record {
       arguments = sound.arguments;
+      parameters = take_alike s.program program s.function enters sound.parameters;
       records = records;
       answers = λ m there.
           answers_but s program s.function n v new

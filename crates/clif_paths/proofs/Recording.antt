@@ -89,6 +89,7 @@ records_stand s records sound held = record {
   rooted = sound.rooted;
   under = λ edges allowed. record {
     arguments = (sound.under edges allowed).arguments;
+    parameters = (sound.under edges allowed).parameters;
     records = held edges allowed;
     answers = (sound.under edges allowed).answers;
   };

@@ -81,7 +81,7 @@ alike_by_kind :
     ArgumentsThere edges function →
     (u : ℕ) (arm : Arm) (path : Path) → Follows edges (arm ∷ path) → home_of function u ≡ arm.target →
     SameAt edges program function function' path →
-    ((function.definition (function.resolve u)).kind ≡ complete →
+    ((x : ℕ) → (function.definition (function.resolve u)).kind ≡ complete x →
     function'.resolve (function'.argument (function.resolve u) arm) ≡ function.resolve (function.argument (function.resolve u) arm)) →
     (kind : Kind) → (function.definition (function.resolve u)).kind ≡ kind →
     defined program function' arm path (λ w. denotes program function' path w) (function.resolve u) kind ≡
@@ -89,11 +89,11 @@ alike_by_kind :
 alike_by_kind edges program function function' there u arm path f e before same unborn k = refl
 alike_by_kind edges program function function' there u arm path f e before same (born n) k = refl
 alike_by_kind edges program function function' there u arm path f e before same (pending x) k = refl
-alike_by_kind edges program function function' there u arm path f e before same complete k =
+alike_by_kind edges program function function' there u arm path f e before same (complete x) k =
     let a : ℕ = function.argument (function.resolve u) arm in
     let d : Dominates edges (home_of function a) (end_of path) =
     subst (λ p. Dominates edges (home_of function a) p) f.1 (there.at_source u arm k e f.0) in
-    ap (λ w. denotes program function' path w) (same k) ∙ before.same a d
+    ap (λ w. denotes program function' path w) (same x k) ∙ before.same a d
 alike_by_kind edges program function function' there u arm path f e before same (zero_of x) k = refl
 
 pub alike_visit :
@@ -102,7 +102,7 @@ pub alike_visit :
     (u : ℕ) (arm : Arm) (path : Path) → Follows edges (arm ∷ path) → home_of function u ≡ arm.target →
     SameAt edges program function function' path →
     function'.definition (function.resolve u) ≡ function.definition (function.resolve u) →
-    ((function.definition (function.resolve u)).kind ≡ complete →
+    ((x : ℕ) → (function.definition (function.resolve u)).kind ≡ complete x →
     function'.resolve (function'.argument (function.resolve u) arm) ≡ function.resolve (function.argument (function.resolve u) arm)) →
     defined program function' arm path (λ w. denotes program function' path w) (function.resolve u) (function'.definition (function.resolve u)).kind ≡
     defined program function arm path (λ w. denotes program function path w) (function.resolve u) (function.definition (function.resolve u)).kind

@@ -78,7 +78,7 @@ kind_age program function arm path before v unborn = zero_le (suc (length path))
 kind_age program function arm path before v (born n) = self_le (suc (length path))
 kind_age program function arm path before v (pending x) =
     entered_age program arm path (program_knows program path) x (program.is_sealed arm.target) refl
-kind_age program function arm path before v complete =
+kind_age program function arm path before v (complete x) =
     wider (age (denotes program function path (function.resolve (function.argument v arm)))) (length path) (before (function.resolve (function.argument v arm)))
 kind_age program function arm path before v (zero_of x) = zero_le (suc (length path))
 

@@ -5,6 +5,7 @@ use Rattle.clif_paths.specs.State.{complete, Definition, State, home_of}
 use Rattle.clif_paths.specs.Sound.{Allowed, SoundUnder, Sound}
 use Rattle.clif_paths.specs.Steps.{initial, with_tables, CanRestate}
 use Rattle.clif_paths.proofs.Refine.{rooted_allowed, alike_visit, Refines, refines_alike, holds_refined}
+use Rattle.clif_paths.proofs.Born.{take_refined}
 
 -- the first state is sound
 pub initial_sound : Sound initial
@@ -13,6 +14,7 @@ initial_sound = record {
   rooted = λ arm at. refl;
   under = λ edges allowed. record {
     arguments = record { at_source = λ u arm k at e. absurd cc };
+    parameters = record { at_visit = λ u arm path k at f. absurd cc };
     records = λ place x v e. absurd cc;
     answers = λ n there. absurd (there refl);
   };
@@ -20,10 +22,10 @@ initial_sound = record {
 
 unseen_arguments :
     {edges : Edges} (s : State) (definition : ℕ → Definition) (argument : ℕ → Arm → ℕ) → CanRestate s definition argument →
-    Allowed s.program edges → (u : ℕ) (arm : Arm) → (s.function.definition (s.function.resolve u)).kind ≡ complete →
+    Allowed s.program edges → (u x : ℕ) (arm : Arm) → (s.function.definition (s.function.resolve u)).kind ≡ complete x →
     home_of s.function u ≡ arm.target → edges arm ≡ true →
     s.function.resolve (argument (s.function.resolve u) arm) ≡ s.function.resolve (s.function.argument (s.function.resolve u) arm)
-unseen_arguments s definition argument can allowed u arm k at e =
+unseen_arguments s definition argument can allowed u x arm k at e =
     can.arguments u arm k at (λ sealed. sym (allowed.known arm sealed) ∙ e)
 
 restate_refines :
@@ -34,7 +36,7 @@ restate_refines {edges} s definition argument can allowed sound =
       same_home = λ u there. ap (λ (d : Definition). d.home) (can.seen u);
       same_visit = λ u arm path f at before.
           alike_visit edges s.program s.function (with_tables s definition argument).function sound.arguments u arm path f at before
-          (can.seen u) (λ k. unseen_arguments s definition argument can allowed u arm k at f.0);
+          (can.seen u) (λ x k. unseen_arguments s definition argument can allowed u x arm k at f.0);
     })
 
 restate_under :
@@ -45,14 +47,19 @@ restate_under {edges} s definition argument can allowed sound =
     restate_refines s definition argument can allowed sound in
     record {
       arguments = record {
-        at_source = λ u arm k at e.
+        at_source = λ {x} u arm k at e.
             let at_old : home_of s.function u ≡ arm.target = sym (ap (λ (d : Definition). d.home) (can.seen u)) ∙ at in
-            let k_old : (s.function.definition (s.function.resolve u)).kind ≡ complete = sym (ap (λ (d : Definition). d.kind) (can.seen u)) ∙ k in
+            let k_old : (s.function.definition (s.function.resolve u)).kind ≡ complete x = sym (ap (λ (d : Definition). d.kind) (can.seen u)) ∙ k in
             let there = sound.arguments.at_source u arm k_old at_old e in
             refines.there (argument (s.function.resolve u) arm) arm.source
             (subst (λ r. Dominates edges (s.function.definition r).home arm.source)
-            (sym (unseen_arguments s definition argument can allowed u arm k_old at_old e))
+            (sym (unseen_arguments s definition argument can allowed u x arm k_old at_old e))
             there);
+      };
+      parameters = record {
+        at_visit = λ {x} u arm path k at f.
+            take_refined s.program s.function (with_tables s definition argument).function (rooted_allowed allowed) refines sound.parameters u x arm path
+            (sym (ap (λ (d : Definition). d.kind) (can.seen u)) ∙ k) (sym (ap (λ (d : Definition). d.home) (can.seen u)) ∙ at) f;
       };
       records = λ place x v e. holds_refined refines (sound.records place x v e);
       answers = λ n there. holds_refined refines (sound.answers n there);

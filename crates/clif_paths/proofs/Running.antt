@@ -254,7 +254,7 @@ module _
     kind_reads arm path f before v (pending x) =
         entering_reads outside labels program (program_labels program function labels keeps) arm path
         (program_reads outside labels program (program_labels program function labels keeps) path) x (program.is_sealed arm.target) refl
-    kind_reads arm path f before v complete = moved_value arm path f before (function.argument v arm)
+    kind_reads arm path f before v (complete x) = moved_value arm path f before (function.argument v arm)
     kind_reads arm path f before v (zero_of x) = sym (nil_bits outside labels (arm ∷ path) (Instance.zero x) refl)
 
     value_bits_here :

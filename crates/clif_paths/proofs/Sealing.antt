@@ -137,7 +137,7 @@ denotes_by_kind program chosen into function unsealed arm path before v unborn =
 denotes_by_kind program chosen into function unsealed arm path before v (born n) = refl
 denotes_by_kind program chosen into function unsealed arm path before v (pending x) =
     entered_known program chosen into unsealed arm path (all_known program chosen into unsealed path) x (chosen arm.target) refl
-denotes_by_kind program chosen into function unsealed arm path before v complete = before (function.resolve (function.argument v arm))
+denotes_by_kind program chosen into function unsealed arm path before v (complete x) = before (function.resolve (function.argument v arm))
 denotes_by_kind program chosen into function unsealed arm path before v (zero_of x) = refl
 
 denotes_by :
@@ -177,6 +177,15 @@ holds_known program chosen into function unsealed v h p held = record {
       sym ((all_known program chosen into unsealed path).all h);
 }
 
+take_known :
+    (program : Program) (chosen : Place → Bool) (into : Edges) (function : Function) → ((p : Place) → chosen p ≡ true → program.is_sealed p ≡ false) →
+    (v x : ℕ) (arm : Arm) (path : Path) → denotes program function (arm ∷ path) v ≡ entered program arm path x →
+    denotes (with_arms program chosen into) function (arm ∷ path) v ≡ entered (with_arms program chosen into) arm path x
+take_known program chosen into function unsealed v x arm path takes =
+    denotes_known program chosen into function unsealed (arm ∷ path) v ∙
+    ap (λ i. known (with_arms program chosen into) chosen i) takes ∙
+    sym (entered_known program chosen into unsealed arm path (all_known program chosen into unsealed path) x (chosen arm.target) refl)
+
 arms-other : (program : Program) (chosen : Place → Bool) (into : Edges) (arm : Arm) → chosen arm.target ≡ false → (with_arms program chosen into).arms arm ≡ program.arms arm
 arms-other program chosen into arm ne = rw ne refl
 
@@ -215,6 +224,10 @@ seal_keeps s chosen into can sound = record {
       let before : SoundUnder edges s = sound.under edges (allowed_sealed s.program chosen into can.unsealed allowed) in
       record {
         arguments = before.arguments;
+        parameters = record {
+          at_visit = λ {x} u arm path k at f.
+              take_known s.program chosen into s.function can.unsealed (s.function.resolve u) x arm path (before.parameters.at_visit u arm path k at f);
+        };
         records = λ p x v e. holds_known s.program chosen into s.function can.unsealed v (variable x) p (before.records p x v e);
         answers = λ n there. holds_known s.program chosen into s.function can.unsealed (s.answer n) (name n) (s.program.naming n).home (before.answers n there);
       };

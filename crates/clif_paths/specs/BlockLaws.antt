@@ -4,11 +4,13 @@ use Rattle.std.specs.Prelude.{◌≡◌, ◌≢◌, ℕ, false, Option, None, So
 use Rattle.clif_paths.specs.Places.{Place, start, Arm, Edges}
 use Rattle.clif_paths.specs.Sound.{Sound}
 use Rattle.clif_paths.specs.Steps.{updated, aliased, CanGive}
+use Rattle.clif_paths.specs.ValueLabels.{Labelled}
 use Rattle.clif_paths.specs.Blocks.{Blocks, state_of, no_blocks, with_block_sealed, with_blocks_sealed, with_item, CanAppend, with_born, with_read, CanRead, with_record, with_write, CanWrite, CanCopy, IsChain, with_chain, with_parameter, CanAddParameter, with_filled, CanFillIn, with_dropped, CanDropIn, with_zero_in, CanUndefineIn, SaysTheSame, CompleteAtFronts, Role, Birth, result_of, place_of, home_by, Resolves, FallsAlong}
 
--- the state of the tables is sound
+-- the state of the tables is sound, and labels are kept
 pub record BlocksSound (blocks : Blocks) : Type 0 where
   pub sound : Sound (state_of blocks)
+  pub labelled : Labelled blocks
 
 abbrev pub FirstBlocksSound : Type 0
 FirstBlocksSound = BlocksSound no_blocks
@@ -63,7 +65,7 @@ ParameterKeeps =
 abbrev pub FilledKeeps : Type 0
 FilledKeeps =
     (blocks : Blocks) (block x v : ℕ) (given : Arm → ℕ) → CanFillIn blocks block x v given → BlocksSound blocks →
-    BlocksSound (with_filled blocks v given)
+    BlocksSound (with_filled blocks x v given)
 
 abbrev pub DroppedKeeps : Type 0
 DroppedKeeps =

@@ -172,13 +172,20 @@ pub record Carries (blocks : Blocks) (arm : Arm) (x v : ℕ) : Type 0 where
   pub is_recorded : blocks.recorded from x ≡ Some value
   pub resolves : blocks.function.resolve value ≡ v
 
--- COPY a record into a block that doesn't assign the variable, from where all arms come from.
+-- somewhere a record of the variable resolves as this value does
+pub record KnownSomewhere (blocks : Blocks) (x v : ℕ) : Type 0 where
+  pub block : ℕ
+  pub known : Knows blocks block x v
+
+-- COPY a record into a block that doesn't assign the variable, from where all arms come from. Where no arm comes in
+-- the record is still one of the variable.
 pub record CanCopy (blocks : Blocks) (block x v : ℕ) : Type 0 where
   pub is_sealed : blocks.sealed block ≡ true
   pub assigns_not : AssignsNot blocks block x
   pub along :
       (arm : Arm) → blocks.joins arm ≡ true → arm.target ≡ front block →
       Carries blocks arm x (blocks.function.resolve v)
+  pub somewhere : KnownSomewhere blocks x v
 
 -- COPY along a chain of blocks, each of which is sealed, doesn't assign the variable, and is joined from the block
 -- before alone.
@@ -215,13 +222,13 @@ pub record WaitsIn (blocks : Blocks) (block x v : ℕ) : Type 0 where
   pub is_parameter : blocks.function.definition v ≡ record { home = front block; kind = pending x }
   pub is_sealed : blocks.sealed block ≡ true
 
--- FILL: the parameter gets an argument on each arm.
-abbrev pub with_filled : Blocks → ℕ → (Arm → ℕ) → Blocks
-with_filled blocks v given = record blocks {
+-- FILL: the parameter, which waits for this variable, gets an argument on each arm.
+abbrev pub with_filled : Blocks → ℕ → ℕ → (Arm → ℕ) → Blocks
+with_filled blocks x v given = record blocks {
   function = record blocks.function {
     definition =
         updated blocks.function.definition v
-        (record { home = (blocks.function.definition v).home; kind = complete });
+        (record { home = (blocks.function.definition v).home; kind = complete x });
     argument = updated blocks.function.argument v given;
   };
 }
@@ -244,6 +251,7 @@ pub record CanDropIn (blocks : Blocks) (block x v target : ℕ) : Type 0 where
   pub along :
       (arm : Arm) → blocks.joins arm ≡ true → arm.target ≡ front block →
       Carries blocks arm x target ⊎ Carries blocks arm x v
+  pub somewhere : KnownSomewhere blocks x target
 
 -- ZERO: a variable's zero is put at a block's front.
 abbrev pub with_zero_in : Blocks → ℕ → ℕ → ℕ → Blocks
@@ -278,7 +286,7 @@ pub record SaysTheSame (blocks blocks' : Blocks) : Type 0 where
       blocks'.function.definition (blocks.function.resolve u) ≡
       blocks.function.definition (blocks.function.resolve u)
   pub argument :
-      (u b : ℕ) (arm : Arm) → (blocks.function.definition (blocks.function.resolve u)).kind ≡ complete →
+      {x : ℕ} (u b : ℕ) (arm : Arm) → (blocks.function.definition (blocks.function.resolve u)).kind ≡ complete x →
       home_of blocks.function u ≡ front b → arm.target ≡ front b → blocks.sealed b ≡ true →
       blocks.joins arm ≡ true →
       blocks.function.resolve (blocks'.function.argument (blocks.function.resolve u) arm) ≡
@@ -289,7 +297,7 @@ pub record SaysTheSame (blocks blocks' : Blocks) : Type 0 where
 -- complete parameters stand at fronts of sealed blocks
 pub record CompleteAtFronts (blocks : Blocks) : Type 0 where
   pub at_front :
-      (u : ℕ) → (blocks.function.definition (blocks.function.resolve u)).kind ≡ complete →
+      {x : ℕ} (u : ℕ) → (blocks.function.definition (blocks.function.resolve u)).kind ≡ complete x →
       (b : ℕ) × (home_of blocks.function u ≡ front b) × (blocks.sealed b ≡ true)
 
 -- ALIASES as links. A table of links resolves as `resolve` does where an unlinked value is its own end, a linked

@@ -60,7 +60,7 @@ abbrev pub defined : Program → Function → Arm → Path → (ℕ → Instance
 defined program function arm path before v unborn = absent
 defined program function arm path before v (born n) = given n (arm ∷ path)
 defined program function arm path before v (pending x) = entering program arm path (λ h. instances program path h) x
-defined program function arm path before v complete = before (function.resolve (function.argument v arm))
+defined program function arm path before v (complete x) = before (function.resolve (function.argument v arm))
 defined program function arm path before v (zero_of x) = zero x
 
 -- The function's side after a path: a value that is no alias changes only at its home.

@@ -2,13 +2,14 @@
 -- Source: own; the situations are those that Braun et al. 2013 discuss (late sealing, trivial parameters,
 -- irreducible
 -- control flow, undefined variables).
-use Rattle.std.specs.Prelude.{◌≡◌, ℕ, suc, cond, List, [], ◌∷◌, ◌+◌, refl, Some, ◌==◌, false, true}
+use Rattle.std.specs.Prelude.{◌≡◌, ℕ, suc, cond, List, [], ◌∷◌, ◌+◌, refl, Option, Some, ◌==◌, false, true}
 use Rattle.clif_paths.specs.Places.{start, inside, same_place, Arm, Path, end_of}
 use Rattle.clif_paths.specs.State.{Program, complete, zero_of}
 use Rattle.clif_paths.specs.Denotation.{given, name, instances, denotation}
 use Rattle.clif_paths.specs.Laws.{IsCorrect}
 use Rattle.clif_paths.specs.Blocks.{Blocks, front, state_of, Knows, with_filled, with_parameter}
-use Rattle.clif_paths.specs.Moves.{blank, Move, seal_with, go_on, give_name, read_variable, write_variable, copy_record, add_parameter, fill_parameter, drop_parameter, add_zero, undefine_parameter, after_all, Witness}
+use Rattle.clif_paths.specs.ValueLabels.{label_by, LabelsKept}
+use Rattle.clif_paths.specs.Moves.{blank, Move, seal_with, go_on, give_name, read_variable, write_variable, copy_record, add_parameter, fill_parameter, drop_parameter, add_zero, undefine_parameter, after_all, agree_all, Witness}
 use Rattle.clif_paths.specs.Runs.{Outside, Labelling, program_bits, function_bits}
 use Rattle.clif_paths.specs.LookUp.{Delivers}
 use Rattle.clif_paths.specs.Shape.{Types, EdgeShape, Shape, Structured, no_shape, with_block, waiting_added, lookup_begun, first_completed, arguments_appended}
@@ -69,7 +70,7 @@ second_round = on 1 0 ∷ jump 1 4 0 1 ∷ on 1 3 ∷ on 1 2 ∷ first_round
 pub record LoopSealedLate : Type 0 where
   pub correct : IsCorrect (state_of loop_blocks)
   pub completed :
-      (loop_blocks.function.definition (loop_blocks.function.resolve (loop_blocks.answer 1))).kind ≡ complete
+      (loop_blocks.function.definition (loop_blocks.function.resolve (loop_blocks.answer 1))).kind ≡ complete 0
   pub program_side : instances (state_of loop_blocks).program second_round (name 1) ≡ given 2 first_round
   pub function_side :
       (any : Program) →
@@ -201,6 +202,35 @@ pub record UnreachableCycle : Type 0 where
   pub second : cycle_blocks.function.resolve (cycle_blocks.answer 1) ≡ 2
   pub is_zero : (cycle_blocks.function.definition 2).kind ≡ zero_of 0
 
+-- LABELS. A variable's label is 7 and its number, and each name's is 7: that agrees on the loop, whose one variable is
+-- 0. So the parameter has the variable's label, and the argument that it gets as the loop goes round.
+abbrev pub from_seven : ℕ → ℕ
+from_seven x = 7 + x
+
+abbrev pub always_seven : ℕ → ℕ
+always_seven n = 7
+
+abbrev pub label_of_value : Blocks → ℕ → Option ℕ
+label_of_value blocks v = label_by from_seven always_seven (blocks.function.definition (blocks.function.resolve v)).kind
+
+pub record LoopLabelled : Type 0 where
+  pub kept : LabelsKept loop_blocks from_seven always_seven
+  pub parameter : label_of_value loop_blocks (loop_blocks.answer 1) ≡ Some 7
+  pub argument : label_of_value loop_blocks (loop_blocks.function.argument 1 (jump 1 4 0 1)) ≡ Some 7
+
+-- where name 2 has label 8, which the loop assigns to the variable, the labels don't agree and aren't kept
+abbrev pub eight_at_two : ℕ → ℕ
+eight_at_two n = cond (n == 2) 8 7
+
+pub record LoopMixed : Type 0 where
+  pub differ : agree_all from_seven eight_at_two loop_moves ≡ false
+  pub lost : ¬ (LabelsKept loop_blocks from_seven eight_at_two)
+
+-- nothing reaches the cycle, and its answers have the label of the variable, too, as the zero has
+pub record CycleLabelled : Type 0 where
+  pub kept : LabelsKept cycle_blocks from_seven always_seven
+  pub first : label_of_value cycle_blocks (cycle_blocks.answer 0) ≡ Some 7
+
 -- A LOOK-UP. Block 0 assigns name 0, block 1 assigns name 1, and blocks 1 and 2 jump to block 3, which is sealed.
 -- A use
 -- in block 3 adds a parameter, value 2, looks the variable up in blocks 1 and 2, finds two values, and gives the
@@ -227,7 +257,7 @@ abbrev pub from_two : Arm → ℕ
 from_two arm = cond (same_place arm.source (inside 1 3)) 1 0
 
 abbrev pub looked_up : Blocks
-looked_up = with_filled (with_parameter (after_all blank two_values).blocks 3 0 2) 2 from_two
+looked_up = with_filled (with_parameter (after_all blank two_values).blocks 3 0 2) 0 2 from_two
 
 pub record LookUpFills : Type 0 where
   pub delivered : Delivers looked_up two_predecessors 0 (Some 3) [] 2

@@ -31,12 +31,12 @@ pub record FunctionLabels (edges : Edges) (function : Function) (fits : ℕ → 
       (u x : ℕ) → (function.definition (function.resolve u)).kind ≡ pending x →
       of_value (function.resolve u) ≡ of_variable x
   pub argument_same :
-      (u : ℕ) (arm : Arm) → (function.definition (function.resolve u)).kind ≡ complete →
+      {x : ℕ} (u : ℕ) (arm : Arm) → (function.definition (function.resolve u)).kind ≡ complete x →
       home_of function u ≡ arm.target → edges arm ≡ true →
       (of_value (function.resolve (function.argument (function.resolve u) arm)) ≡ of_value (function.resolve u)) ⊎
-      ((x : ℕ) ×
-      ((function.definition (function.resolve (function.argument (function.resolve u) arm))).kind ≡ zero_of x) ×
-      (fits (of_value (function.resolve u)) (zero x) ≡ true))
+      ((y : ℕ) ×
+      ((function.definition (function.resolve (function.argument (function.resolve u) arm))).kind ≡ zero_of y) ×
+      (fits (of_value (function.resolve u)) (zero y) ≡ true))
 
 -- variables and names keep their labels
 pub record ProgramFits (program : Program) (fits : ℕ → Instance → Bool) (of_variable of_name : ℕ → ℕ)

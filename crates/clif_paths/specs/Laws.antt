@@ -81,7 +81,7 @@ pub record FunctionSteps (program : Program) (function : Function) (arm : Arm) (
       (v x : ℕ) → function.definition v ≡ record { home = arm.target; kind = pending x } →
       denotes program function (arm ∷ path) v ≡ entered program arm path x
   pub complete_here :
-      (v : ℕ) → function.definition v ≡ record { home = arm.target; kind = complete } →
+      (v x : ℕ) → function.definition v ≡ record { home = arm.target; kind = complete x } →
       denotes program function (arm ∷ path) v ≡ denotation program function path (function.argument v arm)
 
 abbrev pub FunctionIsExecuted : Type 0
@@ -107,7 +107,7 @@ WaitKeeps = (s : State) (place : Place) (x v : ℕ) → CanWait s place x v → 
 
 abbrev pub FillKeeps : Type 0
 FillKeeps =
-    (s : State) (x v : ℕ) (given : Arm → ℕ) → CanFill s x v given → Sound s → Sound (with_arguments s v given)
+    (s : State) (x v : ℕ) (given : Arm → ℕ) → CanFill s x v given → Sound s → Sound (with_arguments s x v given)
 
 abbrev pub DropKeeps : Type 0
 DropKeeps = (s : State) (x v target : ℕ) → CanDrop s x v target → Sound s → Sound (with_alias s v target)
@@ -151,6 +151,22 @@ abbrev pub RecordsHold : Type 0
 RecordsHold =
     (s : State) → Steps initial s → (edges : Edges) → Allowed s.program edges →
     (place : Place) (x v : ℕ) → s.recorded place x ≡ Some v → Holds edges s.program s.function v (variable x) place
+
+-- A complete parameter holds its variable at its home, if that doesn't assign it, and each argument of it holds the
+-- variable where its arm leaves.
+abbrev pub ParametersHold : Type 0
+ParametersHold =
+    (s : State) → Sound s → (edges : Edges) → Allowed s.program edges →
+    (u x : ℕ) → (s.function.definition (s.function.resolve u)).kind ≡ complete x →
+    home_of s.function u ≢ start → s.program.assigned (home_of s.function u) x ≡ None →
+    Holds edges s.program s.function u (variable x) (home_of s.function u)
+
+abbrev pub ArgumentsHold : Type 0
+ArgumentsHold =
+    (s : State) → Sound s → (edges : Edges) → Allowed s.program edges →
+    (u x : ℕ) (arm : Arm) → (s.function.definition (s.function.resolve u)).kind ≡ complete x →
+    home_of s.function u ≡ arm.target → edges arm ≡ true → s.program.is_sealed arm.target ≡ true →
+    Holds edges s.program s.function (s.function.argument (s.function.resolve u) arm) (variable x) arm.source
 
 -- No parameter waits.
 pub record NothingPending (function : Function) : Type 0 where

@@ -6,10 +6,12 @@ pub mod Sound
 pub mod Steps
 pub mod Laws
 pub mod Blocks
+pub mod ValueLabels
 pub mod BlockLaws
 pub mod LookUp
 pub mod Labels
 pub mod Runs
+pub mod LabelLaws
 pub mod Shape
 pub mod Moves
 pub mod MoveLaws

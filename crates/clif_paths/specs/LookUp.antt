@@ -197,6 +197,7 @@ DroppingFinishes =
     LeavesOneOf blocks f.block (predecessors f.block) →
     blocks.function.resolve target ≡ target → target ≢ f.parameter →
     ((r : ℕ) → InList f.results r → (blocks.function.resolve r ≡ target) ⊎ (blocks.function.resolve r ≡ f.parameter)) →
+    ((r : ℕ) × (InList f.results r) × (blocks.function.resolve r ≡ target)) →
     Delivers (with_dropped blocks f.parameter target) predecessors x first frames target
 
 -- It ends with more: the parameter gets each predecessor's result on its arms, and is the result. `back_onto` turns
@@ -209,7 +210,7 @@ FillingFinishes =
     ((arm : Arm) → blocks.joins arm ≡ true → arm.target ≡ front f.block →
     (b : ℕ) × (Paired (predecessors f.block) (back_onto f.results []) b (given arm)) ×
     (arm.source ≡ last_place blocks b)) →
-    Delivers (with_filled blocks f.parameter given) predecessors x first frames f.parameter
+    Delivers (with_filled blocks x f.parameter given) predecessors x first frames f.parameter
 
 -- a frame has one result for each predecessor that is done
 abbrev pub ResultsAreCounted : Type 0

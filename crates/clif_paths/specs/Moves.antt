@@ -62,6 +62,11 @@ unfoldable pub each_arm : (Arm → Bool) → List Arm → Bool
 each_arm test [] = true
 each_arm test (arm ∷ arms) = test arm && each_arm test arms
 
+-- some arm of a list passes
+unfoldable pub some_arm : (Arm → Bool) → List Arm → Bool
+some_arm test [] = false
+some_arm test (arm ∷ arms) = test arm || some_arm test arms
+
 -- each write of a list passes
 unfoldable pub each_write : (Write → Bool) → List Write → Bool
 each_write test [] = true
@@ -139,7 +144,8 @@ allows sheet (write_variable block x n) =
 allows sheet (copy_record block x v) =
     sheet.blocks.sealed block &&
     (assigns_not sheet.blocks block x &&
-    each_into sheet block (λ arm. carries_from sheet.blocks arm.source x (sheet.blocks.function.resolve v)))
+    (each_into sheet block (λ arm. carries_from sheet.blocks arm.source x (sheet.blocks.function.resolve v)) &&
+    some_arm (λ arm. carries_from sheet.blocks arm.source x (sheet.blocks.function.resolve v)) sheet.arms))
 allows sheet (add_parameter block x v) = assigns_not sheet.blocks block x && is_new_value sheet v
 allows sheet (fill_parameter block x v given) =
     waits_in sheet block x v &&
@@ -147,8 +153,9 @@ allows sheet (fill_parameter block x v given) =
 allows sheet (drop_parameter block x v target) =
     waits_in sheet block x v &&
     ((sheet.blocks.function.resolve target == target) &&
-    each_into sheet block
-    (λ arm. carries_from sheet.blocks arm.source x target || carries_from sheet.blocks arm.source x v))
+    (each_into sheet block
+    (λ arm. carries_from sheet.blocks arm.source x target || carries_from sheet.blocks arm.source x v) &&
+    some_arm (λ arm. carries_from sheet.blocks arm.source x target) sheet.arms))
 allows sheet (add_zero block x z) = is_new_value sheet z
 allows sheet (undefine_parameter block x v z) =
     waits_in sheet block x v &&
@@ -173,7 +180,7 @@ after sheet (write_variable block x n) =
 after sheet (copy_record block x v) = record sheet { blocks = with_record sheet.blocks block x v }
 after sheet (add_parameter block x v) =
     record sheet { blocks = with_parameter sheet.blocks block x v; values = v ∷ sheet.values }
-after sheet (fill_parameter block x v given) = record sheet { blocks = with_filled sheet.blocks v given }
+after sheet (fill_parameter block x v given) = record sheet { blocks = with_filled sheet.blocks x v given }
 after sheet (drop_parameter block x v target) = record sheet { blocks = with_dropped sheet.blocks v target }
 after sheet (add_zero block x z) =
     record sheet { blocks = with_zero_in sheet.blocks block x z; values = z ∷ sheet.values }
@@ -187,6 +194,16 @@ after_all sheet (move ∷ moves) = after_all (after sheet move) moves
 unfoldable pub allows_all : Sheet → List Move → Bool
 allows_all sheet [] = true
 allows_all sheet (move ∷ moves) = allows sheet move && allows_all (after sheet move) moves
+
+-- whether the labels agree on what a move assigns or reads, and on what each does
+unfoldable pub agrees : (of_variable of_name : ℕ → ℕ) → Move → Bool
+agrees of_variable of_name (read_variable block n x v) = of_name n == of_variable x
+agrees of_variable of_name (write_variable block x n) = of_name n == of_variable x
+agrees of_variable of_name _ = true
+
+unfoldable pub agree_all : (of_variable of_name : ℕ → ℕ) → List Move → Bool
+agree_all of_variable of_name [] = true
+agree_all of_variable of_name (move ∷ moves) = agrees of_variable of_name move && agree_all of_variable of_name moves
 
 -- ASSIGNED NAMES ARE GIVEN BEFORE ---------------------------------------------------------------------------------
 

@@ -59,7 +59,7 @@ bits_of_kind outside labels program function arm path names before v unborn = 0
 bits_of_kind outside labels program function arm path names before v (born n) = outside.given_bits n (arm ∷ path)
 bits_of_kind outside labels program function arm path names before v (pending x) =
     entering_bits outside labels program arm path names x
-bits_of_kind outside labels program function arm path names before v complete =
+bits_of_kind outside labels program function arm path names before v (complete x) =
     let a = function.resolve (function.argument v arm) in
     outside.moved (arm ∷ path) (labels.of_value a) (before a)
 bits_of_kind outside labels program function arm path names before v (zero_of x) = 0
@@ -86,12 +86,12 @@ pub record KeepsLabels (edges : Edges) (program : Program) (function : Function)
       (u x : ℕ) → (function.definition (function.resolve u)).kind ≡ pending x →
       labels.of_value (function.resolve u) ≡ labels.of_variable x
   pub argument_same :
-      (u : ℕ) (arm : Arm) → (function.definition (function.resolve u)).kind ≡ complete →
+      {x : ℕ} (u : ℕ) (arm : Arm) → (function.definition (function.resolve u)).kind ≡ complete x →
       home_of function u ≡ arm.target → edges arm ≡ true →
       (labels.of_value (function.resolve (function.argument (function.resolve u) arm)) ≡
       labels.of_value (function.resolve u)) ⊎
-      ((x : ℕ) ×
-      ((function.definition (function.resolve (function.argument (function.resolve u) arm))).kind ≡ zero_of x))
+      ((y : ℕ) ×
+      ((function.definition (function.resolve (function.argument (function.resolve u) arm))).kind ≡ zero_of y))
 
 -- the label of an instance, and its bits at the end of a path
 abbrev pub label_of : Labelling → Instance → ℕ

@@ -1,9 +1,9 @@
 -- When the function's side stands for the program's side.
 -- Source: own; it is the correctness of the values that Braun et al. 2013 answer, said along paths.
-use Rattle.std.specs.Prelude.{◌≡◌, ◌≢◌, ℕ, true, false, Some}
+use Rattle.std.specs.Prelude.{◌≡◌, ◌≢◌, ℕ, true, false, Some, ◌∷◌}
 use Rattle.clif_paths.specs.Places.{Place, start, Arm, Edges, Path, Follows, end_of, Dominates, StrictlyBefore}
 use Rattle.clif_paths.specs.State.{Program, complete, Function, State, home_of}
-use Rattle.clif_paths.specs.Denotation.{Holder, variable, name, instances, denotation}
+use Rattle.clif_paths.specs.Denotation.{Holder, variable, name, entering, instances, denotation}
 
 -- Edges that the finished program may turn out to have: the known arms into sealed places, anything into unsealed
 -- ones, nothing into the virtual start; and an assigned name is given on every path before its assignment.
@@ -25,15 +25,26 @@ pub record Holds (edges : Edges) (program : Program) (function : Function) (valu
 -- each argument of a complete parameter is there where its arm leaves
 pub record ArgumentsThere (edges : Edges) (function : Function) : Type 0 where
   pub at_source :
-      (u : ℕ) (arm : Arm) →
-      (function.definition (function.resolve u)).kind ≡ complete →
+      {x : ℕ} (u : ℕ) (arm : Arm) →
+      (function.definition (function.resolve u)).kind ≡ complete x →
       home_of function u ≡ arm.target →
       edges arm ≡ true →
       Dominates edges (home_of function (function.argument (function.resolve u) arm)) arm.source
 
--- under these edges: arguments are there, records hold their variables, answers hold their names
+-- at each visit of its home a complete parameter denotes what its variable holds as control enters
+pub record ParametersTake (edges : Edges) (program : Program) (function : Function) : Type 0 where
+  pub at_visit :
+      {x : ℕ} (u : ℕ) (arm : Arm) (path : Path) →
+      (function.definition (function.resolve u)).kind ≡ complete x →
+      home_of function u ≡ arm.target →
+      Follows edges (arm ∷ path) →
+      denotation program function (arm ∷ path) u ≡ entering program arm path (λ h. instances program path h) x
+
+-- under these edges: arguments are there, complete parameters take their variables, records hold theirs, answers
+-- hold their names
 pub record SoundUnder (edges : Edges) (s : State) : Type 0 where
   pub arguments : ArgumentsThere edges s.function
+  pub parameters : ParametersTake edges s.program s.function
   pub records :
       (place : Place) (x v : ℕ) → s.recorded place x ≡ Some v →
       Holds edges s.program s.function v (variable x) place

@@ -34,8 +34,8 @@ pub data Kind : Type 0 where
   born : (name : ℕ) → Kind
   -- a parameter for this variable that has no arguments yet
   pending : (variable : ℕ) → Kind
-  -- a parameter that each arm into its home gives an argument
-  complete : Kind
+  -- a parameter for this variable that each arm into its home gives an argument
+  complete : (variable : ℕ) → Kind
   -- the zero of this variable
   zero_of : (variable : ℕ) → Kind
 

@@ -96,10 +96,11 @@ pub record Waits (s : State) (x v : ℕ) : Type 0 where
   pub is_sealed : s.program.is_sealed (s.function.definition v).home ≡ true
 
 -- FILL. A waiting parameter gets an argument from each arm, as the records at the arms' sources are.
-abbrev pub with_arguments : State → ℕ → (Arm → ℕ) → State
-with_arguments s v given = record s {
+abbrev pub with_arguments : State → ℕ → ℕ → (Arm → ℕ) → State
+with_arguments s x v given = record s {
   function = record s.function {
-    definition = updated s.function.definition v (record { home = (s.function.definition v).home; kind = complete });
+    definition =
+        updated s.function.definition v (record { home = (s.function.definition v).home; kind = complete x });
     argument = updated s.function.argument v given;
   };
 }
@@ -206,7 +207,7 @@ with_tables s definition argument = record s {
 pub record CanRestate (s : State) (definition : ℕ → Definition) (argument : ℕ → Arm → ℕ) : Type 0 where
   pub seen : (u : ℕ) → definition (s.function.resolve u) ≡ s.function.definition (s.function.resolve u)
   pub arguments :
-      (u : ℕ) (arm : Arm) → (s.function.definition (s.function.resolve u)).kind ≡ complete →
+      {x : ℕ} (u : ℕ) (arm : Arm) → (s.function.definition (s.function.resolve u)).kind ≡ complete x →
       home_of s.function u ≡ arm.target →
       (s.program.is_sealed arm.target ≡ true → s.program.arms arm ≡ true) →
       s.function.resolve (argument (s.function.resolve u) arm) ≡
@@ -218,7 +219,7 @@ pub data Step : State → State → Type 0 where
   record_values :
       {s : State} (records : Place → ℕ → Option ℕ) → CanRecord s records → Step s (with_records s records)
   wait : {s : State} (place : Place) (x v : ℕ) → CanWait s place x v → Step s (with_pending s place x v)
-  fill : {s : State} (x v : ℕ) (given : Arm → ℕ) → CanFill s x v given → Step s (with_arguments s v given)
+  fill : {s : State} (x v : ℕ) (given : Arm → ℕ) → CanFill s x v given → Step s (with_arguments s x v given)
   drop : {s : State} (x v target : ℕ) → CanDrop s x v target → Step s (with_alias s v target)
   put_zero : {s : State} (place : Place) (x z : ℕ) → CanPutZero s place z → Step s (with_zero s place x z)
   undefine : {s : State} (x v z : ℕ) → CanUndefine s x v z → Step s (with_alias s v z)

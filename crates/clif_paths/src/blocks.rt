@@ -1,4 +1,5 @@
-//! The tables of blocks, as a builder keeps them: each change of theirs keeps soundness of the state they stand for.
+//! The tables of blocks, as a builder keeps them: each change of theirs keeps soundness of the state they stand for, and
+//! the labels of values.
 
 ghost use Rattle.clif_paths.specs.BlockLaws.{FirstBlocksSound, BlockSealKeeps, BlocksSealKeeps, ItemKeeps, BornKeeps, ReadKeeps, WriteKeeps, CopyKeeps, ChainKeeps, ParameterKeeps, FilledKeeps, DroppedKeeps, ZeroInKeeps, UndefinedKeeps, RestatedKeeps, ForgetKeeps, RolesExtend, EndsAreEnds, NewLinkResolves, EndsAreUnique};
 

@@ -1,6 +1,6 @@
 //! What holds after any steps.
 
-ghost use Rattle.clif_paths.specs.Laws.{AnswersHold, RecordsHold, FunctionStandsAlone, SoundAnswersHold, SoundIsCorrect, ConstructionIsCorrect, SealingOrderIsFree};
+ghost use Rattle.clif_paths.specs.Laws.{AnswersHold, RecordsHold, ParametersHold, ArgumentsHold, FunctionStandsAlone, SoundAnswersHold, SoundIsCorrect, ConstructionIsCorrect, SealingOrderIsFree};
 
 /// While construction goes on, a name's answer holds the name wherever the name's home dominates.
 pub fn answers_hold()
@@ -15,6 +15,16 @@ pub fn sound_answers_hold()
 /// While construction goes on, each record holds its variable.
 pub fn records_hold()
     ensures { RecordsHold }
+{}
+
+/// A complete parameter holds its variable at its home.
+pub fn parameters_hold()
+    ensures { ParametersHold }
+{}
+
+/// Each argument of a complete parameter holds the parameter's variable where its arm leaves.
+pub fn arguments_hold()
+    ensures { ArgumentsHold }
 {}
 
 /// Where no parameter waits, what a value denotes is read off the function alone.

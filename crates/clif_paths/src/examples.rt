@@ -1,7 +1,7 @@
 //! Worked examples, so that the laws aren't empty: lists of moves whose tests pass by computation.
 
-ghost use Rattle.clif_paths.specs.MoveLaws.{AllowedMovesAreSound, FinishedMovesAreCorrect};
-ghost use Rattle.clif_paths.specs.Examples.{LoopSealedLate, LoopUnderCollector, DiamondDropped, IrreducibleLoop, UnreachableCycle, LookUpFills, BothArmsMatch};
+ghost use Rattle.clif_paths.specs.MoveLaws.{AllowedMovesAreSound, FinishedMovesAreCorrect, AgreeingMovesKeepLabels};
+ghost use Rattle.clif_paths.specs.Examples.{LoopSealedLate, LoopUnderCollector, DiamondDropped, IrreducibleLoop, UnreachableCycle, LoopLabelled, LoopMixed, CycleLabelled, LookUpFills, BothArmsMatch};
 
 /// Moves whose tests pass, each in its turn, make sound tables.
 pub fn allowed_moves_are_sound()
@@ -11,6 +11,11 @@ pub fn allowed_moves_are_sound()
 /// Where nothing waits and assigned names are given before, they are correct.
 pub fn finished_moves_are_correct()
     ensures { FinishedMovesAreCorrect }
+{}
+
+/// Labels that agree on each of them are kept.
+pub fn agreeing_moves_keep_labels()
+    ensures { AgreeingMovesKeepLabels }
 {}
 
 /// A loop whose header is sealed last.
@@ -36,6 +41,21 @@ pub fn irreducible_loop()
 /// A cycle that nothing reaches, whose parameters become aliases of one zero.
 pub fn unreachable_cycle()
     ensures { UnreachableCycle }
+{}
+
+/// The loop's parameter and its arguments have the variable's label.
+pub fn loop_labelled()
+    ensures { LoopLabelled }
+{}
+
+/// Labels that don't agree on the loop aren't kept.
+pub fn loop_mixed()
+    ensures { LoopMixed }
+{}
+
+/// What answers in a cycle that nothing reaches has the variable's label.
+pub fn cycle_labelled()
+    ensures { CycleLabelled }
 {}
 
 /// A whole look-up that finds two values, move by move.

@@ -1,6 +1,6 @@
 //! Laws of failure: what a wrong step breaks.
 
-ghost use Rattle.clif_paths.specs.Failures.{DropBreaks, CopyBreaks, AssignBreaks, ZeroBreaks};
+ghost use Rattle.clif_paths.specs.Failures.{DropBreaks, CopyBreaks, AssignBreaks, ZeroBreaks, CopyFromNowhereBreaks};
 
 /// Dropping a parameter where another value also comes in.
 pub fn drop_breaks()
@@ -20,4 +20,9 @@ pub fn assign_breaks()
 /// Taking a zero where a value comes in.
 pub fn zero_breaks()
     ensures { ZeroBreaks }
+{}
+
+/// Copying a record of another label into a block to which nothing leads.
+pub fn copy_from_nowhere_breaks()
+    ensures { CopyFromNowhereBreaks }
 {}

@@ -6,9 +6,9 @@
 //! Read `specs/` in this order: `Places` (places, arms, paths, domination), `State` (the tables of a program and of a
 //! function under construction), `Denotation` (what variables, names and values denote on a path), `Sound` (when the
 //! one side stands for the other), `Steps` (how a state grows) and `Laws` (what holds after any steps); then `Blocks`,
-//! `BlockLaws` and `LookUp` (the same for tables kept by block, and for the stack of a look-up), `Labels` and `Runs`
-//! (types, marks and bits along paths) and `Shape` (the structure of blocks, reached or not); `Moves`, `MoveLaws`,
-//! `Examples` and `Failures` show that the laws aren't empty.
+//! `ValueLabels`, `BlockLaws` and `LookUp` (the same for tables kept by block, the labels of their values, and the stack
+//! of a look-up), `Labels`, `Runs` and `LabelLaws` (types, marks and bits along paths) and `Shape` (the structure of
+//! blocks, reached or not); `Moves`, `MoveLaws`, `Examples` and `Failures` show that the laws aren't empty.
 #![tactic(auto)]
 
 pub mod blocks;

@@ -2,3 +2,5 @@ pub mod Tables
 pub mod Passed
 pub mod Records
 pub mod Stacks
+pub mod Tracking
+pub mod Lends

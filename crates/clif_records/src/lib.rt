@@ -2,14 +2,15 @@
 //!
 //! Each table is seen by contracts as plain data: the records as a finite map (`specs/Tables`), which one hash map
 //! keeps (`specs/Records`); the blocks as a list of what is known of each; the blocks that a walk passes as a list
-//! (`specs/Passed`); and a look-up that is under way as its stacks, the top of each first (`specs/Stacks`). Nothing here
-//! knows a function: `clif_ssa` above does.
+//! (`specs/Passed`); a look-up that is under way as its stacks, the top of each first (`specs/Stacks`); and what a collector
+//! that moves objects must know as two sets (`specs/Tracking`). Nothing here knows a function: `clif_ssa` above does.
 #![tactic(auto)]
 
 pub mod look_up;
 pub mod passed;
 pub mod side_effects;
 pub mod tables;
+pub mod tracking;
 pub mod variable;
 
 pub use side_effects::SideEffects;

@@ -2,6 +2,7 @@
 ghost use Rattle.std.specs.Prelude.{◌≡◌, ℕ, ◌-◌, ◌^◌, ◌<◌, ◌++◌, Some, codes};
 ghost use Rattle.std.specs.Fmt.{decimal};
 
+use clif_types::EntityRef;
 use std::fmt;
 use std::marker::Model;
 
@@ -50,6 +51,20 @@ impl Variable {
         ensures bounded { result < 2 ^ 32 - 1 }
     {
         self.as_u32() as usize
+    }
+}
+
+impl EntityRef for Variable {
+    ghost index_of = { λ v. v };
+
+    ghost same = { λ x y h. h };
+
+    fn new(index: usize) -> Variable {
+        Variable::new(index)
+    }
+
+    fn index(self) -> usize {
+        Variable::index(self)
     }
 }
 

@@ -6,7 +6,7 @@ use Rattle.std.proofs.lemmas.List.{length_push, map-append}
 use Rattle.clif_meaning.specs.Instruction.{Edge, Operation}
 use Rattle.clif_meaning.specs.Ledger.{BlockState, Ledger, answers_to, changed_by, empty_ledger, is_filled, is_inserted, is_terminator, ledger_after, ledger_with, left_by, new_block, next_answer, redirected_state, sealed, state_has, with_begun, with_begun_at, with_cold_mark, with_filled_at, with_parameter_types, with_predecessor, with_state, with_terminator}
 use Rattle.clif_meaning.specs.Name.{Name, answer_of, same_name}
-use Rattle.clif_meaning.specs.Request.{Request, CreateBlock, SwitchToBlock, SealBlock, SealAllBlocks, InsertBlockAfter, SetColdBlock, EnsureInsertedBlock, AppendBlockParams, AppendFunctionParams, DeclareVar, DefVar, UseVar, MakeEntry, MakeEdge, MakeJumpTable, MakeExceptionTable, Annotate, Build, ChangeJumpDestination, Finalize, Script}
+use Rattle.clif_meaning.specs.Request.{Request, CreateBlock, SwitchToBlock, SealBlock, SealAllBlocks, InsertBlockAfter, SetColdBlock, EnsureInsertedBlock, AppendBlockParams, AppendFunctionParams, DeclareVar, DefVar, UseVar, MakeEntry, MakeEdge, MakeJumpTable, MakeExceptionTable, Annotate, NeedStackMap, Build, ChangeJumpDestination, Finalize, Script}
 use Rattle.clif_renaming.specs.Renaming.{KeepsApart, renamed_edge}
 use Rattle.clif_renaming.specs.Sealing.{is_sealing, name_left, renamed_request, unsealed, without_seals}
 use Rattle.clif_renaming.proofs.Places.{Follows, follows_at_first, follows_call, follows_here, follows_seal, names_apart}
@@ -114,7 +114,8 @@ sealing_kept ledger (MakeEntry entry) is = let none : ⊥ = cc in absurd none
 sealing_kept ledger (MakeEdge edge) is = let none : ⊥ = cc in absurd none
 sealing_kept ledger (MakeJumpTable default entries) is = let none : ⊥ = cc in absurd none
 sealing_kept ledger (MakeExceptionTable signature normal items) is = let none : ⊥ = cc in absurd none
-sealing_kept ledger (Annotate values) is = let none : ⊥ = cc in absurd none
+sealing_kept ledger (Annotate inside values) is = let none : ⊥ = cc in absurd none
+sealing_kept ledger (NeedStackMap need) is = let none : ⊥ = cc in absurd none
 sealing_kept ledger (Build entries instruction) is = let none : ⊥ = cc in absurd none
 sealing_kept ledger (ChangeJumpDestination branch from to) is = let none : ⊥ = cc in absurd none
 sealing_kept ledger Finalize is = let none : ⊥ = cc in absurd none
@@ -214,7 +215,8 @@ module _ (rename : Name → Name) (apart : KeepsApart rename) where
   both_changed l l' (MakeEdge edge) same at = same
   both_changed l l' (MakeJumpTable default entries) same at = record { marks = same.marks; current = same.current }
   both_changed l l' (MakeExceptionTable signature normal items) same at = record { marks = same.marks; current = same.current }
-  both_changed l l' (Annotate values) same at = same
+  both_changed l l' (Annotate inside values) same at = same
+  both_changed l l' (NeedStackMap need) same at = record { marks = same.marks; current = same.current }
   both_changed l l' (Build entries instruction) same at =
       let both = built_both l l' (next_answer l) (next_answer l') instruction.operation instruction.edges (map (renamed_edge rename) instruction.edges) same in
       record { marks = both.marks; current = both.current }

@@ -3,7 +3,7 @@ use Rattle.std.proofs.Common.{◌≡◌, zero, suc, Bool, true, false, List, [],
 use Rattle.std.specs.Prelude.{Contains, fold, if◌then◌else◌, option_map}
 use Rattle.clif_meaning.specs.Name.{Name, same_name}
 use Rattle.clif_meaning.specs.Program.{Program, Item, empty_program, extended, program_of, redirected_item, with_call, with_inserted, with_item, with_item_at, with_parameters, with_redirected}
-use Rattle.clif_meaning.specs.Request.{Request, CreateBlock, SwitchToBlock, SealBlock, SealAllBlocks, InsertBlockAfter, SetColdBlock, EnsureInsertedBlock, AppendBlockParams, AppendFunctionParams, DeclareVar, DefVar, UseVar, MakeEntry, MakeEdge, MakeJumpTable, MakeExceptionTable, Annotate, Build, ChangeJumpDestination, Finalize, Script}
+use Rattle.clif_meaning.specs.Request.{Request, CreateBlock, SwitchToBlock, SealBlock, SealAllBlocks, InsertBlockAfter, SetColdBlock, EnsureInsertedBlock, AppendBlockParams, AppendFunctionParams, DeclareVar, DefVar, UseVar, MakeEntry, MakeEdge, MakeJumpTable, MakeExceptionTable, Annotate, NeedStackMap, Build, ChangeJumpDestination, Finalize, Script}
 use Rattle.clif_renaming.specs.Sealing.{renamed_request}
 use Rattle.clif_renaming.proofs.RenamedNames.{names_equal}
 
@@ -115,7 +115,8 @@ module _ (rename : Name → Name) where
   extended_images p (MakeEdge edge) has = has
   extended_images p (MakeJumpTable default entries) has = has
   extended_images p (MakeExceptionTable signature normal items) has = has
-  extended_images p (Annotate values) has = has
+  extended_images p (Annotate inside values) has = has
+  extended_images p (NeedStackMap need) has = has
   extended_images p (Build entries instruction) has = item_images (with_inserted p) _ (inserted_images p has)
   extended_images p (ChangeJumpDestination branch from to) has = redirected_images p (rename branch) (rename from) (rename to) has
   extended_images p Finalize has = has

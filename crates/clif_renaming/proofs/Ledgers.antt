@@ -6,11 +6,11 @@ use Rattle.clif_types.specs.declared.types.«Type».{«Type»}
 use Rattle.clif_tables.specs.Entries.{with_entry}
 use Rattle.clif_tables.specs.Lists.{TableLists}
 use Rattle.clif_meaning.specs.Instruction.{Edge, Operation}
-use Rattle.clif_meaning.specs.Ledger.{Answered, or_invalid, Ledger, VariableState, answer_at, answers_to, changed_by, empty_ledger, is_inserted, is_terminator, ledger_after, ledger_with, new_variable, next_answer, touched_at, with_begun, with_begun_at, with_filled_at, with_predecessor, with_terminator, value_answer_type}
+use Rattle.clif_meaning.specs.Ledger.{Answered, or_invalid, Ledger, VariableState, answer_at, answers_to, changed_by, empty_ledger, is_inserted, is_terminator, ledger_after, ledger_with, new_variable, next_answer, touched_at, with_begun, with_begun_at, with_filled_at, with_predecessor, with_terminator, value_answer_type, marked_at, with_need}
 use Rattle.clif_meaning.specs.Name.{Name}
-use Rattle.clif_meaning.specs.Request.{Request, CreateBlock, SwitchToBlock, SealBlock, SealAllBlocks, InsertBlockAfter, SetColdBlock, EnsureInsertedBlock, AppendBlockParams, AppendFunctionParams, DeclareVar, DefVar, UseVar, MakeEntry, MakeEdge, MakeJumpTable, MakeExceptionTable, Annotate, Build, ChangeJumpDestination, Finalize, Script}
+use Rattle.clif_meaning.specs.Request.{Request, CreateBlock, SwitchToBlock, SealBlock, SealAllBlocks, InsertBlockAfter, SetColdBlock, EnsureInsertedBlock, AppendBlockParams, AppendFunctionParams, DeclareVar, DefVar, UseVar, MakeEntry, MakeEdge, MakeJumpTable, MakeExceptionTable, Annotate, NeedStackMap, Build, ChangeJumpDestination, Finalize, Script, StackMapNeed, OfVariable, OfValue}
 use Rattle.clif_renaming.specs.Renaming.{renamed_edge}
-use Rattle.clif_renaming.specs.Sealing.{is_sealing, name_left, place_left, renamed_request, unsealed, without_seals}
+use Rattle.clif_renaming.specs.Sealing.{is_sealing, name_left, place_left, renamed_request, unsealed, without_seals, renamed_need}
 use Rattle.clif_renaming.proofs.Places.{left_at, place_of_left, place_of_sealing, rank, rank_next}
 
 -- VARIABLES AND TABLES --------------------------------------------------------------------------------------------------
@@ -75,7 +75,8 @@ sealing_keeps ledger (MakeEntry entry) is = let none : ⊥ = cc in absurd none
 sealing_keeps ledger (MakeEdge edge) is = let none : ⊥ = cc in absurd none
 sealing_keeps ledger (MakeJumpTable default entries) is = let none : ⊥ = cc in absurd none
 sealing_keeps ledger (MakeExceptionTable signature normal items) is = let none : ⊥ = cc in absurd none
-sealing_keeps ledger (Annotate values) is = let none : ⊥ = cc in absurd none
+sealing_keeps ledger (Annotate inside values) is = let none : ⊥ = cc in absurd none
+sealing_keeps ledger (NeedStackMap need) is = let none : ⊥ = cc in absurd none
 sealing_keeps ledger (Build entries instruction) is = let none : ⊥ = cc in absurd none
 sealing_keeps ledger (ChangeJumpDestination branch from to) is = let none : ⊥ = cc in absurd none
 sealing_keeps ledger Finalize is = let none : ⊥ = cc in absurd none
@@ -85,6 +86,10 @@ abbrev types_of : List Answered → List (Option «Type»)
 types_of answers = map (λ answer. value_answer_type (Some answer)) answers
 
 module _ (rename : Name → Name) (l l' : Ledger) (same : SameTables l l') where
+  both_needed : (need : StackMapNeed) → with_need (renamed_need rename need) l'.variables ≡ with_need need l.variables
+  both_needed (OfVariable variable) = ap (marked_at variable) same.variables
+  both_needed (OfValue value) = same.variables
+
   -- a call and the same call renamed change both alike
   both_changed : (request : Request) → SameTables (changed_by l request) (changed_by l' (renamed_request rename request))
   both_changed CreateBlock = record { variables = same.variables; tables = same.tables }
@@ -105,7 +110,8 @@ module _ (rename : Name → Name) (l l' : Ledger) (same : SameTables l l') where
   both_changed (MakeEdge edge) = record { variables = same.variables; tables = same.tables }
   both_changed (MakeJumpTable default entries) = record { variables = same.variables; tables = same.tables }
   both_changed (MakeExceptionTable signature normal items) = record { variables = same.variables; tables = same.tables }
-  both_changed (Annotate values) = record { variables = same.variables; tables = same.tables }
+  both_changed (Annotate inside values) = record { variables = same.variables; tables = same.tables }
+  both_changed (NeedStackMap need) = record { variables = both_needed need; tables = same.tables }
   both_changed (Build entries instruction) =
       let both = both_kept l l' _ _ same (built (next_answer l) l instruction.operation instruction.edges)
       (built (next_answer l') l' instruction.operation (map (renamed_edge rename) instruction.edges)) in
@@ -134,7 +140,8 @@ module _ (rename : Name → Name) (l l' : Ledger) (same : SameTables l l') where
   answered_alike (MakeEdge edge) = refl
   answered_alike (MakeJumpTable default entries) = refl
   answered_alike (MakeExceptionTable signature normal items) = refl
-  answered_alike (Annotate values) = refl
+  answered_alike (Annotate inside values) = refl
+  answered_alike (NeedStackMap need) = refl
   answered_alike (Build entries instruction) = refl
   answered_alike (ChangeJumpDestination branch from to) = refl
   answered_alike Finalize = refl
@@ -226,7 +233,8 @@ no_answer (request ∷ script) ledger zero index sealing = by request sealing
     by (MakeEdge edge) is = let none : ⊥ = cc in absurd none
     by (MakeJumpTable default entries) is = let none : ⊥ = cc in absurd none
     by (MakeExceptionTable signature normal items) is = let none : ⊥ = cc in absurd none
-    by (Annotate values) is = let none : ⊥ = cc in absurd none
+    by (Annotate inside values) is = let none : ⊥ = cc in absurd none
+    by (NeedStackMap need) is = let none : ⊥ = cc in absurd none
     by (Build entries instruction) is = let none : ⊥ = cc in absurd none
     by (ChangeJumpDestination branch from to) is = let none : ⊥ = cc in absurd none
     by Finalize is = let none : ⊥ = cc in absurd none

@@ -6,7 +6,7 @@ use Rattle.clif_types.specs.declared.types.«Type».{«Type»}
 use Rattle.clif_meaning.specs.Name.{Name, answer_of, same_name}
 use Rattle.clif_meaning.specs.Instruction.{Edge, Instruction}
 use Rattle.clif_meaning.specs.Program.{Program, Item, Instruct, Use, Assign, answers_from, empty_program, extended, first_block, program_of, redirected_edge, redirected_instruction, redirected_item, result_types, with_call, with_inserted, with_item, with_item_at, with_parameters, with_redirected}
-use Rattle.clif_meaning.specs.Request.{Request, CreateBlock, SwitchToBlock, SealBlock, SealAllBlocks, InsertBlockAfter, SetColdBlock, EnsureInsertedBlock, AppendBlockParams, AppendFunctionParams, DeclareVar, DefVar, UseVar, MakeEntry, MakeEdge, MakeJumpTable, MakeExceptionTable, Annotate, Build, ChangeJumpDestination, Finalize, Script}
+use Rattle.clif_meaning.specs.Request.{Request, CreateBlock, SwitchToBlock, SealBlock, SealAllBlocks, InsertBlockAfter, SetColdBlock, EnsureInsertedBlock, AppendBlockParams, AppendFunctionParams, DeclareVar, DefVar, UseVar, MakeEntry, MakeEdge, MakeJumpTable, MakeExceptionTable, Annotate, NeedStackMap, Build, ChangeJumpDestination, Finalize, Script}
 use Rattle.std.specs.List.{AllZip}
 use Rattle.clif_renaming.specs.Renaming.{AreRenamedItems, IsRenamedItem, IsRenamedProgram, KeepsApart, renamed_edge, renamed_instruction}
 use Rattle.clif_renaming.specs.Sealing.{is_sealing, name_left, renamed_request, unsealed, without_seals}
@@ -193,7 +193,8 @@ module _ (rename : Name → Name) (apart : KeepsApart rename) where
   extended_both p p' (MakeEdge edge) is at = is
   extended_both p p' (MakeJumpTable default entries) is at = is
   extended_both p p' (MakeExceptionTable signature normal items) is at = is
-  extended_both p p' (Annotate values) is at = is
+  extended_both p p' (Annotate inside values) is at = is
+  extended_both p p' (NeedStackMap need) is at = is
   extended_both p p' (Build entries instruction) is at =
       item_more (with_inserted p) (with_inserted p') _ _ (inserted p p' is)
       (refl, answers_renamed p.place p'.place at 1 (result_types instruction.operation instruction.controlling)) (at 0)
@@ -218,7 +219,8 @@ module _ (rename : Name → Name) (apart : KeepsApart rename) where
   sealing_adds_nothing p (MakeEdge edge) is = let none : ⊥ = cc in absurd none
   sealing_adds_nothing p (MakeJumpTable default entries) is = let none : ⊥ = cc in absurd none
   sealing_adds_nothing p (MakeExceptionTable signature normal items) is = let none : ⊥ = cc in absurd none
-  sealing_adds_nothing p (Annotate values) is = let none : ⊥ = cc in absurd none
+  sealing_adds_nothing p (Annotate inside values) is = let none : ⊥ = cc in absurd none
+  sealing_adds_nothing p (NeedStackMap need) is = let none : ⊥ = cc in absurd none
   sealing_adds_nothing p (Build entries instruction) is = let none : ⊥ = cc in absurd none
   sealing_adds_nothing p (ChangeJumpDestination branch from to) is = let none : ⊥ = cc in absurd none
   sealing_adds_nothing p Finalize is = let none : ⊥ = cc in absurd none

@@ -5,7 +5,7 @@ use Rattle.std.specs.List.{list_any}
 use Rattle.std.proofs.lemmas.List.{map-append}
 use Rattle.clif_meaning.specs.Ledger.{Ledger, VariableState, is_marked, ledger_after, marked}
 use Rattle.clif_meaning.specs.Name.{Name, answer_of, same_name}
-use Rattle.clif_meaning.specs.Request.{Request, CreateBlock, SwitchToBlock, SealBlock, SealAllBlocks, InsertBlockAfter, SetColdBlock, EnsureInsertedBlock, AppendBlockParams, AppendFunctionParams, DeclareVar, DefVar, UseVar, MakeEntry, MakeEdge, MakeJumpTable, MakeExceptionTable, Annotate, Build, ChangeJumpDestination, Finalize, Script}
+use Rattle.clif_meaning.specs.Request.{Request, CreateBlock, SwitchToBlock, SealBlock, SealAllBlocks, InsertBlockAfter, SetColdBlock, EnsureInsertedBlock, AppendBlockParams, AppendFunctionParams, DeclareVar, DefVar, UseVar, MakeEntry, MakeEdge, MakeJumpTable, MakeExceptionTable, Annotate, NeedStackMap, Build, ChangeJumpDestination, Finalize, Script, OfVariable, OfValue}
 use Rattle.clif_meaning.specs.Tracked.{is_tracked, tracked_by, tracked_from, tracked_names}
 use Rattle.clif_renaming.specs.Renaming.{KeepsApart}
 use Rattle.clif_renaming.specs.Sealing.{is_sealing, name_left, renamed_request, unsealed, without_seals}
@@ -49,7 +49,9 @@ module _ (rename : Name → Name) (ledger ledger' : Ledger) (same : (variable : 
   tracked_both (MakeEdge edge) place place' at = refl
   tracked_both (MakeJumpTable default entries) place place' at = refl
   tracked_both (MakeExceptionTable signature normal items) place place' at = refl
-  tracked_both (Annotate values) place place' at = refl
+  tracked_both (Annotate inside values) place place' at = refl
+  tracked_both (NeedStackMap (OfVariable variable)) place place' at = refl
+  tracked_both (NeedStackMap (OfValue value)) place place' at = refl
   tracked_both (Build entries instruction) place place' at = refl
   tracked_both (ChangeJumpDestination branch from to) place place' at = refl
   tracked_both Finalize place place' at = refl
@@ -72,7 +74,8 @@ module _ (rename : Name → Name) (ledger ledger' : Ledger) (same : (variable : 
   sealing_tracks_none (MakeEdge edge) place is = refl
   sealing_tracks_none (MakeJumpTable default entries) place is = refl
   sealing_tracks_none (MakeExceptionTable signature normal items) place is = refl
-  sealing_tracks_none (Annotate values) place is = refl
+  sealing_tracks_none (Annotate inside values) place is = refl
+  sealing_tracks_none (NeedStackMap need) place is = let none : ⊥ = cc in absurd none
   sealing_tracks_none (Build entries instruction) place is = refl
   sealing_tracks_none (ChangeJumpDestination branch from to) place is = refl
   sealing_tracks_none Finalize place is = refl

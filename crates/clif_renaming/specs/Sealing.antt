@@ -3,7 +3,7 @@
 -- Cranelift's `FunctionBuilder`; the definition is own.
 use Rattle.std.specs.Prelude.{◌≡◌, ◌+◌, ℕ, Bool, true, false, not, if◌then◌else◌, length, map, filter, take, Option, Some, None, slice_get}
 use Rattle.clif_meaning.specs.Name.{Name, answer_of}
-use Rattle.clif_meaning.specs.Request.{Request, CreateBlock, SwitchToBlock, SealBlock, SealAllBlocks, InsertBlockAfter, SetColdBlock, EnsureInsertedBlock, AppendBlockParams, AppendFunctionParams, DeclareVar, DefVar, UseVar, MakeEntry, MakeEdge, MakeJumpTable, MakeExceptionTable, Annotate, Build, ChangeJumpDestination, Finalize, Script, TableItem, TagTo, DefaultTo, InContext}
+use Rattle.clif_meaning.specs.Request.{Request, CreateBlock, SwitchToBlock, SealBlock, SealAllBlocks, InsertBlockAfter, SetColdBlock, EnsureInsertedBlock, AppendBlockParams, AppendFunctionParams, DeclareVar, DefVar, UseVar, MakeEntry, MakeEdge, MakeJumpTable, MakeExceptionTable, Annotate, NeedStackMap, Build, ChangeJumpDestination, Finalize, Script, TableItem, TagTo, DefaultTo, InContext, StackMapNeed, OfVariable, OfValue}
 use Rattle.clif_renaming.specs.Renaming.{renamed_edge, renamed_instruction}
 
 -- the call says that no more branches to blocks come, and nothing else
@@ -37,6 +37,11 @@ renamed_item rename (TagTo tag edge) = TagTo tag (rename edge)
 renamed_item rename (DefaultTo edge) = DefaultTo (rename edge)
 renamed_item rename (InContext value) = InContext (rename value)
 
+-- what stack maps are asked to name, renamed
+abbrev pub renamed_need : (Name → Name) → StackMapNeed → StackMapNeed
+renamed_need rename (OfVariable variable) = OfVariable variable
+renamed_need rename (OfValue value) = OfValue (rename value)
+
 -- a call with its names renamed
 abbrev pub renamed_request : (Name → Name) → Request → Request
 renamed_request rename CreateBlock = CreateBlock
@@ -55,7 +60,8 @@ renamed_request rename (MakeEntry entry) = MakeEntry entry
 renamed_request rename (MakeEdge edge) = MakeEdge (renamed_edge rename edge)
 renamed_request rename (MakeJumpTable default entries) = MakeJumpTable (rename default) (map rename entries)
 renamed_request rename (MakeExceptionTable signature normal items) = MakeExceptionTable signature (rename normal) (map (renamed_item rename) items)
-renamed_request rename (Annotate values) = Annotate (map rename values)
+renamed_request rename (Annotate inside values) = Annotate inside (map rename values)
+renamed_request rename (NeedStackMap need) = NeedStackMap (renamed_need rename need)
 renamed_request rename (Build entries instruction) = Build entries (renamed_instruction rename instruction)
 renamed_request rename (ChangeJumpDestination branch from to) = ChangeJumpDestination (rename branch) (rename from) (rename to)
 renamed_request rename Finalize = Finalize

@@ -91,7 +91,7 @@ built-leave [] last = (tt, tt)
 built-leave (instruction ∷ code) last = (tt, built-leave code last)
 
 -- each call has answers
-as-many-answers : (ledger : Ledger) (script : Script) → length (fold ledger_with ledger script).answers ≡ length script + length ledger.answers
+pub as-many-answers : (ledger : Ledger) (script : Script) → length (fold ledger_with ledger script).answers ≡ length script + length ledger.answers
 as-many-answers ledger [] = omega arith
 as-many-answers ledger (request ∷ script) =
     let rest = as-many-answers (ledger_with ledger request) script in
@@ -99,7 +99,7 @@ as-many-answers ledger (request ∷ script) =
     omega (arith, rest, one)
 
 -- those of the last call
-last-answered : (calls added : List AnsweredCall) (front : Script) (request : Request) → length (ledger_of calls).answers ≡ length calls → script_of added ≡ front ++ request ∷ []
+pub last-answered : (calls added : List AnsweredCall) (front : Script) (request : Request) → length (ledger_of calls).answers ≡ length calls → script_of added ≡ front ++ request ∷ []
     → slice_get (ledger_of (calls ++ added)).answers (length front + length calls) ≡ Some (answers_to (fold ledger_with (ledger_of calls) front) request)
 last-answered calls added front request places asked =
     let between : Ledger = fold ledger_with (ledger_of calls) front in
@@ -111,7 +111,7 @@ last-answered calls added front request places asked =
     ∙ ap (slice_get (between.answers ++ answers_to between request ∷ [])) here ∙ get-last between.answers (answers_to between request)
 
 -- two numbers, the second one known
-two-numbers : (numbers : List ℕ) (value : ℕ) → length numbers ≡ 2 → slice_get numbers 1 ≡ Some value → (inst : ℕ) × (numbers ≡ inst ∷ value ∷ [])
+pub two-numbers : (numbers : List ℕ) (value : ℕ) → length numbers ≡ 2 → slice_get numbers 1 ≡ Some value → (inst : ℕ) × (numbers ≡ inst ∷ value ∷ [])
 two-numbers [] value many at = let no_way : ⊥ = omega (arith, many) in absurd no_way
 two-numbers (inst ∷ []) value many at = absurd (none-some value at)
 two-numbers (inst ∷ other ∷ []) value many at = (inst, ap (λ (n : ℕ). inst ∷ n ∷ []) (same_Some other value at))
@@ -175,22 +175,13 @@ module _ {naming : Naming} {declared : SignatureShape} (calls added : List Answe
     exceptions = exceptions;
   }
 
--- Behind more calls, which leave the tables, the results of the last one are the script's answer.
-ready-behind : {naming : Naming} {declared : SignatureShape} (calls added : List AnsweredCall) (old new : FunctionBuilder) (answers : List Answer) (first count last : ℕ) (call : AnsweredCall) (given : List Answered)
+-- Behind more calls, which leave the tables, it is ready where the next answer is that of the last call.
+pub ready-leaving : {naming : Naming} {declared : SignatureShape} (calls added : List AnsweredCall) (old new : FunctionBuilder) (answers : List Answer) (a : Answer) (last shift : ℕ)
     → IsReady naming declared calls old answers → StandsFor declared (calls ++ added) new → AllByRecursion LeavesTables (script_of added) → KeepsTables old new
-    → slice_get (calls ++ added) last ≡ Some call → slice_get (ledger_of (calls ++ added)).answers last ≡ Some given → AreResults (answer.Values first count) given call.numbers
-    → IsReady (extended naming (length answers) last 1 (length (calls ++ added))) declared (calls ++ added) new (answers ++ answer.Values first count ∷ [])
-ready-behind {naming} {declared} calls added old new answers first count last call given ready stands leave keeps at_call at_answered are =
-    ready-with calls added old new answers (answer.Values first count) last 1 ready stands
-    (record {
-      other = last;
-      call = call;
-      answered = given;
-      at_call = at_call;
-      at_answered = at_answered;
-      leads = inr (inl (λ name at. result-here naming (length answers) last (length all) name at, are));
-    })
-    no-edge
+    → IsAnswered (extended naming (length answers) last shift (length (calls ++ added))) (calls ++ added) (length answers) a → ((made : BlockCall) → a ≡ answer.Edge made → ⊥)
+    → IsReady (extended naming (length answers) last shift (length (calls ++ added))) declared (calls ++ added) new (answers ++ a ∷ [])
+ready-leaving calls added old new answers a last shift ready stands leave keeps newest no_edge =
+    ready-with calls added old new answers a last shift ready stands newest no_edge
     (subst (TablesAgree (NamesEdges all) (ledger_of all).jump_tables) (sym keeps.0)
     (subst (λ (tables : List (Option (List (meaning.Edge named.Name named.Name)))). TablesAgree (NamesEdges all) tables old.func.now.tables.jump_tables)
     (sym (ap (λ (l : Ledger). l.jump_tables) (ledger-behind calls added) ∙ kept.0))
@@ -206,8 +197,29 @@ ready-behind {naming} {declared} calls added old new answers first count last ca
     kept : ((fold ledger_with (ledger_of calls) (script_of added)).jump_tables ≡ (ledger_of calls).jump_tables) × ((fold ledger_with (ledger_of calls) (script_of added)).exception_tables ≡ (ledger_of calls).exception_tables)
     kept = kept-all (ledger_of calls) (script_of added) leave
 
-    no-edge : (made : BlockCall) → answer.Values first count ≡ answer.Edge made → ⊥
-    no-edge made same = cc
+-- The results of the last call are the script's answer.
+pub result-answered : (naming : Naming) {calls : List AnsweredCall} (answers : List Answer) (first count last : ℕ) (call : AnsweredCall) (given : List Answered)
+    → slice_get calls last ≡ Some call → slice_get (ledger_of calls).answers last ≡ Some given → AreResults (answer.Values first count) given call.numbers
+    → IsAnswered (extended naming (length answers) last 1 (length calls)) calls (length answers) (answer.Values first count)
+result-answered naming {calls} answers first count last call given at_call at_answered are = record {
+  other = last;
+  call = call;
+  answered = given;
+  at_call = at_call;
+  at_answered = at_answered;
+  leads = inr (inl (λ name at. result-here naming (length answers) last (length calls) name at, are));
+}
+
+pub values-no-edge : (first count : ℕ) (made : BlockCall) → answer.Values first count ≡ answer.Edge made → ⊥
+values-no-edge first count made same = cc
+
+ready-behind : {naming : Naming} {declared : SignatureShape} (calls added : List AnsweredCall) (old new : FunctionBuilder) (answers : List Answer) (first count last : ℕ) (call : AnsweredCall) (given : List Answered)
+    → IsReady naming declared calls old answers → StandsFor declared (calls ++ added) new → AllByRecursion LeavesTables (script_of added) → KeepsTables old new
+    → slice_get (calls ++ added) last ≡ Some call → slice_get (ledger_of (calls ++ added)).answers last ≡ Some given → AreResults (answer.Values first count) given call.numbers
+    → IsReady (extended naming (length answers) last 1 (length (calls ++ added))) declared (calls ++ added) new (answers ++ answer.Values first count ∷ [])
+ready-behind {naming} calls added old new answers first count last call given ready stands leave keeps at_call at_answered are =
+    ready-leaving calls added old new answers (answer.Values first count) last 1 ready stands leave keeps
+    (result-answered naming answers first count last call given at_call at_answered are) (values-no-edge first count)
 
 -- AN EMISSION -------------------------------------------------------------------------------------------------------------
 
@@ -241,7 +253,7 @@ stands-behind : ConstantOperandsStand → (called : ImmediateCall) → StandsBeh
 stands-behind law (immediate.IaddImmS x imm) = law.adds
 stands-behind law (immediate.IcmpImmS cond x imm) = law.compares cond
 
-length-script : (added : List AnsweredCall) → length (script_of added) ≡ length added
+pub length-script : (added : List AnsweredCall) → length (script_of added) ≡ length added
 length-script added = length-map added (λ (call : AnsweredCall). call.request)
 
 -- the builder that stands for the plain calls is ready

@@ -9,7 +9,7 @@ use Rattle.clif_instructions.specs.ExceptionTables.{ExceptionShape, contexts_of}
 use Rattle.clif_tables.specs.Lists.{unserved}
 use Rattle.clif_meaning.specs.Instruction.{Edge, Known}
 use Rattle.clif_meaning.specs.Name.{Name}
-use Rattle.clif_meaning.specs.Request.{AnsweredCall, Annotate, AppendBlockParams, AppendFunctionParams, Build, GivenEntry, ServedBy, TriedBy, Imported, ChangeJumpDestination, CreateBlock, DeclareVar, DefVar, EnsureInsertedBlock, Finalize, InsertBlockAfter, MakeEdge, MakeEntry, MakeJumpTable, MakeExceptionTable, Request, SealAllBlocks, SealBlock, SetColdBlock, SwitchToBlock, UseVar}
+use Rattle.clif_meaning.specs.Request.{AnsweredCall, Annotate, NeedStackMap, AppendBlockParams, AppendFunctionParams, Build, GivenEntry, ServedBy, TriedBy, Imported, ChangeJumpDestination, CreateBlock, DeclareVar, DefVar, EnsureInsertedBlock, Finalize, InsertBlockAfter, MakeEdge, MakeEntry, MakeJumpTable, MakeExceptionTable, Request, SealAllBlocks, SealBlock, SetColdBlock, SwitchToBlock, UseVar}
 use Rattle.clif_meaning.specs.Ledger.{AnEdge, AValue, ExceptionTable, Ledger, answers_to, is_inserted, ledger_with, with_begun_at, with_served, with_tried}
 use Rattle.clif_builder.specs.declared.builder.FunctionBuilder.{FunctionBuilder}
 use Rattle.clif_builder.specs.Ledger.{NamesEdges, NamesExceptions}
@@ -72,7 +72,8 @@ tables-kept ledger (MakeEntry entry) leaves = refl
 tables-kept ledger (MakeEdge edge) leaves = absurd leaves
 tables-kept ledger (MakeJumpTable default entries) leaves = absurd leaves
 tables-kept ledger (MakeExceptionTable signature normal items) leaves = absurd leaves
-tables-kept ledger (Annotate values) leaves = refl
+tables-kept ledger (Annotate inside values) leaves = refl
+tables-kept ledger (NeedStackMap need) leaves = refl
 tables-kept ledger (Build entries instruction) leaves = served-none ledger.jump_tables entries leaves
 tables-kept ledger (ChangeJumpDestination branch from to) leaves = refl
 tables-kept ledger Finalize leaves = refl
@@ -102,7 +103,8 @@ exceptions-kept ledger (MakeEntry entry) leaves = refl
 exceptions-kept ledger (MakeEdge edge) leaves = absurd leaves
 exceptions-kept ledger (MakeJumpTable default entries) leaves = absurd leaves
 exceptions-kept ledger (MakeExceptionTable signature normal items) leaves = absurd leaves
-exceptions-kept ledger (Annotate values) leaves = refl
+exceptions-kept ledger (Annotate inside values) leaves = refl
+exceptions-kept ledger (NeedStackMap need) leaves = refl
 exceptions-kept ledger (Build entries instruction) leaves = tried-none ledger.exception_tables entries leaves
 exceptions-kept ledger (ChangeJumpDestination branch from to) leaves = refl
 exceptions-kept ledger Finalize leaves = refl
@@ -129,7 +131,8 @@ no-edge ledger (MakeEntry entry) leaves edge is = cc
 no-edge ledger (MakeEdge other) leaves edge is = leaves
 no-edge ledger (MakeJumpTable default entries) leaves edge is = leaves
 no-edge ledger (MakeExceptionTable signature normal items) leaves edge is = leaves
-no-edge ledger (Annotate values) leaves edge is = cc
+no-edge ledger (Annotate inside values) leaves edge is = cc
+no-edge ledger (NeedStackMap need) leaves edge is = cc
 no-edge ledger (Build entries instruction) leaves edge is = cc
 no-edge ledger (ChangeJumpDestination branch from to) leaves edge is = cc
 no-edge ledger Finalize leaves edge is = cc

@@ -6,6 +6,7 @@ pub mod Conditions
 pub mod Entries
 pub mod Planning
 pub mod Verdicts
+pub mod Untracked
 pub mod Placements
 pub mod Constants
 pub mod Making
@@ -27,6 +28,8 @@ pub mod Unanswered
 pub mod SwitchCases
 pub mod SetEntries
 pub mod Switched
+pub mod HelperLines
+pub mod Helping
 pub mod Known
 pub mod Stepping
 pub mod EmissionExamples

@@ -5,11 +5,11 @@ use Rattle.std.specs.List.{AllZip, list_all, list_any}
 use Rattle.std.proofs.lemmas.Bool.{and_parts, false≢true}
 use Rattle.std.proofs.lemmas.Option.{slice_get_within}
 use Rattle.clif_types.specs.declared.types.«Type».{«Type»}
-use Rattle.clif_meaning.specs.Acceptance.{allows, can_assign, can_lead, can_operate, has_argument, has_entry, has_item, is_open, may_give_all}
+use Rattle.clif_meaning.specs.Acceptance.{allows, can_assign, can_lead, can_operate, has_argument, has_entry, has_item, is_open, may_give_all, fits_stack_map}
 use Rattle.clif_meaning.specs.Instruction.{Argument, Known, CallResult, CallPayload, Edge, Instruction, operation_entries}
-use Rattle.clif_meaning.specs.Ledger.{Answered, BlockState, Ledger, answer_at, answered_edge, block_state, edge_named, has_block, has_instruction, has_value, is_inserted, is_instruction_answer, is_sealed, leads_to, state_has, type_of, value_answer_type, variable_type}
+use Rattle.clif_meaning.specs.Ledger.{Answered, BlockState, Ledger, answer_at, answered_edge, block_state, edge_named, has_block, has_instruction, has_value, is_inserted, is_instruction_answer, is_sealed, leads_to, state_has, type_of, value_answer_type, variable_type, or_invalid}
 use Rattle.clif_meaning.specs.Name.{Name, same_name}
-use Rattle.clif_meaning.specs.Request.{Request, CreateBlock, SwitchToBlock, SealBlock, SealAllBlocks, InsertBlockAfter, SetColdBlock, EnsureInsertedBlock, AppendBlockParams, AppendFunctionParams, DeclareVar, DefVar, UseVar, MakeEntry, MakeEdge, MakeExceptionTable, MakeJumpTable, Annotate, Build, ChangeJumpDestination, Finalize, TableItem, TagTo, DefaultTo, InContext}
+use Rattle.clif_meaning.specs.Request.{Request, CreateBlock, SwitchToBlock, SealBlock, SealAllBlocks, InsertBlockAfter, SetColdBlock, EnsureInsertedBlock, AppendBlockParams, AppendFunctionParams, DeclareVar, DefVar, UseVar, MakeEntry, MakeEdge, MakeExceptionTable, MakeJumpTable, Annotate, Build, ChangeJumpDestination, Finalize, TableItem, TagTo, DefaultTo, InContext, OfVariable, OfValue, NeedStackMap}
 use Rattle.clif_expansion.specs.Joining.{Both, IsJoined, IsOwnState, IsReadLayout, IsReadRequest, IsReadState, IsReadTableItem, Own, StandAmong}
 use Rattle.clif_expansion.specs.Reading.{IsReadArgument, IsReadAs, IsReadEdge, IsReadInstruction, Reading}
 use Rattle.clif_expansion.specs.ScriptCall.{Emit, call_allowed, can_emit, takes_byte}
@@ -195,7 +195,14 @@ module _ (whole reading : Reading) (plain ledger : Ledger) (joined : IsJoined re
   narrowed (MakeExceptionTable number first listed) (MakeExceptionTable signature normal items) is may =
       let parts = and_parts (is_some (edge_named plain first)) (list_all (has_item plain) listed) may in
       (is.0, edge_name first normal is.1 parts.0, each (IsReadTableItem whole) (IsReadTableItem reading) (has_item plain) item listed items is.2 parts.1)
-  narrowed (Annotate names) (Annotate others) is may = values names others is may
+  narrowed (Annotate inside names) (Annotate within others) is may =
+      let parts = and_parts (if inside then is_open plain plain.current else true) (list_all (has_value plain) names) may in
+      (is.0, values names others is.1 parts.1)
+  narrowed (NeedStackMap (OfVariable number)) (NeedStackMap (OfVariable variable)) is may = is
+  narrowed (NeedStackMap (OfValue x)) (NeedStackMap (OfValue name)) is may =
+      value x name is (and_parts (has_value plain x) (fits_stack_map (or_invalid (type_of plain x))) may).0
+  narrowed (NeedStackMap (OfVariable number)) (NeedStackMap (OfValue name)) is may = absurd is
+  narrowed (NeedStackMap (OfValue x)) (NeedStackMap (OfVariable variable)) is may = absurd is
   narrowed (Build entries' instruction') (Build entries after) is may =
       let parts = built-parts (list_all (has_value plain) instruction'.contexts) (may_give_all plain entries') (is_open plain plain.current) (list_all (has_value plain) instruction'.operands)
       (list_all (can_lead plain) instruction'.edges) (can_operate instruction'.operation instruction'.controlling) (list_all (has_entry plain.tables) (operation_entries instruction'.operation)) may in

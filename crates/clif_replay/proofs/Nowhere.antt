@@ -5,11 +5,11 @@ use Rattle.std.specs.Prelude.{◌&&◌, ◌||◌, Bool, true, false, Option, Som
 use Rattle.std.specs.List.{AllZip, list_all, list_any}
 use Rattle.std.proofs.lemmas.Bool.{false_from_ne_true, false≢true}
 use Rattle.clif_types.specs.declared.types.«Type».{«Type»}
-use Rattle.clif_meaning.specs.Acceptance.{allows, blames_variable, can_assign, can_lead, has_argument, has_item}
+use Rattle.clif_meaning.specs.Acceptance.{allows, blames_variable, can_assign, can_lead, has_argument, has_item, is_open}
 use Rattle.clif_meaning.specs.Instruction.{Argument, Known, CallResult, CallPayload, Edge, Instruction}
 use Rattle.clif_meaning.specs.Ledger.{ABlock, Answered, BlockState, Ledger, answer_at, answered_edge, block_state, edge_named, has_block, has_instruction, has_value, is_inserted, is_instruction_answer, is_sealed, state_has, type_of, value_answer_type, variable_type}
 use Rattle.clif_meaning.specs.Name.{Name, same_name}
-use Rattle.clif_meaning.specs.Request.{GivenEntry, Request, CreateBlock, SwitchToBlock, SealBlock, SealAllBlocks, InsertBlockAfter, SetColdBlock, EnsureInsertedBlock, AppendBlockParams, AppendFunctionParams, DeclareVar, DefVar, UseVar, MakeEntry, MakeEdge, MakeExceptionTable, MakeJumpTable, Annotate, Build, ChangeJumpDestination, Finalize, TableItem, TagTo, DefaultTo, InContext}
+use Rattle.clif_meaning.specs.Request.{GivenEntry, Request, CreateBlock, SwitchToBlock, SealBlock, SealAllBlocks, InsertBlockAfter, SetColdBlock, EnsureInsertedBlock, AppendBlockParams, AppendFunctionParams, DeclareVar, DefVar, UseVar, MakeEntry, MakeEdge, MakeExceptionTable, MakeJumpTable, Annotate, Build, ChangeJumpDestination, Finalize, TableItem, TagTo, DefaultTo, InContext, OfVariable, OfValue, NeedStackMap}
 use Rattle.clif_expansion.specs.Joining.{Both, IsJoined, IsOwnState, IsReadAnswer, IsReadLayout, IsReadRequest, IsReadState, IsReadTableItem, Own, StandAmong}
 use Rattle.clif_expansion.specs.Reading.{IsReadArgument, IsReadAs, IsReadEdge, IsReadInstruction, Reading}
 use Rattle.clif_expansion.specs.ScriptCall.{Emit, call_allowed}
@@ -101,6 +101,9 @@ module _ (side : Ledger) where
 
   unblamed : (k : ℕ) (x : Name) → IsNowhere side x → blames_variable side (DefVar k x) ≡ false
   unblamed k x gone = left-denied _ _ (right-denied _ _ (no-value side x gone))
+
+  deny-need : (x : Name) → IsNowhere side x → allows side (NeedStackMap (OfValue x)) ≡ false
+  deny-need x gone = left-denied _ _ (no-value side x gone)
 
   deny-edge : (edge : Edge Name Name) → (has_block side edge.target ≡ false) ⊎ (list_all (has_argument side) edge.arguments ≡ false) → allows side (MakeEdge edge) ≡ false
   deny-edge edge (inl target) = left-denied _ _ target
@@ -312,11 +315,18 @@ module _ (wide reading : Reading) (plain ledger : Ledger)
       by (inl read) (inl rest) = inl (is.0, read, rest)
       by (inl read) (inr denied) = denied-so ask request (deny-exceptions plain number first listed (inr denied.0)) (deny-exceptions ledger signature normal items (inr denied.1)) refl
       by (inr denied) rest = denied-so ask request (deny-exceptions plain number first listed (inl denied.0)) (deny-exceptions ledger signature normal items (inl denied.1)) refl
-  told (Annotate names) (Annotate given) is = by (values names given is)
+  told (Annotate inside names) (Annotate within given) is = by (values names given is.1)
     where
-      by : AllZip (IsReadAs reading) names given ⊎ BothDenied (list_all (has_value plain) names) (list_all (has_value ledger) given) → Told (Annotate names) (Annotate given)
-      by (inl read) = inl read
-      by (inr denied) = denied-so (Annotate names) (Annotate given) denied.0 denied.1 refl
+      by : AllZip (IsReadAs reading) names given ⊎ BothDenied (list_all (has_value plain) names) (list_all (has_value ledger) given) → Told (Annotate inside names) (Annotate within given)
+      by (inl read) = inl (is.0, read)
+      by (inr denied) =
+          denied-so (Annotate inside names) (Annotate within given) (right-denied (if inside then is_open plain plain.current else true) _ denied.0)
+          (right-denied (if within then is_open ledger ledger.current else true) _ denied.1) refl
+  told (NeedStackMap (OfVariable number)) (NeedStackMap (OfVariable variable)) is = inl is
+  told (NeedStackMap (OfValue x)) (NeedStackMap (OfValue name)) is =
+      told-one x name (NeedStackMap (OfValue x)) (NeedStackMap (OfValue name)) (λ read. read) (deny-need plain x) (deny-need ledger name) refl is
+  told (NeedStackMap (OfVariable number)) (NeedStackMap (OfValue name)) is = absurd is
+  told (NeedStackMap (OfValue x)) (NeedStackMap (OfVariable variable)) is = absurd is
   told (Build given a) (Build entries b) is = by (named-parts a b is.1)
     where
       by : IsReadInstruction reading a b ⊎ (NamesNothing plain a × NamesNothing ledger b) → Told (Build given a) (Build entries b)

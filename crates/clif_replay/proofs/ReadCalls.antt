@@ -4,6 +4,10 @@ use Rattle.std.specs.Prelude.{map, slice_get, option_and_then, unwrap_or, Option
 use Rattle.std.specs.List.{AllZip}
 use Rattle.clif_types.specs.declared.types.«Type».{«Type»}
 use Rattle.clif_types.specs.Signature.{SignatureShape}
+use Rattle.clif_types.specs.declared.target.TargetFrontendConfig.{TargetFrontendConfig}
+use Rattle.clif_meaning.specs.ByteOperation.{ByteOperation}
+use Rattle.clif_memory_helpers.specs.HelperLines.{emission_of}
+use Rattle.clif_replay.specs.Helpers as helper
 use Rattle.clif_tables.specs.Lists.{TableLists}
 use Rattle.clif_meaning.specs.Acceptance.{exceptions_at, no_exceptions}
 use Rattle.clif_instructions.specs.Instruction.{AFunctionRef, ASignatureRef}
@@ -11,10 +15,9 @@ use Rattle.clif_tables.specs.Callees.{function_at, signature_at}
 use Rattle.clif_meaning.specs.Request.{Imported, TriedBy}
 use Rattle.clif_meaning.specs.Event.{CallItem}
 use Rattle.clif_meaning.specs.Instruction as meaning
-use Rattle.clif_meaning.specs.Instruction.{Argument, BrTable, CallIndirect, TryCall, TryCallIndirect, Known, CallResult, CallPayload, Edge}
+use Rattle.clif_meaning.specs.Instruction.{BrTable, CallIndirect, TryCall, TryCallIndirect, Known, Edge}
 use Rattle.clif_meaning.specs.Ledger.{ABlock, AVariable, AValue, AnInstruction, AnEntry, AnEdge, AJumpTable, AnExceptionTable, Answered, ExceptionTable, Ledger, answer_at, or_invalid, type_of, value_answer_type}
 use Rattle.clif_meaning.specs.Name as named
-use Rattle.clif_meaning.specs.Name.{same_name}
 use Rattle.clif_calls.specs.declared.call.Call.{Call}
 use Rattle.clif_calls.specs.declared.call.Call.TheVariants as call
 use Rattle.clif_calls.specs.declared.call.Edge as script
@@ -166,6 +169,17 @@ module _ (reading : Reading) (naming : Naming) (plain ledger : Ledger) (joined :
     edges = tt;
   }
 
+  -- and what a memory helper emits
+  pub helper-read : (config : TargetFrontendConfig) (operation : ByteOperation) (names : List Name)
+      → IsReadInstruction reading (emission_of config operation (map naming names)) (emission_of config operation (map name_of names))
+  helper-read config operation names = record {
+    operation = refl;
+    controlling = refl;
+    operands = names-read names;
+    contexts = tt;
+    edges = tt;
+  }
+
   pub request-read : (declared : SignatureShape) (c : Call) → IsReadRequest reading (request_under naming declared plain c) (request_of declared ledger c)
   request-read declared call.CreateBlock = tt
   request-read declared (call.SwitchToBlock block) = reads block
@@ -188,11 +202,12 @@ module _ (reading : Reading) (naming : Naming) (plain ledger : Ledger) (joined :
   request-read declared (call.TryUseVar variable) = refl
   request-read declared (call.Plain instruction) = plan-read (plan_of instruction)
   request-read declared (call.Cursor instruction) = plan-read (plan_of instruction)
-  request-read declared (call.Immediate immediate) = tt
-  request-read declared (call.Switch entries value otherwise) = tt
-  request-read declared (call.SetSrcloc srcloc) = tt
-  request-read declared call.CollectDebugInfo = tt
-  request-read declared (call.SetValLabel value label) = (reads value, tt)
+  request-read declared (call.Immediate immediate) = (refl, tt)
+  request-read declared (call.Switch entries value otherwise) = (refl, tt)
+  request-read declared (call.Memory called) = (refl, names-read (helper.operands_in called))
+  request-read declared (call.SetSrcloc srcloc) = (refl, tt)
+  request-read declared call.CollectDebugInfo = (refl, tt)
+  request-read declared (call.SetValLabel value label) = (refl, (reads value, tt))
   request-read declared (call.ChangeJumpDestination branch from to) = (reads branch, reads from, reads to)
   request-read declared (call.F128const bytes) = (refl, record { operation = refl; controlling = refl; operands = tt; contexts = tt; edges = tt })
   request-read declared (call.Vconst ty bytes) = (refl, record { operation = refl; controlling = refl; operands = tt; contexts = tt; edges = tt })

@@ -3,11 +3,12 @@ use Rattle.std.proofs.Common.{arith, ◌≡◌, ◌<◌, ◌≤◌, ℕ, List, l
 use Rattle.std.specs.Prelude.{false, true, Err, IfOk, Ok, OnOk, Result, Some, slice_get}
 use Rattle.clif_types.specs.Signature.{SignatureShape}
 use Rattle.clif_types.specs.declared.extname.UserFuncName.{UserFuncName}
-use Rattle.clif_types.specs.declared.target.PointerWidth.{PointerWidth}
+use Rattle.clif_types.specs.declared.target.TargetFrontendConfig.{TargetFrontendConfig}
 use Rattle.clif_ir.specs.Body.{Body, empty_body}
 use Rattle.clif_meaning.specs.View.{view_of}
 use Rattle.clif_meaning.specs.Headline.{MeansTheSame, pointer_bits}
 use Rattle.clif_meaning.specs.Premises.{CallersEdgesMatch, PlacementPremises}
+use Rattle.clif_meaning.specs.Ledger.{empty_ledger}
 use Rattle.clif_meaning.specs.Typing.{EdgesMatch}
 use Rattle.clif_meaning.specs.WellPlaced.{WellPlaced}
 use Rattle.clif_meaning.specs.Request.{AnsweredCall, Finalize, script_of}
@@ -28,22 +29,22 @@ use Rattle.clif_replay.specs.Replay.{ReplayMakes, ReplayTells}
 use Rattle.clif_replay.specs.Requests.{IsReplayed, IsStoppedByTable, MayBeRefused, attempts_of, calls_of, is_refusable}
 use Rattle.clif_expansion.specs.CallsVerdict.{verdict_on_call_attempts}
 use Rattle.clif_expansion.proofs.calls.Headline.{keep_premises}
-use Rattle.clif_replay.proofs.Verdicts.{all-replayed, means-replayed, verdict-accepted}
+use Rattle.clif_replay.proofs.Verdicts.{all-of-width, all-replayed, means-replayed, verdict-accepted}
 
 -- all calls were made, and `finalize` succeeded: `f` is the function that it left
-pub finished-replay : (calls : List Call) (declared : SignatureShape) (width : PointerWidth) (made : List AnsweredCall) (b : FunctionBuilder) (f : Body) (r : Result (Unit {0}) FinalizeError)
+pub finished-replay : (calls : List Call) (declared : SignatureShape) (config : TargetFrontendConfig) (made : List AnsweredCall) (b : FunctionBuilder) (f : Body) (r : Result (Unit {0}) FinalizeError)
     → (named : UserFuncName) → b.func.now.name ≡ named → f ≡ b.func.now
-    → StandsFor declared made b → IsReplayed declared calls (length calls) made
-    → MeansTheSame (script_of made) declared width (view_of f)
+    → StandsFor declared made b → IsReplayed config declared calls (length calls) made
+    → MeansTheSame (script_of made) declared config.pointer_width (view_of f)
     → LeavesNoParameter made f b.ctx.now.ssa
     → (CallersEdgesMatch (script_of made) → EdgesMatch (view_of f))
     → (PlacementPremises (script_of made) declared → WellPlaced (view_of f))
     → RefusalAgrees made (refusal_of (plain_ledger_of made) Finalize) r → r ≡ Ok tt
-    → ReplayMakes calls named declared width f
-finished-replay calls declared width made b f r named name same stands replayed meaning parameters matches placed agrees is =
-    let all = all-replayed declared calls made replayed in
+    → ReplayMakes calls named declared config f
+finished-replay calls declared config made b f r named name same stands replayed meaning parameters matches placed agrees is =
+    let all = all-replayed config declared calls made replayed in
     record {
-      same_meaning = means-replayed declared calls made width f replayed meaning;
+      same_meaning = means-replayed config declared calls made f replayed meaning;
       built = record {
         made = made;
         plain = all;
@@ -52,24 +53,24 @@ finished-replay calls declared width made b f r named name same stands replayed 
         stands = subst (λ (g : Body). StandsIn declared made g b.ctx.now b.position) (sym same) stands;
         parameters = parameters;
       };
-      edges_match = λ typed. matches (keep_premises.edges_match all.reading (script_of made) (calls_of declared calls) all.joined typed);
+      edges_match = λ typed. matches (keep_premises.edges_match all.reading (script_of made) (calls_of config declared calls) all.joined typed);
       well_placed = λ premises.
-          placed (keep_premises.placement (pointer_bits width) all.reading (script_of made) (calls_of declared calls) all.joined (all.performed (pointer_bits width)) declared premises);
+          placed (keep_premises.placement (pointer_bits config.pointer_width) all.reading (script_of made) (calls_of config declared calls) all.joined (all.performed (pointer_bits config.pointer_width) (all-of-width config declared empty_ledger calls)) declared premises);
       named = ap (λ (g : Body). g.name) same ∙ name;
-      accepted = verdict-accepted declared calls made r replayed agrees is;
+      accepted = verdict-accepted config declared calls made r replayed agrees is;
     }
 
 -- the function is this one
-pub finished-as : (calls : List Call) (old : Body) (width : PointerWidth) (start f g : Body) → start ≡ old → g ≡ f → ReplayMakes calls start.name start.signature width f → ReplayMakes calls old.name old.signature width g
-finished-as calls old width start f g begins ends done =
-    subst (λ (x : Body). ReplayMakes calls x.name x.signature width g) begins
-    (subst (λ (x : Body). ReplayMakes calls start.name start.signature width x) (sym ends) done)
+pub finished-as : (calls : List Call) (old : Body) (config : TargetFrontendConfig) (start f g : Body) → start ≡ old → g ≡ f → ReplayMakes calls start.name start.signature config f → ReplayMakes calls old.name old.signature config g
+finished-as calls old config start f g begins ends done =
+    subst (λ (x : Body). ReplayMakes calls x.name x.signature config g) begins
+    (subst (λ (x : Body). ReplayMakes calls start.name start.signature config x) (sym ends) done)
 
 -- `finalize` refused
-pub told-refused : (calls : List Call) (start old : Body) (place : ℕ) → start ≡ old → place ≡ length calls → verdict_on_call_attempts (attempts_of start.signature calls) ≡ Refused (length calls)
-    → ReplayTells calls old.name old.signature (Err (replay.Refused place))
-told-refused calls start old place begins is refused =
-    subst (λ (x : Body). ReplayTells calls x.name x.signature (Err (replay.Refused place))) begins (record {
+pub told-refused : (config : TargetFrontendConfig) (calls : List Call) (start old : Body) (place : ℕ) → start ≡ old → place ≡ length calls → verdict_on_call_attempts (attempts_of config start.signature calls) ≡ Refused (length calls)
+    → ReplayTells calls old.name old.signature config (Err (replay.Refused place))
+told-refused config calls start old place begins is refused =
+    subst (λ (x : Body). ReplayTells calls x.name x.signature config (Err (replay.Refused place))) begins (record {
       misuse = λ i told. absurd (no-misuse i told);
       refused = λ i told. inl (sym (same i told) ∙ is);
       table_full = λ told. absurd (no-full told);
@@ -86,8 +87,8 @@ told-refused calls start old place begins is refused =
     same i h = cc
 
 -- memory was refused
-pub told-memory : (calls : List Call) (old : Body) → ReplayTells calls old.name old.signature (Err replay.Memory)
-told-memory calls old = record {
+pub told-memory : (config : TargetFrontendConfig) (calls : List Call) (old : Body) → ReplayTells calls old.name old.signature config (Err replay.Memory)
+told-memory config calls old = record {
   misuse = λ i told. absurd (no-misuse i told);
   refused = λ i told. absurd (no-refusal i told);
   table_full = λ told. absurd (no-full told);
@@ -104,8 +105,8 @@ told-memory calls old = record {
     no-full h = cc
 
 -- a function was made
-pub told-answer : (calls : List Call) (name : UserFuncName) (declared : SignatureShape) (f : Body) → verdict_on_call_attempts (attempts_of declared calls) ≡ Accepted → ReplayTells calls name declared (Ok f)
-told-answer calls name declared f accepted = record {
+pub told-answer : (config : TargetFrontendConfig) (calls : List Call) (name : UserFuncName) (declared : SignatureShape) (f : Body) → verdict_on_call_attempts (attempts_of config declared calls) ≡ Accepted → ReplayTells calls name declared config (Ok f)
+told-answer config calls name declared f accepted = record {
   misuse = λ i told. absurd (no-error (replay.Misuse i) told);
   refused = λ i told. absurd (no-error (replay.Refused i) told);
   table_full = λ told. absurd (no-error replay.Full told);
@@ -116,35 +117,35 @@ told-answer calls name declared f accepted = record {
     no-error e h = cc
 
 -- the error is this one, of a replay with this name and this signature
-pub told-as : (calls : List Call) (name : UserFuncName) (declared : SignatureShape) (start : Body) (e : ReplayError) (back : Result Body ReplayError) → start ≡ empty_body name declared → back ≡ Err e
-    → ReplayTells calls start.name start.signature (Err e) → ReplayTells calls name declared back
-told-as calls name declared start e back begins came told =
-    subst (λ (r : Result Body ReplayError). ReplayTells calls name declared r) (sym came)
-    (subst (λ (x : Body). ReplayTells calls x.name x.signature (Err e)) begins told)
+pub told-as : (config : TargetFrontendConfig) (calls : List Call) (name : UserFuncName) (declared : SignatureShape) (start : Body) (e : ReplayError) (back : Result Body ReplayError) → start ≡ empty_body name declared → back ≡ Err e
+    → ReplayTells calls start.name start.signature config (Err e) → ReplayTells calls name declared config back
+told-as config calls name declared start e back begins came told =
+    subst (λ (r : Result Body ReplayError). ReplayTells calls name declared config r) (sym came)
+    (subst (λ (x : Body). ReplayTells calls x.name x.signature config (Err e)) begins told)
 
 -- nothing is said of a function where there is none
 pub of-none : (back : Result Body ReplayError) (e : ReplayError) (P : Body → Type 0) → back ≡ Err e → IfOk back P
 of-none back e P came = subst (λ (r : Result Body ReplayError). IfOk r P) (sym came) tt
 
 -- Calls of a list were made on a builder: all of them, or those before the one that ended them.
-pub record AreMade (calls : List Call) (old new : FunctionBuilder) (result : Result (Unit {0}) ReplayError) : Type 0 where
+pub record AreMade (config : TargetFrontendConfig) (calls : List Call) (old new : FunctionBuilder) (result : Result (Unit {0}) ReplayError) : Type 0 where
   pub loans : SameLoans old new
   pub name : OnOk result (new.func.now.name ≡ old.func.now.name)
-  pub ready : OnOk result ((made : List AnsweredCall) × StandsFor old.func.now.signature made new × IsReplayed old.func.now.signature calls (length calls) made)
+  pub ready : OnOk result ((made : List AnsweredCall) × StandsFor old.func.now.signature made new × IsReplayed config old.func.now.signature calls (length calls) made)
   pub sound : OnOk result (new.failed ≡ false)
   pub misuse : (i : ℕ) → result ≡ Err (replay.Misuse i) → i < length calls
-  pub judged : (i : ℕ) → result ≡ Err (replay.Misuse i) → verdict_on_call_attempts (attempts_of old.func.now.signature calls) ≡ Misuse i
+  pub judged : (i : ℕ) → result ≡ Err (replay.Misuse i) → verdict_on_call_attempts (attempts_of config old.func.now.signature calls) ≡ Misuse i
   pub tried : (i : ℕ) → result ≡ Err (replay.Refused i) → MayBeRefused calls i
-  pub refused : (i : ℕ) → result ≡ Err (replay.Refused i) → verdict_on_call_attempts (attempts_of old.func.now.signature calls) ≡ Refused i
-  pub table_full : result ≡ Err replay.Full → IsStoppedByTable calls old.func.now.name old.func.now.signature
+  pub refused : (i : ℕ) → result ≡ Err (replay.Refused i) → verdict_on_call_attempts (attempts_of config old.func.now.signature calls) ≡ Refused i
+  pub table_full : result ≡ Err replay.Full → IsStoppedByTable config calls old.func.now.name old.func.now.signature
 
 -- loans are kept over two steps
 pub loans-then : (old middle new : FunctionBuilder) → SameLoans old middle → SameLoans middle new → SameLoans old new
 loans-then old middle new first second = record { func = second.func ∙ first.func; ctx = second.ctx ∙ first.ctx }
 
 -- memory was refused on the way
-pub made-memory : (calls : List Call) (old new : FunctionBuilder) (result : Result (Unit {0}) ReplayError) → result ≡ Err replay.Memory → SameLoans old new → AreMade calls old new result
-made-memory calls old new result is loans = subst (λ (r : Result (Unit {0}) ReplayError). AreMade calls old new r) (sym is) (record {
+pub made-memory : (config : TargetFrontendConfig) (calls : List Call) (old new : FunctionBuilder) (result : Result (Unit {0}) ReplayError) → result ≡ Err replay.Memory → SameLoans old new → AreMade config calls old new result
+made-memory config calls old new result is loans = subst (λ (r : Result (Unit {0}) ReplayError). AreMade config calls old new r) (sym is) (record {
   loans = loans;
   name = tt;
   ready = tt;
@@ -166,9 +167,9 @@ made-memory calls old new result is loans = subst (λ (r : Result (Unit {0}) Rep
     no-full h = cc
 
 -- all calls were made
-pub made-all : (calls : List Call) (old new : FunctionBuilder) (made : List AnsweredCall) → SameLoans old new → new.func.now.name ≡ old.func.now.name
-    → StandsFor old.func.now.signature made new → IsReplayed old.func.now.signature calls (length calls) made → new.failed ≡ false → AreMade calls old new (Ok tt)
-made-all calls old new made loans name stands replayed sound = record {
+pub made-all : (config : TargetFrontendConfig) (calls : List Call) (old new : FunctionBuilder) (made : List AnsweredCall) → SameLoans old new → new.func.now.name ≡ old.func.now.name
+    → StandsFor old.func.now.signature made new → IsReplayed config old.func.now.signature calls (length calls) made → new.failed ≡ false → AreMade config calls old new (Ok tt)
+made-all config calls old new made loans name stands replayed sound = record {
   loans = loans;
   name = name;
   ready = (made, stands, replayed);

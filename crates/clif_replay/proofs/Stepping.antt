@@ -1,12 +1,13 @@
 -- One step of a replay: a call of the list is made, and the builder that stood for the plain calls of the script's calls stands for
 -- those of one call more.
-use Rattle.std.proofs.Common.{◌≡◌, ◌<◌, ◌⊎◌, inl, inr, ℕ, suc, ◌+◌, List, [], ◌∷◌, ◌++◌, length, ap, arith, refl, sym, ◌∙◌, subst}
-use Rattle.std.specs.Prelude.{◌&&◌, ◌||◌, Bool, true, false, Option, Some, None, is_some, option_map, map, slice_get, Result, Ok, Err, OnOk, IfOk}
+use Rattle.std.proofs.Common.{◌≡◌, ◌<◌, ◌⊎◌, inl, ℕ, suc, ◌+◌, List, [], ◌∷◌, ◌++◌, length, ap, arith, refl, sym, ◌∙◌, subst}
+use Rattle.std.specs.Prelude.{◌&&◌, ◌||◌, if◌then◌else◌, Bool, true, false, Option, Some, None, is_some, option_map, map, slice_get, Result, Ok, Err, OnOk, IfOk}
 use Rattle.std.specs.List.{list_any}
 use Rattle.std.specs.Global.{Vec}
 use Rattle.std.proofs.lemmas.Bool.{false≢true}
 use Rattle.std.proofs.lemmas.List.{map_push, map-append, length-append, length-map}
 use Rattle.clif_types.specs.Signature.{SignatureShape}
+use Rattle.clif_types.specs.declared.target.TargetFrontendConfig.{TargetFrontendConfig}
 use Rattle.clif_meaning.specs.Acceptance.{Refusal, refusal_of}
 use Rattle.clif_meaning.specs.Ledger.{Ledger, empty_ledger, ledger_after}
 use Rattle.clif_meaning.specs.Name as named
@@ -27,24 +28,27 @@ use Rattle.clif_calls.specs.declared.call.Call.{Call}
 use Rattle.clif_calls.specs.declared.call.Call.TheVariants as call
 use Rattle.clif_calls.specs.declared.call.Name.{Name}
 use Rattle.clif_calls.specs.declared.immediate.ImmediateCall.{ImmediateCall}
+use Rattle.clif_calls.specs.declared.memory.MemoryCall.{MemoryCall}
 use Rattle.clif_calls.specs.declared.switch.SwitchEntry.{SwitchEntry}
+use Rattle.clif_memory_helpers.specs.Helpers.{helper_calls}
 use Rattle.clif_calls.specs.declared.outside.OutsideCall.TheVariants as outside
 use Rattle.clif_calls.specs.declared.table.ThrowingCall.TheVariants as throwing
 use Rattle.clif_resolution.specs.declared.answers.Answer.{Answer}
 use Rattle.clif_resolution.specs.declared.answers.CallError.{CallError}
 use Rattle.clif_resolution.specs.declared.answers.CallError.TheVariants as error
 use Rattle.clif_replay.specs.Cases.{switch_under}
-use Rattle.clif_replay.specs.Emits.{IsSwitchJudged, MakesEmission, MakesScriptCall, MakesSwitch, plain_calls_under}
+use Rattle.clif_replay.specs.Emits.{IsSwitchJudged, MakesEmission, MakesHelper, MakesMoved, MakesScriptCall, MakesSwitch, plain_calls_under}
+use Rattle.clif_replay.specs.Helpers.{helper_under, moves_nothing, nothing_moved, operands_in, operation_in}
 use Rattle.clif_replay.specs.Limits.{MeetsFullTable}
 use Rattle.clif_replay.specs.Makes.{MakesCall}
 use Rattle.clif_replay.specs.Ready.{IsCallJudged, IsJudged, IsReady, types_after}
 use Rattle.clif_replay.specs.Requests.{Naming, call_of, emission_under, is_refusable, is_tried, name_of, request_of, request_under}
-use Rattle.clif_replay.proofs.Known.{AreKnown, allowed-same, blamed-same, emitted-same, known-asked, known-emitted, known-switched, switch-refused, switch-same}
+use Rattle.clif_replay.proofs.Known.{AreKnown, allowed-same, blamed-same, emitted-same, helper-same, known-asked, known-emitted, known-helped, known-switched, switch-refused, switch-same}
 use Rattle.clif_replay.proofs.Nowhere.{AreAnswered}
 use Rattle.clif_replay.proofs.ReadyLaws.{read}
 
 -- The builder stands for plain calls of these calls of the script, which are taken, and gave these answers.
-pub record IsInStep (declared : SignatureShape) (script : List ScriptCall) (b : FunctionBuilder) (answers : List Answer) : Type 0 where
+pub record IsInStep (config : TargetFrontendConfig) (declared : SignatureShape) (script : List ScriptCall) (b : FunctionBuilder) (answers : List Answer) : Type 0 where
   pub naming : Naming
   pub made : List AnsweredCall
   pub ready : IsReady naming declared made b answers
@@ -58,11 +62,11 @@ IsJudgedOn ledger this tried result =
     IsCallJudged (call_allowed ledger this) (tried && call_blames_variable ledger this) (is_some (call_refusal ledger this)) result
 
 -- A call of the list was made, or wasn't.
-pub record IsStep (c : Call) (old new : FunctionBuilder) (answers : List Answer) (result : Result Answer CallError) : Type 0 where
-  pub judged : (declared : SignatureShape) (script : List ScriptCall) → IsInStep declared script old answers
-      → IsJudgedOn (ledger_of script) (call_of declared (ledger_of script) c) (is_tried c) result
-  pub goes_on : (declared : SignatureShape) (script : List ScriptCall) → IsInStep declared script old answers
-      → IfOk result (λ answer. IsInStep declared (script ++ call_of declared (ledger_of script) c ∷ []) new (answers ++ answer ∷ []))
+pub record IsStep (config : TargetFrontendConfig) (c : Call) (old new : FunctionBuilder) (answers : List Answer) (result : Result Answer CallError) : Type 0 where
+  pub judged : (declared : SignatureShape) (script : List ScriptCall) → IsInStep config declared script old answers
+      → IsJudgedOn (ledger_of script) (call_of config declared (ledger_of script) c) (is_tried c) result
+  pub goes_on : (declared : SignatureShape) (script : List ScriptCall) → IsInStep config declared script old answers
+      → IfOk result (λ answer. IsInStep config declared (script ++ call_of config declared (ledger_of script) c ∷ []) new (answers ++ answer ∷ []))
   pub loans : SameLoans old new
   pub name : OnOk result (new.func.now.name ≡ old.func.now.name)
   pub sound : OnOk result (new.failed ≡ false)
@@ -141,14 +145,14 @@ tried-refusable _ is = absurd (false≢true is)
 -- ASKING ------------------------------------------------------------------------------------------------------------------
 
 -- a call that emits nothing
-record Asks (c : Call) : Type 0 where
-  call : (declared : SignatureShape) (ledger : Ledger) → call_of declared ledger c ≡ Ask (request_of declared ledger c)
-  makes : (old new : FunctionBuilder) (answers : List Answer) (result : Result Answer CallError) → MakesScriptCall c old new answers result → MakesCall c old new answers result
+record Asks (config : TargetFrontendConfig) (c : Call) : Type 0 where
+  call : (declared : SignatureShape) (ledger : Ledger) → call_of config declared ledger c ≡ Ask (request_of declared ledger c)
+  makes : (old new : FunctionBuilder) (answers : List Answer) (result : Result Answer CallError) → MakesScriptCall config c old new answers result → MakesCall c old new answers result
   refused_never : (declared : SignatureShape) (ledger : Ledger) → refusal_of ledger (request_of declared ledger c) ≡ None
 
-module _ (c : Call) (asks : Asks c) (old new : FunctionBuilder) (answers : List Answer) where
-  ask-judged : (result : Result Answer CallError) → MakesCall c old new answers result → (declared : SignatureShape) (script : List ScriptCall) → IsInStep declared script old answers
-      → IsJudgedOn (ledger_of script) (call_of declared (ledger_of script) c) (is_tried c) result
+module _ (config : TargetFrontendConfig) (c : Call) (asks : Asks config c) (old new : FunctionBuilder) (answers : List Answer) where
+  ask-judged : (result : Result Answer CallError) → MakesCall c old new answers result → (declared : SignatureShape) (script : List ScriptCall) → IsInStep config declared script old answers
+      → IsJudgedOn (ledger_of script) (call_of config declared (ledger_of script) c) (is_tried c) result
   ask-judged result makes declared script s =
       let later = later-names s.naming declared s.made old answers s.ready in
       let answered = ready-answered s.naming declared s.made old answers s.ready in
@@ -162,8 +166,8 @@ module _ (c : Call) (asks : Asks c) (old new : FunctionBuilder) (answers : List 
       (blamed-same s.naming (length answers) (script_of s.made) script s.known s.counts later answered declared c ∙ ap (call_blames_variable (ledger_of script)) (sym same)))
       (makes.judged s.naming declared s.made s.ready))
 
-  ask-goes-on : (result : Result Answer CallError) → MakesCall c old new answers result → (declared : SignatureShape) (script : List ScriptCall) → IsInStep declared script old answers
-      → IfOk result (λ answer. IsInStep declared (script ++ call_of declared (ledger_of script) c ∷ []) new (answers ++ answer ∷ []))
+  ask-goes-on : (result : Result Answer CallError) → MakesCall c old new answers result → (declared : SignatureShape) (script : List ScriptCall) → IsInStep config declared script old answers
+      → IfOk result (λ answer. IsInStep config declared (script ++ call_of config declared (ledger_of script) c ∷ []) new (answers ++ answer ∷ []))
   ask-goes-on (Err error) makes declared script s = tt
   ask-goes-on (Ok answer) makes declared script s =
       let later = later-names s.naming declared s.made old answers s.ready in
@@ -174,7 +178,7 @@ module _ (c : Call) (asks : Asks c) (old new : FunctionBuilder) (answers : List 
       let request : Request = request_of declared (ledger_of script) c in
       let more : AnsweredCall = record { request = asked; numbers = after.0 } in
       let may = sym (allowed-same s.naming (length answers) (script_of s.made) script s.known s.counts later answered declared c) ∙ judged in
-      subst (λ (last : ScriptCall). IsInStep declared (script ++ last ∷ []) new (answers ++ answer ∷ [])) (sym (asks.call declared (ledger_of script))) (record {
+      subst (λ (last : ScriptCall). IsInStep config declared (script ++ last ∷ []) new (answers ++ answer ∷ [])) (sym (asks.call declared (ledger_of script))) (record {
         naming = s.naming;
         made = s.made ++ more ∷ [];
         ready = after.1;
@@ -187,7 +191,7 @@ module _ (c : Call) (asks : Asks c) (old new : FunctionBuilder) (answers : List 
         counts = one-answer-more script (Ask request) answers answer s.counts;
       })
 
-  ask-step : (result : Result Answer CallError) → MakesCall c old new answers result → IsStep c old new answers result
+  ask-step : (result : Result Answer CallError) → MakesCall c old new answers result → IsStep config c old new answers result
   ask-step result makes = record {
     judged = ask-judged result makes;
     goes_on = ask-goes-on result makes;
@@ -201,8 +205,8 @@ module _ (c : Call) (asks : Asks c) (old new : FunctionBuilder) (answers : List 
 
 -- EMITTING ----------------------------------------------------------------------------------------------------------------
 
-module _ (called : ImmediateCall) (old new : FunctionBuilder) (answers : List Answer) where
-  emission-judged : (result : Result Answer CallError) → MakesEmission called old new answers result → (declared : SignatureShape) (script : List ScriptCall) → IsInStep declared script old answers
+module _ (config : TargetFrontendConfig) (called : ImmediateCall) (old new : FunctionBuilder) (answers : List Answer) where
+  emission-judged : (result : Result Answer CallError) → MakesEmission called old new answers result → (declared : SignatureShape) (script : List ScriptCall) → IsInStep config declared script old answers
       → IsJudged (call_allowed (ledger_of script) (Emit [] (emission_under name_of (ledger_of script) called))) false result
   emission-judged result makes declared script s =
       let later = later-names s.naming declared s.made old answers s.ready in
@@ -210,8 +214,8 @@ module _ (called : ImmediateCall) (old new : FunctionBuilder) (answers : List An
       judged-same _ _ false false result (emitted-same s.naming (length answers) (script_of s.made) script s.known s.counts later answered called) refl
       (makes.judged s.naming declared s.made s.ready)
 
-  emission-goes-on : (result : Result Answer CallError) → MakesEmission called old new answers result → (declared : SignatureShape) (script : List ScriptCall) → IsInStep declared script old answers
-      → IfOk result (λ answer. IsInStep declared (script ++ Emit [] (emission_under name_of (ledger_of script) called) ∷ []) new (answers ++ answer ∷ []))
+  emission-goes-on : (result : Result Answer CallError) → MakesEmission called old new answers result → (declared : SignatureShape) (script : List ScriptCall) → IsInStep config declared script old answers
+      → IfOk result (λ answer. IsInStep config declared (script ++ Emit [] (emission_under name_of (ledger_of script) called) ∷ []) new (answers ++ answer ∷ []))
   emission-goes-on (Err error) makes declared script s = tt
   emission-goes-on (Ok answer) makes declared script s =
       let later = later-names s.naming declared s.made old answers s.ready in
@@ -237,7 +241,7 @@ module _ (called : ImmediateCall) (old new : FunctionBuilder) (answers : List An
         counts = one-answer-more script (Emit [] emission) answers answer s.counts;
       }
 
-  emission-step : (result : Result Answer CallError) → MakesEmission called old new answers result → IsStep (call.Immediate called) old new answers result
+  emission-step : (result : Result Answer CallError) → MakesEmission called old new answers result → IsStep config (call.Immediate called) old new answers result
   emission-step result makes = record {
     judged = λ declared script s. never-judged _ _ _ result refl (emission-judged result makes declared script s);
     goes_on = emission-goes-on result makes;
@@ -259,8 +263,8 @@ call-judged-same : (allowed other blamed refused also : Bool) (result : Result A
 call-judged-same allowed other blamed refused also result may told judged =
     subst (λ (a : Bool). IsCallJudged a blamed also result) may (subst (λ (r : Bool). IsCallJudged allowed blamed r result) told judged)
 
-module _ (entries : Vec SwitchEntry) (value otherwise : Name) (old new : FunctionBuilder) (answers : List Answer) where
-  switch-judged : (result : Result Answer CallError) → MakesSwitch entries.items value otherwise old new answers result → (declared : SignatureShape) (script : List ScriptCall) → IsInStep declared script old answers
+module _ (config : TargetFrontendConfig) (entries : Vec SwitchEntry) (value otherwise : Name) (old new : FunctionBuilder) (answers : List Answer) where
+  switch-judged : (result : Result Answer CallError) → MakesSwitch entries.items value otherwise old new answers result → (declared : SignatureShape) (script : List ScriptCall) → IsInStep config declared script old answers
       → IsSwitchJudged (ledger_of script) (switch_under name_of (ledger_of script) entries.items value otherwise) result
   switch-judged result makes declared script s =
       let later = later-names s.naming declared s.made old answers s.ready in
@@ -270,8 +274,8 @@ module _ (entries : Vec SwitchEntry) (value otherwise : Name) (old new : Functio
       (switch-refused s.naming (length answers) (script_of s.made) script s.known s.counts later answered entries.items value otherwise)
       (makes.judged s.naming declared s.made s.ready)
 
-  switch-goes-on : (result : Result Answer CallError) → MakesSwitch entries.items value otherwise old new answers result → (declared : SignatureShape) (script : List ScriptCall) → IsInStep declared script old answers
-      → IfOk result (λ answer. IsInStep declared (script ++ Emit [] (switch_under name_of (ledger_of script) entries.items value otherwise) ∷ []) new (answers ++ answer ∷ []))
+  switch-goes-on : (result : Result Answer CallError) → MakesSwitch entries.items value otherwise old new answers result → (declared : SignatureShape) (script : List ScriptCall) → IsInStep config declared script old answers
+      → IfOk result (λ answer. IsInStep config declared (script ++ Emit [] (switch_under name_of (ledger_of script) entries.items value otherwise) ∷ []) new (answers ++ answer ∷ []))
   switch-goes-on (Err error) makes declared script s = tt
   switch-goes-on (Ok answer) makes declared script s =
       let later = later-names s.naming declared s.made old answers s.ready in
@@ -300,7 +304,7 @@ module _ (entries : Vec SwitchEntry) (value otherwise : Name) (old new : Functio
         counts = one-answer-more script (Emit [] switch) answers answer s.counts;
       }
 
-  switch-step : (result : Result Answer CallError) → MakesSwitch entries.items value otherwise old new answers result → IsStep (call.Switch entries value otherwise) old new answers result
+  switch-step : (result : Result Answer CallError) → MakesSwitch entries.items value otherwise old new answers result → IsStep config (call.Switch entries value otherwise) old new answers result
   switch-step result makes = record {
     judged = switch-judged result makes;
     goes_on = switch-goes-on result makes;
@@ -312,25 +316,105 @@ module _ (entries : Vec SwitchEntry) (value otherwise : Name) (old new : Functio
     variables = makes.variables;
   }
 
--- each call is one of these
-kind : (c : Call) → ((called : ImmediateCall) × (c ≡ call.Immediate called)) ⊎ ((entries : Vec SwitchEntry) × (value : Name) × (otherwise : Name) × (c ≡ call.Switch entries value otherwise)) ⊎ Asks c
-kind (call.Immediate called) = inl (called, refl)
-kind (call.Switch entries value otherwise) = inr (inl (entries, value, otherwise, refl))
-kind (call.Outside (outside.Call function args)) = inr (inr (record { call = λ declared ledger. refl; makes = λ old new answers result is. is; refused_never = λ declared ledger. refl }))
-kind (call.Outside (outside.CallIndirect signature callee args)) = inr (inr (record { call = λ declared ledger. refl; makes = λ old new answers result is. is; refused_never = λ declared ledger. refl }))
-kind (call.Throwing (throwing.TryCall function args table)) = inr (inr (record { call = λ declared ledger. refl; makes = λ old new answers result is. is; refused_never = λ declared ledger. refl }))
-kind (call.Throwing (throwing.TryCallIndirect callee args table)) = inr (inr (record { call = λ declared ledger. refl; makes = λ old new answers result is. is; refused_never = λ declared ledger. refl }))
-kind _ = inr (inr (record { call = λ declared ledger. refl; makes = λ old new answers result is. is; refused_never = λ declared ledger. refl }))
+-- HELPING -----------------------------------------------------------------------------------------------------------------
 
-pub step : (c : Call) (old new : FunctionBuilder) (answers : List Answer) (result : Result Answer CallError) → MakesScriptCall c old new answers result → IsStep c old new answers result
-step c old new answers result makes = by (kind c)
+module _ (config : TargetFrontendConfig) (called : MemoryCall) (moves : moves_nothing (operation_in called) ≡ false) (old new : FunctionBuilder) (answers : List Answer) where
+  helper-judged : (result : Result Answer CallError) → MakesHelper config called old new answers result → (declared : SignatureShape) (script : List ScriptCall) → IsInStep config declared script old answers
+      → IsJudged (call_allowed (ledger_of script) (helper_under config name_of (ledger_of script) called)) false result
+  helper-judged result makes declared script s =
+      let later = later-names s.naming declared s.made old answers s.ready in
+      let answered = ready-answered s.naming declared s.made old answers s.ready in
+      judged-same _ _ false false result (helper-same s.naming (length answers) (script_of s.made) script s.known s.counts later answered config called) refl
+      (makes.judged s.naming declared s.made s.ready)
+
+  helper-goes-on : (result : Result Answer CallError) → MakesHelper config called old new answers result → (declared : SignatureShape) (script : List ScriptCall) → IsInStep config declared script old answers
+      → IfOk result (λ answer. IsInStep config declared (script ++ helper_under config name_of (ledger_of script) called ∷ []) new (answers ++ answer ∷ []))
+  helper-goes-on (Err error) makes declared script s = tt
+  helper-goes-on (Ok answer) makes declared script s =
+      let later = later-names s.naming declared s.made old answers s.ready in
+      let answered = ready-answered s.naming declared s.made old answers s.ready in
+      let behind = makes.ready s.naming declared s.made s.ready in
+      let may = helper-judged (Ok answer) makes declared script s in
+      let this = helper_under config name_of (ledger_of script) called in
+      let before : length (script_of s.made) ≡ length s.made = length-map s.made (λ (a : AnsweredCall). a.request) in
+      let counted : length (ledger_after (script_of s.made)).answers ≡ length s.made = as_many s.made in
+      let long : length (script_of behind.added) ≡ length behind.added = length-map behind.added (λ (a : AnsweredCall). a.request) in
+      let both : length (s.made ++ behind.added) ≡ length s.made + length behind.added = length-append s.made behind.added in
+      let at_end = behind.at_end in
+      let whole : script_of (s.made ++ behind.added) ≡ script_of s.made ++ script_of behind.added = map-append (λ (a : AnsweredCall). a.request) s.made behind.added in
+      record {
+        naming = behind.extended;
+        made = s.made ++ behind.added;
+        ready = behind.ready;
+        known =
+            subst (λ (n : ℕ). AreKnown behind.extended n (script_of (s.made ++ behind.added)) (script ++ this ∷ [])) (one-on answers answer)
+            (subst (λ (plain : Script). AreKnown behind.extended (length answers + 1) plain (script ++ this ∷ [])) (sym whole)
+            (known-helped s.naming (length answers) (script_of s.made) script s.known s.counts later answered config called moves may behind.filling behind.fills behind.sized behind.lines (script_of behind.added)
+            (behind.asked ∙ ap (λ (n : ℕ). helper_calls config (operation_in called) behind.filling (ledger_after (script_of s.made)).tables n (map s.naming (operands_in called))) (sym counted))
+            behind.extended behind.last (omega (arith, before, long, both, at_end)) behind.given
+            (subst (λ (plain : Script). slice_get (ledger_after plain).answers behind.last ≡ Some behind.given) whole behind.at_given)
+            behind.earlier behind.results));
+        taken = one_more empty_ledger script this s.taken may refl;
+        counts = one-answer-more script this answers answer s.counts;
+      }
+
+  helper-is : (declared : SignatureShape) (ledger : Ledger) → call_of config declared ledger (call.Memory called) ≡ helper_under config name_of ledger called
+  helper-is declared ledger = ap (λ (none : Bool). if none then Ask (nothing_moved name_of called) else helper_under config name_of ledger called) moves
+
+  helper-step : (result : Result Answer CallError) → MakesHelper config called old new answers result → IsStep config (call.Memory called) old new answers result
+  helper-step result makes = record {
+    judged = λ declared script s.
+        subst (λ (this : ScriptCall). IsJudgedOn (ledger_of script) this false result) (sym (helper-is declared (ledger_of script)))
+        (never-judged _ _ _ result refl (helper-judged result makes declared script s));
+    goes_on = λ declared script s.
+        subst (λ (this : ScriptCall). IfOk result (λ answer. IsInStep config declared (script ++ this ∷ []) new (answers ++ answer ∷ []))) (sym (helper-is declared (ledger_of script)))
+        (helper-goes-on result makes declared script s);
+    loans = makes.loans;
+    name = makes.name;
+    sound = makes.sound;
+    refused = λ is. absurd (makes.refused is);
+    full = λ is. tt;
+    variables = makes.variables;
+  }
+
+-- a copy or a fill of no bytes asks
+nothing-asks : (config : TargetFrontendConfig) (called : MemoryCall) → moves_nothing (operation_in called) ≡ true → Asks config (call.Memory called)
+nothing-asks config called moves = record {
+  call = λ declared ledger. ap (λ (none : Bool). if none then Ask (nothing_moved name_of called) else helper_under config name_of ledger called) moves;
+  makes = λ old new answers result is.
+      subst (λ (none : Bool). MakesMoved none config called old new answers result) moves is;
+  refused_never = λ declared ledger. refl;
+}
+
+-- each call is one of these
+data Kind (config : TargetFrontendConfig) : Call → Type 0 where
+  Computes : (called : ImmediateCall) → Kind config (call.Immediate called)
+  Switches : (entries : Vec SwitchEntry) (value otherwise : Name) → Kind config (call.Switch entries value otherwise)
+  Helps : (called : MemoryCall) → moves_nothing (operation_in called) ≡ false → Kind config (call.Memory called)
+  AsksOnly : (c : Call) → Asks config c → Kind config c
+
+kind : (config : TargetFrontendConfig) (c : Call) → Kind config c
+kind config (call.Immediate called) = Computes called
+kind config (call.Switch entries value otherwise) = Switches entries value otherwise
+kind config (call.Memory called) = by (moves_nothing (operation_in called)) refl
   where
-    by : ((called : ImmediateCall) × (c ≡ call.Immediate called)) ⊎ ((entries : Vec SwitchEntry) × (value : Name) × (otherwise : Name) × (c ≡ call.Switch entries value otherwise)) ⊎ Asks c
-        → IsStep c old new answers result
-    by (inl (called, is)) =
-        subst (λ (x : Call). IsStep x old new answers result) (sym is)
-        (emission-step called old new answers result (subst (λ (x : Call). MakesScriptCall x old new answers result) is makes))
-    by (inr (inl (entries, value, otherwise, is))) =
-        subst (λ (x : Call). IsStep x old new answers result) (sym is)
-        (switch-step entries value otherwise old new answers result (subst (λ (x : Call). MakesScriptCall x old new answers result) is makes))
-    by (inr (inr asks)) = ask-step c asks old new answers result (asks.makes old new answers result makes)
+    by : (none : Bool) → moves_nothing (operation_in called) ≡ none → Kind config (call.Memory called)
+    by true is = AsksOnly (call.Memory called) (nothing-asks config called is)
+    by false is = Helps called is
+kind config (call.Outside (outside.Call function args)) = AsksOnly _ (record { call = λ declared ledger. refl; makes = λ old new answers result is. is; refused_never = λ declared ledger. refl })
+kind config (call.Outside (outside.CallIndirect signature callee args)) = AsksOnly _ (record { call = λ declared ledger. refl; makes = λ old new answers result is. is; refused_never = λ declared ledger. refl })
+kind config (call.Throwing (throwing.TryCall function args table)) = AsksOnly _ (record { call = λ declared ledger. refl; makes = λ old new answers result is. is; refused_never = λ declared ledger. refl })
+kind config (call.Throwing (throwing.TryCallIndirect callee args table)) = AsksOnly _ (record { call = λ declared ledger. refl; makes = λ old new answers result is. is; refused_never = λ declared ledger. refl })
+kind config _ = AsksOnly _ (record { call = λ declared ledger. refl; makes = λ old new answers result is. is; refused_never = λ declared ledger. refl })
+
+pub step : (config : TargetFrontendConfig) (c : Call) (old new : FunctionBuilder) (answers : List Answer) (result : Result Answer CallError) → MakesScriptCall config c old new answers result
+    → IsStep config c old new answers result
+step config c old new answers result = by c (kind config c)
+  where
+    by : (one : Call) → Kind config one → MakesScriptCall config one old new answers result → IsStep config one old new answers result
+    by one (Computes called) makes = emission-step config called old new answers result makes
+    by one (Switches entries value otherwise) makes = switch-step config entries value otherwise old new answers result makes
+    by one (Helps called moves) makes =
+        helper-step config called moves old new answers result
+        (subst (λ (none : Bool). MakesMoved none config called old new answers result) moves makes)
+    by one (AsksOnly asked asks) makes = ask-step config asked asks old new answers result (asks.makes old new answers result makes)

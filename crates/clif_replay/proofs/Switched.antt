@@ -442,7 +442,8 @@ exceptions-left ledger base tables targets (asked.DefVar variable value) is = ab
 exceptions-left ledger base tables targets (asked.UseVar variable) is = absurd is
 exceptions-left ledger base tables targets (asked.MakeEntry entry) is = absurd is
 exceptions-left ledger base tables targets (MakeExceptionTable signature normal items) is = absurd is
-exceptions-left ledger base tables targets (asked.Annotate values) is = absurd is
+exceptions-left ledger base tables targets (asked.Annotate inside values) is = absurd is
+exceptions-left ledger base tables targets (asked.NeedStackMap need) is = absurd is
 exceptions-left ledger base tables targets (asked.ChangeJumpDestination branch from to) is = absurd is
 exceptions-left ledger base tables targets asked.Finalize is = absurd is
 

@@ -1,12 +1,12 @@
--- Names that were made and that no answer has: those behind a switch, which answers nothing.
+-- Names that were made and that no answer has: those behind a call that answers nothing.
 use Rattle.std.proofs.Common.{◌≡◌, ◌<◌, ◌⊎◌, inl, inr, List, [], ◌∷◌, ◌++◌, length, arith, sym, ◌∙◌, subst}
 use Rattle.std.specs.Prelude.{Bool, true, false, fold, None, if◌then◌else◌, ◌==◌}
 use Rattle.clif_meaning.specs.Instruction.{Instruction}
 use Rattle.clif_meaning.specs.Ledger.{Ledger, answer_at, empty_ledger, ledger_after, ledger_with}
 use Rattle.clif_meaning.specs.Name as named
-use Rattle.clif_meaning.specs.Request.{Script}
-use Rattle.clif_expansion.specs.Emission.{building, reading_emitted, reading_generated}
-use Rattle.clif_expansion.specs.Joining.{results_at}
+use Rattle.clif_meaning.specs.Request.{MakeEntry, Script}
+use Rattle.clif_tables.specs.Entries.{TableEntry}
+use Rattle.clif_expansion.specs.Emission.{AreGenerated, LastResults, building, reading_behind, reading_generated, reading_importing, results_as}
 use Rattle.clif_expansion.specs.Reading.{Generated, IsReadAs, Reading, ScriptName}
 use Rattle.clif_expansion.specs.ScriptCall.{ScriptCall, call_answers, ledger_of, ledger_with_call}
 use Rattle.clif_expansion.proofs.EmittedPrograms.{one_longer}
@@ -33,23 +33,38 @@ still-unanswered plain more script call x name gone =
       none = answers_before (ledger_of script).answers (call_answers (ledger_of script) call) name.place name.index gone.made ∙ gone.none;
     }))
 
+-- what was generated isn't read
+not-generated : (reading : Reading) (here : Bool) (x name : named.Name) → (if here then Generated else reading x) ≡ ScriptName name → IsReadAs reading x name
+not-generated reading true x name is = let no_way : ⊥ = cc in absurd no_way
+not-generated reading false x name is = is
+
 -- What is read behind code in a line is read so whatever was read before it, or was read before it.
-pub emitted-alike : (first second : Reading) (plain ledger : Ledger) (code : List (Instruction named.Name named.Name)) (x name : named.Name) → IsReadAs (reading_emitted first plain ledger code) x name
-    → IsReadAs (reading_emitted second plain ledger code) x name ⊎ IsReadAs first x name
-emitted-alike first second plain ledger [] x name is = by (x.place == length plain.answers) is
+pub emitted-alike : (how : LastResults) (first second : Reading) (plain ledger : Ledger) (code : List (Instruction named.Name named.Name)) (x name : named.Name) → IsReadAs (reading_behind how first plain ledger code) x name
+    → IsReadAs (reading_behind how second plain ledger code) x name ⊎ IsReadAs first x name
+emitted-alike how first second plain ledger [] x name is = by (x.place == length plain.answers) is
   where
-    by : (here : Bool) → (if here then results_at (length ledger.answers) x.index else first x) ≡ ScriptName name
-        → ((if here then results_at (length ledger.answers) x.index else second x) ≡ ScriptName name) ⊎ IsReadAs first x name
+    by : (here : Bool) → (if here then results_as how (length ledger.answers) x.index else first x) ≡ ScriptName name
+        → ((if here then results_as how (length ledger.answers) x.index else second x) ≡ ScriptName name) ⊎ IsReadAs first x name
     by true is = inl is
     by false is = inr is
-emitted-alike first second plain ledger (instruction ∷ code) x name is =
-    by (emitted-alike (reading_generated first plain) (reading_generated second plain) (ledger_with plain (building instruction)) ledger code x name is)
+emitted-alike how first second plain ledger (instruction ∷ code) x name is =
+    by (emitted-alike how (reading_generated first plain) (reading_generated second plain) (ledger_with plain (building instruction)) ledger code x name is)
   where
-    before : (here : Bool) → (if here then Generated else first x) ≡ ScriptName name → IsReadAs first x name
-    before true is = let no_way : ⊥ = cc in absurd no_way
-    before false is = is
-
-    by : IsReadAs (reading_emitted second plain ledger (instruction ∷ code)) x name ⊎ IsReadAs (reading_generated first plain) x name
-        → IsReadAs (reading_emitted second plain ledger (instruction ∷ code)) x name ⊎ IsReadAs first x name
+    by : IsReadAs (reading_behind how second plain ledger (instruction ∷ code)) x name ⊎ IsReadAs (reading_generated first plain) x name
+        → IsReadAs (reading_behind how second plain ledger (instruction ∷ code)) x name ⊎ IsReadAs first x name
     by (inl read) = inl read
-    by (inr old) = inr (before (x.place == length plain.answers) old)
+    by (inr old) = inr (not-generated first (x.place == length plain.answers) x name old)
+
+-- Behind imports, and behind code all of whose answers are generated, it was read before.
+pub importing-read : (reading : Reading) (plain : Ledger) (imports : List TableEntry) (x name : named.Name) → IsReadAs (reading_importing reading plain imports) x name → IsReadAs reading x name
+importing-read reading plain [] x name is = is
+importing-read reading plain (entry ∷ imports) x name is =
+    not-generated reading (x.place == length plain.answers) x name
+    (importing-read (reading_generated reading plain) (ledger_with plain (MakeEntry entry)) imports x name is)
+
+pub generated-read : (reading : Reading) (plain ledger : Ledger) (code : List (Instruction named.Name named.Name)) (x name : named.Name) → IsReadAs (reading_behind AreGenerated reading plain ledger code) x name
+    → IsReadAs reading x name
+generated-read reading plain ledger [] x name is = not-generated reading (x.place == length plain.answers) x name is
+generated-read reading plain ledger (instruction ∷ code) x name is =
+    not-generated reading (x.place == length plain.answers) x name
+    (generated-read (reading_generated reading plain) (ledger_with plain (building instruction)) ledger code x name is)

@@ -1,9 +1,10 @@
 -- The verdict on a list of calls, call by call.
 use Rattle.std.proofs.Common.{◌≡◌, ℕ, suc, ◌+◌, ◌<◌, List, [], ◌∷◌, ◌++◌, length, get_or, take, drop, refl, ap, arith, sym, ◌∙◌, subst, inl, inr}
+use Rattle.std.specs.List.{AllByRecursion}
 use Rattle.std.specs.Prelude.{fold, Option, Some, None, is_some, Bool, true, false, not, ◌&&◌, if◌then◌else◌, Result, Ok, Err}
 use Rattle.std.proofs.lemmas.List.{take_more, drop_more, drop_all, take_all}
 use Rattle.clif_types.specs.Signature.{SignatureShape}
-use Rattle.clif_types.specs.declared.target.PointerWidth.{PointerWidth}
+use Rattle.clif_types.specs.declared.target.TargetFrontendConfig.{TargetFrontendConfig}
 use Rattle.clif_ir.specs.Body.{Body}
 use Rattle.clif_meaning.specs.View.{view_of}
 use Rattle.clif_meaning.specs.Headline.{MeansTheSame, pointer_bits}
@@ -16,13 +17,16 @@ use Rattle.clif_builder.specs.declared.error.FinalizeError.TheVariants as ending
 use Rattle.clif_builder.specs.Ledger.{RefusalAgrees}
 use Rattle.clif_builder.specs.Ledger.{ledger_of as plain_ledger_of}
 use Rattle.clif_calls.specs.declared.call.Call.{Call}
+use Rattle.clif_calls.specs.declared.call.Call.TheVariants as call
+use Rattle.clif_calls.specs.declared.memory.MemoryCall.{MemoryCall}
+use Rattle.clif_replay.specs.Helpers.{helper_under, moves_nothing, nothing_moved, operation_in}
 use Rattle.clif_resolution.specs.declared.answers.CallError.{CallError}
 use Rattle.clif_resolution.specs.declared.answers.CallError.TheVariants as error
 use Rattle.clif_replay.specs.declared.script.ReplayError.{ReplayError}
 use Rattle.clif_replay.specs.declared.script.ReplayError.TheVariants as replay
 use Rattle.clif_replay.specs.Errors.{replay_error_at}
 use Rattle.clif_replay.specs.Ready.{IsCallJudged}
-use Rattle.clif_replay.specs.Requests.{ArePlainCalls, IsReplayed, attempt_of, attempts_from, attempts_of, call_of, calls_from, calls_of, is_tried}
+use Rattle.clif_replay.specs.Requests.{ArePlainCalls, IsOfWidth, IsReplayed, attempt_of, attempts_from, attempts_of, call_of, calls_from, calls_of, is_tried, name_of}
 use Rattle.clif_replay.proofs.Options.{if-no}
 use Rattle.clif_expansion.specs.CallsHeadline.{CallsMeanTheSame}
 use Rattle.clif_expansion.specs.CallsVerdict.{CallAttempt, call_blames_variable, made, verdict_on_call_attempts, verdict_on_calls_from}
@@ -32,98 +36,98 @@ use Rattle.clif_expansion.proofs.calls.Headline.{calls_mean}
 use Rattle.clif_expansion.proofs.calls.Verdicts.{verdicts_are_read}
 
 -- the script's calls of the first ones of a list, and their ledger
-abbrev pub calls_before : SignatureShape → List Call → ℕ → List ScriptCall
-calls_before declared calls place = calls_of declared (take place calls)
+abbrev pub calls_before : TargetFrontendConfig → SignatureShape → List Call → ℕ → List ScriptCall
+calls_before config declared calls place = calls_of config declared (take place calls)
 
-abbrev pub ledger_before : SignatureShape → List Call → ℕ → Ledger
-ledger_before declared calls place = ledger_of (calls_before declared calls place)
+abbrev pub ledger_before : TargetFrontendConfig → SignatureShape → List Call → ℕ → Ledger
+ledger_before config declared calls place = ledger_of (calls_before config declared calls place)
 
 -- the script's call at a place
-abbrev pub call_at : SignatureShape → List Call → ℕ → Call → ScriptCall
-call_at declared calls place c = call_of declared (ledger_before declared calls place) c
+abbrev pub call_at : TargetFrontendConfig → SignatureShape → List Call → ℕ → Call → ScriptCall
+call_at config declared calls place c = call_of config declared (ledger_before config declared calls place) c
 
 -- the verdict on a list is that on the calls from this place on
-abbrev pub HasRest : SignatureShape → List Call → ℕ → Type 0
-HasRest declared calls place =
-    verdict_on_call_attempts (attempts_of declared calls)
-    ≡ verdict_on_calls_from place (ledger_before declared calls place) (attempts_from declared (ledger_before declared calls place) (drop place calls) ++ made (Ask Finalize) ∷ [])
+abbrev pub HasRest : TargetFrontendConfig → SignatureShape → List Call → ℕ → Type 0
+HasRest config declared calls place =
+    verdict_on_call_attempts (attempts_of config declared calls)
+    ≡ verdict_on_calls_from place (ledger_before config declared calls place) (attempts_from config declared (ledger_before config declared calls place) (drop place calls) ++ made (Ask Finalize) ∷ [])
 
 -- the calls of a list with one more
-calls-push : (declared : SignatureShape) (ledger : Ledger) (calls : List Call) (c : Call)
-    → calls_from declared ledger (calls ++ c ∷ []) ≡ calls_from declared ledger calls ++ call_of declared (fold ledger_with_call ledger (calls_from declared ledger calls)) c ∷ []
-calls-push declared ledger [] c = refl
-calls-push declared ledger (x ∷ calls) c =
-    ap (λ (script : List ScriptCall). call_of declared ledger x ∷ script) (calls-push declared (ledger_with_call ledger (call_of declared ledger x)) calls c)
+calls-push : (config : TargetFrontendConfig) (declared : SignatureShape) (ledger : Ledger) (calls : List Call) (c : Call)
+    → calls_from config declared ledger (calls ++ c ∷ []) ≡ calls_from config declared ledger calls ++ call_of config declared (fold ledger_with_call ledger (calls_from config declared ledger calls)) c ∷ []
+calls-push config declared ledger [] c = refl
+calls-push config declared ledger (x ∷ calls) c =
+    ap (λ (script : List ScriptCall). call_of config declared ledger x ∷ script) (calls-push config declared (ledger_with_call ledger (call_of config declared ledger x)) calls c)
 
-pub calls-more : (declared : SignatureShape) (calls : List Call) (place : ℕ) (c : Call) → place < length calls → c ≡ get_or calls place c
-    → calls_before declared calls place ++ call_at declared calls place c ∷ [] ≡ calls_before declared calls (place + 1)
-calls-more declared calls place c inside is =
-    sym (calls-push declared empty_ledger (take place calls) c)
-    ∙ ap (λ (x : Call). calls_of declared (take place calls ++ x ∷ [])) is
-    ∙ ap (calls_of declared) (sym (take_more calls place c inside))
+pub calls-more : (config : TargetFrontendConfig) (declared : SignatureShape) (calls : List Call) (place : ℕ) (c : Call) → place < length calls → c ≡ get_or calls place c
+    → calls_before config declared calls place ++ call_at config declared calls place c ∷ [] ≡ calls_before config declared calls (place + 1)
+calls-more config declared calls place c inside is =
+    sym (calls-push config declared empty_ledger (take place calls) c)
+    ∙ ap (λ (x : Call). calls_of config declared (take place calls ++ x ∷ [])) is
+    ∙ ap (calls_of config declared) (sym (take_more calls place c inside))
 
-ledger-on : (declared : SignatureShape) (calls : List Call) (place : ℕ) (c : Call) → place < length calls → c ≡ get_or calls place c
-    → ledger_with_call (ledger_before declared calls place) (call_at declared calls place c) ≡ ledger_before declared calls (place + 1)
-ledger-on declared calls place c inside is =
-    sym (fold_on ledger_with_call empty_ledger (calls_before declared calls place) (call_at declared calls place c ∷ []))
-    ∙ ap ledger_of (calls-more declared calls place c inside is)
+ledger-on : (config : TargetFrontendConfig) (declared : SignatureShape) (calls : List Call) (place : ℕ) (c : Call) → place < length calls → c ≡ get_or calls place c
+    → ledger_with_call (ledger_before config declared calls place) (call_at config declared calls place c) ≡ ledger_before config declared calls (place + 1)
+ledger-on config declared calls place c inside is =
+    sym (fold_on ledger_with_call empty_ledger (calls_before config declared calls place) (call_at config declared calls place c ∷ []))
+    ∙ ap ledger_of (calls-more config declared calls place c inside is)
 
 -- what is behind a call of the list
-abbrev behind : SignatureShape → List Call → ℕ → Ledger → List CallAttempt
-behind declared calls place ledger = attempts_from declared ledger (drop (place + 1) calls) ++ made (Ask Finalize) ∷ []
+abbrev behind : TargetFrontendConfig → SignatureShape → List Call → ℕ → Ledger → List CallAttempt
+behind config declared calls place ledger = attempts_from config declared ledger (drop (place + 1) calls) ++ made (Ask Finalize) ∷ []
 
 -- the rest begins with this call
-rest-begins : (declared : SignatureShape) (calls : List Call) (place : ℕ) (c : Call) → place < length calls → c ≡ get_or calls place c → HasRest declared calls place
-    → verdict_on_call_attempts (attempts_of declared calls)
-    ≡ verdict_on_calls_from place (ledger_before declared calls place)
-    (attempt_of declared (ledger_before declared calls place) c ∷ behind declared calls place (ledger_with_call (ledger_before declared calls place) (call_at declared calls place c)))
-rest-begins declared calls place c inside is rest =
-    let ledger = ledger_before declared calls place in
+rest-begins : (config : TargetFrontendConfig) (declared : SignatureShape) (calls : List Call) (place : ℕ) (c : Call) → place < length calls → c ≡ get_or calls place c → HasRest config declared calls place
+    → verdict_on_call_attempts (attempts_of config declared calls)
+    ≡ verdict_on_calls_from place (ledger_before config declared calls place)
+    (attempt_of config declared (ledger_before config declared calls place) c ∷ behind config declared calls place (ledger_with_call (ledger_before config declared calls place) (call_at config declared calls place c)))
+rest-begins config declared calls place c inside is rest =
+    let ledger = ledger_before config declared calls place in
     rest
-    ∙ ap (λ (list : List Call). verdict_on_calls_from place ledger (attempts_from declared ledger list ++ made (Ask Finalize) ∷ []))
+    ∙ ap (λ (list : List Call). verdict_on_calls_from place ledger (attempts_from config declared ledger list ++ made (Ask Finalize) ∷ []))
     (drop_more calls place c inside ∙ ap (λ (x : Call). x ∷ drop (place + 1) calls) (sym is))
 
 -- one that is allowed and not refused leaves the verdict to the calls behind it
-pub rest-more : (declared : SignatureShape) (calls : List Call) (place : ℕ) (c : Call) → place < length calls → c ≡ get_or calls place c → HasRest declared calls place
-    → call_allowed (ledger_before declared calls place) (call_at declared calls place c) ≡ true → is_some (call_refusal (ledger_before declared calls place) (call_at declared calls place c)) ≡ false
-    → HasRest declared calls (place + 1)
-rest-more declared calls place c inside is rest allowed taken =
-    let ledger = ledger_before declared calls place in
-    let this = call_at declared calls place c in
-    let next = behind declared calls place (ledger_with_call ledger this) in
+pub rest-more : (config : TargetFrontendConfig) (declared : SignatureShape) (calls : List Call) (place : ℕ) (c : Call) → place < length calls → c ≡ get_or calls place c → HasRest config declared calls place
+    → call_allowed (ledger_before config declared calls place) (call_at config declared calls place c) ≡ true → is_some (call_refusal (ledger_before config declared calls place) (call_at config declared calls place c)) ≡ false
+    → HasRest config declared calls (place + 1)
+rest-more config declared calls place c inside is rest allowed taken =
+    let ledger = ledger_before config declared calls place in
+    let this = call_at config declared calls place c in
+    let next = behind config declared calls place (ledger_with_call ledger this) in
     let refused : Bool = is_tried c && call_blames_variable ledger this in
     let goes_on = if-no (not (call_allowed ledger this)) (if refused then Refused place else Misuse place) (if is_some (call_refusal ledger this) then Refused place else verdict_on_calls_from (suc place) (ledger_with_call ledger this) next) (ap not allowed) in
     let fine = if-no (is_some (call_refusal ledger this)) (Refused place) (verdict_on_calls_from (suc place) (ledger_with_call ledger this) next) taken in
     let one_on : suc place ≡ place + 1 = omega arith in
-    rest-begins declared calls place c inside is rest ∙ goes_on ∙ fine
+    rest-begins config declared calls place c inside is rest ∙ goes_on ∙ fine
     ∙ ap (λ (n : ℕ). verdict_on_calls_from n (ledger_with_call ledger this) next) one_on
-    ∙ ap (λ (l : Ledger). verdict_on_calls_from (place + 1) l (behind declared calls place l)) (ledger-on declared calls place c inside is)
+    ∙ ap (λ (l : Ledger). verdict_on_calls_from (place + 1) l (behind config declared calls place l)) (ledger-on config declared calls place c inside is)
 
 -- one that isn't allowed decides: it is refused where its variable is to blame and it is only tried, and a misuse otherwise
-denied-here : (declared : SignatureShape) (calls : List Call) (place : ℕ) (c : Call) (refused : Bool) → place < length calls → c ≡ get_or calls place c → HasRest declared calls place
-    → call_allowed (ledger_before declared calls place) (call_at declared calls place c) ≡ false
-    → (is_tried c && call_blames_variable (ledger_before declared calls place) (call_at declared calls place c)) ≡ refused
-    → verdict_on_call_attempts (attempts_of declared calls) ≡ (if refused then Refused place else Misuse place)
-denied-here declared calls place c refused inside is rest denied blames =
-    let ledger = ledger_before declared calls place in
-    let this = call_at declared calls place c in
-    let next = behind declared calls place (ledger_with_call ledger this) in
-    rest-begins declared calls place c inside is rest
+denied-here : (config : TargetFrontendConfig) (declared : SignatureShape) (calls : List Call) (place : ℕ) (c : Call) (refused : Bool) → place < length calls → c ≡ get_or calls place c → HasRest config declared calls place
+    → call_allowed (ledger_before config declared calls place) (call_at config declared calls place c) ≡ false
+    → (is_tried c && call_blames_variable (ledger_before config declared calls place) (call_at config declared calls place c)) ≡ refused
+    → verdict_on_call_attempts (attempts_of config declared calls) ≡ (if refused then Refused place else Misuse place)
+denied-here config declared calls place c refused inside is rest denied blames =
+    let ledger = ledger_before config declared calls place in
+    let this = call_at config declared calls place c in
+    let next = behind config declared calls place (ledger_with_call ledger this) in
+    rest-begins config declared calls place c inside is rest
     ∙ ap (λ (allowed : Bool). if not allowed then (if is_tried c && call_blames_variable ledger this then Refused place else Misuse place)
     else (if is_some (call_refusal ledger this) then Refused place
     else verdict_on_calls_from (suc place) (ledger_with_call ledger this) next)) denied
     ∙ ap (λ (blamed : Bool). if blamed then Refused place else Misuse place) blames
 
 -- one that is allowed and refused decides
-refused-here : (declared : SignatureShape) (calls : List Call) (place : ℕ) (c : Call) → place < length calls → c ≡ get_or calls place c → HasRest declared calls place
-    → call_allowed (ledger_before declared calls place) (call_at declared calls place c) ≡ true
-    → is_some (call_refusal (ledger_before declared calls place) (call_at declared calls place c)) ≡ true
-    → verdict_on_call_attempts (attempts_of declared calls) ≡ Refused place
-refused-here declared calls place c inside is rest allowed refused =
-    let ledger = ledger_before declared calls place in
-    let this = call_at declared calls place c in
-    rest-begins declared calls place c inside is rest
-    ∙ verdicts_are_read.refuses place ledger (attempt_of declared ledger c) (behind declared calls place (ledger_with_call ledger this)) allowed refused
+refused-here : (config : TargetFrontendConfig) (declared : SignatureShape) (calls : List Call) (place : ℕ) (c : Call) → place < length calls → c ≡ get_or calls place c → HasRest config declared calls place
+    → call_allowed (ledger_before config declared calls place) (call_at config declared calls place c) ≡ true
+    → is_some (call_refusal (ledger_before config declared calls place) (call_at config declared calls place c)) ≡ true
+    → verdict_on_call_attempts (attempts_of config declared calls) ≡ Refused place
+refused-here config declared calls place c inside is rest allowed refused =
+    let ledger = ledger_before config declared calls place in
+    let this = call_at config declared calls place c in
+    rest-begins config declared calls place c inside is rest
+    ∙ verdicts_are_read.refuses place ledger (attempt_of config declared ledger c) (behind config declared calls place (ledger_with_call ledger this)) allowed refused
 
 -- the error of a call tells where it was made: a misuse and a refusal are told as themselves
 misuse-at : (refusal : CallError) (place i : ℕ) (told : ReplayError) → told ≡ replay_error_at refusal place → told ≡ replay.Misuse i → (refusal ≡ error.Misuse) × (place ≡ i)
@@ -163,69 +167,86 @@ refusal-at error.Full place i told at refused = absurd (other i (sym at ∙ refu
     other k h = cc
 
 -- what a call's error tells of the verdict
-abbrev pub IsJudgedAt : SignatureShape → List Call → ℕ → Call → CallError → Type 0
-IsJudgedAt declared calls place c refusal =
-    IsCallJudged (call_allowed (ledger_before declared calls place) (call_at declared calls place c))
-    (is_tried c && call_blames_variable (ledger_before declared calls place) (call_at declared calls place c))
-    (is_some (call_refusal (ledger_before declared calls place) (call_at declared calls place c))) (Err refusal)
+abbrev pub IsJudgedAt : TargetFrontendConfig → SignatureShape → List Call → ℕ → Call → CallError → Type 0
+IsJudgedAt config declared calls place c refusal =
+    IsCallJudged (call_allowed (ledger_before config declared calls place) (call_at config declared calls place c))
+    (is_tried c && call_blames_variable (ledger_before config declared calls place) (call_at config declared calls place c))
+    (is_some (call_refusal (ledger_before config declared calls place) (call_at config declared calls place c))) (Err refusal)
 
 -- the error of a call that isn't allowed, and of no other, tells a misuse at its place
-pub misuse-told : (declared : SignatureShape) (calls : List Call) (place i : ℕ) (c : Call) (refusal : CallError) (told : ReplayError) → place < length calls → c ≡ get_or calls place c → HasRest declared calls place
-    → IsJudgedAt declared calls place c refusal → told ≡ replay_error_at refusal place → told ≡ replay.Misuse i → verdict_on_call_attempts (attempts_of declared calls) ≡ Misuse i
-misuse-told declared calls place i c refusal told inside is rest judged at misuse =
+pub misuse-told : (config : TargetFrontendConfig) (declared : SignatureShape) (calls : List Call) (place i : ℕ) (c : Call) (refusal : CallError) (told : ReplayError) → place < length calls → c ≡ get_or calls place c → HasRest config declared calls place
+    → IsJudgedAt config declared calls place c refusal → told ≡ replay_error_at refusal place → told ≡ replay.Misuse i → verdict_on_call_attempts (attempts_of config declared calls) ≡ Misuse i
+misuse-told config declared calls place i c refusal told inside is rest judged at misuse =
     let place_is = misuse-at refusal place i told at misuse in
-    let denied = subst (λ (e : CallError). IsJudgedAt declared calls place c e) place_is.0 judged in
-    denied-here declared calls place c false inside is rest denied.0 denied.1 ∙ ap Misuse place_is.1
+    let denied = subst (λ (e : CallError). IsJudgedAt config declared calls place c e) place_is.0 judged in
+    denied-here config declared calls place c false inside is rest denied.0 denied.1 ∙ ap Misuse place_is.1
 
 -- and a refusal where its variable is to blame, or where it is refused though it is allowed
-pub refusal-told : (declared : SignatureShape) (calls : List Call) (place i : ℕ) (c : Call) (refusal : CallError) (told : ReplayError) → place < length calls → c ≡ get_or calls place c → HasRest declared calls place
-    → IsJudgedAt declared calls place c refusal → told ≡ replay_error_at refusal place → told ≡ replay.Refused i → verdict_on_call_attempts (attempts_of declared calls) ≡ Refused i
-refusal-told declared calls place i c refusal told inside is rest judged at refused =
+pub refusal-told : (config : TargetFrontendConfig) (declared : SignatureShape) (calls : List Call) (place i : ℕ) (c : Call) (refusal : CallError) (told : ReplayError) → place < length calls → c ≡ get_or calls place c → HasRest config declared calls place
+    → IsJudgedAt config declared calls place c refusal → told ≡ replay_error_at refusal place → told ≡ replay.Refused i → verdict_on_call_attempts (attempts_of config declared calls) ≡ Refused i
+refusal-told config declared calls place i c refusal told inside is rest judged at refused =
     let place_is = refusal-at refusal place i told at refused in
-    elim (subst (λ (e : CallError). IsJudgedAt declared calls place c e) place_is.0 judged) [
-      | inl denied ↦ denied-here declared calls place c true inside is rest denied.0 denied.1 ∙ ap Refused place_is.1
-      | inr refusal ↦ refused-here declared calls place c inside is rest refusal.0 refusal.1 ∙ ap Refused place_is.1
+    elim (subst (λ (e : CallError). IsJudgedAt config declared calls place c e) place_is.0 judged) [
+      | inl denied ↦ denied-here config declared calls place c true inside is rest denied.0 denied.1 ∙ ap Refused place_is.1
+      | inr refusal ↦ refused-here config declared calls place c inside is rest refusal.0 refusal.1 ∙ ap Refused place_is.1
     ]
 
+-- memory helpers are of the target's pointers
+moved-of-width : (config : TargetFrontendConfig) (ledger : Ledger) (called : MemoryCall) (nothing : Bool)
+    → IsOfWidth (pointer_bits config.pointer_width) (if nothing then Ask (nothing_moved name_of called) else helper_under config name_of ledger called)
+moved-of-width config ledger called true = tt
+moved-of-width config ledger called false = refl
+
+of-width : (config : TargetFrontendConfig) (declared : SignatureShape) (ledger : Ledger) (c : Call) → IsOfWidth (pointer_bits config.pointer_width) (call_of config declared ledger c)
+of-width config declared ledger (call.Memory called) = moved-of-width config ledger called (moves_nothing (operation_in called))
+of-width config declared ledger _ = tt
+
+pub all-of-width : (config : TargetFrontendConfig) (declared : SignatureShape) (ledger : Ledger) (calls : List Call)
+    → AllByRecursion (IsOfWidth (pointer_bits config.pointer_width)) (calls_from config declared ledger calls)
+all-of-width config declared ledger [] = tt
+all-of-width config declared ledger (c ∷ calls) =
+    (of-width config declared ledger c, all-of-width config declared (ledger_with_call ledger (call_of config declared ledger c)) calls)
+
 -- all calls were made
-pub all-replayed : (declared : SignatureShape) (calls : List Call) (made : List AnsweredCall) → IsReplayed declared calls (length calls) made → ArePlainCalls (script_of made) (calls_of declared calls)
-all-replayed declared calls made replayed =
-    subst (λ (list : List Call). ArePlainCalls (script_of made) (calls_of declared list)) (take_all (length calls) calls (omega arith)) replayed.plain
+pub all-replayed : (config : TargetFrontendConfig) (declared : SignatureShape) (calls : List Call) (made : List AnsweredCall) → IsReplayed config declared calls (length calls) made → ArePlainCalls (script_of made) (calls_of config declared calls)
+all-replayed config declared calls made replayed =
+    subst (λ (list : List Call). ArePlainCalls (script_of made) (calls_of config declared list)) (take_all (length calls) calls (omega arith)) replayed.plain
 
 -- and what they mean is what the plain calls mean
-pub means-replayed : (declared : SignatureShape) (calls : List Call) (made : List AnsweredCall) (width : PointerWidth) (f : Body) → IsReplayed declared calls (length calls) made
-    → MeansTheSame (script_of made) declared width (view_of f) → CallsMeanTheSame (calls_of declared calls) declared width (view_of f)
-means-replayed declared calls made width f replayed means =
-    subst (λ (list : List Call). CallsMeanTheSame (calls_of declared list) declared width (view_of f)) (take_all (length calls) calls (omega arith))
-    (calls_mean replayed.plain.reading (script_of made) (calls_before declared calls (length calls)) replayed.plain.joined declared width (view_of f) (replayed.plain.performed (pointer_bits width))
-    (verdicts_are_read.may_be_made empty_ledger (calls_before declared calls (length calls)) replayed.taken) means)
+pub means-replayed : (config : TargetFrontendConfig) (declared : SignatureShape) (calls : List Call) (made : List AnsweredCall) (f : Body) → IsReplayed config declared calls (length calls) made
+    → MeansTheSame (script_of made) declared config.pointer_width (view_of f) → CallsMeanTheSame (calls_of config declared calls) declared config.pointer_width (view_of f)
+means-replayed config declared calls made f replayed means =
+    subst (λ (list : List Call). CallsMeanTheSame (calls_of config declared list) declared config.pointer_width (view_of f)) (take_all (length calls) calls (omega arith))
+    (calls_mean replayed.plain.reading (script_of made) (calls_before config declared calls (length calls)) replayed.plain.joined declared config.pointer_width (view_of f)
+    (replayed.plain.performed (pointer_bits config.pointer_width) (all-of-width config declared empty_ledger (take (length calls) calls)))
+    (verdicts_are_read.may_be_made empty_ledger (calls_before config declared calls (length calls)) replayed.taken) means)
 
 -- behind the last call `finalize` decides
-verdict-end : (declared : SignatureShape) (calls : List Call) (made : List AnsweredCall) → IsReplayed declared calls (length calls) made
-    → verdict_on_call_attempts (attempts_of declared calls) ≡ (if is_some (refusal_of (plain_ledger_of made) Finalize) then Refused (length calls) else Accepted)
-verdict-end declared calls answered replayed =
-    let ledger = ledger_before declared calls (length calls) in
+verdict-end : (config : TargetFrontendConfig) (declared : SignatureShape) (calls : List Call) (made : List AnsweredCall) → IsReplayed config declared calls (length calls) made
+    → verdict_on_call_attempts (attempts_of config declared calls) ≡ (if is_some (refusal_of (plain_ledger_of made) Finalize) then Refused (length calls) else Accepted)
+verdict-end config declared calls answered replayed =
+    let ledger = ledger_before config declared calls (length calls) in
     replayed.rest
-    ∙ ap (λ (rest : List Call). verdict_on_calls_from (length calls) ledger (attempts_from declared ledger rest ++ made (Ask Finalize) ∷ [])) (drop_all (length calls) calls (omega arith))
+    ∙ ap (λ (rest : List Call). verdict_on_calls_from (length calls) ledger (attempts_from config declared ledger rest ++ made (Ask Finalize) ∷ [])) (drop_all (length calls) calls (omega arith))
     ∙ ap (λ (refused : Bool). if refused then Refused (length calls) else Accepted)
     (verdicts_are_read.refused replayed.plain.reading (plain_ledger_of answered) ledger Finalize Finalize
-    (joined_calls replayed.plain.reading (script_of answered) (calls_before declared calls (length calls)) replayed.plain.joined) tt)
+    (joined_calls replayed.plain.reading (script_of answered) (calls_before config declared calls (length calls)) replayed.plain.joined) tt)
 
 -- `finalize` is refused where the script is
-pub verdict-refused : (declared : SignatureShape) (calls : List Call) (made : List AnsweredCall) (r : Result (Unit {0}) FinalizeError) (e : FinalizeError) → IsReplayed declared calls (length calls) made
-    → RefusalAgrees made (refusal_of (plain_ledger_of made) Finalize) r → r ≡ Err e → verdict_on_call_attempts (attempts_of declared calls) ≡ Refused (length calls)
-verdict-refused declared calls made r e replayed agrees is =
-    verdict-end declared calls made replayed ∙ by (refusal_of (plain_ledger_of made) Finalize) agrees
+pub verdict-refused : (config : TargetFrontendConfig) (declared : SignatureShape) (calls : List Call) (made : List AnsweredCall) (r : Result (Unit {0}) FinalizeError) (e : FinalizeError) → IsReplayed config declared calls (length calls) made
+    → RefusalAgrees made (refusal_of (plain_ledger_of made) Finalize) r → r ≡ Err e → verdict_on_call_attempts (attempts_of config declared calls) ≡ Refused (length calls)
+verdict-refused config declared calls made r e replayed agrees is =
+    verdict-end config declared calls made replayed ∙ by (refusal_of (plain_ledger_of made) Finalize) agrees
   where
     by : (o : Option Refusal) → RefusalAgrees made o r → (if is_some o then Refused (length calls) else Accepted) ≡ Refused (length calls)
     by None agrees = let no_way : ⊥ = cc in absurd no_way
     by (Some refusal) agrees = refl
 
 -- and it succeeds where the script is accepted
-pub verdict-accepted : (declared : SignatureShape) (calls : List Call) (made : List AnsweredCall) (r : Result (Unit {0}) FinalizeError) → IsReplayed declared calls (length calls) made
-    → RefusalAgrees made (refusal_of (plain_ledger_of made) Finalize) r → r ≡ Ok tt → verdict_on_call_attempts (attempts_of declared calls) ≡ Accepted
-verdict-accepted declared calls made r replayed agrees is =
-    verdict-end declared calls made replayed ∙ by (refusal_of (plain_ledger_of made) Finalize) agrees
+pub verdict-accepted : (config : TargetFrontendConfig) (declared : SignatureShape) (calls : List Call) (made : List AnsweredCall) (r : Result (Unit {0}) FinalizeError) → IsReplayed config declared calls (length calls) made
+    → RefusalAgrees made (refusal_of (plain_ledger_of made) Finalize) r → r ≡ Ok tt → verdict_on_call_attempts (attempts_of config declared calls) ≡ Accepted
+verdict-accepted config declared calls made r replayed agrees is =
+    verdict-end config declared calls made replayed ∙ by (refusal_of (plain_ledger_of made) Finalize) agrees
   where
     by : (o : Option Refusal) → RefusalAgrees made o r → (if is_some o then Refused (length calls) else Accepted) ≡ Accepted
     by None agrees = refl

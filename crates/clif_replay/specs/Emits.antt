@@ -1,13 +1,17 @@
--- What the functions do that make a call of a script with a constant as an operand, and a switch: such a call is an emission of the
--- script, and for it the builder is asked plain calls: those of the constant and of the instruction, or those of the switch. Own.
-use Rattle.std.specs.Prelude.{◌≡◌, ◌≢◌, ◌<◌, ◌+◌, ◌&&◌, ℕ, ℤ, suc, List, [], ◌∷◌, ◌++◌, length, slice_get, is_some, Some, Bool, false, OnOk, IfOk, Result, Err}
+-- What the functions do that make a call of a script with a constant as an operand, a switch, and a memory helper: such a call is an
+-- emission of the script, and for it the builder is asked plain calls: those of the constant and of the instruction, those of the
+-- switch, or those of the helper. Own.
+use Rattle.std.specs.Prelude.{◌≡◌, ◌≢◌, ◌<◌, ◌+◌, ◌&&◌, ℕ, ℤ, suc, List, [], ◌∷◌, ◌++◌, length, slice_get, map, is_some, Some, Bool, true, false, OnOk, IfOk, Result, Ok, Err}
 use Rattle.clif_types.specs.Signature.{SignatureShape}
 use Rattle.clif_types.specs.Types.{is_int}
 use Rattle.clif_types.specs.declared.error.BuildError.{BuildError}
+use Rattle.clif_types.specs.declared.target.TargetFrontendConfig.{TargetFrontendConfig}
 use Rattle.clif_types.specs.declared.types.«Type».{«Type»}
+use Rattle.clif_ir.specs.Body.{Body}
 use Rattle.clif_opcodes.specs.declared.opcodes.BinaryOpcode.TheVariants.{Iadd}
 use Rattle.clif_instructions.specs.declared.instructions.InstructionData.{InstructionData}
 use Rattle.clif_inst_builder.specs.Shapes.{binary, int_compare}
+use Rattle.clif_meaning.specs.ByteOperation.{ByteOperation}
 use Rattle.clif_meaning.specs.Instruction.{Arithmetic, Binary, Compare, Edge, Instruction}
 use Rattle.clif_meaning.specs.Ledger.{Answered, Ledger}
 use Rattle.clif_meaning.specs.Name as named
@@ -15,23 +19,32 @@ use Rattle.clif_meaning.specs.Request.{AnsweredCall, Script, script_of}
 use Rattle.clif_constant_calls.specs.Stands.{BuildsLike, type_in}
 use Rattle.clif_constant_operands.specs.Chains.{BuildsWithConstant}
 use Rattle.clif_expansion.specs.ConstantCalls.{constant_calls}
+use Rattle.clif_expansion.specs.Emission.{AreGenerated, AreGiven, LastResults}
 use Rattle.clif_expansion.specs.ScriptCall.{Emit, call_allowed, call_refusal}
 use Rattle.clif_expansion.specs.Switching.{IsSwitchCode, switching}
 use Rattle.clif_builder.specs.declared.builder.FunctionBuilder.{FunctionBuilder}
 use Rattle.clif_builder.specs.Builder.{SameLoans}
 use Rattle.clif_builder.specs.Built.{BuildsValue}
 use Rattle.clif_builder.specs.Ledger.{ledger_of}
+use Rattle.clif_memory_helpers.specs.HelperLines.{HelpersAreLines, how_of}
+use Rattle.clif_memory_helpers.specs.Helpers.{Answers, FillsWith, Helps, helper_calls}
 use Rattle.clif_calls.specs.declared.call.Name.{Name}
 use Rattle.clif_calls.specs.declared.call.Call.{Call}
 use Rattle.clif_calls.specs.declared.call.Call.TheVariants as call
 use Rattle.clif_calls.specs.declared.immediate.ImmediateCall.{ImmediateCall}
 use Rattle.clif_calls.specs.declared.immediate.ImmediateCall.TheVariants as immediate
+use Rattle.clif_calls.specs.declared.memory.MemoryCall.{MemoryCall}
+use Rattle.clif_calls.specs.declared.memory.MemoryCall.TheVariants as memory
 use Rattle.clif_calls.specs.declared.switch.SwitchEntry.{SwitchEntry}
+use Rattle.clif_resolution.specs.Answers.{value_of}
 use Rattle.clif_resolution.specs.Conditions.{is_open}
 use Rattle.clif_resolution.specs.declared.answers.Answer.{Answer}
+use Rattle.clif_resolution.specs.declared.answers.Answer.TheVariants as answer
 use Rattle.clif_resolution.specs.declared.answers.CallError.{CallError}
 use Rattle.clif_resolution.specs.declared.answers.CallError.TheVariants as error
 use Rattle.clif_replay.specs.Cases.{switch_under}
+use Rattle.clif_replay.specs.declared.make_memory.Operands.{Operands}
+use Rattle.clif_replay.specs.Helpers.{IsSized, first_answer, helper_under, moves_nothing, operands_in, operation_in}
 use Rattle.clif_replay.specs.Limits.{EmissionMeetsFullTable}
 use Rattle.clif_replay.specs.Makes.{MakesCall}
 use Rattle.clif_replay.specs.Ready.{IsCallJudged, IsJudged, IsReady, no_answer}
@@ -133,8 +146,85 @@ pub record MakesSwitch (entries : List SwitchEntry) (value otherwise : Name) (ol
   pub sound : OnOk result (new.failed ≡ false)
   pub variables : OnOk result (new.ctx.now.variables ≡ old.ctx.now.variables)
 
--- what the function does that makes any call of a script
-abbrev pub MakesScriptCall : Call → FunctionBuilder → FunctionBuilder → List Answer → Result Answer CallError → Type 0
-MakesScriptCall (call.Immediate called) old new answers result = MakesEmission called old new answers result
-MakesScriptCall (call.Switch entries value otherwise) old new answers result = MakesSwitch entries.items value otherwise old new answers result
-MakesScriptCall asked old new answers result = MakesCall asked old new answers result
+-- HELPERS -----------------------------------------------------------------------------------------------------------------
+
+-- The builder was asked the calls of a memory helper, which are a line that stands for its emission. Names at the end of the list
+-- lead to what the last call gives, or, where the helper answers nothing, behind all of that. Earlier ones are known as before.
+pub record IsReadyBehindHelper (config : TargetFrontendConfig) (called : MemoryCall) (naming : Naming) (declared : SignatureShape) (calls : List AnsweredCall) (b : FunctionBuilder) (answers : List Answer) (answer : Answer) : Type 0 where
+  pub filling : ℤ
+  pub fills : FillsWith (operation_in called) filling
+  pub sized : IsSized (operation_in called)
+  pub lines : HelpersAreLines
+  pub added : List AnsweredCall
+  pub asked : script_of added
+      ≡ helper_calls config (operation_in called) filling (ledger_of calls).tables (length calls) (map naming (operands_in called))
+  pub last : ℕ
+  pub at_end : length (calls ++ added) ≡ suc last
+  pub given : List Answered
+  pub at_given : slice_get (ledger_of (calls ++ added)).answers last ≡ Some given
+  pub extended : Naming
+  pub earlier : (name : Name) → name.place < length answers → extended name ≡ naming name
+  pub results : (name : Name) → name.place ≡ length answers
+      → extended name ≡ named.answer_of last (first_answer (how_of (operation_in called)) given + name.answer)
+  pub ready : IsReady extended declared (calls ++ added) b (answers ++ answer ∷ [])
+
+-- A helper of some bytes was made, or wasn't. It is never refused, and variables have the types that they had.
+pub record MakesHelper (config : TargetFrontendConfig) (called : MemoryCall) (old new : FunctionBuilder) (answers : List Answer) (result : Result Answer CallError) : Type 0 where
+  pub loans : SameLoans old new
+  pub name : OnOk result (new.func.now.name ≡ old.func.now.name)
+  pub ready : (naming : Naming) (declared : SignatureShape) (calls : List AnsweredCall) → IsReady naming declared calls old answers
+      → IfOk result (IsReadyBehindHelper config called naming declared calls new answers)
+  pub judged : (naming : Naming) (declared : SignatureShape) (calls : List AnsweredCall) → IsReady naming declared calls old answers
+      → IsJudged (call_allowed (ledger_of calls) (helper_under config naming (ledger_of calls) called)) false result
+  pub sound : OnOk result (new.failed ≡ false)
+  pub refused : result ≢ Err error.Refused
+  pub variables : OnOk result (new.ctx.now.variables ≡ old.ctx.now.variables)
+
+-- A copy or a fill of no bytes asks only for its condition.
+abbrev pub MakesMoved : (nothing : Bool) → TargetFrontendConfig → MemoryCall → FunctionBuilder → FunctionBuilder → List Answer → Result Answer CallError → Type 0
+MakesMoved true config called old new answers result = MakesCall (call.Memory called) old new answers result
+MakesMoved false config called old new answers result = MakesHelper config called old new answers result
+
+abbrev pub MakesMemory : TargetFrontendConfig → MemoryCall → FunctionBuilder → FunctionBuilder → List Answer → Result Answer CallError → Type 0
+MakesMemory config called old new answers result = MakesMoved (moves_nothing (operation_in called)) config called old new answers result
+
+-- what a helper answers, as the answer of the list
+abbrev pub as_nothing : Result (Unit {0}) BuildError → Result Answer BuildError
+as_nothing (Ok done) = Ok no_answer
+as_nothing (Err error) = Err error
+
+abbrev pub as_value : Result ℕ BuildError → Result Answer BuildError
+as_value (Ok value) = Ok (answer.Values value 1)
+as_value (Err error) = Err error
+
+-- The helper was called on the builder, and this told.
+abbrev pub IsHelped : LastResults → TargetFrontendConfig → ByteOperation → List ℕ → FunctionBuilder → FunctionBuilder → Result Answer BuildError → Type 0
+IsHelped AreGenerated config operation operands old new result =
+    (done : Result (Unit {0}) BuildError) × (result ≡ as_nothing done) × Helps config operation operands old new done
+IsHelped AreGiven config operation operands old new result =
+    (value : Result ℕ BuildError) × (result ≡ as_value value) × Answers config operation operands old new value
+
+abbrev pub CallsHelper : TargetFrontendConfig → ByteOperation → List ℕ → FunctionBuilder → FunctionBuilder → Result Answer BuildError → Type 0
+CallsHelper config operation operands old new result = IsHelped (how_of operation) config operation operands old new result
+
+-- all values of these
+abbrev pub three_values : Operands → List ℕ
+three_values values = values.first ∷ values.second ∷ values.third ∷ []
+
+-- the values of a helper's operands: as many of these as there are
+abbrev pub values_in : MemoryCall → Operands → List ℕ
+values_in (memory.CallLibrary callee first second size) values = three_values values
+values_in (memory.Copy dest src size dest_align src_align non_overlapping flags) values = values.first ∷ values.second ∷ []
+values_in (memory.Fill buffer ch size buffer_align flags) values = values.first ∷ []
+values_in (memory.Compare int_cc left right size left_align right_align flags) values = values.first ∷ values.second ∷ []
+
+-- the names of its operands lead to these
+abbrev pub AreOperands : Body → List Answer → MemoryCall → Operands → Type 0
+AreOperands f answers called values = map (value_of f answers) (operands_in called) ≡ map Some (values_in called values)
+
+-- what the function does that makes any call of a script for this target
+abbrev pub MakesScriptCall : TargetFrontendConfig → Call → FunctionBuilder → FunctionBuilder → List Answer → Result Answer CallError → Type 0
+MakesScriptCall config (call.Immediate called) old new answers result = MakesEmission called old new answers result
+MakesScriptCall config (call.Switch entries value otherwise) old new answers result = MakesSwitch entries.items value otherwise old new answers result
+MakesScriptCall config (call.Memory called) old new answers result = MakesMemory config called old new answers result
+MakesScriptCall config asked old new answers result = MakesCall asked old new answers result

@@ -1,5 +1,6 @@
 pub mod Cases
 pub mod Entries
+pub mod Helpers
 pub mod Errors
 pub mod Limits
 pub mod Requests

@@ -59,8 +59,8 @@ returns_in tables (outside.CallIndirect signature callee args) = (signature_at t
 -- A call, made so far as it is made, meets a table that holds 2^32 - 1 entries: a call that lengthens a table finds it full,
 -- an outside call doesn't find room for all that it gives, one with a constant as an operand finds them full at one of its
 -- instructions, one that makes several parameters fills the table of values before it has made them all, and a use of a variable and a
--- sealing construct until a table is full. Of a switch nothing is said: it makes many blocks and instructions. No other call
--- lengthens a table.
+-- sealing construct until a table is full. Of a switch and of a memory helper nothing is said: they make many entries. No other
+-- call lengthens a table.
 abbrev pub MeetsFullTable : Call → Body → ContextState → Type 0
 MeetsFullTable call.CreateBlock f c = length f.blocks ≡ 2 ^ 32 - 1
 MeetsFullTable (call.Entry entry) f c = count_for f.tables (entry_in entry) ≡ 2 ^ 32 - 1
@@ -75,6 +75,7 @@ MeetsFullTable (call.Cursor instruction) f c = PlanMeetsFullTable (plan_of instr
 MeetsFullTable (call.Outside called) f c = HasNoRoom f (length (returns_in f.tables called))
 MeetsFullTable (call.Immediate called) f c = EmissionMeetsFullTable f
 MeetsFullTable (call.Switch entries value otherwise) f c = Unit {0}
+MeetsFullTable (call.Memory called) f c = Unit {0}
 MeetsFullTable (call.F128const bytes) f c = ConstantMeetsFullTable bytes.items f
 MeetsFullTable (call.Vconst ty bytes) f c = ConstantMeetsFullTable bytes.items f
 MeetsFullTable (call.Jump destination) f c = IsFull f

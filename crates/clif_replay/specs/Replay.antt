@@ -1,8 +1,8 @@
--- What a replay answers, of the calls, the name and the signature. Own.
+-- What a replay answers, of the calls, the name, the signature and the target. Own.
 use Rattle.std.specs.Prelude.{◌≡◌, ◌≢◌, ◌<◌, ℕ, List, length, Some, Result, Err}
 use Rattle.clif_types.specs.Signature.{SignatureShape}
 use Rattle.clif_types.specs.declared.extname.UserFuncName.{UserFuncName}
-use Rattle.clif_types.specs.declared.target.PointerWidth.{PointerWidth}
+use Rattle.clif_types.specs.declared.target.TargetFrontendConfig.{TargetFrontendConfig}
 use Rattle.clif_ir.specs.Body.{Body}
 use Rattle.clif_meaning.specs.View.{view_of}
 use Rattle.clif_meaning.specs.Typing.{EdgesMatch}
@@ -16,17 +16,17 @@ use Rattle.clif_replay.specs.declared.script.ReplayError.TheVariants as replay
 use Rattle.clif_replay.specs.Requests.{IsBuiltBy, IsStoppedByTable, MayBeRefused, attempts_of, calls_of, verdict_of}
 
 -- the function that the calls make
-pub record ReplayMakes (calls : List Call) (name : UserFuncName) (declared : SignatureShape) (width : PointerWidth) (f : Body) : Type 0 where
-  pub same_meaning : CallsMeanTheSame (calls_of declared calls) declared width (view_of f)
-  pub built : IsBuiltBy calls declared f
-  pub edges_match : CallersEdgesMatchInCalls (calls_of declared calls) → EdgesMatch (view_of f)
-  pub well_placed : CallsPlacementPremises (calls_of declared calls) declared → WellPlaced (view_of f)
+pub record ReplayMakes (calls : List Call) (name : UserFuncName) (declared : SignatureShape) (config : TargetFrontendConfig) (f : Body) : Type 0 where
+  pub same_meaning : CallsMeanTheSame (calls_of config declared calls) declared config.pointer_width (view_of f)
+  pub built : IsBuiltBy config calls declared f
+  pub edges_match : CallersEdgesMatchInCalls (calls_of config declared calls) → EdgesMatch (view_of f)
+  pub well_placed : CallsPlacementPremises (calls_of config declared calls) declared → WellPlaced (view_of f)
   pub named : f.name ≡ name
-  pub accepted : verdict_on_call_attempts (attempts_of declared calls) ≡ Accepted
+  pub accepted : verdict_on_call_attempts (attempts_of config declared calls) ≡ Accepted
 
 -- what an error tells of the calls
-pub record ReplayTells (calls : List Call) (name : UserFuncName) (declared : SignatureShape) (answer : Result Body ReplayError) : Type 0 where
+pub record ReplayTells (calls : List Call) (name : UserFuncName) (declared : SignatureShape) (config : TargetFrontendConfig) (answer : Result Body ReplayError) : Type 0 where
   pub misuse : (i : ℕ) → answer ≡ Err (replay.Misuse i) → i < length calls
   pub refused : (i : ℕ) → answer ≡ Err (replay.Refused i) → MayBeRefused calls i
-  pub table_full : answer ≡ Err replay.Full → IsStoppedByTable calls name declared
-  pub verdict : answer ≢ Err replay.Memory → answer ≢ Err replay.Full → verdict_of answer ≡ Some (verdict_on_call_attempts (attempts_of declared calls))
+  pub table_full : answer ≡ Err replay.Full → IsStoppedByTable config calls name declared
+  pub verdict : answer ≢ Err replay.Memory → answer ≢ Err replay.Full → verdict_of answer ≡ Some (verdict_on_call_attempts (attempts_of config declared calls))

@@ -1,9 +1,10 @@
 -- What a list of calls is as a script, and what comes of it as a verdict on that script. Own.
 use Rattle.std.specs.Prelude.{◌≡◌, ◌⊎◌, ℕ, List, [], ◌∷◌, ◌++◌, length, map, take, drop, slice_get, Option, Some, None, Bool, true, false, Result, Ok, Err}
+use Rattle.std.specs.List.{AllByRecursion}
 use Rattle.clif_ir.specs.Body.{Body}
 use Rattle.clif_tables.specs.Callees.{types_of}
 use Rattle.clif_meaning.specs.Name.{Name}
-use Rattle.clif_meaning.specs.Instruction.{AddConstant, Argument, Arithmetic, CallPayload, CallResult, CompareConstant, Edge, Instruction, Known}
+use Rattle.clif_meaning.specs.Instruction.{AddConstant, Argument, Arithmetic, Bytes, CallPayload, CallResult, CompareConstant, Edge, Instruction, Known, Operation}
 use Rattle.clif_meaning.specs.Request.{Request, CreateBlock, SwitchToBlock, SealBlock, SealAllBlocks, InsertBlockAfter, SetColdBlock, EnsureInsertedBlock, AppendBlockParams, AppendFunctionParams, DeclareVar, DefVar, UseVar, MakeEntry, MakeEdge, MakeExceptionTable, MakeJumpTable, Annotate, Build, ChangeJumpDestination, Finalize, Script, AnsweredCall, script_of}
 use Rattle.clif_meaning.specs.Request as asked
 use Rattle.clif_meaning.specs.Ledger.{Ledger, empty_ledger, or_invalid, type_of}
@@ -12,7 +13,9 @@ use Rattle.clif_opcodes.specs.declared.opcodes.PooledConstOpcode.TheVariants.{F1
 use Rattle.clif_types.specs.declared.types.«Type».{«Type»}
 use Rattle.clif_types.specs.declared.types.«Type».TheVariants.{Invalid}
 use Rattle.clif_types.specs.Signature.{SignatureShape}
+use Rattle.clif_types.specs.Types.{bits_of}
 use Rattle.clif_types.specs.declared.extname.UserFuncName.{UserFuncName}
+use Rattle.clif_types.specs.declared.target.TargetFrontendConfig.{TargetFrontendConfig}
 use Rattle.clif_builder.specs.Context.{ContextState}
 use Rattle.clif_builder.specs.StandsFor.{LeavesNoParameter, StandsIn}
 use Rattle.clif_calls.specs.declared.call.Name as named
@@ -43,6 +46,7 @@ use Rattle.clif_replay.specs.declared.script.ReplayError.{ReplayError}
 use Rattle.clif_replay.specs.declared.script.ReplayError.TheVariants as replay
 use Rattle.clif_replay.specs.Cases.{switch_under}
 use Rattle.clif_replay.specs.Entries.{entry_in}
+use Rattle.clif_replay.specs.Helpers.{memory_under, nothing_moved}
 use Rattle.clif_replay.specs.Limits.{MeetsFullTable}
 use Rattle.clif_resolution.specs.Plans.{operation_in, controlling_in}
 
@@ -114,9 +118,9 @@ request_under naming signature ledger (call.TryUseVar variable) = UseVar variabl
 request_under naming signature ledger (call.Plain instruction) = request_in naming ledger (plan_of instruction)
 request_under naming signature ledger (call.Cursor instruction) = request_in naming ledger (plan_of instruction)
 request_under naming signature ledger (call.Outside called) = outside_request naming ledger called
-request_under naming signature ledger (call.SetSrcloc srcloc) = Annotate []
-request_under naming signature ledger call.CollectDebugInfo = Annotate []
-request_under naming signature ledger (call.SetValLabel value label) = Annotate (naming value ∷ [])
+request_under naming signature ledger (call.SetSrcloc srcloc) = Annotate false []
+request_under naming signature ledger call.CollectDebugInfo = Annotate false []
+request_under naming signature ledger (call.SetValLabel value label) = Annotate false (naming value ∷ [])
 request_under naming signature ledger (call.ChangeJumpDestination branch from to) = ChangeJumpDestination (naming branch) (naming from) (naming to)
 request_under naming signature ledger (call.F128const bytes) = pooled_const F128const Invalid bytes.items
 request_under naming signature ledger (call.Vconst ty bytes) = pooled_const Vconst ty bytes.items
@@ -126,8 +130,9 @@ request_under naming signature ledger (call.BrTable index table) = br_table ledg
 request_under naming signature ledger (call.Throwing called) = throwing_request naming ledger called
 request_under naming signature ledger (call.Return values) = return_ (map naming values.items)
 request_under naming signature ledger (call.Trap code) = trap code
-request_under naming signature ledger (call.Immediate called) = Annotate []
-request_under naming signature ledger (call.Switch entries value otherwise) = Annotate []
+request_under naming signature ledger (call.Immediate called) = Annotate false []
+request_under naming signature ledger (call.Switch entries value otherwise) = Annotate false []
+request_under naming signature ledger (call.Memory called) = nothing_moved naming called
 
 -- the request of a call with its own names
 abbrev pub request_of : SignatureShape → Ledger → Call → Request
@@ -163,47 +168,57 @@ operand_type naming ledger called = or_invalid (type_of ledger (naming (operand_
 abbrev pub emission_under : Naming → Ledger → ImmediateCall → Instruction Name Name
 emission_under naming ledger called = computing (emitted_in called) (operand_type naming ledger called) (naming (operand_in called) ∷ [])
 
--- a call of a list as a call of the script, with its own names: it emits, or asks the builder
-abbrev pub call_of : SignatureShape → Ledger → Call → ScriptCall
-call_of signature ledger (call.Immediate called) = Emit [] (emission_under name_of ledger called)
-call_of signature ledger (call.Switch entries value otherwise) = Emit [] (switch_under name_of ledger entries.items value otherwise)
-call_of signature ledger call = Ask (request_of signature ledger call)
+-- a call of a list as a call of the script for this target, with its own names: it emits, or asks the builder
+abbrev pub call_of : TargetFrontendConfig → SignatureShape → Ledger → Call → ScriptCall
+call_of config signature ledger (call.Immediate called) = Emit [] (emission_under name_of ledger called)
+call_of config signature ledger (call.Switch entries value otherwise) = Emit [] (switch_under name_of ledger entries.items value otherwise)
+call_of config signature ledger (call.Memory called) = memory_under config name_of ledger called
+call_of config signature ledger call = Ask (request_of signature ledger call)
 
-abbrev pub attempt_of : SignatureShape → Ledger → Call → CallAttempt
-attempt_of signature ledger call = record { call = call_of signature ledger call; is_tried = is_tried call }
+abbrev pub attempt_of : TargetFrontendConfig → SignatureShape → Ledger → Call → CallAttempt
+attempt_of config signature ledger call = record { call = call_of config signature ledger call; is_tried = is_tried call }
 
 -- the calls as they are made, each at the ledger of the ones before it
-abbrev pub attempts_from : SignatureShape → Ledger → List Call → List CallAttempt
-attempts_from signature ledger [] = []
-attempts_from signature ledger (call ∷ calls) =
-    attempt_of signature ledger call ∷ attempts_from signature (ledger_with_call ledger (call_of signature ledger call)) calls
+abbrev pub attempts_from : TargetFrontendConfig → SignatureShape → Ledger → List Call → List CallAttempt
+attempts_from config signature ledger [] = []
+attempts_from config signature ledger (call ∷ calls) =
+    attempt_of config signature ledger call ∷ attempts_from config signature (ledger_with_call ledger (call_of config signature ledger call)) calls
 
-abbrev pub attempts_of : SignatureShape → List Call → List CallAttempt
-attempts_of signature calls = attempts_from signature empty_ledger calls
+abbrev pub attempts_of : TargetFrontendConfig → SignatureShape → List Call → List CallAttempt
+attempts_of config signature calls = attempts_from config signature empty_ledger calls
 
 -- the script's calls, each at the ledger of the ones before it
-abbrev pub calls_from : SignatureShape → Ledger → List Call → List ScriptCall
-calls_from signature ledger [] = []
-calls_from signature ledger (call ∷ calls) =
-    call_of signature ledger call ∷ calls_from signature (ledger_with_call ledger (call_of signature ledger call)) calls
+abbrev pub calls_from : TargetFrontendConfig → SignatureShape → Ledger → List Call → List ScriptCall
+calls_from config signature ledger [] = []
+calls_from config signature ledger (call ∷ calls) =
+    call_of config signature ledger call ∷ calls_from config signature (ledger_with_call ledger (call_of config signature ledger call)) calls
 
-abbrev pub calls_of : SignatureShape → List Call → List ScriptCall
-calls_of signature calls = calls_from signature empty_ledger calls
+abbrev pub calls_of : TargetFrontendConfig → SignatureShape → List Call → List ScriptCall
+calls_of config signature calls = calls_from config signature empty_ledger calls
+
+abbrev pub AreBytesOf : (pointer_width : ℕ) → Operation → «Type» → Type 0
+AreBytesOf pointer_width (Bytes operation) ty = bits_of ty ≡ pointer_width
+AreBytesOf pointer_width _ ty = Unit {0}
+
+-- what is emitted is of pointers of this width, if it is a memory helper
+abbrev pub IsOfWidth : (pointer_width : ℕ) → ScriptCall → Type 0
+IsOfWidth pointer_width (Ask request) = Unit {0}
+IsOfWidth pointer_width (Emit imports instruction) = AreBytesOf pointer_width instruction.operation instruction.controlling
 
 -- These are plain calls of a script's calls: their names are read as the script's, and the code of each emission does what the
--- instruction does that is emitted, whatever the width of pointers.
+-- instruction does that is emitted, whatever the width of pointers, if it is that of the memory helpers.
 pub record ArePlainCalls (plain : Script) (calls : List ScriptCall) : Type 0 where
   pub reading : Reading
   pub joined : AreJoinedCalls reading plain calls
-  pub performed : (pointer_width : ℕ) → ArePerformed pointer_width reading plain calls joined
+  pub performed : (pointer_width : ℕ) → AllByRecursion (IsOfWidth pointer_width) calls → ArePerformed pointer_width reading plain calls joined
 
 -- the first calls of a list were made, as many as `place` says, and the verdict on the list is that on the rest
-pub record IsReplayed (signature : SignatureShape) (calls : List Call) (place : ℕ) (made : List AnsweredCall) : Type 0 where
-  pub plain : ArePlainCalls (script_of made) (calls_of signature (take place calls))
-  pub taken : AreCallsTaken empty_ledger (calls_of signature (take place calls))
-  pub rest : verdict_on_call_attempts (attempts_of signature calls)
-      ≡ verdict_on_calls_from place (ledger_of (calls_of signature (take place calls)))
-      (attempts_from signature (ledger_of (calls_of signature (take place calls))) (drop place calls) ++ verdict.made (Ask Finalize) ∷ [])
+pub record IsReplayed (config : TargetFrontendConfig) (signature : SignatureShape) (calls : List Call) (place : ℕ) (made : List AnsweredCall) : Type 0 where
+  pub plain : ArePlainCalls (script_of made) (calls_of config signature (take place calls))
+  pub taken : AreCallsTaken empty_ledger (calls_of config signature (take place calls))
+  pub rest : verdict_on_call_attempts (attempts_of config signature calls)
+      ≡ verdict_on_calls_from place (ledger_of (calls_of config signature (take place calls)))
+      (attempts_from config signature (ledger_of (calls_of config signature (take place calls))) (drop place calls) ++ verdict.made (Ask Finalize) ∷ [])
 
 -- the calls that may be refused: `finalize`, behind the last one, switches, and those that are only tried
 abbrev pub MayBeRefused : List Call → ℕ → Type 0
@@ -220,9 +235,9 @@ verdict_of (Err replay.Full) = None
 -- The function was built by plain calls of these calls, and by no others: a builder of it, with this context and current block,
 -- stands for them, on a function of the caller's signature; and no variable's parameter is left in a block to which at most one
 -- branch leads.
-pub record IsBuiltBy (calls : List Call) (declared : SignatureShape) (f : Body) : Type 0 where
+pub record IsBuiltBy (config : TargetFrontendConfig) (calls : List Call) (declared : SignatureShape) (f : Body) : Type 0 where
   pub made : List AnsweredCall
-  pub plain : ArePlainCalls (script_of made) (calls_of declared calls)
+  pub plain : ArePlainCalls (script_of made) (calls_of config declared calls)
   pub context : ContextState
   pub position : Option ℕ
   pub stands : StandsIn declared made f context position
@@ -231,18 +246,18 @@ pub record IsBuiltBy (calls : List Call) (declared : SignatureShape) (f : Body) 
 -- A full table ends a list of calls: the calls before some place were made, and a builder of a function of this name and
 -- signature, with this context and current block, stands for them; and the call at that place is allowed then, and meets a full
 -- table.
-pub record IsStoppedByTable (calls : List Call) (name : UserFuncName) (declared : SignatureShape) : Type 0 where
+pub record IsStoppedByTable (config : TargetFrontendConfig) (calls : List Call) (name : UserFuncName) (declared : SignatureShape) : Type 0 where
   pub place : ℕ
   pub call : Call
   pub here : slice_get calls place ≡ Some call
   pub made : List AnsweredCall
-  pub replayed : IsReplayed declared calls place made
+  pub replayed : IsReplayed config declared calls place made
   pub function : Body
   pub context : ContextState
   pub position : Option ℕ
   pub stands : StandsIn declared made function context position
   pub named : function.name ≡ name
   pub allowed :
-      let ledger = ledger_of (calls_of declared (take place calls)) in
-      call_allowed ledger (call_of declared ledger call) ≡ true
+      let ledger = ledger_of (calls_of config declared (take place calls)) in
+      call_allowed ledger (call_of config declared ledger call) ≡ true
   pub meets : MeetsFullTable call function context

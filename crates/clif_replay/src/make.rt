@@ -14,6 +14,7 @@ use crate::make_entities::make_entry;
 use crate::make_exceptions::{create_exception_table, make_throwing_call};
 use crate::make_immediate::make_immediate;
 use crate::make_instructions::{Lender, make_instruction};
+use crate::make_memory::make_memory;
 use crate::make_notes::{collect_debug_info, set_srcloc, set_val_label};
 use crate::make_outside::make_outside_call;
 use crate::make_parameters::{
@@ -27,18 +28,19 @@ use clif_calls::{Call, Name, Plan};
 use clif_opcodes::PooledConstOpcode;
 use clif_records::Variable;
 use clif_resolution::{Answer, CallError, has_current, value_named};
-use clif_types::{EntityRef, Type, Value};
+use clif_types::{EntityRef, TargetFrontendConfig, Type, Value};
 
 // Makes one call, where its conditions hold.
 pub(crate) fn make_call(
     builder: &mut FunctionBuilder<'_>,
     answers: &[Answer],
     types: &[Type],
+    config: TargetFrontendConfig,
     call: &Call,
 ) -> Result<Answer, CallError>
     requires sound { IsSound builder.old answers.now }
     requires types { types.now ≡ builder.old.ctx.now.variables }
-    ensures { MakesScriptCall call.now builder.old builder.new answers.now result }
+    ensures { MakesScriptCall config call.now builder.old builder.new answers.now result }
 {
     match call {
         Call::CreateBlock => create_block(builder, answers),
@@ -80,6 +82,7 @@ pub(crate) fn make_call(
         }
         Call::Outside(called) => make_outside_call(builder, answers, called),
         Call::Immediate(called) => make_immediate(builder, answers, *called),
+        Call::Memory(called) => make_memory(builder, answers, config, called),
         Call::SetSrcloc { srcloc } => set_srcloc(builder, answers, *srcloc),
         Call::CollectDebugInfo => collect_debug_info(builder, answers),
         Call::SetValLabel { value, label } => set_val_label(builder, answers, *value, *label),
@@ -147,7 +150,7 @@ fn declare_var(
 }
 
 // Whether two types are equal.
-fn is_same_type(a: Type, b: Type) -> bool
+pub(crate) fn is_same_type(a: Type, b: Type) -> bool
     ensures { IsTrue result ↔ (a ≡ b) }
 {
     a == b

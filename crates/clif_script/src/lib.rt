@@ -3,24 +3,20 @@
 #![tactic(auto)]
 
 mod command;
-mod condition;
-mod conditions;
 mod execution;
-mod ledger;
+mod helper_rows;
 mod program;
 mod row_texts;
 mod rows;
-mod switches;
 
 pub use clif_calls::{
-    Call, Edge, EntryCall, Name, OutsideAnswer, OutsideCall, Passed, PlainInstruction, Plan,
-    SwitchEntry, TableEdge, TableItem, ThrowingCall,
+    Call, Edge, EntryCall, MemoryCall, Name, OutsideAnswer, OutsideCall, Passed, PlainInstruction,
+    Plan, SwitchEntry, TableEdge, TableItem, ThrowingCall,
 };
+pub use clif_conditions::{Condition, broken_condition};
 pub use clif_interpreter::STEPS;
 pub use clif_replay::{ReplayError, replay};
 pub use command::{Command, Run, USAGE};
-pub use condition::Condition;
-pub use conditions::broken_condition;
 pub use execution::execute;
 pub use program::build;
 pub use rows::{row_text, run};

@@ -2,8 +2,7 @@
 ghost use Rattle.std.specs.Prelude.{◌≡◌, ◌<◌, IfOk};
 ghost use Rattle.clif_script.specs.Program.{IsAccepted, MakesFunction};
 
-use crate::condition::Condition;
-use crate::conditions::broken_condition;
+use clif_conditions::{Condition, broken_condition};
 use clif_replay::{ReplayError, replay};
 use clif_text::{Expected, Fault, ReadError, Script, read};
 use cranelift_frontend::FunctionBuilderContext;
@@ -165,7 +164,8 @@ fn condition_of(alloc: Global, text: &str, place: usize) -> Option<Condition> {
     let Ok(script) = read(alloc, text) else {
         return None;
     };
-    match broken_condition(alloc, script.calls.as_slice(), &script.signature, place) {
+    let calls = script.calls.as_slice();
+    match broken_condition(alloc, calls, &script.signature, script.config, place) {
         Ok(condition) => condition,
         Err(_) => None,
     }

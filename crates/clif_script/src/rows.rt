@@ -1,7 +1,8 @@
 //! The rows: scripts that stand in this crate, and the program `rows` that builds their functions, over two writers.
 ghost use Rattle.std.specs.Prelude.{◌≡◌, ◌<◌, ◌↔◌, length, string_bytes, slice_get, IfOk, IfSome, IsSome};
-ghost use Rattle.clif_script.specs.Rows.{IsOtherRow, IsRowName, IsSwitchRow};
+ghost use Rattle.clif_script.specs.Rows.{IsHelperRow, IsOtherRow, IsRowName, IsSwitchRow};
 
+use crate::helper_rows::{COPY12, COPY40, MEMCMP_ODD, MEMCPY};
 use crate::program::build_text;
 use crate::row_texts::{
     BOTH_ARMS, CHANGE_BOTH, CHANGE_ONE, EMPTY, FIRST, REORDERING, SAMPLE, SAMPLE_LATE,
@@ -11,8 +12,9 @@ use std::alloc::Global;
 use std::io;
 
 // The names of the rows, in order.
-const NAMES: [&str; 13] = [
+const NAMES: [&str; 17] = [
     "first",
+    "memcpy",
     "reordering",
     "sample",
     "sample_late",
@@ -22,6 +24,9 @@ const NAMES: [&str; 13] = [
     "switch_128bit_max_u64",
     "switch_high",
     "switch_border",
+    "copy12",
+    "copy40",
+    "memcmp_odd",
     "change_both",
     "change_one",
     "empty",
@@ -31,7 +36,7 @@ const NAMES: [&str; 13] = [
 pub fn row_text(name: &str) -> Option<&'static str>
     ensures { IsSome result ↔ IsRowName name.now }
 {
-    match switch_row_text(name) {
+    match switch_row_text(name).or(helper_row_text(name)) {
         Some(text) => Some(text),
         None => other_row_text(name),
     }
@@ -46,6 +51,19 @@ fn switch_row_text(name: &str) -> Option<&'static str>
         "switch_128bit_max_u64" => Some(SWITCH_128BIT_MAX_U64),
         "switch_high" => Some(SWITCH_HIGH),
         "switch_border" => Some(SWITCH_BORDER),
+        _ => None,
+    }
+}
+
+// That of a row with a memory helper.
+fn helper_row_text(name: &str) -> Option<&'static str>
+    ensures { IsSome result ↔ IsHelperRow name.now }
+{
+    match name {
+        "memcpy" => Some(MEMCPY),
+        "copy12" => Some(COPY12),
+        "copy40" => Some(COPY40),
+        "memcmp_odd" => Some(MEMCMP_ODD),
         _ => None,
     }
 }

@@ -1,58 +1,81 @@
 //! The signatures and functions that a script imports.
-use clif_calls::{Call, EntryCall, OutsideCall};
-use clif_types::{EntityRef, ExtFuncData, FuncRef, SigRef, Signature};
+use clif_calls::{EntryCall, MemoryCall, OutsideCall};
+use clif_operations::library_signature;
+use clif_types::{CallConv, EntityRef, ExternalName, FuncRef, PointerWidth, SigRef, Signature};
 use std::alloc::{AllocError, Global};
 
-/// For each signature and each function, by number, the place of the call that imported it.
+/// A function that is imported.
+#[derive(Drop)]
+pub struct ImportedFunction {
+    /// Its name.
+    pub name: ExternalName,
+    // the number of its signature
+    signature: usize,
+}
+
+/// The signatures and functions, by number.
 #[derive(Drop)]
 pub struct Imports {
-    signatures: Vec<usize>,
-    functions: Vec<usize>,
+    alloc: Global,
+    pointer_width: PointerWidth,
+    signatures: Vec<Signature>,
+    functions: Vec<ImportedFunction>,
 }
 
 impl Imports {
-    /// None.
-    pub fn new(alloc: Global) -> Imports {
+    /// None, for pointers of this width.
+    pub fn new(alloc: Global, pointer_width: PointerWidth) -> Imports {
         Imports {
+            alloc,
+            pointer_width,
             signatures: Vec::new(alloc),
             functions: Vec::new(alloc),
         }
     }
 
-    /// The call at a place makes an entry of a table.
-    pub fn add(&mut self, place: usize, entry: &EntryCall) -> Result<(), AllocError> {
+    /// An entry of a table is made.
+    pub fn add(&mut self, entry: &EntryCall) -> Result<(), AllocError> {
         match entry {
-            EntryCall::ImportSignature(_) => self.signatures.push(place)?,
-            EntryCall::ImportFunction(_) => self.functions.push(place)?,
+            EntryCall::ImportSignature(signature) => self.signatures.push(signature.clone()?)?,
+            EntryCall::ImportFunction(function) => {
+                let name = function.name.clone()?;
+                let signature = function.signature.index();
+                self.functions.push(ImportedFunction { name, signature })?;
+            }
             _ => {}
         }
         Ok(())
     }
 
-    /// The signature with this number, in the calls of the script.
-    pub fn signature<'c>(&self, calls: &'c [Call], number: SigRef) -> Option<&'c Signature> {
-        let place = self.signatures.get(number.index())?;
-        match calls.get(*place)? {
-            Call::Entry(EntryCall::ImportSignature(signature)) => Some(signature),
-            _ => None,
-        }
+    /// A memory helper imports the function that it calls, and its signature, of which the convention doesn't matter here.
+    pub fn add_called(&mut self, called: &MemoryCall) -> Result<(), AllocError> {
+        let Some(callee) = called.called_function() else {
+            return Ok(());
+        };
+        let (alloc, width) = (self.alloc, self.pointer_width);
+        let (name, signature) = (ExternalName::LibCall(callee), self.signatures.len());
+        self.signatures.push(library_signature(alloc, callee, width, CallConv::SystemV)?)?;
+        self.functions.push(ImportedFunction { name, signature })?;
+        Ok(())
+    }
+
+    /// The signature with this number.
+    pub fn signature(&self, number: SigRef) -> Option<&Signature> {
+        self.signatures.get(number.index())
     }
 
     /// The function with this number.
-    pub fn function<'c>(&self, calls: &'c [Call], number: FuncRef) -> Option<&'c ExtFuncData> {
-        let place = self.functions.get(number.index())?;
-        match calls.get(*place)? {
-            Call::Entry(EntryCall::ImportFunction(function)) => Some(function),
-            _ => None,
-        }
+    pub fn function(&self, number: FuncRef) -> Option<&ImportedFunction> {
+        self.functions.get(number.index())
     }
 
     /// The signature by which an outside call is made.
-    pub fn called_by<'c>(&self, calls: &'c [Call], called: &OutsideCall) -> Option<&'c Signature> {
-        let number = match called {
-            OutsideCall::Call { function, .. } => self.function(calls, *function)?.signature,
-            OutsideCall::CallIndirect { signature, .. } => *signature,
-        };
-        self.signature(calls, number)
+    pub fn called_by(&self, called: &OutsideCall) -> Option<&Signature> {
+        match called {
+            OutsideCall::Call { function, .. } => {
+                self.signatures.get(self.function(*function)?.signature)
+            }
+            OutsideCall::CallIndirect { signature, .. } => self.signature(*signature),
+        }
     }
 }

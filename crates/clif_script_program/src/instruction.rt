@@ -1,9 +1,12 @@
 //! The instructions of scripts, by their parts.
-use clif_calls::{Call, Edge, ImmediateCall, Name, Plan, SwitchEntry, TableEdge};
+use clif_access_plans::{ComparePlan, MovePlan, plan_compare, plan_move};
+use clif_calls::{
+    Call, Edge, ImmediateCall, MemoryCall, Name, Plan, SwitchEntry, TableEdge, is_unsigned,
+};
 use clif_opcodes::PooledConstOpcode;
 use clif_operations::arithmetic::bits_of_bytes;
-use clif_operations::{Operation, WithConstant};
-use clif_types::{JumpTable, Type};
+use clif_operations::{ByteOperation, Operation, Promise, WithConstant};
+use clif_types::{IntCC, JumpTable, MemFlagsData, Type};
 use std::alloc::{AllocError, Global};
 use std::slice;
 
@@ -168,6 +171,93 @@ pub fn with_constant_of(call: ImmediateCall) -> (WithConstant, Name) {
     match call {
         ImmediateCall::IaddImmS { x, imm } => (WithConstant::Iadd(imm), x),
         ImmediateCall::IcmpImmS { cond, x, imm } => (WithConstant::Icmp(cond, imm), x),
+    }
+}
+
+/// The values that a memory helper names, in order.
+pub fn operands_of(alloc: Global, call: &MemoryCall) -> Result<Vec<Name>, AllocError> {
+    let mut operands = Vec::new(alloc);
+    match call {
+        MemoryCall::CallLibrary {
+            first,
+            second,
+            size,
+            ..
+        } => operands.extend_from_slice(&[*first, *second, *size])?,
+        MemoryCall::Copy { dest, src, .. } => operands.extend_from_slice(&[*dest, *src])?,
+        MemoryCall::Fill { buffer, .. } => operands.push(*buffer)?,
+        MemoryCall::Compare { left, right, .. } => operands.extend_from_slice(&[*left, *right])?,
+    }
+    Ok(operands)
+}
+
+/// What a memory helper does to bytes: a row for each.
+pub fn byte_operation_of(call: MemoryCall) -> ByteOperation {
+    match call {
+        MemoryCall::CallLibrary { callee, .. } => ByteOperation::CallLibrary(callee),
+        MemoryCall::Copy {
+            size,
+            dest_align,
+            src_align,
+            non_overlapping,
+            flags,
+            ..
+        } => {
+            let access = moved_access(size, flags);
+            ByteOperation::Copy {
+                size,
+                target: Promise::new(dest_align, access),
+                source: Promise::new(src_align, access),
+                non_overlapping,
+            }
+        }
+        MemoryCall::Fill {
+            ch,
+            size,
+            buffer_align,
+            flags,
+            ..
+        } => {
+            let (byte, access) = (ch, moved_access(size, flags));
+            let target = Promise::new(buffer_align, access);
+            ByteOperation::Fill { byte, size, target }
+        }
+        MemoryCall::Compare {
+            int_cc,
+            size,
+            left_align,
+            right_align,
+            flags,
+            ..
+        } => {
+            let access = compared_access(int_cc, size, flags);
+            ByteOperation::Compare {
+                int_cc,
+                size,
+                left: Promise::new(left_align.get(), access),
+                right: Promise::new(right_align.get(), access),
+            }
+        }
+    }
+}
+
+// The alignment that the flag `aligned` claims of the accesses by which bytes are copied or filled; 1 where it isn't set, and where
+// a function does it.
+fn moved_access(size: u64, flags: MemFlagsData) -> u8 {
+    match plan_move(size) {
+        MovePlan::Inline(accesses) if flags.aligned() => accesses.bytes,
+        _ => 1,
+    }
+}
+
+// The same of those by which bytes are compared.
+fn compared_access(int_cc: IntCC, size: u64, flags: MemFlagsData) -> u8 {
+    if !is_unsigned(int_cc) || !flags.aligned() {
+        return 1;
+    }
+    match plan_compare(int_cc, size) {
+        ComparePlan::Inline(ty) => u8::try_from(ty.bytes()).unwrap_or(1),
+        _ => 1,
     }
 }
 

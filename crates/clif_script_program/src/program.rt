@@ -4,8 +4,8 @@ use crate::exceptions::{ExceptionTables, Exceptions};
 use crate::imports::Imports;
 use crate::instruction::{edge_made, result_count, targets_of};
 use crate::switches::Switches;
-use clif_calls::{Call, EntryCall, Name, SwitchEntry, TableEdge, table_count};
-use clif_types::{AbiParam, EntityRef, ExceptionTable, JumpTable, Signature, Type};
+use clif_calls::{Call, EntryCall, MemoryCall, Name, SwitchEntry, TableEdge, table_count};
+use clif_types::{AbiParam, EntityRef, ExceptionTable, JumpTable, PointerWidth, Signature, Type};
 use std::alloc::{AllocError, Global};
 
 /// A block of a variable program.
@@ -48,8 +48,13 @@ pub struct Program {
 }
 
 impl Program {
-    /// The variable program of these calls, for a function of this signature.
-    pub fn of(alloc: Global, calls: &[Call], signature: &Signature) -> Result<Program, AllocError> {
+    /// The variable program of these calls, for a function of this signature and pointers of this width.
+    pub fn of(
+        alloc: Global,
+        calls: &[Call],
+        signature: &Signature,
+        pointer_width: PointerWidth,
+    ) -> Result<Program, AllocError> {
         let mut program = Program {
             alloc,
             current: None,
@@ -62,11 +67,11 @@ impl Program {
             exceptions: ExceptionTables::new(alloc),
             branches: Branches::new(alloc),
             switches: Switches::new(alloc),
-            imports: Imports::new(alloc),
+            imports: Imports::new(alloc, pointer_width),
             answers: Vec::new(alloc),
         };
         for (place, call) in calls.iter().enumerate() {
-            let answers = program.answer_count(calls, call, signature);
+            let answers = program.answer_count(call, signature);
             program.answers.push(answers)?;
             program.add_branch(calls, call)?;
             program.add(place, call, signature)?;
@@ -122,14 +127,10 @@ impl Program {
         edge_made(calls, *place)
     }
 
-    /// The signature by which an exception table has its call made, in the calls of the script.
-    pub fn exception_signature<'c>(
-        &self,
-        calls: &'c [Call],
-        table: ExceptionTable,
-    ) -> Option<&'c Signature> {
+    /// The signature by which an exception table has its call made.
+    pub fn exception_signature(&self, table: ExceptionTable) -> Option<&Signature> {
         self.imports
-            .signature(calls, self.exceptions.get(table)?.signature)
+            .signature(self.exceptions.get(table)?.signature)
     }
 
     // The places of the calls that answered the edges of the table that serves a call's instruction.
@@ -199,7 +200,7 @@ impl Program {
             Call::Entry(EntryCall::CreateSizedStackSlot { size, align_shift }) => {
                 Ok(self.slots.push((*size, *align_shift))?)
             }
-            Call::Entry(entry) => self.imports.add(place, entry),
+            Call::Entry(entry) => self.imports.add(entry),
             Call::EnsureInsertedBlock => {
                 self.put_into_layout();
                 Ok(())
@@ -216,6 +217,7 @@ impl Program {
                 self.put_into_layout();
                 self.add_item(place, false)
             }
+            Call::Memory(called) => self.add_helper(place, called),
             Call::CreateJumpTable { default, entries } => {
                 self.add_table(*default, entries.as_slice())
             }
@@ -294,6 +296,16 @@ impl Program {
         Ok(())
     }
 
+    // Adds the memory helper at a place. Where no bytes are copied or filled, nothing is made.
+    fn add_helper(&mut self, place: usize, called: &MemoryCall) -> Result<(), AllocError> {
+        if called.is_nothing() {
+            return Ok(());
+        }
+        self.imports.add_called(called)?;
+        self.put_into_layout();
+        self.add_item(place, false)
+    }
+
     // The current block is the entry, if none is yet.
     fn put_into_layout(&mut self) {
         if self.entry.is_none() {
@@ -336,16 +348,17 @@ impl Program {
     }
 
     // How many answers a call has: an instruction answers itself and then its results.
-    fn answer_count(&self, calls: &[Call], call: &Call, signature: &Signature) -> usize {
+    fn answer_count(&self, call: &Call, signature: &Signature) -> usize {
         match call {
             Call::AppendBlockParamsForFunctionParams { .. } => signature.params.len(),
             Call::AppendBlockParamsForFunctionReturns { .. } => signature.returns.len(),
             Call::Plain(_) | Call::Cursor(_) => result_count(call).saturating_add(1),
-            Call::Outside(called) => match self.imports.called_by(calls, called) {
+            Call::Outside(called) => match self.imports.called_by(called) {
                 Some(signature) => signature.returns.len().saturating_add(1),
                 None => 1,
             },
             Call::F128const { .. } | Call::Vconst { .. } => 2,
+            Call::Memory(called) => usize::from(called.result().is_some()),
             Call::AppendBlockParam { .. }
             | Call::UseVar { .. }
             | Call::TryUseVar { .. }

@@ -193,8 +193,8 @@ fn of_header_lines(rt: HostRuntime) -> Result<(), Fail> {
 }
 
 const CALLS_TO_COME: [(&str, &str); 1] = [(
-    "call_memcpy $0.0 $0.0 $0.0",
-    "not supported yet: call_memcpy",
+    "declare_value_needs_stack_map $0.0",
+    "not supported yet: declare_value_needs_stack_map",
 )];
 
 // A call of the format that isn't understood so far.

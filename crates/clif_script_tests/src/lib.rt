@@ -3,6 +3,8 @@
 #![tactic(auto)]
 
 #[cfg(test)]
+mod blocks;
+#[cfg(test)]
 mod changes;
 #[cfg(test)]
 mod constants;
@@ -12,6 +14,12 @@ mod data;
 mod entries;
 #[cfg(test)]
 mod errors;
+#[cfg(test)]
+mod helper_texts;
+#[cfg(test)]
+mod helpers;
+#[cfg(test)]
+mod instructions;
 #[cfg(test)]
 mod notes;
 #[cfg(test)]
@@ -40,3 +48,5 @@ mod tables;
 mod texts;
 #[cfg(test)]
 mod tries;
+#[cfg(test)]
+mod undefined;

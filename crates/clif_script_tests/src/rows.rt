@@ -2,6 +2,7 @@
 #![tactic(auto)]
 
 use crate::data;
+use crate::helper_texts::HELPER_ROWS;
 use crate::support::{Limited, MANY, Outcome, ended};
 use clif_script::run;
 use std::alloc::Global;
@@ -26,7 +27,7 @@ fn run_with(
 }
 
 const NAMES: &str =
-    "first\nreordering\nsample\nsample_late\nboth_arms\nundef_vectors\nswitch_many\nswitch_128bit_max_u64\nswitch_high\nswitch_border\nchange_both\nchange_one\nempty\n";
+    "first\nmemcpy\nreordering\nsample\nsample_late\nboth_arms\nundef_vectors\nswitch_many\nswitch_128bit_max_u64\nswitch_high\nswitch_border\ncopy12\ncopy40\nmemcmp_odd\nchange_both\nchange_one\nempty\n";
 
 // One run with these arguments gives this status and these texts.
 fn gives(
@@ -47,7 +48,7 @@ fn gives(
 #[test]
 fn rows(rt: HostRuntime) -> Result<(), Fail> {
     let alloc = rt.alloc();
-    for (name, text) in data::ROWS.iter() {
+    for (name, text) in data::ROWS.iter().chain(HELPER_ROWS.iter()) {
         gives(&rt, alloc, &[*name], 0, text, "")?;
     }
     gives(&rt, alloc, &[], 0, NAMES, "")
@@ -135,7 +136,7 @@ fn stops_at_each_write(
 fn refused_output(rt: HostRuntime) -> Result<(), Fail> {
     let alloc = rt.alloc();
     stops_at_each_write(&rt, alloc, &[], Writer::Out, NAMES)?;
-    for (name, text) in data::ROWS.iter() {
+    for (name, text) in data::ROWS.iter().chain(HELPER_ROWS.iter()) {
         stops_at_each_write(&rt, alloc, &[*name], Writer::Out, text)?;
     }
     Ok(())

@@ -40,10 +40,10 @@ fn executed(
 }
 
 /// What a run gives: its status, and what it prints to standard output and to standard error.
-type Given = (u8, &'static str, &'static str);
+pub type Given = (u8, &'static str, &'static str);
 
-// A run of a script gives this.
-fn gives(
+/// A run of a script gives this.
+pub fn gives(
     rt: &impl Abort,
     alloc: Global,
     script: &[u8],

@@ -24,6 +24,12 @@ pub const I64: Type = Type::Lane(LaneType::I64);
 
 pub const F32: Type = Type::Lane(LaneType::F32);
 
+const CONFIG: TargetFrontendConfig = TargetFrontendConfig {
+    default_call_conv: CallConv::SystemV,
+    pointer_width: PointerWidth::U64,
+    page_size_align_log2: 12,
+};
+
 /// A call, where (place, answer) is a name; each constant is 1. A jump table is made of its default and one entry.
 #[derive(Clone, Copy)]
 pub enum Step {
@@ -227,12 +233,7 @@ fn replayed_on(
     ensures { ctx.new ≡ empty_context }
 {
     let name = UserFuncName::user(0, 0);
-    let config = TargetFrontendConfig {
-        default_call_conv: CallConv::SystemV,
-        pointer_width: PointerWidth::U64,
-        page_size_align_log2: 12,
-    };
-    replay(alloc, calls, name, signature, ctx, config)
+    replay(alloc, calls, name, signature, ctx, CONFIG)
 }
 
 fn has_text(rt: &impl Abort, alloc: Global, func: &Function, text: &str) -> Result<(), Fail> {
@@ -266,10 +267,10 @@ fn tells_misuse(
     misuse: Option<usize>,
 ) -> Result<(), Fail> {
     for place in 0..misuse.unwrap_or(calls.len()) {
-        assert!(rt; broken_condition(alloc, calls, signature, place)?.is_none());
+        assert!(rt; broken_condition(alloc, calls, signature, CONFIG, place)?.is_none());
     }
     if let Some(place) = misuse {
-        assert!(rt; broken_condition(alloc, calls, signature, place)?.is_some());
+        assert!(rt; broken_condition(alloc, calls, signature, CONFIG, place)?.is_some());
     }
     Ok(())
 }

@@ -2,6 +2,7 @@
 #![tactic(auto)]
 
 use crate::data;
+use crate::helper_texts::HELPER_ROWS;
 use crate::support::{MANY, built, gives, rewritten, row_of};
 use std::alloc::Global;
 use std::process::Abort;
@@ -22,7 +23,7 @@ const EXAMPLES: [(&str, &str); 10] = [
 
 #[test]
 fn rows_and_examples(rt: HostRuntime) -> Result<(), Fail> {
-    for (name, text) in data::ROWS.iter() {
+    for (name, text) in data::ROWS.iter().chain(HELPER_ROWS.iter()) {
         same_when_written(&rt, rt.alloc(), row_of(name)?, text)?;
     }
     for (script, text) in EXAMPLES.iter() {

@@ -3,6 +3,7 @@ use Rattle.std.proofs.Common.{◌≡◌, ℕ, List, refl, sym, ◌∙◌, ap, su
 use Rattle.std.specs.Prelude.{map}
 use Rattle.clif_types.specs.Signature.{SignatureShape}
 use Rattle.clif_types.specs.declared.target.PointerWidth.{PointerWidth}
+use Rattle.clif_types.specs.declared.target.TargetFrontendConfig.{TargetFrontendConfig}
 use Rattle.clif_types.specs.Target.{pointer_type_of}
 use Rattle.clif_tables.specs.Lists.{TableLists}
 use Rattle.clif_ir.specs.Body.{Body}
@@ -58,24 +59,24 @@ built_functions_agree calls others declared width f g world differ first second 
     differ refl refl first.stands second.stands first.same_meaning second.same_meaning is meets
 
 -- plain calls of calls that emit nothing make the same entries of tables
-tables_of_plain : (script : Script) (calls : List Call) (declared : SignatureShape) (plain : Script) → calls_of declared calls ≡ map Ask script
-    → ArePlainCalls plain (calls_of declared calls) → (ledger_after plain).tables ≡ (ledger_after script).tables
-tables_of_plain script calls declared plain asked are =
-    (joined_calls are.reading plain (calls_of declared calls) are.joined).ledgers.states.tables
+tables_of_plain : (config : TargetFrontendConfig) (script : Script) (calls : List Call) (declared : SignatureShape) (plain : Script) → calls_of config declared calls ≡ map Ask script
+    → ArePlainCalls plain (calls_of config declared calls) → (ledger_after plain).tables ≡ (ledger_after script).tables
+tables_of_plain config script calls declared plain asked are =
+    (joined_calls are.reading plain (calls_of config declared calls) are.joined).ledgers.states.tables
     ∙ ap (λ (list : List ScriptCall). (ledger_of list).tables) asked ∙ ap (λ (l : Ledger). l.tables) (asking_stays.ledger script)
 
 -- what they mean, the script means
-means_of_script : (script : Script) (calls : List Call) (declared : SignatureShape) (width : PointerWidth) (f : Body) → calls_of declared calls ≡ map Ask script
-    → CallsMeanTheSame (calls_of declared calls) declared width (view_of f) → MeansTheSame script declared width (view_of f)
-means_of_script script calls declared width f asked means =
+means_of_script : (config : TargetFrontendConfig) (script : Script) (calls : List Call) (declared : SignatureShape) (width : PointerWidth) (f : Body) → calls_of config declared calls ≡ map Ask script
+    → CallsMeanTheSame (calls_of config declared calls) declared width (view_of f) → MeansTheSame script declared width (view_of f)
+means_of_script config script calls declared width f asked means =
     (asking_means.meaning script declared width (view_of f)).1 (subst (λ (list : List ScriptCall). CallsMeanTheSame list declared width (view_of f)) asked means)
 
 pub replayed_functions_agree : ReplayedFunctionsAgree
-replayed_functions_agree calls others declared width f g world asked other_asked differ first second is meets =
-    functions_agree (requests_of declared calls) (requests_of declared others) first.built.made second.built.made declared width f g
+replayed_functions_agree calls others declared config f g world asked other_asked differ first second is meets =
+    functions_agree (requests_of config declared calls) (requests_of config declared others) first.built.made second.built.made declared config.pointer_width f g
     first.built.context second.built.context first.built.position second.built.position world differ
-    (tables_of_plain (requests_of declared calls) calls declared (script_of first.built.made) asked first.built.plain)
-    (tables_of_plain (requests_of declared others) others declared (script_of second.built.made) other_asked second.built.plain)
+    (tables_of_plain config (requests_of config declared calls) calls declared (script_of first.built.made) asked first.built.plain)
+    (tables_of_plain config (requests_of config declared others) others declared (script_of second.built.made) other_asked second.built.plain)
     first.built.stands second.built.stands
-    (means_of_script (requests_of declared calls) calls declared width f asked first.same_meaning)
-    (means_of_script (requests_of declared others) others declared width g other_asked second.same_meaning) is meets
+    (means_of_script config (requests_of config declared calls) calls declared config.pointer_width f asked first.same_meaning)
+    (means_of_script config (requests_of config declared others) others declared config.pointer_width g other_asked second.same_meaning) is meets

@@ -12,6 +12,7 @@ use Rattle.std.specs.declared.cmp.Ordering.TheVariants.{Less, Equal, Greater}
 use Rattle.std.proofs.lemmas.Bool.{false≢true}
 use Rattle.std.proofs.lemmas.Option.{none-some, same_Some}
 use Rattle.clif_types.specs.Signature.{SignatureShape}
+use Rattle.clif_types.specs.declared.target.TargetFrontendConfig.{TargetFrontendConfig}
 use Rattle.clif_meaning.specs.Ledger.{Ledger, empty_ledger, or_invalid, type_of}
 use Rattle.clif_calls.specs.declared.call.Call.{Call}
 use Rattle.clif_calls.specs.declared.call.Call.TheVariants as call
@@ -107,22 +108,22 @@ module _ (first second : List SwitchEntry) (same : HaveSameEntries first second)
 
 -- SCRIPTS -----------------------------------------------------------------------------------------------------------------
 
-module _ (declared : SignatureShape) (after : List Call) (first second : Vec SwitchEntry) (value otherwise : Name) (same : HaveSameEntries first.items second.items) where
+module _ (config : TargetFrontendConfig) (declared : SignatureShape) (after : List Call) (first second : Vec SwitchEntry) (value otherwise : Name) (same : HaveSameEntries first.items second.items) where
   calls-same : (before : List Call) (ledger : Ledger)
-      → calls_from declared ledger (before ++ call.Switch first value otherwise ∷ after) ≡ calls_from declared ledger (before ++ call.Switch second value otherwise ∷ after)
+      → calls_from config declared ledger (before ++ call.Switch first value otherwise ∷ after) ≡ calls_from config declared ledger (before ++ call.Switch second value otherwise ∷ after)
   calls-same [] ledger =
-      ap (λ (this : ScriptCall). this ∷ calls_from declared (ledger_with_call ledger this) after) (ap (Emit []) (switch-same first.items second.items same ledger value otherwise))
-  calls-same (one ∷ before) ledger = ap (λ (rest : List ScriptCall). call_of declared ledger one ∷ rest) (calls-same before (ledger_with_call ledger (call_of declared ledger one)))
+      ap (λ (this : ScriptCall). this ∷ calls_from config declared (ledger_with_call ledger this) after) (ap (Emit []) (switch-same first.items second.items same ledger value otherwise))
+  calls-same (one ∷ before) ledger = ap (λ (rest : List ScriptCall). call_of config declared ledger one ∷ rest) (calls-same before (ledger_with_call ledger (call_of config declared ledger one)))
 
   attempts-same : (before : List Call) (ledger : Ledger)
-      → attempts_from declared ledger (before ++ call.Switch first value otherwise ∷ after) ≡ attempts_from declared ledger (before ++ call.Switch second value otherwise ∷ after)
+      → attempts_from config declared ledger (before ++ call.Switch first value otherwise ∷ after) ≡ attempts_from config declared ledger (before ++ call.Switch second value otherwise ∷ after)
   attempts-same [] ledger =
-      ap (λ (this : ScriptCall). record { call = this; is_tried = false } ∷ attempts_from declared (ledger_with_call ledger this) after)
+      ap (λ (this : ScriptCall). record { call = this; is_tried = false } ∷ attempts_from config declared (ledger_with_call ledger this) after)
       (ap (Emit []) (switch-same first.items second.items same ledger value otherwise))
-  attempts-same (one ∷ before) ledger = ap (λ (rest : List CallAttempt). attempt_of declared ledger one ∷ rest) (attempts-same before (ledger_with_call ledger (call_of declared ledger one)))
+  attempts-same (one ∷ before) ledger = ap (λ (rest : List CallAttempt). attempt_of config declared ledger one ∷ rest) (attempts-same before (ledger_with_call ledger (call_of config declared ledger one)))
 
 pub switch_order_is_free : SwitchOrderIsFree
-switch_order_is_free declared before after first second value otherwise same = record {
-  calls_same = calls-same declared after first second value otherwise same before empty_ledger;
-  attempts_same = attempts-same declared after first second value otherwise same before empty_ledger;
+switch_order_is_free config declared before after first second value otherwise same = record {
+  calls_same = calls-same config declared after first second value otherwise same before empty_ledger;
+  attempts_same = attempts-same config declared after first second value otherwise same before empty_ledger;
 }

@@ -5,6 +5,7 @@ use Rattle.std.specs.Prelude.{◌≡◌, ℕ, List, [], ◌∷◌}
 use Rattle.clif_types.specs.Signature.{SignatureShape}
 use Rattle.clif_types.specs.Target.{pointer_type_of}
 use Rattle.clif_types.specs.declared.target.PointerWidth.TheVariants.{U64}
+use Rattle.clif_types.specs.declared.target.TargetFrontendConfig.{TargetFrontendConfig}
 use Rattle.clif_types.specs.declared.trapcode.TrapCode.TheVariants.{IntegerOverflow}
 use Rattle.clif_meaning.specs.Acceptance.{Accepted}
 use Rattle.clif_meaning.specs.Examples.{i32}
@@ -36,14 +37,14 @@ sealed_last variable =
     call.CreateBlock ∷ call.SwitchToBlock (answer_to 0) ∷ call.DeclareVar i32 ∷ call.DeclareVar i32
     ∷ call.UseVar variable ∷ call.DefVar 1 (answer_to 4) ∷ call.Trap IntegerOverflow ∷ call.SealAllBlocks ∷ []
 
-pub record SealingLawExamples (signature : SignatureShape) : Type 0 where
-  pub first_emits_nothing : EmitsNothing signature sealed_first
-  pub last_emits_nothing : EmitsNothing signature (sealed_last 0)
-  pub differ : DifferInSealing (requests_of signature sealed_first) (requests_of signature (sealed_last 0))
-  pub accepted : verdict_on_call_attempts (attempts_of signature sealed_first) ≡ Accepted
-  pub last_accepted : verdict_on_call_attempts (attempts_of signature (sealed_last 0)) ≡ Accepted
+pub record SealingLawExamples (config : TargetFrontendConfig) (signature : SignatureShape) : Type 0 where
+  pub first_emits_nothing : EmitsNothing config signature sealed_first
+  pub last_emits_nothing : EmitsNothing config signature (sealed_last 0)
+  pub differ : DifferInSealing (requests_of config signature sealed_first) (requests_of config signature (sealed_last 0))
+  pub accepted : verdict_on_call_attempts (attempts_of config signature sealed_first) ≡ Accepted
+  pub last_accepted : verdict_on_call_attempts (attempts_of config signature (sealed_last 0)) ≡ Accepted
   -- wrong: another variable is used
-  pub other_variable : DifferInSealing (requests_of signature sealed_first) (requests_of signature (sealed_last 1)) → ⊥
+  pub other_variable : DifferInSealing (requests_of config signature sealed_first) (requests_of config signature (sealed_last 1)) → ⊥
   -- the row `sample` seals its blocks as soon as may be, and meets the premises in every world; so does `sample_late`, which seals
   -- them all at the end
   pub rows_differ : DifferInSealing sample_script sample_late_script

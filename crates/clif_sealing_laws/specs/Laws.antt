@@ -4,6 +4,7 @@
 use Rattle.std.specs.Prelude.{◌≡◌, ℕ, List, [], ◌∷◌, Option, map}
 use Rattle.clif_types.specs.Signature.{SignatureShape}
 use Rattle.clif_types.specs.declared.target.PointerWidth.{PointerWidth}
+use Rattle.clif_types.specs.declared.target.TargetFrontendConfig.{TargetFrontendConfig}
 use Rattle.clif_types.specs.Target.{pointer_type_of}
 use Rattle.clif_ir.specs.Body.{Body}
 use Rattle.clif_meaning.specs.Headline.{IsWorldOf, MeansTheSame, function_behaviour, script_run}
@@ -45,26 +46,26 @@ requests_in [] = []
 requests_in (Ask request ∷ calls) = request ∷ requests_in calls
 requests_in (Emit imports instruction ∷ calls) = requests_in calls
 
-abbrev pub requests_of : SignatureShape → List Call → Script
-requests_of declared calls = requests_in (calls_of declared calls)
+abbrev pub requests_of : TargetFrontendConfig → SignatureShape → List Call → Script
+requests_of config declared calls = requests_in (calls_of config declared calls)
 
 -- no call of the list emits, so these are all its calls
-abbrev pub EmitsNothing : SignatureShape → List Call → Type 0
-EmitsNothing declared calls = calls_of declared calls ≡ map Ask (requests_of declared calls)
+abbrev pub EmitsNothing : TargetFrontendConfig → SignatureShape → List Call → Type 0
+EmitsNothing config declared calls = calls_of config declared calls ≡ map Ask (requests_of config declared calls)
 
 -- What `replay` says of the function that it returns, in its clauses of these names.
-pub record IsReplayOf (calls : List Call) (declared : SignatureShape) (width : PointerWidth) (f : Body) : Type 0 where
-  pub same_meaning : CallsMeanTheSame (calls_of declared calls) declared width (view_of f)
-  pub built : IsBuiltBy calls declared f
+pub record IsReplayOf (calls : List Call) (declared : SignatureShape) (config : TargetFrontendConfig) (f : Body) : Type 0 where
+  pub same_meaning : CallsMeanTheSame (calls_of config declared calls) declared config.pointer_width (view_of f)
+  pub built : IsBuiltBy config calls declared f
 
 -- Two lists of calls that `replay` accepts, that emit nothing and differ only in when blocks are sealed: the functions that it
 -- returns have the same meaning, in each world in which the first list meets the premises. Source: own.
 abbrev pub ReplayedFunctionsAgree : Type 0
 ReplayedFunctionsAgree =
-    (calls others : List Call) (declared : SignatureShape) (width : PointerWidth) (f g : Body) (world : World)
-    → EmitsNothing declared calls → EmitsNothing declared others
-    → DifferInSealing (requests_of declared calls) (requests_of declared others)
-    → IsReplayOf calls declared width f → IsReplayOf others declared width g
-    → IsWorldOf declared (view_of f) width world
-    → Premises (requests_of declared calls) declared (pointer_type_of width) (script_run (requests_of declared calls) (view_of f) world)
-    → SameMeaning (function_behaviour (requests_of declared calls) (view_of f) world) (function_behaviour (requests_of declared others) (view_of g) world)
+    (calls others : List Call) (declared : SignatureShape) (config : TargetFrontendConfig) (f g : Body) (world : World)
+    → EmitsNothing config declared calls → EmitsNothing config declared others
+    → DifferInSealing (requests_of config declared calls) (requests_of config declared others)
+    → IsReplayOf calls declared config f → IsReplayOf others declared config g
+    → IsWorldOf declared (view_of f) config.pointer_width world
+    → Premises (requests_of config declared calls) declared (pointer_type_of config.pointer_width) (script_run (requests_of config declared calls) (view_of f) world)
+    → SameMeaning (function_behaviour (requests_of config declared calls) (view_of f) world) (function_behaviour (requests_of config declared others) (view_of g) world)

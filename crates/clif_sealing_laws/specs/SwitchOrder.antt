@@ -3,6 +3,7 @@
 use Rattle.std.specs.Prelude.{◌≡◌, ◌↔◌, List, ◌∷◌, ◌++◌, false, Contains}
 use Rattle.std.specs.Global.{Vec}
 use Rattle.clif_types.specs.Signature.{SignatureShape}
+use Rattle.clif_types.specs.declared.target.TargetFrontendConfig.{TargetFrontendConfig}
 use Rattle.clif_calls.specs.declared.call.Call.{Call}
 use Rattle.clif_calls.specs.declared.call.Call.TheVariants as call
 use Rattle.clif_calls.specs.declared.call.Name.{Name}
@@ -17,12 +18,12 @@ pub record HaveSameEntries (first second : List SwitchEntry) : Type 0 where
   pub same : (entry : SwitchEntry) → Contains first entry ↔ Contains second entry
 
 -- two lists of calls that differ in the order of one switch's entries are the same script, and are tried alike
-pub record AreOneScript (declared : SignatureShape) (calls others : List Call) : Type 0 where
-  pub calls_same : calls_of declared calls ≡ calls_of declared others
-  pub attempts_same : attempts_of declared calls ≡ attempts_of declared others
+pub record AreOneScript (config : TargetFrontendConfig) (declared : SignatureShape) (calls others : List Call) : Type 0 where
+  pub calls_same : calls_of config declared calls ≡ calls_of config declared others
+  pub attempts_same : attempts_of config declared calls ≡ attempts_of config declared others
 
 abbrev pub SwitchOrderIsFree : Type 0
 SwitchOrderIsFree =
-    (declared : SignatureShape) (before after : List Call) (first second : Vec SwitchEntry) (value otherwise : Name)
+    (config : TargetFrontendConfig) (declared : SignatureShape) (before after : List Call) (first second : Vec SwitchEntry) (value otherwise : Name)
     → HaveSameEntries first.items second.items
-    → AreOneScript declared (before ++ call.Switch first value otherwise ∷ after) (before ++ call.Switch second value otherwise ∷ after)
+    → AreOneScript config declared (before ++ call.Switch first value otherwise ∷ after) (before ++ call.Switch second value otherwise ∷ after)

@@ -3,6 +3,7 @@
 #![tactic(auto)]
 
 ghost use Rattle.clif_types.specs.Signature.{SignatureShape};
+ghost use Rattle.clif_types.specs.declared.target.TargetFrontendConfig.{TargetFrontendConfig};
 ghost use Rattle.clif_sealing_laws.specs.Examples.{SealingLawExamples};
 ghost use Rattle.clif_sealing_laws.specs.Laws.{BuiltFunctionsAgree, ReplayedFunctionsAgree};
 ghost use Rattle.clif_sealing_laws.specs.SwitchOrder.{SwitchOrderIsFree};
@@ -29,7 +30,7 @@ pub fn switch_order_is_free()
 /// Lists of calls that differ only in when blocks are sealed, one that differs in more, and a loop that meets the premises
 /// however its blocks are sealed.
 pub fn sealing_law_examples()
-    ensures { (signature : SignatureShape) → SealingLawExamples signature }
+    ensures { (config : TargetFrontendConfig) (signature : SignatureShape) → SealingLawExamples config signature }
 {
     sample_meets_premises();
 }

@@ -18,8 +18,9 @@ use Rattle.clif_meaning.specs.Program.{Program, Item, extended, first_block, wit
 use Rattle.clif_simulation.specs.Tables.{program_so_far, IsProgramOf}
 use Rattle.clif_simulation.proofs.Numbering.{apart_first}
 use Rattle.clif_simulation.specs.Carries.{Carries}
-use Rattle.clif_simulation.proofs.Effects.{switch_of, ProgramEffect, program_effect, Leaves, Inserts, Takes, Switches, Assigns, Uses, Builds, Redirects, LedgerEffect, ledger_effect, Keeps, Lays, Changes, Begins, Creates, Enters, ChangesEach, Declares, Touches, Reads, Appends}
+use Rattle.clif_simulation.proofs.Effects.{switch_of, ProgramEffect, program_effect, Leaves, Inserts, Takes, Switches, Assigns, Uses, Builds, Redirects, LedgerEffect, ledger_effect, Keeps, Lays, Changes, Begins, Creates, Enters, ChangesEach, Declares, Touches, Reads, Appends, Marks}
 use Rattle.clif_simulation.proofs.Values.{false_is}
+use Rattle.clif_simulation.proofs.Tracking.Steps.{tracks_nothing}
 
 some_none : {X : Type 0} (x : X) → None ≡ Some x → ⊥
 some_none x h = cc
@@ -100,6 +101,7 @@ current_of_ledger ledger request = by (ledger_effect request)
     by (ChangesEach change keeps stays is) = of_ledger _ (is ledger) refl stays
     by (Declares ty is) = of_request _ is refl
     by (Touches variable value is) = of_request _ is refl
+    by (Marks need is) = of_request _ is refl
     by (Reads variable is) = of_request _ is (current-begun ledger ledger.current)
     by (Appends entries instruction is) =
         of_request _ is
@@ -182,5 +184,6 @@ carries_nothing name signature = record {
         describes = first.0;
         sound = first.1;
         counts = first.2;
+        tracked = tracks_nothing;
       };
 }

@@ -27,11 +27,12 @@ use Rattle.clif_ir.specs.Consistent.{IsConsistent}
 use Rattle.clif_instructions.specs.Members.{Once}
 use Rattle.clif_ir.specs.Changes.{inserted_in, inst_node, with_inst}
 use Rattle.clif_paths.specs.Places.{inside}
+use Rattle.clif_paths.specs.State.{Definition}
 use Rattle.clif_paths.specs.Blocks.{Blocks, last_place, with_item}
 use Rattle.clif_paths.proofs.Tables.{updated-same, updated-other}
 use Rattle.clif_ssa.specs.Own.{Own}
 use Rattle.clif_records.specs.Tables.{is_yes}
-use Rattle.clif_ssa.specs.Ssa.{SsaState, predecessors_of, sealed_of}
+use Rattle.clif_ssa.specs.Ssa.{SsaState, SameRecords, predecessors_of, sealed_of}
 use Rattle.clif_ssa.specs.Sound.{SameProgram, args_of, edge_target, edges_at}
 use Rattle.clif_ssa.specs.SoundLaws.{with_all_born, with_entry, with_own, shape_passes, DescribesSoundly, IsOpen}
 use Rattle.clif_ssa.specs.Structured.{HasType, Structured, VariableTypes}
@@ -65,7 +66,9 @@ use Rattle.clif_simulation.proofs.Requests
 use Rattle.clif_simulation.proofs.Requests.{entry_begun}
 use Rattle.clif_simulation.proofs.ResultNames.{answer_is, answer_there, answers_are_new, answers_count, answers_earlier, result_typed, results_answered, typed_at, value_within}
 use Rattle.clif_simulation.proofs.Staying.{restated}
-use Rattle.clif_simulation.proofs.Telling.{MayLead, along_leads, along_sealed, along_soundly, along_stays, along_structured, along_told, contained_get}
+use Rattle.clif_simulation.proofs.Telling.{MayLead, along_leads, along_records, along_sealed, along_soundly, along_stays, along_structured, along_told, contained_get}
+use Rattle.clif_simulation.proofs.Tracking.Steps.{same_function, same_parameters-then, tracks_quiet}
+use Rattle.clif_simulation.proofs.Tracking.Giving.{all_born_same, entry_same_function}
 use Rattle.clif_simulation.proofs.Unbranched.{no_target}
 use Rattle.clif_simulation.proofs.Values.{is_value_at, false_is, values_added}
 
@@ -427,8 +430,9 @@ module _ (calls : List AnsweredCall) (f : Body) (s : SsaState) (c : Carries call
         own_described c.own h s (entered p) b (map code (answers_from (length calls) 1 types)) shape types loc firm (described_before p) open_here there_still
         (answers_count (length calls) 1 types) (answers_are_new calls (entered p) 1 types (same_names p))
 
-    sound_made : (p : SoundOnPaths calls c.own f s) (t : SsaState) → DescribesSoundly mine m t (made p) → SoundOnPaths after mine m t
-    sound_made p t described =
+    sound_made : (p : SoundOnPaths calls c.own f s) (t : SsaState) → t.tracking ≡ s.tracking → SameRecords s t → DescribesSoundly mine m t (made p)
+        → SoundOnPaths after mine m t
+    sound_made p t tracking records described =
         let adds = adds_instruction calls call (entered p) b B current.named (unwritten p) instruction (answers_from (length calls) 1 types) (length h.values) (last_place (with_item (entered p) b) b) puts
         (λ k y at.
         let is = answer_is (length calls) 1 types k y at in
@@ -442,24 +446,30 @@ module _ (calls : List AnsweredCall) (f : Body) (s : SsaState) (c : Carries call
           describes = described.0;
           sound = described.1;
           counts = described.2;
+          tracked = tracks_quiet calls call s t p.tables p.tracked tt tracking records (made p)
+              (same_parameters-then p.tables (entered p) (made p) (entry_same_function f.layout s b p.tables)
+              (same_parameters-then (entered p) (with_item (entered p) b) (made p) (same_function (entered p) (with_item (entered p) b) refl)
+              (all_born_same (with_item (entered p) b) (last_place (with_item (entered p) b) b) (map code (answers_from (length calls) 1 types)) (length h.values)
+              (λ v past. ap (λ (d : Definition). d.kind) ((described_before p).0.absent v past)))));
         }
 
     -- the state after it may be another one
-    carries_made : (t : SsaState) → AreDeclared m t mine.insts → LeadsOwn after mine t → HaveEdges m t → ((declared : VariableTypes) → AreTypes after declared → Structured declared mine m t [])
+    carries_made : (t : SsaState) → t.tracking ≡ s.tracking → SameRecords s t
+        → AreDeclared m t mine.insts → LeadsOwn after mine t → HaveEdges m t → ((declared : VariableTypes) → AreTypes after declared → Structured declared mine m t [])
         → ((x : ℕ) → is_yes (sealed_of s x) ≡ true → (is_yes (sealed_of t x) ≡ true) × (predecessors_of t x ≡ predecessors_of s x))
         → ((T : Blocks) → DescribesSoundly mine m s T → DescribesSoundly mine m t T) → Carries after m t
-    carries_made t declared leads have structured sealed sound = record {
+    carries_made t tracking records declared leads have structured sealed sound = record {
       own = mine;
       holds = holds_made t declared leads have structured;
       on_paths = λ free.
           let p : SoundOnPaths calls c.own f s = c.on_paths (free_before f m s t (entry_inserted f b) sealed free) in
-          sound_made p t (sound (made p) (described_made p));
+          sound_made p t tracking records (sound (made p) (described_made p));
     }
 
     -- it has edges, and is declared at each block that one of them leads to
     module _ (told : List ℕ) (t : SsaState) (ends : is_terminator instruction.operation ≡ true) (once : Once told)
         (exactly : (x : ℕ) → (Contains told x → Contains (targets (destinations shape)) x) × (Contains (targets (destinations shape)) x → Contains told x))
-        (unsealed : (x : ℕ) → Contains told x → is_yes (sealed_of s x) ≡ false) (along : DeclaredAlong s i told t) where
+        (unsealed : (x : ℕ) → Contains told x → is_yes (sealed_of s x) ≡ false) (along : DeclaredAlong s i told t) (tracking : t.tracking ≡ s.tracking) where
       may : (x : ℕ) → Contains told x → MayLead m s i x
       may x here = record {
         unsealed = unsealed x here;
@@ -486,7 +496,7 @@ module _ (calls : List AnsweredCall) (f : Body) (s : SsaState) (c : Carries call
 
       carries_along : Carries after m t
       carries_along =
-          carries_made t
+          carries_made t tracking (along_records told s t i along)
           (declared_more types t (along_stays told s t i along)
           (λ k target to. along_leads told s t i along target ((exactly target).1 (target_contained (destinations shape) k target (target_is types k target to)))))
           leads_branch edges_branch
@@ -500,7 +510,8 @@ module _ (calls : List AnsweredCall) (f : Body) (s : SsaState) (c : Carries call
       → ((k : ℕ) → k < length types → slice_get numbers (suc k) ≡ Some (length h.values + k)) → slice_get numbers 0 ≡ Some (length f.insts)
       → Carries after (with_inst h b Back shape types loc) s
   carries_plain matches types typed controlling numbered first =
-      carries_made (same_branch calls f.tables shape instruction matches) types typed controlling numbered first s (declared_plain types matches.no_edges) (leads_plain types) (edges_plain types) (structured_before types)
+      carries_made (same_branch calls f.tables shape instruction matches) types typed controlling numbered first s refl (λ x d. refl)
+      (declared_plain types matches.no_edges) (leads_plain types) (edges_plain types) (structured_before types)
       (λ x is. (is, refl)) (λ T d. d)
 
   -- A branch: it was declared once at each block to which it leads.
@@ -510,6 +521,6 @@ module _ (calls : List AnsweredCall) (f : Body) (s : SsaState) (c : Carries call
       → (told : List ℕ) (t : SsaState) → is_terminator instruction.operation ≡ true → Once told
       → ((x : ℕ) → (Contains told x → Contains (targets (destinations shape)) x) × (Contains (targets (destinations shape)) x → Contains told x))
       → ((x : ℕ) → Contains told x → is_yes (sealed_of s x) ≡ false) → DeclaredAlong s (length f.insts) told t
-      → Carries after (with_inst h b Back shape types loc) t
-  carries_branch matches types typed controlling numbered first told t ends once exactly unsealed along =
-      carries_along matches types typed controlling numbered first told t ends once exactly unsealed (subst (λ (n : ℕ). DeclaredAlong s n told t) as_many along)
+      → t.tracking ≡ s.tracking → Carries after (with_inst h b Back shape types loc) t
+  carries_branch matches types typed controlling numbered first told t ends once exactly unsealed along tracking =
+      carries_along matches types typed controlling numbered first told t ends once exactly unsealed (subst (λ (n : ℕ). DeclaredAlong s n told t) as_many along) tracking

@@ -18,11 +18,15 @@ use Rattle.clif_paths.specs.Blocks.{Blocks, with_item, with_read, with_write}
 use Rattle.clif_ssa.specs.Constructs.{OnlyConstructs}
 use Rattle.clif_ssa.specs.Own.{Own}
 use Rattle.clif_records.specs.Tables.{is_yes}
-use Rattle.clif_ssa.specs.Ssa.{SsaState, predecessors_of, sealed_of, Records, SamePredecessors, SameRecords, SameBlocks, SealedStays}
+use Rattle.clif_records.specs.Tracking.{with_binding}
+use Rattle.clif_ssa.specs.Ssa.{SsaState, predecessors_of, sealed_of, Records, RecordsStay, SamePredecessors, SameRecords, SameBlocks, SealedStays}
 use Rattle.clif_ssa.specs.Sound.{EntryIsFree, Keeps, KeepsAndKnows, SameProgram, SparesIfEntry, entry_of}
 use Rattle.clif_ssa.specs.SoundLaws.{with_entry, DescribesSoundly, IsOpen}
 use Rattle.clif_ssa.specs.Structured.{HasType, Structured, VariableTypes}
+use Rattle.clif_ssa.specs.Tracked.{TracksMade}
 use Rattle.clif_ssa.proofs.Completing.{entry_same, same_program, same_program_then}
+use Rattle.clif_ssa.proofs.KeptParameters.{itself_parameters}
+use Rattle.clif_ssa.proofs.Public.{keeps_itself}
 use Rattle.clif_ssa.proofs.Constructed.{inserted_constructs}
 use Rattle.clif_ssa.proofs.Constructing.{constructs_then}
 use Rattle.clif_ssa.proofs.Counting.{block_counted, inserted_counted}
@@ -32,11 +36,12 @@ use Rattle.clif_ssa.proofs.Structuring.{same_structured}
 use Rattle.clif_ssa.proofs.StructuredLaws.{assigned_structured, block_structured, inserted_structured}
 use Rattle.clif_ssa.proofs.Writing.{same_state, block_described, write_item_described, read_item_described}
 use Rattle.clif_meaning.specs.Name.{Name, answer_of}
-use Rattle.clif_meaning.specs.Request.{Request, CreateBlock, SwitchToBlock, SealBlock, DeclareVar, DefVar, UseVar, AnsweredCall, script_of, number_of}
+use Rattle.clif_meaning.specs.Request.{Request, CreateBlock, SwitchToBlock, SealBlock, DeclareVar, DefVar, UseVar, AnsweredCall, script_of, number_of, StackMapNeed, NeedStackMap}
 use Rattle.clif_meaning.specs.Ledger.{BlockState, ABlock, AVariable, AValue, answers_to, ledger_after, has_value, is_filled, or_invalid, value_answer_type, variable_type}
 use Rattle.clif_meaning.specs.Program.{Use, Assign}
 use Rattle.clif_simulation.specs.Tables.{answered, code, number_or_none, program_so_far, block_name}
 use Rattle.clif_simulation.specs.Carries.{AreTypes, Carries, IsCurrent, NamesBlocks, SoundOnPaths, ValuesGiven, HasEntry}
+use Rattle.clif_simulation.specs.Tracks.{TracksNeed, TracksOnPaths}
 use Rattle.clif_simulation.proofs.Carrying.{declared_kept, edges_there, holds_item, holds_on, leads_kept, only_parameters, parameters_on, parameters_values_on}
 use Rattle.clif_simulation.proofs.FreeEntry.{entry_inserted, free_before, spared_sealed, still_sealed}
 use Rattle.clif_simulation.proofs.Growing.{KeepsInsts, goes_on-constructs, insts_kept, insts_same}
@@ -54,6 +59,9 @@ use Rattle.clif_simulation.proofs.Unfilled.{HasNoEdges, is_open, no_edges}
 use Rattle.clif_simulation.proofs.Values.{is_value_at, false_is, values_kept, values_added, next_is_new, value_answered}
 use Rattle.clif_simulation.proofs.Whole.{are_declared, declared_types}
 use Rattle.clif_simulation.proofs.Extending.{extended}
+use Rattle.clif_simulation.proofs.Tracking.Steps.{NamesNothing, same_function, tracks_assigned, tracks_needing, tracks_quiet}
+use Rattle.clif_simulation.proofs.Tracking.Making.{tracks_constructed}
+use Rattle.clif_simulation.proofs.Tracking.Giving.{entry_same_function, tracks_same}
 
 -- a block that doesn't exist has no instructions
 own_empty : (own : List ℕ) (zeros insts : List ℕ) → insts ≡ zeros ++ own → insts ≡ [] → own ≡ []
@@ -134,8 +142,8 @@ module _ (calls : List AnsweredCall) (f : Body) (s : SsaState) (c : Carries call
   -- A BLOCK IS MADE -----------------------------------------------------------------------------------------------------
 
   pub carries_created : (t : SsaState) (numbers : List ℕ) → length (ledger_after (script_of calls)).blocks ≡ length f.blocks → SameRecords s t → SameBlocks s t → SamePredecessors s t
-      → Carries (with_answers CreateBlock numbers) (with_block f) t
-  carries_created t numbers as_many records same leads =
+      → t.tracking ≡ s.tracking → Carries (with_answers CreateBlock numbers) (with_block f) t
+  carries_created t numbers as_many records same leads tracking =
       let call : AnsweredCall = the_call CreateBlock numbers in
       let items = Requests.items_left calls call (λ program. refl) in
       record {
@@ -160,6 +168,7 @@ module _ (calls : List AnsweredCall) (f : Body) (s : SsaState) (c : Carries call
               describes = same_state c.own (with_block f) s t p.tables records same leads (block_described c.own f s p.tables p.describes);
               sound = p.sound;
               counts = counts_kept c.own (with_block f) s t p.tables p.tables (block_counted c.own f s p.tables p.counts) leads (λ v. refl);
+              tracked = tracks_quiet calls call s t p.tables p.tracked tt tracking records p.tables (same_function p.tables p.tables refl);
             };
       }
     where
@@ -256,9 +265,11 @@ module _ (calls : List AnsweredCall) (f : Body) (s : SsaState) (c : Carries call
       → KeepsInsts f g → ((b : ℕ) → stands_in b g.layout ≡ false → stands_in b f.layout ≡ false) → SamePredecessors s t
       → ((types : VariableTypes) (own : Own) → Structured types own f s [] → Structured types own g t [])
       → ((entry : ℕ) → entry_of f ≡ Some entry → entry_of g ≡ Some entry) → ((b : ℕ) → is_yes (sealed_of s b) ≡ true → is_yes (sealed_of t b) ≡ true)
-      → (EntryIsFree g t → (own : Own) (tables : Blocks) → DescribesSoundly own f s tables → Keeps own tables g t)
+      → (sound : EntryIsFree g t → (own : Own) (tables : Blocks) → DescribesSoundly own f s tables → Keeps own tables g t)
+      → ((free : EntryIsFree g t) (own : Own) (tables : Blocks) (before : DescribesSoundly own f s tables) → TracksOnPaths calls s tables
+      → TracksOnPaths (calls ++ call ∷ []) t (sound free own tables before).tables)
       → Carries (calls ++ call ∷ []) g t
-  carries_on call g t no_block no_parameter no_instruction items enters no_value keeps layout leads structured first sealed sound = record {
+  carries_on call g t no_block no_parameter no_instruction items enters no_value keeps layout leads structured first sealed sound tracks = record {
     own = c.own;
     holds = holds_on calls call (name_stays calls call no_block) c.own c.own f g s t c.holds (λ i below. keeps.placed c.own i below) keeps.more
         layout (λ i. keeps.maps i ∙ c.holds.no_maps i) (none_made (ledger_after (script_of calls)) call.request no_instruction) (λ b. refl)
@@ -289,6 +300,7 @@ module _ (calls : List AnsweredCall) (f : Body) (s : SsaState) (c : Carries call
           describes = after.describes;
           sound = after.sound;
           counts = after.counts;
+          tracked = tracks free c.own p.tables (p.describes, p.sound, p.counts) p.tracked;
         };
   }
     where
@@ -308,23 +320,31 @@ module _ (calls : List AnsweredCall) (f : Body) (s : SsaState) (c : Carries call
       → KeepsInsts f g → g.layout ≡ f.layout → SamePredecessors s t
       → ((types : VariableTypes) (own : Own) → Structured types own f s [] → Structured types own g t [])
       → ((b : ℕ) → is_yes (sealed_of s b) ≡ true → is_yes (sealed_of t b) ≡ true)
-      → (EntryIsFree g t → (own : Own) (tables : Blocks) → DescribesSoundly own f s tables → Keeps own tables g t)
+      → (sound : EntryIsFree g t → (own : Own) (tables : Blocks) → DescribesSoundly own f s tables → Keeps own tables g t)
+      → ((free : EntryIsFree g t) (own : Own) (tables : Blocks) (before : DescribesSoundly own f s tables) → TracksOnPaths calls s tables
+      → TracksOnPaths (calls ++ call ∷ []) t (sound free own tables before).tables)
       → Carries (calls ++ call ∷ []) g t
-  carries_kept call g t no_block no_parameter no_instruction items entry no_value keeps layout leads structured sealed sound =
+  carries_kept call g t no_block no_parameter no_instruction items entry no_value keeps layout leads structured sealed sound tracks =
       carries_on call g t no_block no_parameter no_instruction items
       (entry_stays calls (calls ++ call ∷ []) f g entry (ap (λ (l : List ℕ). slice_get l 0) layout) (name_stays calls call no_block) c.holds.entry)
-      no_value keeps (λ b out. ap (stands_in b) (sym layout) ∙ out) leads structured (λ e is. ap (λ (l : List ℕ). slice_get l 0) layout ∙ is) sealed sound
+      no_value keeps (λ b out. ap (stands_in b) (sym layout) ∙ out) leads structured (λ e is. ap (λ (l : List ℕ). slice_get l 0) layout ∙ is) sealed sound tracks
 
   -- nothing is constructed
   pub still : (own : Own) (tables : Blocks) → DescribesSoundly own f s tables → Keeps own tables f s
-  still own tables before = record { tables = tables; describes = before.0; sound = before.1; same = same_program tables; counts = before.2 }
+  still own tables before = keeps_itself own tables f s before
+
+  -- so a call that names no value and tracks nothing keeps what is tracked
+  pub still_tracks : (call : AnsweredCall) → NamesNothing call.request → (own : Own) (tables : Blocks) (before : DescribesSoundly own f s tables)
+      → TracksOnPaths calls s tables → TracksOnPaths (calls ++ call ∷ []) s (still own tables before).tables
+  unfolding still keeps_itself
+  still_tracks call quiet own tables before was = tracks_quiet calls call s s tables was quiet refl (λ v b. refl) tables (same_function tables tables refl)
 
   -- another block is made current
   pub carries_switched : (block : Name) (numbers : List ℕ) → Carries (with_answers (SwitchToBlock block) numbers) f s
   carries_switched block numbers =
       let call : AnsweredCall = the_call (SwitchToBlock block) numbers in
       carries_kept call f s tt tt tt (Requests.items_switched calls call block refl) (Requests.entry_switched calls call block refl) (λ index. refl)
-      (insts_same f f refl refl refl) refl (λ b. refl) (λ types own h. h) (λ b is. is) (λ free. still)
+      (insts_same f f refl refl refl) refl (λ b. refl) (λ types own h. h) (λ b is. is) (λ free. still) (λ free. still_tracks call tt)
 
   -- a variable is declared
   pub carries_declared : (ty : «Type») (numbers : List ℕ) → Carries (with_answers (DeclareVar ty) numbers) f s
@@ -332,20 +352,40 @@ module _ (calls : List AnsweredCall) (f : Body) (s : SsaState) (c : Carries call
       let call : AnsweredCall = the_call (DeclareVar ty) numbers in
       carries_kept call f s tt tt tt (Requests.items_left calls call (λ program. refl)) (Requests.entry_left calls call (λ program. refl))
       (one_variable_none (length (ledger_after (script_of calls)).variables))
-      (insts_same f f refl refl refl) refl (λ b. refl) (λ types own h. h) (λ b is. is) (λ free. still)
+      (insts_same f f refl refl refl) refl (λ b. refl) (λ types own h. h) (λ b is. is) (λ free. still) (λ free. still_tracks call tt)
+
+  -- stack maps are asked for: only what is tracked changes
+  pub carries_needing : (t : SsaState) (need : StackMapNeed) → SameRecords s t → SameBlocks s t → SamePredecessors s t → TracksNeed calls s t need
+      → Carries (with_answers (NeedStackMap need) []) f t
+  carries_needing t need records same leads asks =
+      let call : AnsweredCall = the_call (NeedStackMap need) [] in
+      carries_kept call f t tt tt tt (Requests.items_left calls call (λ program. refl)) (Requests.entry_left calls call (λ program. refl)) (λ index. refl)
+      (insts_same f f refl refl refl) refl leads (λ types own h. same_structured types own f s t [] records same leads h) (λ b is. ap is_yes (same b) ∙ is)
+      (λ free own tables before. record {
+        tables = tables;
+        describes = same_state own f s t tables records same leads before.0;
+        sound = before.1;
+        same = same_program tables;
+        counts = counts_kept own f s t tables tables before.2 leads (λ v. refl);
+        parameters = itself_parameters tables s t before.0.recorded records;
+      })
+      (λ free own tables before was. tracks_needing calls call s t tables was need refl asks records)
 
   -- a block is sealed
   pub carries_sealed : (g : Body) (t : SsaState) (block : Name) (numbers : List ℕ) (seals : ℕ → Bool) → IsConsistent f
       → ((b : ℕ) → is_yes (sealed_of t b) ≡ (if seals b then true else is_yes (sealed_of s b)))
       → ((own : Own) (tables : Blocks) → ((b : ℕ) → seals b ≡ true → SparesIfEntry f s b) → DescribesSoundly own f s tables → Keeps own tables g t)
       → ((types : VariableTypes) (own : Own) → Structured types own f s [] → Structured types own g t [])
-      → OnlyConstructs f g → g.layout ≡ f.layout → SamePredecessors s t
+      → OnlyConstructs f g → g.layout ≡ f.layout → SamePredecessors s t → IsConsistent g → TracksMade (length f.values) s t → RecordsStay s t
       → Carries (with_answers (SealBlock block) numbers) g t
-  carries_sealed g t block numbers seals consistent sealed keeps structured constructs layout leads =
+  carries_sealed g t block numbers seals consistent sealed keeps structured constructs layout leads consistent_now made stay =
       let call : AnsweredCall = the_call (SealBlock block) numbers in
       carries_kept call g t tt tt tt (Requests.items_left calls call (λ program. refl)) (Requests.entry_left calls call (λ program. refl)) (λ index. refl)
       (insts_kept f g consistent (goes_on-constructs f g constructs)) layout leads structured (still_sealed s t seals sealed)
       (λ free own tables. keeps own tables (spared_sealed f g s t seals layout leads sealed free))
+      (λ free own tables before was.
+      let kept : Keeps own tables g t = keeps own tables (spared_sealed f g s t seals layout leads sealed free) before in
+      tracks_constructed f g constructs own s t tables before kept calls call consistent_now made stay tt was)
 
   -- IN THE CURRENT BLOCK, WHICH HAS NO TERMINATOR -----------------------------------------------------------------------
 
@@ -362,9 +402,9 @@ module _ (calls : List AnsweredCall) (f : Body) (s : SsaState) (c : Carries call
     -- a value is assigned to a variable
     pub carries_assigned : (t : SsaState) (x : ℕ) (n : Name) (value : ℕ) (ty : «Type») (numbers : List ℕ)
         → number_of calls n ≡ Some value → IsTrue (has_value (ledger_after (script_of calls)) n) → variable_type (ledger_after (script_of calls)) x ≡ Some ty → HasType f value ty
-        → Records s t x b value → SameBlocks s t → SamePredecessors s t
+        → Records s t x b value → SameBlocks s t → SamePredecessors s t → t.tracking ≡ with_binding s.tracking x value
         → Carries (with_answers (DefVar x n) numbers) f t
-    carries_assigned t x n value ty numbers number is_value of_type typed records same leads =
+    carries_assigned t x n value ty numbers number is_value of_type typed records same leads tracking =
         let earlier : n.place < length calls = numbered_earlier calls n value number in
         let call : AnsweredCall = the_call (DefVar x n) numbers in
         let puts = Requests.puts_assignment calls call B current.current x n refl in
@@ -397,6 +437,7 @@ module _ (calls : List AnsweredCall) (f : Body) (s : SsaState) (c : Carries call
                 describes = after.0;
                 sound = after.1;
                 counts = after.2;
+                tracked = tracks_assigned calls call s t p.tables p.tracked x b n value refl is_value (ap number_or_none number) tracking records T (same_function p.tables T refl);
               };
         }
 
@@ -405,8 +446,9 @@ module _ (calls : List AnsweredCall) (f : Body) (s : SsaState) (c : Carries call
         → ((own : Own) (tables : Blocks) → DescribesSoundly own (inserted_in f b) s tables → KeepsAndKnows own tables g t b x v)
         → ((types : VariableTypes) (own : Own) → types x ≡ ty → Structured types own (inserted_in f b) s [] → Structured types own g t [])
         → OnlyConstructs (inserted_in f b) g → g.layout ≡ (inserted_in f b).layout → SamePredecessors s t → SealedStays s t → HasType g v ty
+        → IsConsistent g → TracksMade (length (inserted_in f b).values) s t → RecordsStay s t
         → Carries (with_answers (UseVar x) (v ∷ [])) g t
-    carries_used g t x v ty of_type sound structured constructs layout leads flags has_type =
+    carries_used g t x v ty of_type sound structured constructs layout leads flags has_type consistent_now made stay =
         let call : AnsweredCall = the_call (UseVar x) (v ∷ []) in
         let name : Name = answer_of (length calls) 0 in
         let h : Body = inserted_in f b in
@@ -449,6 +491,9 @@ module _ (calls : List AnsweredCall) (f : Body) (s : SsaState) (c : Carries call
                 describes = read.0;
                 sound = read.1;
                 counts = read.2;
+                tracked = tracks_same (calls ++ call ∷ []) t T T' (same_function T T' refl)
+                    (tracks_constructed h g constructs c.own s t E (inserted_soundly c.own f s p.tables b (p.describes, p.sound, p.counts)) after.kept calls call consistent_now made stay tt
+                    (tracks_same calls s p.tables E (entry_same_function f.layout s b p.tables) p.tracked));
               };
         }
       where

@@ -8,7 +8,7 @@ use Rattle.clif_tables.specs.Entries.{with_entry}
 use Rattle.clif_tables.specs.Lists.{TableLists}
 use Rattle.clif_meaning.specs.Name.{Name, same_name}
 use Rattle.clif_meaning.specs.Instruction.{Edge, Instruction}
-use Rattle.clif_meaning.specs.Request.{Request, CreateBlock, SwitchToBlock, SealBlock, SealAllBlocks, InsertBlockAfter, SetColdBlock, EnsureInsertedBlock, AppendBlockParams, AppendFunctionParams, DeclareVar, DefVar, UseVar, MakeEntry, MakeEdge, MakeJumpTable, MakeExceptionTable, Annotate, Build, GivenEntry, ChangeJumpDestination, Finalize}
+use Rattle.clif_meaning.specs.Request.{Request, CreateBlock, SwitchToBlock, SealBlock, SealAllBlocks, InsertBlockAfter, SetColdBlock, EnsureInsertedBlock, AppendBlockParams, AppendFunctionParams, DeclareVar, DefVar, UseVar, MakeEntry, MakeEdge, MakeJumpTable, MakeExceptionTable, Annotate, NeedStackMap, Build, GivenEntry, ChangeJumpDestination, Finalize, StackMapNeed}
 use Rattle.clif_meaning.specs.Program.{Program, answers_from, extended, with_inserted, with_parameters, with_redirected}
 use Rattle.clif_meaning.specs.Ledger.{BlockState, Ledger, changed_by, edges_named, left_by, put_after, redirected_state, sealed, with_begun, with_cold_mark, with_parameter_types, with_state, ExceptionTable, exception_table}
 
@@ -64,7 +64,8 @@ program_effect (MakeEntry entry) = Leaves refl (λ program. refl)
 program_effect (MakeEdge edge) = Leaves refl (λ program. refl)
 program_effect (MakeJumpTable default entries) = Leaves refl (λ program. refl)
 program_effect (MakeExceptionTable signature normal items) = Leaves refl (λ program. refl)
-program_effect (Annotate values) = Leaves refl (λ program. refl)
+program_effect (Annotate inside values) = Leaves refl (λ program. refl)
+program_effect (NeedStackMap need) = Leaves refl (λ program. refl)
 program_effect (Build entries instruction) = Builds entries instruction refl
 program_effect (ChangeJumpDestination branch from to) = Redirects branch from to refl (λ program. refl)
 program_effect Finalize = Leaves refl (λ program. refl)
@@ -97,6 +98,7 @@ pub data LedgerEffect (request : Request) : Type 0 where
   Declares : (ty : «Type») → request ≡ DeclareVar ty → LedgerEffect request
   Touches : (variable : ℕ) (value : Name) → request ≡ DefVar variable value → LedgerEffect request
   Reads : (variable : ℕ) → request ≡ UseVar variable → LedgerEffect request
+  Marks : (need : StackMapNeed) → request ≡ NeedStackMap need → LedgerEffect request
   Appends : (entries : List GivenEntry) (instruction : Instruction Name Name) → request ≡ Build entries instruction → LedgerEffect request
 
 seals : KeepsFilled sealed
@@ -155,7 +157,8 @@ ledger_effect (MakeJumpTable default entries) =
 ledger_effect (MakeExceptionTable signature normal items) =
     Lays (λ ledger. ledger.layout) (λ ledger. ledger.tables) (λ ledger. ledger.jump_tables)
     (λ ledger. ledger.exception_tables ++ Some (exception_table ledger signature normal items) ∷ []) refl (λ ledger. refl)
-ledger_effect (Annotate values) = Keeps refl (λ ledger. refl)
+ledger_effect (Annotate inside values) = Keeps refl (λ ledger. refl)
+ledger_effect (NeedStackMap need) = Marks need refl
 ledger_effect (Build entries instruction) = Appends entries instruction refl
 ledger_effect (ChangeJumpDestination branch from to) = ChangesEach (redirected_state branch from to) (redirects branch from to) refl (λ ledger. refl)
 ledger_effect Finalize = Keeps refl (λ ledger. refl)

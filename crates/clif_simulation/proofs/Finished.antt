@@ -17,6 +17,8 @@ pub mod ZeroInsts
 pub mod Fronts
 pub mod Targets
 pub mod Matching
+pub mod Sources
+pub mod Calling
 pub mod Stepping
 pub mod Starting
 pub mod Assembly

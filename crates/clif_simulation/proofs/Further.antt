@@ -12,13 +12,15 @@ use Rattle.clif_paths.specs.Blocks.{Blocks}
 use Rattle.std.specs.List.{AllByRecursion}
 use Rattle.clif_ssa.specs.Own.{Own}
 use Rattle.clif_records.specs.Tables.{is_yes}
-use Rattle.clif_ssa.specs.Ssa.{SsaState, SamePredecessors, sealed_of}
+use Rattle.clif_ssa.specs.Ssa.{SsaState, RecordsStay, SamePredecessors, sealed_of}
 use Rattle.clif_ssa.specs.Constructs.{OnlyConstructs}
 use Rattle.clif_ssa.specs.Sound.{Keeps, SparesIfEntry, entry_of}
 use Rattle.clif_ssa.specs.SoundLaws.{DescribesSoundly, with_entry}
 use Rattle.clif_ssa.specs.Structured.{Structured, VariableTypes}
+use Rattle.clif_ssa.specs.Tracked.{TracksMade}
 use Rattle.clif_ssa.proofs.Pooled.{KeepsConstants}
 use Rattle.clif_ssa.proofs.Completing.{entry_same, inserted_same, same_program}
+use Rattle.clif_ssa.proofs.KeptParameters.{itself_parameters, entry_parameters}
 use Rattle.clif_ssa.proofs.Counting.{blocks_counted}
 use Rattle.clif_ssa.proofs.StructuredLaws.{blocks_structured, inserted_structured}
 use Rattle.clif_ssa.proofs.Writing.{blocks_described}
@@ -30,7 +32,8 @@ use Rattle.clif_meaning.specs.FunctionView.{Placed}
 use Rattle.clif_ir.specs.Body.{inst_at}
 use Rattle.clif_ssa.proofs.Constructing.{more_none}
 use Rattle.clif_simulation.specs.Carries.{Carries, Holds, IsCurrent, SoundOnPaths, own_placed}
-use Rattle.clif_simulation.proofs.Calls.{carries_kept, carries_on, inserted_soundly, name_stays, still, structured_so_far}
+use Rattle.clif_simulation.proofs.Calls.{carries_kept, carries_on, inserted_soundly, name_stays, still, still_tracks, structured_so_far}
+use Rattle.clif_simulation.specs.Tracks.{TracksOnPaths}
 use Rattle.clif_simulation.proofs.Carrying.{edges_there}
 use Rattle.clif_simulation.proofs.FreeEntry.{entry_inserted, spared_sealed, still_sealed}
 use Rattle.clif_simulation.proofs.Effects.{MakesNoBlock, MakesNoParameter}
@@ -40,6 +43,9 @@ use Rattle.clif_simulation.proofs.Layouts as layouts
 use Rattle.clif_simulation.proofs.Values.{is_value_at}
 use Rattle.clif_simulation.proofs.Requests
 use Rattle.clif_simulation.proofs.Requests.{entry_begun}
+use Rattle.clif_simulation.proofs.Tracking.Steps.{NamesNothing, same_function, tracks_quiet}
+use Rattle.clif_simulation.proofs.Tracking.Making.{tracks_constructed}
+use Rattle.clif_simulation.proofs.Tracking.Giving.{entry_same_function}
 
 -- LAYOUTS -----------------------------------------------------------------------------------------------------------------
 
@@ -102,7 +108,13 @@ module _ (f : Body) (nodes : List BlockNode) (layout : List ℕ) (lists : TableL
     sound = before.1;
     same = same_program tables;
     counts = blocks_counted own f nodes layout lists s tables same_params before.2;
+    parameters = itself_parameters tables s s before.0.recorded (λ v b. refl);
   }
+
+  pub relaid_tracks : (calls : List AnsweredCall) (call : AnsweredCall) → NamesNothing call.request → (own : Own) (tables : Blocks) (before : DescribesSoundly own f s tables)
+      → TracksOnPaths calls s tables → TracksOnPaths (calls ++ call ∷ []) s (relaid_keeps own tables before).tables
+  unfolding relaid_keeps
+  relaid_tracks calls call quiet own tables before was = tracks_quiet calls call s s tables was quiet refl (λ v b. refl) tables (same_function tables tables refl)
 
   pub relaid_structured : (types : VariableTypes) (own : Own) → Structured types own f s [] → Structured types own (record f { blocks = nodes; layout = layout; tables = lists }) s []
   relaid_structured types own before = blocks_structured f nodes layout lists constants_kept types own s [] same_params same_insts before
@@ -165,6 +177,7 @@ carries_pooled calls f s lists consistent keeps c =
             describes = after.describes;
             sound = after.sound;
             counts = after.counts;
+            tracked = before.tracked;
           };
     }
 
@@ -177,13 +190,16 @@ module _ (calls : List AnsweredCall) (f : Body) (s : SsaState) (c : Carries call
       → ((b : ℕ) → is_yes (sealed_of t b) ≡ (if seals b then true else is_yes (sealed_of s b)))
       → ((own : Own) (tables : Blocks) → ((b : ℕ) → seals b ≡ true → SparesIfEntry f s b) → DescribesSoundly own f s tables → Keeps own tables g t)
       → ((types : VariableTypes) (own : Own) → Structured types own f s [] → Structured types own g t [])
-      → OnlyConstructs f g → g.layout ≡ f.layout → SamePredecessors s t
+      → OnlyConstructs f g → g.layout ≡ f.layout → SamePredecessors s t → IsConsistent g → TracksMade (length f.values) s t → RecordsStay s t
       → Carries (calls ++ the_call SealAllBlocks ∷ []) g t
-  carries_sealed_all g t seals consistent sealed keeps structured constructs layout leads =
+  carries_sealed_all g t seals consistent sealed keeps structured constructs layout leads consistent_now made stay =
       carries_kept calls f s c (the_call SealAllBlocks) g t tt tt tt (Requests.items_left calls (the_call SealAllBlocks) (λ program. refl))
       (Requests.entry_left calls (the_call SealAllBlocks) (λ program. refl)) (λ index. refl)
       (insts_kept f g consistent (goes_on-constructs f g constructs)) layout leads structured (still_sealed s t seals sealed)
       (λ free own tables. keeps own tables (spared_sealed f g s t seals layout leads sealed free))
+      (λ free own tables before was.
+      let kept : Keeps own tables g t = keeps own tables (spared_sealed f g s t seals layout leads sealed free) before in
+      tracks_constructed f g constructs own s t tables before kept calls (the_call SealAllBlocks) consistent_now made stay tt was)
 
   -- a block comes behind another one
   pub carries_after : (block after : Name) (b a : ℕ) → Carries (calls ++ the_call (InsertBlockAfter block after) ∷ []) (with_layout_after f b a) s
@@ -196,6 +212,7 @@ module _ (calls : List AnsweredCall) (f : Body) (s : SsaState) (c : Carries call
       (relaid_structured f f.blocks (put_behind b a f.layout) f.tables (λ constant bytes here. here) s (λ x. refl) (λ x. refl) (first_stays b a f.layout))
       (λ e is. first_stays b a f.layout ∙ is) (λ x is. is)
       (λ free. relaid_keeps f f.blocks (put_behind b a f.layout) f.tables (λ constant bytes here. here) s (λ x. refl) (λ x. refl) (first_stays b a f.layout))
+      (λ free. relaid_tracks f f.blocks (put_behind b a f.layout) f.tables (λ constant bytes here. here) s (λ x. refl) (λ x. refl) (first_stays b a f.layout) calls call tt)
 
   -- a block is made cold
   pub carries_cold : (block : Name) (b : ℕ) → Carries (calls ++ the_call (SetColdBlock block) ∷ []) (with_cold f b) s
@@ -206,15 +223,17 @@ module _ (calls : List AnsweredCall) (f : Body) (s : SsaState) (c : Carries call
       (insts_same f (with_cold f b) refl refl refl) refl (λ x. refl)
       (relaid_structured f nodes f.layout f.tables (λ constant bytes here. here) s (cold_params f.blocks b) (cold_insts f.blocks b) refl)
       (λ x is. is) (λ free. relaid_keeps f nodes f.layout f.tables (λ constant bytes here. here) s (cold_params f.blocks b) (cold_insts f.blocks b) refl)
+      (λ free. relaid_tracks f nodes f.layout f.tables (λ constant bytes here. here) s (cold_params f.blocks b) (cold_insts f.blocks b) refl calls call tt)
 
   -- a call that adds nothing to the program, and answers no value
-  pub carries_still : (call : AnsweredCall) → MakesNoBlock call.request → MakesNoParameter call.request → MakesNoInstruction call.request
+  pub carries_still : (call : AnsweredCall) → MakesNoBlock call.request → MakesNoParameter call.request → MakesNoInstruction call.request → NamesNothing call.request
       → ((program : Program) → extended program call.request ≡ program)
       → ((index : ℕ) → is_value_at (answers_to (ledger_after (script_of calls)) call.request) index ≡ false)
       → Carries (calls ++ call ∷ []) f s
-  carries_still call no_block no_parameter no_instruction leaves no_value =
+  carries_still call no_block no_parameter no_instruction no_name leaves no_value =
       carries_kept calls f s c call f s no_block no_parameter no_instruction (Requests.items_left calls call leaves) (Requests.entry_left calls call leaves) no_value
       (insts_same f f refl refl refl) refl (λ b. refl) (λ types own h. h) (λ b is. is) (λ free. still calls f s c)
+      (λ free. still_tracks calls f s c call no_name)
 
   -- an entry is put into its table
   pub carries_tables : (entry : TableEntry) (number : ℕ) (lists : TableLists) → IsConsistent f → KeepsEntries f.tables lists
@@ -225,6 +244,7 @@ module _ (calls : List AnsweredCall) (f : Body) (s : SsaState) (c : Carries call
       (insts_kept f (with_tables f lists) consistent (tables_on f lists keeps)) refl (λ x. refl)
       (relaid_structured f f.blocks f.layout lists keeps.constants s (λ x. refl) (λ x. refl) refl)
       (λ x is. is) (λ free. relaid_keeps f f.blocks f.layout lists keeps.constants s (λ x. refl) (λ x. refl) refl)
+      (λ free. relaid_tracks f f.blocks f.layout lists keeps.constants s (λ x. refl) (λ x. refl) refl calls call tt)
     where
       no_value : (index : ℕ) → is_value_at (answers_to (ledger_after (script_of calls)) (MakeEntry entry)) index ≡ false
       no_value zero = refl
@@ -244,4 +264,13 @@ module _ (calls : List AnsweredCall) (f : Body) (s : SsaState) (c : Carries call
       (λ e is. entry_inserted f b e is) (λ x is. is)
       (λ free own tables before.
       let after = inserted_soundly own f s tables b before in
-      record { tables = with_entry f.layout s b tables; describes = after.0; sound = after.1; same = (entry_same f.layout s b tables).program; counts = after.2 })
+      record {
+        tables = with_entry f.layout s b tables;
+        describes = after.0;
+        sound = after.1;
+        same = (entry_same f.layout s b tables).program;
+        counts = after.2;
+        parameters = entry_parameters f.layout s b tables before.0.recorded;
+      })
+      (λ free own tables before was.
+      tracks_quiet calls call s s tables was tt refl (λ v x. refl) (with_entry f.layout s b tables) (entry_same_function f.layout s b tables))

@@ -1,6 +1,9 @@
 -- Which names and values move at an outside call.
 pub mod Labels
-mod FreshValues
+pub mod EachGiven
+pub mod FreshValues
+pub mod GivenBy
 pub mod Unmarked
 pub mod Labelled
+pub mod Outside
 pub mod Moved

@@ -5,14 +5,15 @@ use Rattle.std.specs.Prelude.{slice_get, fold, find, option_map, if◌then◌els
 use Rattle.std.specs.List.{list_any}
 use Rattle.clif_types.specs.declared.types.«Type».{«Type»}
 use Rattle.clif_meaning.specs.Name.{Name, answer_of, same_name}
+use Rattle.clif_meaning.specs.Tracked.{AsksForNoMaps}
 use Rattle.clif_meaning.specs.Instruction.{Operation, Edge, Instruction}
-use Rattle.clif_meaning.specs.Request.{Request, Build, GivenEntry, AnsweredCall, script_of}
-use Rattle.clif_meaning.specs.Ledger.{BlockState, Ledger, VariableState, changed_by, ledger_after, ledger_with, with_state, with_layout, with_begun_at, with_begun, with_filled_at, with_terminator, with_predecessor, touched_at, new_variable, is_inserted, is_filled, is_terminator, state_has, variable_type}
+use Rattle.clif_meaning.specs.Request.{Request, Build, GivenEntry, AnsweredCall, script_of, StackMapNeed, OfVariable, OfValue}
+use Rattle.clif_meaning.specs.Ledger.{BlockState, Ledger, VariableState, changed_by, ledger_after, ledger_with, with_state, with_layout, with_begun_at, with_begun, with_filled_at, with_terminator, with_predecessor, touched_at, new_variable, is_inserted, is_filled, is_terminator, state_has, variable_type, marked_at, with_need, is_marked, marked}
 use Rattle.clif_simulation.specs.Carries.{AreTypes}
 use Rattle.clif_simulation.specs.Carries as carries
 use Rattle.clif_ssa.specs.Structured.{VariableTypes}
 use Rattle.clif_simulation.proofs.Beginning.{current-begun, one_current}
-use Rattle.clif_simulation.proofs.Effects.{KeepsFilled, LedgerEffect, ledger_effect, Keeps, Lays, Changes, Begins, Creates, Enters, ChangesEach, Declares, Touches, Reads, Appends}
+use Rattle.clif_simulation.proofs.Effects.{KeepsFilled, LedgerEffect, ledger_effect, Keeps, Lays, Changes, Begins, Creates, Enters, ChangesEach, Declares, Touches, Reads, Appends, Marks}
 use Rattle.clif_simulation.proofs.NameLists.{same_name-equal, names-with_begun_at}
 use Rattle.clif_simulation.proofs.Numbers.{ledger_longer}
 use Rattle.clif_simulation.proofs.Values.{false_is}
@@ -126,6 +127,7 @@ module _ (name : Name) where
       by (ChangesEach change keeps stays is) = of_ledger _ (is ledger) (filled_changed change keeps ledger.blocks name filled)
       by (Declares ty is) = of_request _ is filled
       by (Touches variable value is) = of_request _ is filled
+      by (Marks need is) = of_request _ is filled
       by (Reads variable is) = of_request _ is (filled-with_begun_at ledger ledger.current filled)
       by (Appends entries instruction is) =
           of_request _ is
@@ -200,6 +202,17 @@ type_touched (state ∷ states) zero (suc x) = refl
 type_touched (state ∷ states) (suc touched) zero = refl
 type_touched (state ∷ states) (suc touched) (suc x) = type_touched states touched x
 
+type_marked : (states : List VariableState) (marked x : ℕ) → type_in (marked_at marked states) x ≡ type_in states x
+type_marked [] marked x = refl
+type_marked (state ∷ states) zero zero = refl
+type_marked (state ∷ states) zero (suc x) = refl
+type_marked (state ∷ states) (suc marked) zero = refl
+type_marked (state ∷ states) (suc marked) (suc x) = type_marked states marked x
+
+type_needed : (need : StackMapNeed) (states : List VariableState) (x : ℕ) → type_in (with_need need states) x ≡ type_in states x
+type_needed (OfVariable variable) states x = type_marked states variable x
+type_needed (OfValue value) states x = refl
+
 type_longer : (states more : List VariableState) (x : ℕ) (ty : «Type») → type_in states x ≡ Some ty → type_in (states ++ more) x ≡ Some ty
 type_longer [] more zero ty is = cc
 type_longer [] more (suc x) ty is = cc
@@ -248,10 +261,62 @@ type_with ledger request x ty typed = by (ledger_effect request)
     by (ChangesEach change keeps stays is) = of_ledger _ (is ledger) typed
     by (Declares declared is) = of_request _ is (type_longer ledger.variables (new_variable declared ∷ []) x ty typed)
     by (Touches variable value is) = of_request _ is (type_touched ledger.variables variable x ∙ typed)
+    by (Marks need is) = of_request _ is (type_needed need ledger.variables x ∙ typed)
     by (Reads variable is) = of_request _ is (type_touched (with_begun ledger).variables variable x ∙ begun)
     by (Appends entries instruction is) =
         of_request _ is
         (ap (λ (states : List VariableState). type_in states x)
+        (variables-edges (answer_of (length ledger.answers) 0) (with_terminator (with_begun ledger) instruction.operation) instruction.edges
+        ∙ variables-terminator (with_begun ledger) instruction.operation)
+        ∙ begun)
+
+-- MARKS -----------------------------------------------------------------------------------------------------------------
+
+abbrev mark_in : List VariableState → ℕ → Bool
+mark_in states x = marked (slice_get states x)
+
+mark_touched : (states : List VariableState) (touched x : ℕ) → mark_in (touched_at touched states) x ≡ mark_in states x
+mark_touched [] touched x = refl
+mark_touched (state ∷ states) zero zero = refl
+mark_touched (state ∷ states) zero (suc x) = refl
+mark_touched (state ∷ states) (suc touched) zero = refl
+mark_touched (state ∷ states) (suc touched) (suc x) = mark_touched states touched x
+
+mark_longer : (states : List VariableState) (ty : «Type») (x : ℕ) → mark_in (states ++ new_variable ty ∷ []) x ≡ mark_in states x
+mark_longer [] ty zero = refl
+mark_longer [] ty (suc zero) = refl
+mark_longer [] ty (suc (suc x)) = refl
+mark_longer (state ∷ states) ty zero = refl
+mark_longer (state ∷ states) ty (suc x) = mark_longer states ty x
+
+-- a call that asks for no stack maps marks no variable
+pub marks_stay : (ledger : Ledger) (request : Request) → AsksForNoMaps request → (x : ℕ) → is_marked (ledger_with ledger request) x ≡ is_marked ledger x
+marks_stay ledger request asks x = by (ledger_effect request)
+  where
+    of_ledger : (other : Ledger) → changed_by ledger request ≡ other → is_marked other x ≡ is_marked ledger x → is_marked (ledger_with ledger request) x ≡ is_marked ledger x
+    of_ledger other is holds = ap (λ (l : Ledger). is_marked l x) is ∙ holds
+
+    of_request : (other : Request) → request ≡ other → is_marked (ledger_with ledger other) x ≡ is_marked ledger x → is_marked (ledger_with ledger request) x ≡ is_marked ledger x
+    of_request other is holds = ap (λ (r : Request). is_marked (ledger_with ledger r) x) is ∙ holds
+
+    begun : is_marked (with_begun ledger) x ≡ is_marked ledger x
+    begun = ap (λ (states : List VariableState). mark_in states x) (variables-begun ledger ledger.current)
+
+    by : LedgerEffect request → is_marked (ledger_with ledger request) x ≡ is_marked ledger x
+    by (Keeps stays is) = of_ledger _ (is ledger) refl
+    by (Lays layout tables jump_tables exception_tables stays is) = of_ledger _ (is ledger) refl
+    by (Changes block change keeps stays is) = of_ledger _ (is ledger) refl
+    by (Begins stays is) = of_ledger _ (is ledger) begun
+    by (Creates is) = of_request _ is refl
+    by (Enters block is) = of_request _ is refl
+    by (ChangesEach change keeps stays is) = of_ledger _ (is ledger) refl
+    by (Declares ty is) = of_request _ is (mark_longer ledger.variables ty x)
+    by (Touches variable value is) = of_request _ is (mark_touched ledger.variables variable x)
+    by (Marks need is) = absurd (subst AsksForNoMaps is asks)
+    by (Reads variable is) = of_request _ is (mark_touched (with_begun ledger).variables variable x ∙ begun)
+    by (Appends entries instruction is) =
+        of_request _ is
+        (ap (λ (states : List VariableState). mark_in states x)
         (variables-edges (answer_of (length ledger.answers) 0) (with_terminator (with_begun ledger) instruction.operation) instruction.edges
         ∙ variables-terminator (with_begun ledger) instruction.operation)
         ∙ begun)

@@ -42,6 +42,8 @@ pub mod Finished
 pub mod Unfinished
 -- Which names and values move at an outside call.
 mod Labelling
+-- What is recorded for stack maps.
+pub mod Tracking
 -- What the construction makes of parameters and edges, and that functions are well placed.
 pub mod Shape
 -- A branch leads elsewhere.

@@ -3,9 +3,11 @@ mod LoopTables
 pub mod LoopProgram
 mod LoopDescribed
 mod LoopStructured
+mod LoopTracked
 pub mod LoopWrong
 pub mod LoopArgument
 pub mod LoopRow
+pub mod LoopMarked
 pub mod LoopConsistent
 pub mod LoopAlong
 pub mod LoopPremises

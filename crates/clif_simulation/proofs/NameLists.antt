@@ -9,7 +9,7 @@ use Rattle.clif_meaning.specs.Instruction.{Operation, Edge}
 use Rattle.clif_meaning.specs.Request.{Request, AnsweredCall, script_of}
 use Rattle.clif_meaning.specs.Ledger.{BlockState, Ledger, ledger_after, ledger_with, with_state, with_layout, with_begun_at, with_begun, with_filled_at, with_terminator, with_predecessor, is_inserted, is_terminator}
 use Rattle.clif_simulation.specs.Tables.{block_name}
-pub use Rattle.clif_simulation.proofs.Effects.{MakesNoBlock}
+pub use Rattle.clif_simulation.proofs.Effects.{MakesNoBlock, Marks}
 use Rattle.clif_simulation.proofs.Effects.{LedgerEffect, ledger_effect, Keeps, Lays, Changes, Begins, Creates, Enters, ChangesEach, Declares, Touches, Reads, Appends}
 use Rattle.clif_simulation.proofs.Numbers.{ledger_longer}
 
@@ -120,6 +120,7 @@ names_after ledger request made = by (ledger_effect request)
     by (ChangesEach change keeps stays is) = ap (λ (l : Ledger). names_of l.blocks) (is ledger) ∙ names-each change keeps.name ledger.blocks
     by (Declares ty is) = of_request _ is refl
     by (Touches variable value is) = of_request _ is refl
+    by (Marks need is) = of_request _ is refl
     by (Reads variable is) = of_request _ is (names-with_begun_at ledger ledger.current)
     by (Appends entries instruction is) =
         of_request _ is

@@ -9,7 +9,7 @@ use Rattle.clif_types.specs.declared.types.«Type».{«Type»}
 use Rattle.clif_meaning.specs.Ledger.{Answered, AnInstruction, AValue, Ledger, answers_to, ledger_after}
 use Rattle.clif_meaning.specs.Name.{Name, answer_of}
 use Rattle.clif_meaning.specs.Program.{Item, Instruct, Use, Assign, result_types}
-use Rattle.clif_meaning.specs.Request.{AnsweredCall, Request, CreateBlock, SwitchToBlock, SealBlock, SealAllBlocks, InsertBlockAfter, SetColdBlock, EnsureInsertedBlock, AppendBlockParams, AppendFunctionParams, DeclareVar, DefVar, UseVar, MakeEntry, MakeEdge, MakeJumpTable, MakeExceptionTable, Annotate, Build, ChangeJumpDestination, Finalize, script_of}
+use Rattle.clif_meaning.specs.Request.{AnsweredCall, Request, CreateBlock, SwitchToBlock, SealBlock, SealAllBlocks, InsertBlockAfter, SetColdBlock, EnsureInsertedBlock, AppendBlockParams, AppendFunctionParams, DeclareVar, DefVar, UseVar, MakeEntry, MakeEdge, MakeJumpTable, MakeExceptionTable, Annotate, NeedStackMap, Build, ChangeJumpDestination, Finalize, script_of}
 use Rattle.clif_simulation.specs.Carries.{InstructionsApart, IsBuilt, IsInstruction, instruction_of}
 use Rattle.clif_simulation.specs.Tables.{answered}
 use Rattle.clif_simulation.proofs.LedgerValues.{answers_are, as_many}
@@ -56,7 +56,8 @@ none_made ledger (MakeJumpTable default entries) none zero is = cc
 none_made ledger (MakeJumpTable default entries) none (suc index) is = none_some is
 none_made ledger (MakeExceptionTable signature normal items) none zero is = cc
 none_made ledger (MakeExceptionTable signature normal items) none (suc index) is = none_some is
-none_made ledger (Annotate values) none index is = none_some is
+none_made ledger (Annotate inside values) none index is = none_some is
+none_made ledger (NeedStackMap need) none index is = none_some is
 none_made ledger (Build entries instruction) none index is = absurd none
 none_made ledger (ChangeJumpDestination branch from to) none index is = none_some is
 none_made ledger Finalize none index is = none_some is
@@ -221,7 +222,8 @@ apart_next calls (MakeEntry entry) numbers n has apart = apart_on calls _ n n (n
 apart_next calls (MakeEdge edge) numbers n has apart = apart_on calls _ n n (none_made (ledger_after (script_of calls)) (MakeEdge edge) tt) (omega arith) apart
 apart_next calls (MakeJumpTable default entries) numbers n has apart = apart_on calls _ n n (none_made (ledger_after (script_of calls)) (MakeJumpTable default entries) tt) (omega arith) apart
 apart_next calls (MakeExceptionTable signature normal items) numbers n has apart = apart_on calls _ n n (none_made (ledger_after (script_of calls)) (MakeExceptionTable signature normal items) tt) (omega arith) apart
-apart_next calls (Annotate values) numbers n has apart = apart_on calls _ n n (none_made (ledger_after (script_of calls)) (Annotate values) tt) (omega arith) apart
+apart_next calls (Annotate inside values) numbers n has apart = apart_on calls _ n n (none_made (ledger_after (script_of calls)) (Annotate inside values) tt) (omega arith) apart
+apart_next calls (NeedStackMap need) numbers n has apart = apart_on calls _ n n (none_made (ledger_after (script_of calls)) (NeedStackMap need) tt) (omega arith) apart
 apart_next calls (Build entries instruction) numbers n has apart =
     let call : AnsweredCall = record { request = Build entries instruction; numbers = numbers } in
     apart_made calls call n (suc n) (λ index is. instruction_first (result_types instruction.operation instruction.controlling) index is) (sym (number_of_answer calls call 0 n has)) (omega arith) apart

@@ -10,7 +10,7 @@ use Rattle.clif_ir.specs.Body.{Body, block_at}
 use Rattle.clif_ir.specs.Consistent.{IsConsistent}
 use Rattle.clif_instructions.specs.Members.{stands_in}
 use Rattle.clif_paths.specs.Places.{start, inside}
-use Rattle.clif_paths.specs.State.{Naming, fresh}
+use Rattle.clif_paths.specs.State.{Definition, Naming, fresh}
 use Rattle.clif_paths.specs.Blocks.{Blocks, front}
 use Rattle.clif_ssa.specs.Own.{Own}
 use Rattle.clif_ssa.specs.Ssa.{SsaState}
@@ -42,6 +42,8 @@ use Rattle.clif_simulation.proofs.Ledgers.{types_before}
 use Rattle.clif_simulation.proofs.NameLists.{MakesNoBlock, names_stay, same_name-equal, same_name_cases}
 use Rattle.clif_simulation.proofs.Numbers.{answered_stays, place_so_far, program_longer}
 use Rattle.clif_simulation.proofs.Requests.{entry_stays}
+use Rattle.clif_simulation.proofs.Tracking.Steps.{NamesNothing, tracks_quiet}
+use Rattle.clif_simulation.proofs.Tracking.Giving.{params_same}
 use Rattle.clif_simulation.proofs.Values.{next_is_new}
 
 -- the call makes parameters of these types, of this block
@@ -469,6 +471,9 @@ module _ (calls : List AnsweredCall) (f : Body) (s : SsaState) (c : Carries call
           describes = described.0;
           sound = described.1;
           counts = described.2;
+          tracked = tracks_quiet calls call s s p.tables p.tracked (by_request NamesNothing tt tt) refl (λ x d. refl)
+              (tables_after p.tables f b (length calls) 0 types)
+              (params_same b (length calls) types p.tables f 0 (λ v past. ap (λ (d : Definition). d.kind) (p.describes.absent v past)));
         };
   }
 

@@ -6,6 +6,7 @@ pub mod HalfRowAlong
 pub mod EarlyJump
 pub mod SamplePremises
 pub mod ParameterRow
+pub mod RecordingRow
 pub mod CallRow
 pub mod SecondRow
 pub mod TrackedMoves

@@ -10,7 +10,7 @@ use Rattle.clif_paths.specs.Blocks.{Blocks}
 use Rattle.clif_ssa.specs.LookUp.{branch_block}
 use Rattle.clif_ssa.specs.Own.{Own}
 use Rattle.clif_records.specs.Tables.{is_yes}
-use Rattle.clif_ssa.specs.Ssa.{SsaState, predecessors_of, sealed_of, Declares, SameBlocks}
+use Rattle.clif_ssa.specs.Ssa.{SsaState, predecessors_of, sealed_of, Declares, SameBlocks, SameRecords}
 use Rattle.clif_ssa.specs.Sound.{PassesOwn, args_of, edges_at, has_entry}
 use Rattle.clif_ssa.specs.SoundLaws.{DescribesSoundly}
 use Rattle.clif_ssa.specs.Structured.{Structured, VariableTypes}
@@ -64,6 +64,11 @@ along_leads (block ∷ told) s t i along c here =
           subst (λ (d : ℕ). Contains (predecessors_of t d) i) same (along_stays told along.0 t i along.4 block i (it_leads s along.0 block i along.3))
       | inr later ↦ along_leads told along.0 t i along.4 c later
     ]
+
+-- records stay
+pub along_records : (told : List ℕ) (s t : SsaState) (i : ℕ) → DeclaredAlong s i told t → SameRecords s t
+along_records [] s t i along x b = along.0 x b
+along_records (block ∷ told) s t i along x b = along_records told along.0 t i along.4 x b ∙ along.1 x b
 
 -- what is in a list stands at a place of it
 pub contained_get : (xs : List ℕ) (x : ℕ) → Contains xs x → (k : ℕ) × (slice_get xs k ≡ Some x)

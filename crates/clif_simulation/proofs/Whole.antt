@@ -23,6 +23,7 @@ use Rattle.clif_meaning.specs.Instruction.{Edge}
 use Rattle.clif_meaning.specs.Premises.{EachItem, HasGoodTargets, IsGoodTarget}
 use Rattle.clif_meaning.specs.Program.{Item, Instruct, Use, Assign}
 use Rattle.clif_simulation.specs.Tables.{program_so_far, IsProgramOf}
+use Rattle.clif_simulation.specs.Tracks.{TracksOnPaths}
 use Rattle.clif_simulation.specs.Carries.{AreDeclared, AreTypes, Carries, EdgesEnd, HasEntry, HasItems, Holds, LeadsOwn, NamesEarlier, OwnExist, OwnInserted, OwnNamed, OwnParameters, SoundOnPaths, SparesBlock, SparesEntry, ValuesGiven, ValuesTyped}
 use Rattle.clif_simulation.proofs.FreeEntry.{free_spared}
 
@@ -58,6 +59,7 @@ pub record Whole (calls : List AnsweredCall) (f : Body) (s : SsaState) : Type 0 
   pub describes : Describes own f s [] tables
   pub sound : BlocksSound tables
   pub counts : CountsArguments own f s tables
+  pub tracked : TracksOnPaths calls s tables
   pub structured : (types : VariableTypes) → AreTypes calls types → Structured types own f s []
 
 -- types that the calls declare
@@ -121,8 +123,15 @@ whole calls f s consistent carries free =
       describes = paths.describes;
       sound = paths.sound;
       counts = paths.counts;
+      tracked = paths.tracked;
       structured = holds.structured;
     }
+
+-- what the caller made is what it was
+pub whole_own : (calls : List AnsweredCall) (f : Body) (s : SsaState) (consistent : IsConsistent f) (carries : Carries calls f s) (free : EntryIsFree f s)
+    → (whole calls f s consistent carries free).own ≡ carries.own
+unfolding whole
+whole_own calls f s consistent carries free = refl
 
 -- Where no target of a branch is the entry, none names the entry -------------------------------------------------------------------
 

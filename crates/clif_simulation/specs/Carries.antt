@@ -25,6 +25,7 @@ use Rattle.clif_meaning.specs.Program.{Item, Instruct, Use, Assign}
 use Rattle.clif_meaning.specs.FunctionView.{Placed}
 use Rattle.clif_meaning.specs.Typing.{call_shape}
 use Rattle.clif_meaning.specs.View.{argument_of, placed_of}
+use Rattle.clif_simulation.specs.Tracks.{TracksOnPaths}
 use Rattle.clif_simulation.specs.Tables.{code, answered, block_name, callers_parameters, program_so_far, IsProgramOf}
 
 -- what an edge passes, and an edge, with numbers in place of names
@@ -239,6 +240,7 @@ pub record SoundOnPaths (calls : List AnsweredCall) (own : Own) (f : Body) (s : 
   pub describes : Describes own f s [] tables
   pub sound : BlocksSound tables
   pub counts : CountsArguments own f s tables
+  pub tracked : TracksOnPaths calls s tables
 
 -- no edge of an item leads to this block
 abbrev pub SparesBlock : Name → Item → Type 0

@@ -15,6 +15,7 @@ use Rattle.clif_records.specs.declared.tables.Sealed.{Sealed}
 use Rattle.clif_records.specs.declared.tables.Sealed.TheVariants.{No, Yes}
 use Rattle.std.specs.FinMap as map
 use Rattle.clif_records.specs.declared.tables.Recorded.{Recorded}
+use Rattle.clif_records.specs.Tracking.{nothing_tracked}
 use Rattle.clif_ssa.specs.Ssa.{SsaState}
 use Rattle.clif_opcodes.specs.declared.opcodes.BinaryOpcode.TheVariants as binary
 use Rattle.clif_meaning.specs.Instruction.{Compute}
@@ -128,6 +129,7 @@ loop_state_with sealed = record {
   blocks =
       record { predecessors = []; sealed = Yes } ∷ record { predecessors = 1 ∷ 5 ∷ []; sealed = sealed }
       ∷ record { predecessors = 2 ∷ []; sealed = Yes } ∷ record { predecessors = 2 ∷ []; sealed = Yes } ∷ [];
+  tracking = nothing_tracked;
 }
 
 abbrev pub loop_state : SsaState

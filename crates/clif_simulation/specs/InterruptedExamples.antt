@@ -11,6 +11,7 @@ use Rattle.clif_ir.specs.Body.{Body}
 use Rattle.clif_records.specs.declared.tables.Pending.{Pending}
 use Rattle.clif_records.specs.declared.tables.Sealed.TheVariants.{No, Yes}
 use Rattle.std.specs.FinMap as map
+use Rattle.clif_records.specs.Tracking.{nothing_tracked}
 use Rattle.clif_ssa.specs.Ssa.{SsaState}
 use Rattle.clif_meaning.specs.Instruction.{Known, Edge}
 use Rattle.clif_meaning.specs.Name.{Name, answer_of}
@@ -67,6 +68,7 @@ abbrev pub waiting_loop_state : List Pending → SsaState
 waiting_loop_state waiting = record {
   records = map.from_entries (recorded_in 1 0 0 ∷ []);
   blocks = record { predecessors = []; sealed = Yes } ∷ record { predecessors = 0 ∷ 1 ∷ []; sealed = No waiting } ∷ [];
+  tracking = nothing_tracked;
 }
 
 -- an edge to the loop's block that passes this name
@@ -117,6 +119,7 @@ passing_loop_state = record {
   blocks =
       record { predecessors = []; sealed = Yes }
       ∷ record { predecessors = 0 ∷ 1 ∷ []; sealed = No (record { variable = 0; param = 2 } ∷ []) } ∷ [];
+  tracking = nothing_tracked;
 }
 
 -- a jump that passes an argument to a block before the block's parameter is made
@@ -148,6 +151,7 @@ abbrev pub early_jump_state : SsaState
 early_jump_state = record {
   records = map.empty;
   blocks = record { predecessors = []; sealed = Yes } ∷ record { predecessors = 0 ∷ []; sealed = No [] } ∷ [];
+  tracking = nothing_tracked;
 }
 
 pub record InterruptedExamples : Type 0 where

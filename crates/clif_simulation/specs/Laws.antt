@@ -11,6 +11,7 @@ use Rattle.clif_meaning.specs.Name.{Name}
 use Rattle.clif_meaning.specs.Request.{AnsweredCall, script_of}
 use Rattle.clif_meaning.specs.Ledger.{ledger_after, is_filled}
 use Rattle.clif_meaning.specs.View.{view_of}
+use Rattle.clif_meaning.specs.Tracked.{TracksNothing}
 use Rattle.clif_meaning.specs.Headline.{MeansTheSame}
 use Rattle.clif_simulation.specs.Tables.{code, block_name}
 use Rattle.clif_simulation.specs.Carries.{Carries, NothingLeads}
@@ -29,12 +30,12 @@ pub record IsFinished (calls : List AnsweredCall) (f : Body) (s : SsaState) : Ty
   pub filled_sealed : (block : ℕ) (name : Name) → block_name calls block ≡ Some name → IsTrue (is_filled (ledger_after (script_of calls)) name)
       → is_yes (sealed_of s block) ≡ true
 
--- A finished function that carries a list of calls means what the list's program means, with branches, joins and loops.
--- Each function keeps consistency.
+-- A finished function that carries a list of calls that ask for no stack maps means what the list's program means, with branches,
+-- joins and loops. Each function keeps consistency.
 abbrev pub CarryingMeansTheSame : Type 0
 CarryingMeansTheSame =
     (calls : List AnsweredCall) (f : Body) (s : SsaState) (width : PointerWidth)
-    → IsConsistent f → Carries calls f s → IsFinished calls f s
+    → IsConsistent f → Carries calls f s → IsFinished calls f s → TracksNothing (script_of calls)
     → MeansTheSame (script_of calls) f.signature width (view_of f)
 
 -- A function that carries a list of calls reads right on runs and bits, whether it is finished or not: with any branches and

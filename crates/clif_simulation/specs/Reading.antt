@@ -12,7 +12,7 @@ use Rattle.clif_ssa.specs.Ssa.{SsaState, record_of, sealed_of}
 use Rattle.clif_records.specs.Tables.{is_yes, pending_of}
 use Rattle.clif_meaning.specs.Name.{Name}
 use Rattle.clif_meaning.specs.Request.{AnsweredCall, script_of}
-use Rattle.clif_meaning.specs.Ledger.{Ledger, ledger_after, is_pristine, is_sealed, is_terminator, or_invalid, type_of}
+use Rattle.clif_meaning.specs.Ledger.{Ledger, ledger_after, is_pristine, is_sealed, is_terminator, or_invalid, type_of, is_marked}
 use Rattle.clif_meaning.specs.Instruction.{Edge, Instruction}
 use Rattle.clif_meaning.specs.Event.{CallShape, payload_types}
 use Rattle.clif_tables.specs.Callees.{types_of}
@@ -81,8 +81,13 @@ abbrev pub LeavesValues : Collector → Type 0
 LeavesValues ByMaps = Unit {0}
 LeavesValues (OverSet members) = (value : ℕ) → members value ≡ false
 
--- nothing is tracked, and nothing moves
-pub record MovesNothing (tracked : Name → Bool) (collector : Collector) : Type 0 where
+-- no variable is marked
+abbrev pub NoneMarked : List AnsweredCall → Type 0
+NoneMarked calls = (variable : ℕ) → is_marked (ledger_after (script_of calls)) variable ≡ false
+
+-- nothing is marked or tracked, and nothing moves
+pub record MovesNothing (calls : List AnsweredCall) (tracked : Name → Bool) (collector : Collector) : Type 0 where
+  pub unmarked : NoneMarked calls
   pub untracked : (x : Name) → tracked x ≡ false
   pub leaves : LeavesValues collector
 
@@ -115,9 +120,10 @@ abbrev pub IsOver : (ℕ → Type 0) → Collector → Type 0
 IsOver P ByMaps = ⊥
 IsOver P (OverSet members) = (value : ℕ) → (IsTrue (members value) → P value) × (P value → IsTrue (members value))
 
--- The tracked names are moved, and the values that answered them: no tracked name is assigned to a variable or answered by a
--- use, since no call marks a variable so far, and so no copy of a tracked name's bits has to move.
+-- The tracked names are moved, and the values that answered them: no variable is marked, so no tracked name is assigned to one or
+-- answered by a use, and no copy of a tracked name's bits has to move.
 pub record MovesTracked (calls : List AnsweredCall) (tracked : Name → Bool) (collector : Collector) : Type 0 where
+  pub unmarked : NoneMarked calls
   pub apart : EachItem (KeepsTrackedApart (ledger_after (script_of calls)) tracked) (program_so_far calls)
   pub over : IsOver (AnswersTracked calls tracked) collector
 
@@ -125,7 +131,7 @@ pub record MovesTracked (calls : List AnsweredCall) (tracked : Name → Bool) (c
 -- or nothing moves; or tracked names move, which are apart from variables, and exactly the values that answered them.
 abbrev pub MovesAlike : List AnsweredCall → (Name → Bool) → Collector → Type 0
 MovesAlike calls tracked collector =
-    EachItem CallsNothing (program_so_far calls) ⊎ (MovesNothing tracked collector ⊎ MovesTracked calls tracked collector)
+    EachItem CallsNothing (program_so_far calls) ⊎ (MovesNothing calls tracked collector ⊎ MovesTracked calls tracked collector)
 
 -- what a run of the calls so far goes by, where these names are tracked
 abbrev pub script_run_so_far : List AnsweredCall → Body → World → (Name → Bool) → ScriptRun

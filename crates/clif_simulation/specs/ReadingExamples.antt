@@ -9,6 +9,7 @@ use Rattle.clif_ir.specs.Body.{Body}
 use Rattle.clif_records.specs.declared.tables.Pending.{Pending}
 use Rattle.clif_records.specs.declared.tables.Sealed.TheVariants.{No}
 use Rattle.std.specs.FinMap as map
+use Rattle.clif_records.specs.Tracking.{nothing_tracked}
 use Rattle.clif_ssa.specs.Ssa.{SsaState}
 use Rattle.clif_meaning.specs.World.{World}
 use Rattle.clif_meaning.specs.Machine.{At}
@@ -43,6 +44,7 @@ abbrev pub half_state_with : ℕ → List Pending → SsaState
 half_state_with value waiting = record {
   records = map.from_entries (recorded_in 0 value 0 ∷ []);
   blocks = record { predecessors = []; sealed = No waiting } ∷ [];
+  tracking = nothing_tracked;
 }
 
 abbrev pub waiting_parameter : Pending

@@ -1,11 +1,23 @@
 //! What a function that carries a list of calls means.
 
 ghost use Rattle.clif_simulation.specs.Laws.{CarryingMeansTheSame, CarryingReadsRight, CarryingReadsRightComing, CarryingReadsRightFromAnywhere};
+ghost use Rattle.clif_simulation.specs.Marked.{CarryingMeansTheSameMoving, CarryingMeansTheSameTracked};
 
 /// A finished function that carries a list of calls, with any branches, joins and loops, means what the list's variable
 /// program means.
 pub fn carrying_means_the_same()
     ensures { CarryingMeansTheSame }
+{}
+
+/// It does under any marks of variables and any tracked names, where its collector is over values that agree with them, and whatever
+/// addresses are hidden.
+pub fn carrying_means_the_same_moving()
+    ensures { CarryingMeansTheSameMoving }
+{}
+
+/// It does under the marks of the calls, where its collector is over what the construction recorded for stack maps.
+pub fn carrying_means_the_same_tracked()
+    ensures { CarryingMeansTheSameTracked }
 {}
 
 /// An unfinished function that carries a list of calls, with any branches and parameters of the caller's, has the bits of the

@@ -76,7 +76,7 @@ moved_counted : (kind : Kind) (place place' callers count given first : ℕ) →
     → (place < first → place' ≡ place) → (first < place → place' + 1 ≡ place) → IsCounted kind place' callers count given
 moved_counted unborn place place' callers count given first is few apart same moved = tt
 moved_counted (born n) place place' callers count given first is few apart same moved = tt
-moved_counted complete place place' callers count given first is few apart same moved = let at : place' ≡ place = same (omega (arith, is, few)) in omega (arith, is, at)
+moved_counted (complete x) place place' callers count given first is few apart same moved = let at : place' ≡ place = same (omega (arith, is, few)) in omega (arith, is, at)
 moved_counted (zero_of x) place place' callers count given first is few apart same moved = tt
 moved_counted (pending x) place place' callers count given first is few apart same moved =
     elim (below_or_not place first) [
@@ -102,7 +102,7 @@ moved_behind : (kind : Kind) (place place' callers first : ℕ) → IsBehind kin
     → (first < place → place' + 1 ≡ place) → IsBehind kind place' callers
 moved_behind unborn place place' callers first is few apart same moved = is
 moved_behind (born n) place place' callers first is few apart same moved = let at : place' ≡ place = same (omega (arith, is, few)) in omega (arith, is, at)
-moved_behind complete place place' callers first is few apart same moved = still_behind place place' callers first is few apart same moved
+moved_behind (complete x) place place' callers first is few apart same moved = still_behind place place' callers first is few apart same moved
 moved_behind (zero_of x) place place' callers first is few apart same moved = is
 moved_behind (pending x) place place' callers first is few apart same moved = still_behind place place' callers first is few apart same moved
 

@@ -14,7 +14,7 @@ use Rattle.clif_ssa.specs.Ssa.{SsaState, record_of, sealed_of, SameRecords, Same
 use Rattle.clif_records.specs.Stacks.{LookUpState}
 use Rattle.clif_ssa.specs.LookUp.{Stage}
 use Rattle.clif_ssa.specs.Running.{CompletesAll}
-use Rattle.clif_ssa.specs.Sound.{Describes, CountsArguments, SameProgram, Keeps, SparesIfEntry}
+use Rattle.clif_ssa.specs.Sound.{Describes, CountsArguments, SameProgram, KeepsParameters, Keeps, SparesIfEntry}
 use Rattle.clif_ssa.specs.SoundLaws.{DescribesSoundly, with_seal, arms_into}
 use Rattle.clif_ssa.proofs.Bodies.{Firm, firm_from}
 use Rattle.clif_ssa.proofs.Housing.{Housed, housed_from}
@@ -22,6 +22,7 @@ use Rattle.clif_ssa.proofs.Ordering.{contains_first, contains_more, none_contain
 use Rattle.clif_ssa.proofs.Completing.{same_program, same_program_then}
 use Rattle.clif_ssa.proofs.Sealing.{seal_described}
 use Rattle.clif_ssa.proofs.Counts.{counts_kept}
+use Rattle.clif_ssa.proofs.KeptParameters.{itself_parameters, parameters_then, seal_parameters}
 use Rattle.clif_ssa.proofs.Framing.{BranchesStand, HomesRecorded, since_self, since_then}
 use Rattle.clif_ssa.proofs.Looking.{recorded_stays}
 use Rattle.clif_ssa.proofs.Machine.{Completes, completes_keeps, branches_stand}
@@ -45,6 +46,7 @@ completes_all own block [] tables m n calls results firm housed stand before cou
   sound = sound;
   same = same_program tables;
   counts = counts;
+  parameters = itself_parameters tables m.state m.state before.recorded (λ v b. refl);
   firm = firm;
   housed = housed;
   stand = stand;
@@ -73,6 +75,7 @@ completes_all own block (p ∷ ps) tables m n calls results firm housed stand be
       sound = others.sound;
       same = same_program_then tables first.tables others.tables first.same others.same;
       counts = others.counts;
+      parameters = parameters_then tables first.tables others.tables k.state n.state first.describes.recorded others.since.stay first.parameters others.parameters;
       firm = others.firm;
       housed = others.housed;
       stand = others.stand;
@@ -107,4 +110,14 @@ sealing_keeps own f s t tables b look_up n known both records seals same spares 
     completes_all own b (pending_of (sealed_of s b)) sealed m n calls results (firm_from f known) (housed_from f known)
     (branches_stand own f t (pending_of (sealed_of s b)) sealed known now.0) now.0
     (seal_counted own f s t f.layout (is_yes (sealed_of s b)) b (arms_into f s tables b) tables both.2 same) now.1 wait all in
-    record { tables = done.tables; describes = done.describes; sound = done.sound; same = same_program_then tables sealed done.tables now.2 done.same; counts = done.counts }
+    let parameters : KeepsParameters tables done.tables n.state =
+    parameters_then tables sealed done.tables t n.state now.0.recorded done.since.stay
+    (seal_parameters f.layout (is_yes (sealed_of s b)) b (arms_into f s tables b) tables s t before.recorded records) done.parameters in
+    record {
+      tables = done.tables;
+      describes = done.describes;
+      sound = done.sound;
+      same = same_program_then tables sealed done.tables now.2 done.same;
+      counts = done.counts;
+      parameters = parameters;
+    }

@@ -27,7 +27,7 @@ use Rattle.clif_ssa.proofs.Ordering.{in_order_moved, in_order_small}
 use Rattle.clif_ssa.proofs.Parameters.{new_unaliased, param_count, param_home_new, param_insts, param_new_place, param_node, param_params, param_place, param_resolved}
 use Rattle.clif_ssa.proofs.Writing.{name_cases, names_kept}
 
-born_or_complete : {x : ℕ} → ◌≡◌ {A = Kind} (born x) complete → ⊥
+born_or_complete : {x y : ℕ} → ◌≡◌ {A = Kind} (born x) (complete y) → ⊥
 born_or_complete same = cc
 
 born_or_pending : {x y : ℕ} → ◌≡◌ {A = Kind} (born x) (pending y) → ⊥
@@ -38,7 +38,7 @@ still_behind : (kind : Kind) (place callers : ℕ) → IsBehind kind place calle
 still_behind unborn place callers behind among = behind
 still_behind (born n) place callers behind among = omega (arith, behind)
 still_behind (pending x) place callers behind among = absurd (omega (arith, behind, among))
-still_behind complete place callers behind among = absurd (omega (arith, behind, among))
+still_behind (complete x) place callers behind among = absurd (omega (arith, behind, among))
 still_behind (zero_of x) place callers behind among = behind
 
 -- and no edge passes anything of the construction's to it
@@ -46,7 +46,7 @@ not_counted : (kind : Kind) (place callers more count given : ℕ) → IsBehind 
 not_counted unborn place callers more count given behind among = tt
 not_counted (born n) place callers more count given behind among = tt
 not_counted (pending x) place callers more count given behind among = absurd (omega (arith, behind, among))
-not_counted complete place callers more count given behind among = absurd (omega (arith, behind, among))
+not_counted (complete x) place callers more count given behind among = absurd (omega (arith, behind, among))
 not_counted (zero_of x) place callers more count given behind among = tt
 
 one_longer : (xs : List ℕ) (x : ℕ) → length (xs ++ x ∷ []) ≡ length xs + 1
@@ -97,14 +97,14 @@ module _ (own : Own) (f : Body) (s : SsaState) (blocks : Blocks) (b n : ℕ) (ty
   among : (v : ℕ) → param_home f v ≡ Some b → place_of v (block_at f b).params < length (own.params b)
   among v home = subst (λ (ps : List ℕ). place_of v (block_at f b).params < length ps) bare (firm.stands v b home)
 
-  none_complete : (v : ℕ) → blocks.function.definition v ≡ record { home = front b; kind = complete } → ⊥
+  none_complete : {made_for : ℕ} (v : ℕ) → blocks.function.definition v ≡ record { home = front b; kind = complete made_for } → ⊥
   none_complete v is =
       let home : param_home f v ≡ Some b = before.complete_there b v is in
       let behind : length (own.params b) ≤ place_of v (block_at f b).params =
       subst (λ (d : Definition). IsBehind d.kind (place_of v (block_at f b).params) (length (own.params b))) is (counts.behind b v home) in
       absurd (omega (arith, behind, among v home))
 
-  complete_old : (v c : ℕ) → after.function.definition v ≡ record { home = front c; kind = complete } → (v ≢ z) × (blocks.function.definition v ≡ record { home = front c; kind = complete })
+  complete_old : {made_for : ℕ} (v c : ℕ) → after.function.definition v ≡ record { home = front c; kind = complete made_for } → (v ≢ z) × (blocks.function.definition v ≡ record { home = front c; kind = complete made_for })
   complete_old v c is =
       let other : v ≢ z = λ one.
       born_or_complete (ap (λ (d : Definition). d.kind) (sym is_new) ∙ ap (λ w. (after.function.definition w).kind) (sym one) ∙ ap (λ (d : Definition). d.kind) is) in
@@ -298,9 +298,9 @@ module _ (own : Own) (f : Body) (s : SsaState) (blocks : Blocks) (b n : ℕ) (ty
             param_place f b ty firm there q.param c (before.waiting c q q_here).parameter,
           )) (before.waiting_order c);
       completing_order = λ c. in_order_small (block_at g c).params [] (omega arith);
-      passes = λ c v arm edge is at j belongs.
+      passes = λ {made_for} c v arm edge is at j belongs.
           let old = complete_old v c is in
-          let apart : c ≢ b = λ same. none_complete v (old.1 ∙ ap (λ d. record { home = front d; kind = complete }) same) in
+          let apart : c ≢ b = λ same. none_complete v (old.1 ∙ ap (λ d. record { home = front d; kind = complete made_for }) same) in
           before.passes c v arm (edge_before f g s s blocks after c arm edges edge) old.1 at j
           (subst (λ (ps : List ℕ). j + length ps ≡ place_of v (block_at f c).params + length (own.passed edge.branch arm.edge)) (params_elsewhere c apart)
           (subst (λ k. BelongsTo own' c edge.branch arm.edge k j) (param_place f b ty firm there v c (before.complete_there c v old.1)) belongs));

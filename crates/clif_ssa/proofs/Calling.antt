@@ -16,6 +16,7 @@ use Rattle.clif_ssa.specs.Ssa.{SsaState, record_of, sealed_of, predecessors_of, 
 use Rattle.clif_records.specs.Stacks.{LookUpState, calls_for}
 use Rattle.clif_ssa.specs.LookUp.{Stage, Copies, LooksUp, FinishesLookUp, MakesCall, branch_block, with_calls}
 use Rattle.clif_ssa.specs.Running.{stage, with_call, CallExists, Balances, CallsFit, work_at, work_below, work_of, Got}
+use Rattle.clif_records.specs.Tracking.{with_binding}
 use Rattle.clif_ssa.proofs.Making.{got_added}
 use Rattle.clif_ssa.proofs.ZeroSteps.{param_type}
 use Rattle.clif_records.proofs.Copying.{get_or-inside}
@@ -29,16 +30,18 @@ pub added : (x : ℕ) (ty : «Type») (block : ℕ) (f g : Body) (s t : SsaState
     → IfOk answer (λ v. v ≡ length f.values)
     → OnOk answer (g ≡ with_param f block ty)
     → OnOk answer (Records s t x block (length f.values))
+    → OnOk answer (t.tracking ≡ with_binding s.tracking x (length f.values))
     → SamePredecessors s t
     → (is_yes (sealed_of s block) ≡ false → OnOk answer (((b : ℕ) → sealed_of t b ≡ (if b == block then No (pending_of (sealed_of s b) ++ record { variable = x; param = length f.values } ∷ []) else sealed_of s b)) × SameLookups s t × (l' ≡ record l { results = length f.values ∷ l.results })))
     → (is_yes (sealed_of s block) ≡ true → OnOk answer (SameBlocks s t × CountsLookup s t x block × (l' ≡ record l { calls = calls_for (predecessors_of s block) (length f.values) block ++ l.calls })))
     → IfOk answer (λ r. Got x ty block r (stage f s l) (stage g t l'))
-added x ty block f g s t l l' (Err e) none number function recorded same waits begins = tt
-added x ty block f g s t l l' (Ok v) none number function recorded same waits begins =
+added x ty block f g s t l l' (Err e) none number function recorded tracking same waits begins = tt
+added x ty block f g s t l l' (Ok v) none number function recorded tracking same waits begins =
     got_added x ty block v (stage f s l) (stage g t l') none number
     (record {
       function = function;
       recorded = recorded;
+      tracking = tracking;
       predecessors = same;
       waits = waits;
       begins = λ sealed. ((begins sealed).0, record { counted = (begins sealed).1; look_up = (begins sealed).2 });

@@ -233,11 +233,11 @@ open_counts own f s blocks b before counts unsealed v count given passes is = by
     false_true : ◌≡◌ {A = Bool} false true → ⊥
     false_true same = cc
 
-    never_complete : (blocks.function.definition v).kind ≡ complete → ⊥
-    never_complete kind =
+    never_complete : (x : ℕ) → (blocks.function.definition v).kind ≡ complete x → ⊥
+    never_complete x kind =
         let home : (c : ℕ) × ((blocks.function.definition v).home ≡ front c) × (blocks.sealed c ≡ true) = subst (λ (k : Kind). HomeFits blocks v k) kind (before.homes v) in
-        let defined : blocks.function.definition v ≡ record { home = front home.0; kind = complete } =
-        complete_kind (blocks.function.definition v) kind ∙ ap (λ (place : Place). record { home = place; kind = complete }) home.1 in
+        let defined : blocks.function.definition v ≡ record { home = front home.0; kind = complete x } =
+        complete_kind (blocks.function.definition v) kind ∙ ap (λ (place : Place). record { home = place; kind = complete x }) home.1 in
         let there : param_home f v ≡ Some home.0 = before.complete_there home.0 v defined in
         let same : home.0 ≡ b = cc in
         let sealed : (is_yes (sealed_of s home.0) && has_entry f.layout) ≡ true = sym (before.sealed home.0) ∙ home.2 in
@@ -253,7 +253,7 @@ open_counts own f s blocks b before counts unsealed v count given passes is = by
     by (pending x) kind behind =
         let first : length (own.params b) ≤ place_of v (block_at f b).params = rw kind at behind in
         rw kind (omega (arith, passes, first))
-    by complete kind behind = absurd (never_complete kind)
+    by (complete x) kind behind = absurd (never_complete x kind)
 
 own_counted : (own : Own) (f : Body) (s : SsaState) (blocks : Blocks) (b i : ℕ) → Describes own f s [] blocks → CountsArguments own f s blocks
     → is_yes (sealed_of s b) ≡ false → PassesOwn own f b i → EdgesCount own f blocks b i

@@ -92,7 +92,7 @@ home_kept blocks blocks' v (born n) same sealed names fits =
       λ none. fits.2 (sym at ∙ none),
     )
 home_kept blocks blocks' v (pending x) same sealed names fits = (fits.0, ap (λ (d : Definition). d.home) same ∙ fits.1)
-home_kept blocks blocks' v complete same sealed names fits = (fits.0, ap (λ (d : Definition). d.home) same ∙ fits.1, sealed fits.0 fits.2)
+home_kept blocks blocks' v (complete x) same sealed names fits = (fits.0, ap (λ (d : Definition). d.home) same ∙ fits.1, sealed fits.0 fits.2)
 home_kept blocks blocks' v (zero_of x) same sealed names fits = (fits.0, ap (λ (d : Definition). d.home) same ∙ fits.1)
 
 -- the homes of values whose definition stays
@@ -102,10 +102,10 @@ homes_kept blocks blocks' v same sealed names fits =
     subst (λ (d : Definition). HomeFits blocks' v d.kind) (sym same) (home_kept blocks blocks' v (blocks.function.definition v).kind same sealed names fits)
 
 -- the block of a complete parameter is sealed
-pub complete_sealed : (own : Own) (f : Body) (s : SsaState) (completing : List Pending) (blocks : Blocks) (b v : ℕ) → Describes own f s completing blocks
-    → blocks.function.definition v ≡ record { home = front b; kind = complete } → blocks.sealed b ≡ true
-complete_sealed own f s completing blocks b v before is =
-    let fits : HomeFits blocks v complete = subst (λ (k : Kind). HomeFits blocks v k) (ap (λ (d : Definition). d.kind) is) (before.homes v) in
+pub complete_sealed : (own : Own) (f : Body) (s : SsaState) (completing : List Pending) (blocks : Blocks) (b v : ℕ) {made_for : ℕ} → Describes own f s completing blocks
+    → blocks.function.definition v ≡ record { home = front b; kind = complete made_for } → blocks.sealed b ≡ true
+complete_sealed own f s completing blocks b v {made_for} before is =
+    let fits : HomeFits blocks v (complete made_for) = subst (λ (k : Kind). HomeFits blocks v k) (ap (λ (d : Definition). d.kind) is) (before.homes v) in
     subst (λ c. blocks.sealed c ≡ true) (front_of (sym fits.1 ∙ ap (λ (d : Definition). d.home) is)) fits.2
   where
     front_of : {x y : ℕ} → front x ≡ front y → x ≡ y
@@ -230,8 +230,8 @@ arms_kept f g s t blocks blocks' same arms = record {
 
 -- what is a complete parameter, or one that waits, was so before
 pub record KeepsKinds (blocks blocks' : Blocks) : Type 0 where
-  pub complete_before : (v b : ℕ) → blocks'.function.definition v ≡ record { home = front b; kind = complete }
-      → blocks.function.definition v ≡ record { home = front b; kind = complete }
+  pub complete_before : {made_for : ℕ} (v b : ℕ) → blocks'.function.definition v ≡ record { home = front b; kind = complete made_for }
+      → blocks.function.definition v ≡ record { home = front b; kind = complete made_for }
   pub pending_before : (v b x : ℕ) → blocks'.function.definition v ≡ record { home = front b; kind = pending x }
       → blocks.function.definition v ≡ record { home = front b; kind = pending x }
 
@@ -240,11 +240,11 @@ same_kinds blocks blocks' same = record { complete_before = λ v b is. sym (same
 
 -- the same where one definition is new
 pub new_kinds : (blocks blocks' : Blocks) (z : ℕ) (new : Definition) → blocks'.function.definition z ≡ new
-    → ((v : ℕ) → v ≢ z → blocks'.function.definition v ≡ blocks.function.definition v) → new.kind ≢ complete → ((x : ℕ) → new.kind ≢ pending x) → KeepsKinds blocks blocks'
+    → ((v : ℕ) → v ≢ z → blocks'.function.definition v ≡ blocks.function.definition v) → ((x : ℕ) → new.kind ≢ complete x) → ((x : ℕ) → new.kind ≢ pending x) → KeepsKinds blocks blocks'
 new_kinds blocks blocks' z new is_new is_old no_complete no_pending = record {
-  complete_before = λ v b is.
+  complete_before = λ {made_for} v b is.
       elim (cases_eq v z) [
-        | inl same ↦ absurd (no_complete (sym (kind_of v same) ∙ ap (λ (d : Definition). d.kind) is))
+        | inl same ↦ absurd (no_complete made_for (sym (kind_of v same) ∙ ap (λ (d : Definition). d.kind) is))
         | inr other ↦ sym (is_old v other) ∙ is
       ];
   pending_before = λ v b x is.
@@ -259,14 +259,14 @@ new_kinds blocks blocks' z new is_new is_old no_complete no_pending = record {
 
 -- the order of parameters, and what edges pass
 pub record Ordered (own : Own) (f : Body) (s : SsaState) (completing : List Pending) (blocks : Blocks) : Type 0 where
-  pub complete_there : (b v : ℕ) → blocks.function.definition v ≡ record { home = front b; kind = complete } → param_home f v ≡ Some b
-  pub complete_first : (b v u x : ℕ) → blocks.function.definition v ≡ record { home = front b; kind = complete }
+  pub complete_there : {made_for : ℕ} (b v : ℕ) → blocks.function.definition v ≡ record { home = front b; kind = complete made_for } → param_home f v ≡ Some b
+  pub complete_first : {made_for : ℕ} (b v u x : ℕ) → blocks.function.definition v ≡ record { home = front b; kind = complete made_for }
       → blocks.function.definition u ≡ record { home = front b; kind = pending x } → param_home f u ≡ Some b
       → place_of v (block_at f b).params < place_of u (block_at f b).params
   pub waiting_order : (b : ℕ) → InOrder (block_at f b).params (pending_of (sealed_of s b))
   pub completing_order : (b : ℕ) → InOrder (block_at f b).params (parameters_of f b completing)
-  pub passes : (b v : ℕ) (arm : Arm) (edge : IsEdgeInto f s blocks b arm)
-      → blocks.function.definition v ≡ record { home = front b; kind = complete } → arm.target ≡ front b
+  pub passes : {made_for : ℕ} (b v : ℕ) (arm : Arm) (edge : IsEdgeInto f s blocks b arm)
+      → blocks.function.definition v ≡ record { home = front b; kind = complete made_for } → arm.target ≡ front b
       → (j : ℕ) → BelongsTo own b edge.branch arm.edge (place_of v (block_at f b).params) j
       → passed_at f edge.branch arm.edge j ≡ Some (Value (blocks.function.argument v arm))
 

@@ -29,7 +29,7 @@ use Rattle.clif_ssa.proofs.Housing.{Housed, place_at}
 use Rattle.clif_ssa.proofs.Ordering.{contains_more, contains_cons, parameters_same, stands_place}
 use Rattle.clif_ssa.proofs.Passing.{zero_passed, Passing, arguments_pass, arguments_given, given_by, given_paired, contains_map, some_pushed}
 
-complete_or_pending : {x : ℕ} → ◌≡◌ {A = Kind} complete (pending x) → ⊥
+complete_or_pending : {x y : ℕ} → ◌≡◌ {A = Kind} (complete y) (pending x) → ⊥
 complete_or_pending same = cc
 
 born_or_pending : {n x : ℕ} → ◌≡◌ {A = Kind} (born n) (pending x) → ⊥
@@ -38,7 +38,7 @@ born_or_pending same = cc
 zero_or_pending : {x y : ℕ} → ◌≡◌ {A = Kind} (zero_of x) (pending y) → ⊥
 zero_or_pending same = cc
 
-complete_home : {b c : ℕ} {k : Kind} → ◌≡◌ {A = Definition} (record { home = front b; kind = k }) (record { home = front c; kind = complete }) → b ≡ c
+complete_home : {b c x : ℕ} {k : Kind} → ◌≡◌ {A = Definition} (record { home = front b; kind = k }) (record { home = front c; kind = complete x }) → b ≡ c
 complete_home same = front_same (ap (λ (d : Definition). d.home) same)
 
 -- THE PLACE -------------------------------------------------------------------------------------------------------
@@ -78,7 +78,7 @@ count_first own f s blocks ps p b i k housed counts first here leads =
     by v at one_less is less few (born n) defined behind counted =
         let first_ones : place_of v (block_at f b).params < length (own.params b) = rw defined at behind in
         omega (arith, at, one_less, less, few, first_ones)
-    by v at one_less is less few complete defined behind counted =
+    by v at one_less is less few (complete x) defined behind counted =
         let enough : place_of v (block_at f b).params + length (own.passed i k) < passed_count f i k + length (own.params b) = rw defined at counted in
         omega (arith, at, one_less, less, enough)
     by v at one_less is less few (zero_of x) defined behind counted = rw defined at behind
@@ -86,16 +86,16 @@ count_first own f s blocks ps p b i k housed counts first here leads =
 -- WHAT STAYS ------------------------------------------------------------------------------------------------------
 
 zero_filled : (f g : Body) (blocks : Blocks) (b c : ℕ) (z : ZeroAt) (v x : ℕ) (given : Arm → ℕ) → Passing b f g
-    → blocks.function.definition v ≡ record { home = front b; kind = pending x } → IsZero f blocks c z → IsZero g (with_filled blocks v given) c z
+    → blocks.function.definition v ≡ record { home = front b; kind = pending x } → IsZero f blocks c z → IsZero g (with_filled blocks x v given) c z
 zero_filled f g blocks b c z v x given passing waits put = record {
   variable = put.variable;
   stands = zero_passed b f g z passing put.stands;
   defined =
-      updated-other blocks.function.definition v (record { home = (blocks.function.definition v).home; kind = complete }) (value_of_zero z)
+      updated-other blocks.function.definition v (record { home = (blocks.function.definition v).home; kind = complete x }) (value_of_zero z)
       (λ same. zero_or_pending (sym (ap (λ (d : Definition). d.kind) put.defined) ∙ ap (λ u. (blocks.function.definition u).kind) same ∙ ap (λ (d : Definition). d.kind) waits))
       ∙ put.defined;
   others = λ w from below.
-      updated-other blocks.function.definition v (record { home = (blocks.function.definition v).home; kind = complete }) w
+      updated-other blocks.function.definition v (record { home = (blocks.function.definition v).home; kind = complete x }) w
       (λ same. unborn_or_pending (sym (ap (λ (d : Definition). d.kind) (put.others w from below)) ∙ ap (λ u. (blocks.function.definition u).kind) same ∙ ap (λ (d : Definition). d.kind) waits))
       ∙ put.others w from below;
 }
@@ -105,7 +105,7 @@ zero_filled f g blocks b c z v x given passing waits put = record {
 
 zeros_filled : (f g : Body) (blocks : Blocks) (b c : ℕ) (zeros : List ZeroAt) (v x : ℕ) (given : Arm → ℕ) → Passing b f g
     → blocks.function.definition v ≡ record { home = front b; kind = pending x } → AllByRecursion (IsZero f blocks c) zeros
-    → AllByRecursion (IsZero g (with_filled blocks v given) c) zeros
+    → AllByRecursion (IsZero g (with_filled blocks x v given) c) zeros
 zeros_filled f g blocks b c [] v x given passing waits all = tt
 zeros_filled f g blocks b c (z ∷ zeros) v x given passing waits all =
     (zero_filled f g blocks b c z v x given passing waits all.0, zeros_filled f g blocks b c zeros v x given passing waits all.1)
@@ -114,16 +114,16 @@ filled_with : (own : Own) (f : Body) (insts : List InstNode) (s : SsaState) (p :
     → Describes own f s (p ∷ ps) blocks → IsFirst f s ps blocks p b → blocks.sealed b ≡ true → Passing b f (record f { insts = insts })
     → ((i k : ℕ) (arm : Arm) → Contains (predecessors_of s b) i → edge_target f i k ≡ Some b → arm.source ≡ last_place blocks (branch_block f i)
     → (j : ℕ) → BelongsTo own b i k (place_of p.param (block_at f b).params) j → passed_at (record f { insts = insts }) i k j ≡ Some (Value (given arm)))
-    → Describes own (record f { insts = insts }) s ps (with_filled blocks p.param given)
+    → Describes own (record f { insts = insts }) s ps (with_filled blocks p.variable p.param given)
 filled_with own f insts s p ps blocks b given before first sealed passing passed =
     let g : Body = record f { insts = insts } in
     let v : ℕ = p.param in
-    let after : Blocks = with_filled blocks v given in
-    let new_at : after.function.definition v ≡ record { home = front b; kind = complete } =
-    updated-same blocks.function.definition v (record { home = (blocks.function.definition v).home; kind = complete }) v refl
-    ∙ ap (λ (d : Definition). record { home = d.home; kind = complete }) first.defined in
+    let after : Blocks = with_filled blocks p.variable v given in
+    let new_at : after.function.definition v ≡ record { home = front b; kind = complete p.variable } =
+    updated-same blocks.function.definition v (record { home = (blocks.function.definition v).home; kind = complete p.variable }) v refl
+    ∙ ap (λ (d : Definition). record { home = d.home; kind = complete p.variable }) first.defined in
     let is_old : (u : ℕ) → u ≢ v → after.function.definition u ≡ blocks.function.definition u =
-    λ u other. updated-other blocks.function.definition v (record { home = (blocks.function.definition v).home; kind = complete }) u other in
+    λ u other. updated-other blocks.function.definition v (record { home = (blocks.function.definition v).home; kind = complete p.variable }) u other in
     let count : length g.insts ≡ length f.insts = passing.count in
     let edges : SameEdges f g s s blocks after = record {
       predecessors_same = λ c. refl;
@@ -265,12 +265,12 @@ only_insts b f g passing = record {
 pub filled_described : (own : Own) (f : Body) (s : SsaState) (p : Pending) (ps : List Pending) (blocks : Blocks) (b : ℕ) (values : List ℕ) → Housed f
     → Describes own f s (p ∷ ps) blocks → CountsArguments own f s blocks → param_home f p.param ≡ Some b → blocks.sealed b ≡ true
     → length values ≡ length (predecessors_of s b)
-    → Describes own (with_arguments f b (predecessors_of s b) values) s ps (with_filled blocks p.param (given_in f s blocks b values))
+    → Describes own (with_arguments f b (predecessors_of s b) values) s ps (with_filled blocks p.variable p.param (given_in f s blocks b values))
 filled_described own f s p ps blocks b values housed before counts is sealed count =
     let g : Body = with_arguments f b (predecessors_of s b) values in
     let first : IsFirst f s ps blocks p b = first_waits own f s p ps blocks b before is in
     let passing : Passing b f g = arguments_passing own f s (p ∷ ps) blocks b values before in
-    subst (λ h. Describes own h s ps (with_filled blocks p.param (given_in f s blocks b values))) (sym passing.same)
+    subst (λ h. Describes own h s ps (with_filled blocks p.variable p.param (given_in f s blocks b values))) (sym passing.same)
     (filled_with own f g.insts s p ps blocks b (given_in f s blocks b values) before first sealed (only_insts b f g passing)
     (passed_there own f s p ps blocks b values housed before counts first count))
 
@@ -307,19 +307,19 @@ more_counted : (kind : Kind) (place callers count given first : ℕ) → IsCount
 more_counted unborn place callers count given first is at later = tt
 more_counted (born n) place callers count given first is at later = tt
 more_counted (pending x) place callers count given first is at later = omega (arith, later x refl, at)
-more_counted complete place callers count given first is at later = omega (arith, is)
+more_counted (complete x) place callers count given first is at later = omega (arith, is)
 more_counted (zero_of x) place callers count given first is at later = tt
 
 counted_with : (own : Own) (f : Body) (insts : List InstNode) (s : SsaState) (p : Pending) (ps : List Pending) (blocks : Blocks) (b : ℕ) (given : Arm → ℕ)
     → Housed f → CountsArguments own f s blocks → IsFirst f s ps blocks p b → Passing b f (record f { insts = insts })
     → ((i k : ℕ) → Contains (predecessors_of s b) i → edge_target f i k ≡ Some b → passed_count (record f { insts = insts }) i k ≡ passed_count f i k + 1)
-    → CountsArguments own (record f { insts = insts }) s (with_filled blocks p.param given)
+    → CountsArguments own (record f { insts = insts }) s (with_filled blocks p.variable p.param given)
 counted_with own f insts s p ps blocks b given housed counts first passing more =
     let g : Body = record f { insts = insts } in
     let v : ℕ = p.param in
     let params : List ℕ = (block_at f b).params in
-    let after : Blocks = with_filled blocks v given in
-    let now : Definition = record { home = (blocks.function.definition v).home; kind = complete } in
+    let after : Blocks = with_filled blocks p.variable v given in
+    let now : Definition = record { home = (blocks.function.definition v).home; kind = complete p.variable } in
     let is_new : after.function.definition v ≡ now = updated-same blocks.function.definition v now v refl in
     let is_old : (u : ℕ) → u ≢ v → after.function.definition u ≡ blocks.function.definition u = λ u other. updated-other blocks.function.definition v now u other in
     let old_leads : (c i k : ℕ) → edge_target g i k ≡ Some c → edge_target f i k ≡ Some c = λ c i k leads. sym (passing.target i k) ∙ leads in
@@ -393,10 +393,10 @@ counted_with own f insts s p ps blocks b given housed counts first passing more 
 pub filled_counted : (own : Own) (f : Body) (s : SsaState) (p : Pending) (ps : List Pending) (blocks : Blocks) (b : ℕ) (values : List ℕ) → Housed f
     → Describes own f s (p ∷ ps) blocks → CountsArguments own f s blocks → param_home f p.param ≡ Some b
     → length values ≡ length (predecessors_of s b)
-    → CountsArguments own (with_arguments f b (predecessors_of s b) values) s (with_filled blocks p.param (given_in f s blocks b values))
+    → CountsArguments own (with_arguments f b (predecessors_of s b) values) s (with_filled blocks p.variable p.param (given_in f s blocks b values))
 filled_counted own f s p ps blocks b values housed before counts is count =
     let g : Body = with_arguments f b (predecessors_of s b) values in
     let passing : Passing b f g = arguments_passing own f s (p ∷ ps) blocks b values before in
-    subst (λ h. CountsArguments own h s (with_filled blocks p.param (given_in f s blocks b values))) (sym passing.same)
+    subst (λ h. CountsArguments own h s (with_filled blocks p.variable p.param (given_in f s blocks b values))) (sym passing.same)
     (counted_with own f g.insts s p ps blocks b (given_in f s blocks b values) housed counts (first_waits own f s p ps blocks b before is) (only_insts b f g passing)
     (one_more own f s p ps blocks b values before count))

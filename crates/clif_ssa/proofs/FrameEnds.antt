@@ -16,18 +16,19 @@ use Rattle.clif_paths.specs.State.{Definition}
 use Rattle.clif_paths.specs.Blocks.{Blocks, front, last_place, Knows, with_dropped, with_filled, with_zero_in}
 use Rattle.clif_paths.specs.BlockLaws.{BlocksSound}
 use Rattle.clif_paths.specs.LookUp.{Frame, results_of, AtRest, Delivers, InList, Paired}
-use Rattle.clif_paths.proofs.LookingUp.{dropping_finishes, filling_finishes, zero_finishes, results_are_counted}
+use Rattle.clif_paths.proofs.LookingUp.{known_by, dropping_finishes, filling_finishes, zero_finishes, results_are_counted}
 use Rattle.clif_records.specs.declared.tables.Pending.{Pending}
 use Rattle.clif_ssa.specs.Ssa.{SsaState, predecessors_of, zeroed, zero_value}
 use Rattle.clif_records.specs.Stacks.{LookUpState}
 use Rattle.clif_ssa.specs.LookUp.{branch_block, Stage, with_arguments, NothingComes, OneComes, SeveralCome, FinishesLookUp}
-use Rattle.clif_ssa.specs.Sound.{Describes, CountsArguments, SameProgram, has_entry}
+use Rattle.clif_ssa.specs.Sound.{Describes, CountsArguments, SameProgram, KeepsParameters, has_entry}
 use Rattle.clif_ssa.specs.SoundLaws.{with_entry}
 use Rattle.clif_ssa.proofs.Bodies.{Firm, past_alias, param_exists, resolved_twice, home-set_other}
 use Rattle.clif_ssa.proofs.Entering.{inserted}
 use Rattle.clif_ssa.proofs.Ordering.{contains_more, map_same}
-use Rattle.clif_ssa.proofs.Framing.{comes_from, completing_of, parameters_for, CallsOf, Setting, Base, Hands, Since, IsHere, contains_in, turned, in_reversed, of_reversed, in_some, same_parts, count_zero, resolved_inside, knows_value, known_result, since_self, since_then, edge_from, arm_from, edges_from, frame_here, completing_apart}
+use Rattle.clif_ssa.proofs.Framing.{comes_from, completing_of, parameters_for, CallsOf, Setting, Base, Hands, Since, IsHere, contains_in, turned, in_reversed, of_reversed, in_some, same_parts, count_zero, resolved_inside, knows_value, since_self, since_then, edge_from, arm_from, edges_from, frame_here, completing_apart}
 use Rattle.clif_ssa.proofs.Housing.{Housed}
+use Rattle.clif_ssa.proofs.KeptParameters.{records_same, parameters_then, itself_parameters, same_parameters, filled_parameters, zero_parameters}
 use Rattle.clif_ssa.proofs.Passing.{given_by, given_paired, Passing, arguments_pass}
 use Rattle.clif_ssa.proofs.Zeroing.{zero_described}
 use Rattle.clif_ssa.proofs.Completing.{SameButLayout, inserted_same, inserted_firm, same_program_then}
@@ -45,6 +46,7 @@ pub record Ended (c : Setting) (f : Frame) (frames : List Frame) (tables : Block
   pub describes : Describes c.own g m.state (completing_of c frames) after
   pub same : SameProgram tables after
   pub counts : CountsArguments c.own g m.state after
+  pub parameters : KeepsParameters tables after m.state
   pub firm : Firm g
   pub housed : Housed g
   pub since : Since m.function m.state g m.state
@@ -70,6 +72,7 @@ ended_hands c f frames tables m g value look_up base home ended results calls =
         sound = ended.delivers.sound;
         same = same_program_then c.before tables ended.after base.same ended.same;
         counts = ended.counts;
+        parameters = parameters_then c.before tables ended.after m.state m.state base.describes.recorded (λ x b v is. is) base.parameters ended.parameters;
         firm = ended.firm;
         housed = ended.housed;
         stand = base.stand;
@@ -93,7 +96,7 @@ module _ (c : Setting) (f : Frame) (frames : List Frame) (tables : Blocks) (m : 
 
   result_exists : (r : ℕ) → InList f.results r → r < length m.function.values
   result_exists r here =
-      let known : (b : ℕ) × Knows tables b c.variable r = known_result tables c.variable f.done f.results r rest.fits.known here in
+      let known : (b : ℕ) × Knows tables b c.variable r = known_by tables c.variable f.done f.results r rest.fits.known here in
       knows_value c.own m.function m.state (completing_of c (f ∷ frames)) tables known.0 c.variable r base.firm base.describes known.1
 
   result_count : length f.results ≡ length (predecessors_of m.state f.block)
@@ -127,6 +130,8 @@ module _ (c : Setting) (f : Frame) (frames : List Frame) (tables : Blocks) (m : 
             drop_described c.own m.function m.state (pending_for c f) (completing_of c frames) tables value f.block base.firm base.describes here_is.parameter exists ends one.other;
         same = record { count = λ k. refl; assigned = λ p y. refl; naming = λ n. refl; answer = λ n. refl };
         counts = drop_counted c.own m.function m.state (pending_for c f) (completing_of c frames) tables value f.block base.firm base.housed base.describes base.counts here_is.parameter exists ends one.other;
+        parameters = same_parameters tables (with_dropped tables f.parameter value) m.state
+            (records_same tables m.state m.state base.describes.recorded (λ x b. refl)) (λ v. refl);
         firm = drop_firm m.function f.parameter value f.block base.firm here_is.parameter exists ends one.other;
         housed = drop_housed m.function f.parameter value f.block base.firm base.housed here_is.parameter exists ends one.other;
         since = record {
@@ -145,7 +150,8 @@ module _ (c : Setting) (f : Frame) (frames : List Frame) (tables : Blocks) (m : 
             elim (one.alone r (in_reversed f.results r here)) [
               | inl same ↦ inl (base.describes.resolves r ∙ same)
               | inr itself ↦ inr (base.describes.resolves r ∙ itself)
-            ]);
+            ])
+            (one.comes.0, come, base.describes.resolves one.comes.0 ∙ one.comes.2);
       }
 
   -- SEVERAL COME
@@ -162,12 +168,14 @@ module _ (c : Setting) (f : Frame) (frames : List Frame) (tables : Blocks) (m : 
       let once : Once (comes_from c f.block) = subst Once same_before (base.describes.leading_apart f.block) in
       let wide : length values ≡ length (comes_from c f.block) = count ∙ grind (arith, common_steps, ap length same_before) in
       record {
-        after = with_filled tables f.parameter given;
-        describes = subst (λ bs. Describes c.own g m.state (completing_of c frames) (with_filled tables f.parameter (given_by tables bs values))) same_before
+        after = with_filled tables c.variable f.parameter given;
+        describes = subst (λ bs. Describes c.own g m.state (completing_of c frames) (with_filled tables c.variable f.parameter (given_by tables bs values))) same_before
             (filled_described c.own m.function m.state (pending_for c f) (completing_of c frames) tables f.block values base.housed base.describes base.counts here_is.parameter rest.fits.waits.is_sealed count);
-        counts = subst (λ bs. CountsArguments c.own g m.state (with_filled tables f.parameter (given_by tables bs values))) same_before
+        counts = subst (λ bs. CountsArguments c.own g m.state (with_filled tables c.variable f.parameter (given_by tables bs values))) same_before
             (filled_counted c.own m.function m.state (pending_for c f) (completing_of c frames) tables f.block values base.housed base.describes base.counts here_is.parameter count);
         same = record { count = λ k. refl; assigned = λ p y. refl; naming = λ n. refl; answer = λ n. refl };
+        parameters = filled_parameters tables (with_filled tables c.variable f.parameter given) m.state c.variable f.parameter
+            (records_same tables m.state m.state base.describes.recorded (λ x b. refl)) (ap (λ (d : Definition). d.kind) rest.fits.waits.is_parameter) (λ v. refl);
         firm = filled_firm f.block m.function g passing base.firm;
         housed = filled_housed f.block m.function g passing base.housed;
         since = record {
@@ -257,11 +265,12 @@ zeroing c f frames g s tables ty firm housed before counts sound rest none arms 
 
 -- the same for a function in whose layout the block enters first
 pub zero_ends : (c : Setting) (f : Frame) (frames : List Frame) (tables entered : Blocks) (m : Stage) → Base c (f ∷ frames) tables m
-    → Describes c.own (inserted_in m.function f.block) m.state (completing_of c (f ∷ frames)) entered → CountsArguments c.own (inserted_in m.function f.block) m.state entered → BlocksSound entered → SameProgram tables entered
+    → Describes c.own (inserted_in m.function f.block) m.state (completing_of c (f ∷ frames)) entered
+    → CountsArguments c.own (inserted_in m.function f.block) m.state entered → KeepsParameters tables entered m.state → BlocksSound entered → SameProgram tables entered
     → AtRest entered (comes_from c) c.variable c.first f frames → f.todo ≡ [] → ArmsFrom entered f.block (comes_from c f.block)
     → param_home m.function f.parameter ≡ Some f.block → ((r : ℕ) → InList f.results r → resolved m.function r ≡ f.parameter)
     → Ended c f frames tables m (zeroed m.function f.block f.parameter) (zero_value m.function (value_at m.function f.parameter).ty)
-zero_ends c f frames tables entered m base before counts sound same rest none arms home nothing =
+zero_ends c f frames tables entered m base before counts parameters sound same rest none arms home nothing =
     let g : Body = inserted_in m.function f.block in
     let ty : «Type» = (value_at m.function f.parameter).ty in
     let but : SameButLayout m.function g = inserted_same m.function f.block in
@@ -270,11 +279,16 @@ zero_ends c f frames tables entered m base before counts sound same rest none ar
     let done : Zeroing c f frames g m.state entered ty =
     zeroing c f frames g m.state entered ty (inserted_firm m.function f.block base.firm) (inserted_housed m.function f.block base.housed) before counts sound rest none arms (home_same f.parameter ∙ home)
     (λ r here. ends_same r ∙ nothing r here) in
+    let after : Blocks = with_dropped (with_zero_in entered f.block c.variable (zero_value g ty)) f.parameter (zero_value g ty) in
     let ended : Ended c f frames tables m (with_alias (put_zero g f.block ty) f.parameter (zero_value g ty)) (zero_value g ty) = record {
-      after = with_dropped (with_zero_in entered f.block c.variable (zero_value g ty)) f.parameter (zero_value g ty);
+      after = after;
       describes = done.describes;
       same = record { count = same.count; assigned = same.assigned; naming = same.naming; answer = same.answer };
       counts = done.counts;
+      parameters =
+          parameters_then tables entered after m.state m.state before.recorded (λ x b v is. is) parameters
+          (zero_parameters entered after m.state c.variable (zero_value g ty) f.block (records_same entered m.state m.state before.recorded (λ x b. refl))
+          (ap (λ (d : Definition). d.kind) (before.absent (zero_value g ty) (omega arith))) (λ v. refl));
       firm = done.firm;
       housed = done.housed;
       since = since_then m.function m.state g m.state (with_alias (put_zero g f.block ty) f.parameter (zero_value g ty)) m.state
@@ -330,7 +344,8 @@ frame_zero c f frames tables m base rest none here nothing =
     inserted c.own m.function m.state (completing_of c (f ∷ frames)) tables f.block base.describes base.sound in
     let same : with_entry m.function.layout m.state f.block tables ≡ tables = entered_same m.function.layout m.state f.block tables here.entry in
     zero_ends c f frames tables tables m base (subst (Describes c.own (inserted_in m.function f.block) m.state (completing_of c (f ∷ frames))) same entered.0)
-    (inserted_counted c.own m.function m.state tables tables f.block (λ v. refl) base.counts) base.sound
+    (inserted_counted c.own m.function m.state tables tables f.block (λ v. refl) base.counts)
+    (itself_parameters tables m.state m.state base.describes.recorded (λ x b. refl)) base.sound
     (record { count = λ k. refl; assigned = λ p y. refl; naming = λ n. refl; answer = λ n. refl }) rest none
     (λ arm joins at.
     elim (arm_from c.own m.function m.state (completing_of c (f ∷ frames)) tables f.block arm base.describes joins at) [

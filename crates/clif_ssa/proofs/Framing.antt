@@ -14,7 +14,7 @@ use Rattle.clif_paths.specs.Places.{start, Arm}
 use Rattle.clif_paths.specs.State.{Definition}
 use Rattle.clif_paths.specs.Blocks.{Blocks, front, last_place, Knows}
 use Rattle.clif_paths.specs.BlockLaws.{BlocksSound}
-use Rattle.clif_paths.specs.LookUp.{Frame, results_of, back_onto, AllKnow, FrameFits, GoesTo, AtRest, InList, LeavesOneOf}
+use Rattle.clif_paths.specs.LookUp.{Frame, results_of, back_onto, FrameFits, GoesTo, AtRest, InList, LeavesOneOf}
 use Rattle.clif_records.specs.declared.look_up.Call.{Call}
 use Rattle.clif_records.specs.declared.tables.Pending.{Pending}
 use Rattle.clif_ssa.specs.Own.{Own}
@@ -22,7 +22,7 @@ use Rattle.clif_records.specs.Tables.{is_yes}
 use Rattle.clif_ssa.specs.Ssa.{SsaState, record_of, sealed_of, predecessors_of, RecordsStay}
 use Rattle.clif_records.specs.Stacks.{calls_for}
 use Rattle.clif_ssa.specs.LookUp.{branch_block, Stage}
-use Rattle.clif_ssa.specs.Sound.{Describes, CountsArguments, SameProgram, IsEdgeInto, InOrder, has_entry, entry_of, no_pending, is_some_block, is_parameter_of, parameters_of}
+use Rattle.clif_ssa.specs.Sound.{Describes, CountsArguments, SameProgram, KeepsParameters, IsEdgeInto, InOrder, has_entry, entry_of, no_pending, is_some_block, is_parameter_of, parameters_of}
 use Rattle.clif_ssa.proofs.Bodies.{Firm, past_alias}
 use Rattle.clif_ssa.proofs.Housing.{Housed}
 
@@ -95,6 +95,7 @@ pub record Base (c : Setting) (frames : List Frame) (tables : Blocks) (m : Stage
   pub sound : BlocksSound tables
   pub same : SameProgram c.before tables
   pub counts : CountsArguments c.own m.function m.state tables
+  pub parameters : KeepsParameters c.before tables m.state
   pub firm : Firm m.function
   pub housed : Housed m.function
   pub stand : BranchesStand c.function c.state
@@ -226,13 +227,6 @@ knows_value own f s waiting tables b x r firm before knows =
       | inl here ↦ here
       | inr past ↦ absurd (omega (arith, past, resolved_inside f knows.value firm exists, ends, follow_end f.values (length f.values) r (past_alias f.values r past)))
     ]
-
-pub known_result : (tables : Blocks) (x : ℕ) (bs rs : List ℕ) (r : ℕ) → AllKnow tables x bs rs → InList rs r → (b : ℕ) × Knows tables b x r
-known_result tables x [] [] r all here = absurd here
-known_result tables x [] (s ∷ rs) r all here = absurd all
-known_result tables x (b ∷ bs) [] r all here = absurd all
-known_result tables x (b ∷ bs) (s ∷ rs) r all (inl first) = (b, subst (λ v. Knows tables b x v) (sym first) all.0)
-known_result tables x (b ∷ bs) (s ∷ rs) r all (inr later) = known_result tables x bs rs r all.1 later
 
 -- BRANCHES --------------------------------------------------------------------------------------------------------
 

@@ -1,3 +1,4 @@
+pub mod KeptParameters
 pub mod Locally
 pub mod AllCompleted
 pub mod Machine
@@ -68,5 +69,6 @@ pub mod Grown
 pub mod Within
 pub mod WithinUses
 pub mod CallersParameters
+pub mod Tracks
 pub mod Moved
 pub mod MovedState

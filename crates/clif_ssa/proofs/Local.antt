@@ -7,6 +7,7 @@ use Rattle.clif_ir.specs.Body.{Body, value_at}
 use Rattle.clif_ir.specs.Changes.{with_param}
 use Rattle.clif_ir.specs.Reading.{param_home}
 use Rattle.clif_records.specs.Tables.{pending_of}
+use Rattle.clif_records.specs.Tracking.{with_binding}
 use Rattle.clif_ssa.specs.Ssa.{SsaState, NamesExist, HasMore, Records, SameBlocks, SamePredecessors, SameRecords, Zeroes, zeroed, zeroed_in, zero_value}
 use Rattle.clif_ssa.proofs.Naming.{named-more, param_more, param-named}
 use Rattle.clif_ssa.proofs.Parameters.{param_home_new}
@@ -41,10 +42,11 @@ param_there f g b v ty is number = ap (λ k. param_home k v) is ∙ ap (λ w. pa
 
 -- the new parameter is another name of a zero
 pub param-zeroes : (f g h : Body) (s t : SsaState) (x b v : ℕ) (ty : «Type») → g ≡ with_param f b ty → v ≡ length f.values → h ≡ zeroed_in (param_home g v) g v
-    → Records s t x b (length f.values) → SameBlocks s t → Zeroes s t f h x ty b
-param-zeroes f g h s t x b v ty is number done recorded blocks = record {
+    → Records s t x b (length f.values) → t.tracking ≡ with_binding s.tracking x (length f.values) → SameBlocks s t → Zeroes s t f h x ty b
+param-zeroes f g h s t x b v ty is number done recorded tracking blocks = record {
   function = done ∙ ap (λ o. zeroed_in o g v) (param_there f g b v ty is number) ∙ ap (λ k. zeroed k b v) is ∙ ap (λ w. zeroed (with_param f b ty) b w) number;
   recorded = recorded;
+  tracking = tracking;
   unchanged = blocks;
 }
 

@@ -13,6 +13,7 @@ use Rattle.clif_records.specs.declared.side_effects.SideEffects.{SideEffects}
 use Rattle.clif_records.specs.declared.tables.Sealed.TheVariants.{No}
 use Rattle.clif_ssa.specs.Constructs.{OnlyConstructs, TellsMore, TellsZeros}
 use Rattle.clif_records.specs.Stacks.{LookUpState}
+use Rattle.clif_records.specs.Tracking.{with_binding}
 use Rattle.clif_ssa.specs.Ssa.{SsaState, sealed_of, zeroed_in, CountsLookup, Records, SameBlocks, SameLookups, zero_value}
 use Rattle.clif_ssa.specs.Steps.{UsesLocally}
 use Rattle.clif_records.specs.Tables.{is_yes, one_more, pending_of, sealed_at}
@@ -59,11 +60,12 @@ error_from e X follows other = follows (λ is. other (ap (λ d. Err d) (same is)
 
 -- in an unsealed block a new parameter waits
 pub use_waits : (x : ℕ) (ty : «Type») (b : ℕ) (f : Body) (s : SsaState) (g : Body) (t : SsaState) (v : ℕ) (effects : SideEffects)
-    → is_yes (sealed_of s b) ≡ false → v ≡ length f.values → g ≡ with_param f b ty → Records s t x b (length f.values) → SameLookups s t
+    → is_yes (sealed_of s b) ≡ false → v ≡ length f.values → g ≡ with_param f b ty → Records s t x b (length f.values)
+    → t.tracking ≡ with_binding s.tracking x (length f.values) → SameLookups s t
     → ((c : ℕ) → sealed_of t c ≡ (if c == b then No (pending_of (sealed_of s c) ++ record { variable = x; param = length f.values } ∷ []) else sealed_of s c))
     → effects.instructions_added_to_blocks.items ≡ [] → UsesLocally x ty b f s g t (Ok (v, effects))
-use_waits x ty b f s g t v effects unsealed number made recorded lookups waiting nothing = record {
-  waits = λ _. (record { function = made; recorded = recorded; waiting = waiting }, (number, nothing));
+use_waits x ty b f s g t v effects unsealed number made recorded tracking lookups waiting nothing = record {
+  waits = λ _. (record { function = made; recorded = recorded; tracking = tracking; waiting = waiting }, (number, nothing));
   zero = λ sealed. absurd (yes_no (sym sealed ∙ unsealed));
   counts_none = λ _. lookups;
   counts_one = λ sealed. absurd (yes_no (sym sealed ∙ unsealed));
@@ -73,14 +75,15 @@ use_waits x ty b f s g t v effects unsealed number made recorded lookups waiting
 
 -- in a sealed one it becomes a name of a zero
 pub use_zeroes : (x : ℕ) (ty : «Type») (b : ℕ) (f : Body) (s : SsaState) (g h : Body) (t : SsaState) (v answer : ℕ) (old effects : SideEffects)
-    → is_yes (sealed_of s b) ≡ true → v ≡ length f.values → g ≡ with_param f b ty → Records s t x b (length f.values) → SameBlocks s t → CountsLookup s t x b
+    → is_yes (sealed_of s b) ≡ true → v ≡ length f.values → g ≡ with_param f b ty → Records s t x b (length f.values)
+    → t.tracking ≡ with_binding s.tracking x (length f.values) → SameBlocks s t → CountsLookup s t x b
     → h ≡ zeroed_in (param_home g v) g v → MatchOption (param_home g v) (answer ≡ v) (λ _. answer ≡ zero_value g (value_at g v).ty) → old.instructions_added_to_blocks.items ≡ []
     → effects.instructions_added_to_blocks.items ≡ old.instructions_added_to_blocks.items ++ option_to_list (param_home g v)
     → OnlyConstructs g h → TellsZeros g h (option_to_list (param_home g v)) → UsesLocally x ty b f s h t (Ok (answer, effects))
-use_zeroes x ty b f s g h t v answer old effects sealed number made recorded blocks counted done answers nothing told constructs tells = record {
+use_zeroes x ty b f s g h t v answer old effects sealed number made recorded tracking blocks counted done answers nothing told constructs tells = record {
   waits = λ unsealed. absurd (yes_no (sym sealed ∙ unsealed));
   zero = λ _. (
-    param-zeroes f g h s t x b v ty made number done recorded blocks,
+    param-zeroes f g h s t x b v ty made number done recorded tracking blocks,
     (
       param-zero-answer f g b v answer ty made number answers,
       param-zero-told f g b v ty old.instructions_added_to_blocks.items effects.instructions_added_to_blocks.items made number nothing told,

@@ -7,14 +7,15 @@ use Rattle.clif_ir.specs.Body.{Body, value_at, resolved}
 use Rattle.clif_ir.specs.Changes.{with_param, with_alias, inserted_in}
 use Rattle.clif_ir.specs.Consistent.{IsConsistent}
 use Rattle.clif_ir.specs.Reading.{param_home}
+use Rattle.clif_paths.specs.State.{Definition}
 use Rattle.clif_paths.specs.Blocks.{Blocks, with_parameter, with_zero_in}
 use Rattle.clif_paths.specs.BlockLaws.{BlocksSound}
 use Rattle.clif_paths.proofs.Tables.{aliased_cases}
 use Rattle.clif_records.specs.declared.tables.Pending.{Pending}
 use Rattle.clif_ssa.specs.Own.{Own}
 use Rattle.clif_records.specs.Tables.{is_yes, pending_of}
-use Rattle.clif_ssa.specs.Ssa.{SsaState, record_of, sealed_of, predecessors_of, zeroed, zeroed_in, completed, SameRecords, SamePredecessors, Seals, Waits, Zeroes, zero_value}
-use Rattle.clif_ssa.specs.Sound.{Describes, CountsArguments, SameProgram, Keeps, KeepsAndKnows}
+use Rattle.clif_ssa.specs.Ssa.{SsaState, record_of, sealed_of, predecessors_of, zeroed, zeroed_in, completed, Records, SameRecords, SamePredecessors, Seals, Waits, Zeroes, zero_value}
+use Rattle.clif_ssa.specs.Sound.{Describes, CountsArguments, SameProgram, KeepsParameters, Keeps, KeepsAndKnows}
 use Rattle.clif_ssa.specs.SoundLaws.{DescribesSoundly, with_entry, with_zeroed, with_seal, arms_into}
 use Rattle.clif_ssa.proofs.Bodies.{Firm, firm_from, param_exists, home-set_other}
 use Rattle.clif_ssa.proofs.Housing.{Housed, housed_from}
@@ -25,6 +26,7 @@ use Rattle.clif_ssa.proofs.Completing.{inserted_same, inserted_firm, inserted_pa
 use Rattle.clif_ssa.proofs.Aliasing.{drop_counted, drop_housed}
 use Rattle.clif_ssa.proofs.Counting.{zero_counted, zero_housed, inserted_counted, inserted_housed}
 use Rattle.clif_ssa.proofs.Describing.{recorded_here}
+use Rattle.clif_ssa.proofs.KeptParameters.{itself_parameters, parameters_then, seal_parameters, zeroed_parameters, added_parameters, record_or_old, in_tables}
 use Rattle.clif_ssa.proofs.Parameters.{param_firm, param_resolved, param_home_new, parameter_sound}
 use Rattle.clif_ssa.proofs.Adding.{add_completing, add_waiting, add_housed, add_counted}
 use Rattle.clif_ssa.proofs.Framing.{completing_apart}
@@ -80,7 +82,14 @@ zeroed_counts own f s p ps blocks b firm housed before counts sound is =
 pub completed_locally : (own : Own) (s : SsaState) (b : ℕ) (ps : List Pending) (f : Body) (blocks : Blocks) → Firm f → Housed f → Describes own f s ps blocks
     → CountsArguments own f s blocks → BlocksSound blocks → predecessors_of s b ≡ [] → ((p : Pending) → Contains ps p → param_home f p.param ≡ Some b)
     → Keeps own blocks (completed f ps) s
-completed_locally own s b [] f blocks firm housed before counts sound alone homes = record { tables = blocks; describes = before; sound = sound; same = same_program blocks; counts = counts }
+completed_locally own s b [] f blocks firm housed before counts sound alone homes = record {
+  tables = blocks;
+  describes = before;
+  sound = sound;
+  same = same_program blocks;
+  counts = counts;
+  parameters = itself_parameters blocks s s before.recorded (λ v d. refl);
+}
 completed_locally own s b (p ∷ ps) f blocks firm housed before counts sound alone homes =
     let is : param_home f p.param ≡ Some b = homes p (contains_first p ps) in
     let g : Body = zeroed f b p.param in
@@ -96,6 +105,9 @@ completed_locally own s b (p ∷ ps) f blocks firm housed before counts sound al
       sound = others.sound;
       same = same_program_then blocks tables others.tables (zeroed_program f.layout s b p.variable p.param (zero_value f (value_at f p.param).ty) blocks) others.same;
       counts = others.counts;
+      parameters = parameters_then blocks tables others.tables s s done.describes.recorded (λ x d v at. at)
+          (zeroed_parameters f.layout s b p.variable p.param (zero_value f (value_at f p.param).ty) blocks before.recorded
+          (ap (λ (d : Definition). d.kind) (before.absent (zero_value f (value_at f p.param).ty) (omega arith)))) others.parameters;
     })
 
 -- a block to which no branch leads is sealed
@@ -110,9 +122,28 @@ seals_locally own f s t tables b known both alone records seals same =
     completed_locally own t b (pending_of (sealed_of s b)) f sealed (firm_from f known) (housed_from f known) now.0
     (seal_counted own f s t f.layout (is_yes (sealed_of s b)) b (arms_into f s tables b) tables both.2 same) now.1 (same b ∙ alone)
     (λ p here. (before.waiting b p here).parameter) in
-    record { tables = done.tables; describes = done.describes; sound = done.sound; same = same_program_then tables sealed done.tables now.2 done.same; counts = done.counts }
+    let parameters : KeepsParameters tables done.tables t =
+    parameters_then tables sealed done.tables t t now.0.recorded (λ x d v is. is)
+    (seal_parameters f.layout (is_yes (sealed_of s b)) b (arms_into f s tables b) tables s t before.recorded records) done.parameters in
+    record {
+      tables = done.tables;
+      describes = done.describes;
+      sound = done.sound;
+      same = same_program_then tables sealed done.tables now.2 done.same;
+      counts = done.counts;
+      parameters = parameters;
+    }
 
 -- USES ------------------------------------------------------------------------------------------------------------
+
+-- a new parameter is recorded for its variable
+recorded_parameters : (own : Own) (f : Body) (s t : SsaState) (tables : Blocks) (x b : ℕ) → Describes own f s [] tables → Records s t x b (length f.values)
+    → KeepsParameters tables (with_parameter tables b x (length f.values)) t
+recorded_parameters own f s t tables x b before recorded =
+    let n : ℕ = length f.values in
+    added_parameters tables (with_parameter tables b x n) t x n b (ap (λ (d : Definition). d.kind) (before.absent n (omega arith))) (λ u. refl)
+    (recorded x b ∙ recorded_here x b n (record_of s x b))
+    (λ v y d is. in_tables tables s x n v y d before.recorded (record_or_old s t x b n recorded v y d is))
 
 -- in an unsealed block the new parameter is recorded and waits
 pub waits_locally : (own : Own) (f g : Body) (s t : SsaState) (tables : Blocks) (x : ℕ) (ty : «Type») (b : ℕ) → Firm f → Describes own f s [] tables
@@ -129,6 +160,7 @@ waits_locally own f g s t tables x ty b firm before counts sound there none unse
         sound = parameter_sound own f s tables x b firm before none sound;
         same = record { count = λ k. refl; assigned = λ p y. refl; naming = λ m. refl; answer = λ m. refl };
         counts = add_counted own f s t [] tables x b ty firm counts there same;
+        parameters = recorded_parameters own f s t tables x b before waits.recorded;
       };
       known = record { value = n; is_recorded = described.recorded b x ∙ waits.recorded x b ∙ recorded_here x b n (record_of s x b); resolves = refl };
     })
@@ -166,6 +198,9 @@ zeroes_locally own f g s t tables x ty b firm housed before counts sound alone t
         sound = done.sound;
         same = same_program_then tables with_it after (record { count = λ k. refl; assigned = λ q y. refl; naming = λ m. refl; answer = λ m. refl }) (zeroed_program h.layout t b x n z with_it);
         counts = more.counts;
+        parameters = parameters_then tables with_it after t t described.recorded (λ y d v is. is)
+            (recorded_parameters own f s t tables x b before zeroes.recorded)
+            (zeroed_parameters h.layout t b x n z with_it described.recorded (ap (λ (d : Definition). d.kind) (described.absent z (omega arith))));
       };
       known = record {
         value = n;

@@ -41,10 +41,10 @@ keeps_looked {ty} x f s g t u block reached value passed known named there walk 
 
 pub looked_copied : (x : ℕ) (ty : «Type») (block : ℕ) (passed : List ℕ) (reached value : ℕ) (m n : Stage) (t : SsaState) {A E : Type 0} (answer : Result A E)
     → WalksTo m.function m.state x block passed reached → reached < length m.function.blocks → Got x ty reached value m n
-    → OnOk answer (Copies n.state t x value (before_first reached passed)) → t.blocks ≡ n.state.blocks → SameLookups n.state t
+    → OnOk answer (Copies n.state t x value (before_first reached passed)) → t.blocks ≡ n.state.blocks → SameLookups n.state t → t.tracking ≡ n.state.tracking
     → OnOk answer (LooksUp x ty block m (stage n.function t n.look_up))
-looked_copied x ty block passed reached value m n t (Ok a) walks exists got copies blocks lookups = looks_up x ty block passed reached value m n t walks exists got copies blocks lookups
-looked_copied x ty block passed reached value m n t (Err e) walks exists got copies blocks lookups = tt
+looked_copied x ty block passed reached value m n t (Ok a) walks exists got copies blocks lookups tracking = looks_up x ty block passed reached value m n t walks exists got copies blocks lookups tracking
+looked_copied x ty block passed reached value m n t (Err e) walks exists got copies blocks lookups tracking = tt
 
 pub ends_copied : {TableIsFull : Body → Type 0} (g : Body) {A : Type 0} (answer : Result A BuildError) → OnErr answer (answer ≡ Err Memory) → StepEnds TableIsFull g answer
 ends_copied g (Ok a) memory = ends_ok g a

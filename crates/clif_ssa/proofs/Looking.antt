@@ -26,7 +26,7 @@ use Rattle.clif_ssa.specs.Ssa.{SsaState, record_of, sealed_of, predecessors_of, 
 use Rattle.clif_records.specs.Passed.{before_first}
 use Rattle.clif_records.specs.Stacks.{LookUpState}
 use Rattle.clif_ssa.specs.LookUp.{Stage, branch_block, only_block, single_predecessor, IsWalk, Copies, FindsRecord, AddsParameter, ParameterWaits, ParameterBegins, LooksUp}
-use Rattle.clif_ssa.specs.Sound.{Describes, CountsArguments, SameProgram, has_entry}
+use Rattle.clif_ssa.specs.Sound.{Describes, CountsArguments, SameProgram, KeepsParameters, has_entry}
 use Rattle.clif_records.proofs.RecordMaps.{record_at-insert}
 use Rattle.clif_ssa.proofs.Bodies.{Firm, past_alias, param_exists, home-append}
 use Rattle.clif_ssa.proofs.Housing.{Housed}
@@ -35,6 +35,7 @@ use Rattle.clif_ssa.proofs.Framing.{Setting, Base, Hands, Rests, Idles, Since, F
 use Rattle.clif_ssa.proofs.FrameEnds.{stage_is, own_end}
 use Rattle.clif_ssa.proofs.Parameters.{param_firm, param_resolved, param_home_new}
 use Rattle.clif_ssa.proofs.Completing.{same_program_then}
+use Rattle.clif_ssa.proofs.KeptParameters.{parameters_then, same_parameters, added_parameters, copied_none_new, copies_or_old, in_tables}
 use Rattle.clif_ssa.proofs.Walking.{WalkIsChain, walk_chain, walk_before, copied_described, copied_counted}
 use Rattle.clif_ssa.proofs.Adding.{add_completing, add_waiting, add_housed, add_counted}
 
@@ -48,7 +49,7 @@ test_false a b other = grind (arith, common_steps, other)
 
 -- a state that has one record more, with the blocks of another
 abbrev pub recorded_state : SsaState → SsaState → ℕ → ℕ → ℕ → SsaState
-recorded_state s t x b v = record { records = map.insert s.records (x, b) (record { value = Some v; lookups = 0 }); blocks = t.blocks }
+recorded_state s t x b v = record t { records = map.insert s.records (x, b) (record { value = Some v; lookups = 0 }) }
 
 pub recorded_state_is : (s t : SsaState) (x b v : ℕ) → Records s (recorded_state s t x b v) x b v
 recorded_state_is s t x b v = record_at-insert s.records x b (record { value = Some v; lookups = 0 })
@@ -155,7 +156,7 @@ walk_reaches f s x (b ∷ passed) block reached stand walk there =
     walk_reaches f s x passed walk.2.0 reached stand walk.2.2 (omega (arith, exists, at))
 
 -- to the first time that it comes to the block
-walk_first : (f : Body) (s : SsaState) (x : ℕ) (passed : List ℕ) (block reached : ℕ) → IsWalk f s x block passed reached → IsWalk f s x block (before_first reached passed) reached
+pub walk_first : (f : Body) (s : SsaState) (x : ℕ) (passed : List ℕ) (block reached : ℕ) → IsWalk f s x block passed reached → IsWalk f s x block (before_first reached passed) reached
 walk_first f s x passed block reached walk = by (stands_in reached passed) refl
   where
     by : (test : Bool) → stands_in reached passed ≡ test → IsWalk f s x block (before_first reached passed) reached
@@ -201,6 +202,7 @@ record Moved (c : Setting) (frames : List Frame) (tables : Blocks) (m : Stage) (
   pub sound : BlocksSound after
   pub same : SameProgram tables after
   pub counts : CountsArguments c.own g t after
+  pub parameters : KeepsParameters tables after t
   pub firm : Firm g
   pub housed : Housed g
   pub since : Since m.function m.state g t
@@ -214,6 +216,7 @@ moved_base c frames frames' tables m g t after look_up base moved = record {
   sound = moved.sound;
   same = same_program_then c.before tables after base.same moved.same;
   counts = moved.counts;
+  parameters = parameters_then c.before tables after m.state t base.describes.recorded moved.since.stay base.parameters moved.parameters;
   firm = moved.firm;
   housed = moved.housed;
   stand = base.stand;
@@ -244,6 +247,9 @@ found c frames tables b m n start finds =
       sound = delivers.sound;
       same = chain_program x v chain tables;
       counts = copied_counted c.own m.function m.state n.state tables x v chain base.counts finds.predecessors;
+      parameters = same_parameters tables after n.state
+          (copied_none_new tables m.state n.state x v finds.reached finds.passed base.describes.recorded finds.is_recorded finds.copies)
+          (λ u. ap (λ (h : Function). h.definition u) (chain_function x v chain tables));
       firm = base.firm;
       housed = base.housed;
       since = record { insts_more = omega arith; branches = λ i here. refl; predecessors = finds.predecessors; block_count = refl; stay = stay };
@@ -346,6 +352,11 @@ module _ (c : Setting) (frames : List Frame) (tables : Blocks) (b : ℕ) (m n : 
         counts = copied_counted c.own g between n.state put_in x z (reverse passed)
             (add_counted c.own m.function m.state between (completing_of c frames) tables x reached ty start.base.firm start.base.counts reached_exists adds.predecessors)
             (λ d. refl);
+        parameters = added_parameters tables (with_new c tables m reached passed) n.state x z reached
+            (ap (λ (d : Definition). d.kind) (start.base.describes.absent z (omega arith)))
+            (λ u. ap (λ (h : Function). h.definition u) (chain_function x z (reverse passed) put_in)) new_recorded
+            (λ v y d is.
+            in_tables tables m.state x z v y d start.base.describes.recorded (copies_or_old m.state n.state x z (reached ∷ passed) adds.copies v y d is));
         firm = param_firm m.function reached ty start.base.firm reached_exists;
         housed = add_housed m.function reached ty start.base.firm start.base.housed reached_exists;
         since = record {
@@ -427,6 +438,7 @@ idles_with c after n others z reached none opened =
         sound = now.sound;
         same = now.same;
         counts = now.counts;
+        parameters = now.parameters;
         firm = now.firm;
         housed = now.housed;
         stand = now.stand;

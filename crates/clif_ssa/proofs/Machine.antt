@@ -20,7 +20,7 @@ use Rattle.clif_records.specs.Tables.{is_yes}
 use Rattle.clif_ssa.specs.Ssa.{SsaState, record_of, sealed_of, predecessors_of, zeroed, zero_value}
 use Rattle.clif_records.specs.Stacks.{calls_for, LookUpState, no_look_up}
 use Rattle.clif_ssa.specs.LookUp.{branch_block, Stage, Copies, FinishesLookUp, MakesLook, MakesFinish, MakesCall, MakesCalls, none_made, made, UsesVariable, CompletesParameter, with_calls}
-use Rattle.clif_ssa.specs.Sound.{Describes, CountsArguments, IsWaiting, SameProgram, KeepsAndKnows, has_entry}
+use Rattle.clif_ssa.specs.Sound.{Describes, CountsArguments, IsWaiting, SameProgram, KeepsParameters, KeepsAndKnows, has_entry}
 use Rattle.clif_ssa.specs.SoundLaws.{with_entry, DescribesSoundly}
 use Rattle.clif_ssa.proofs.Bodies.{Firm, firm_from, param_exists, param_origin}
 use Rattle.clif_ssa.proofs.Housing.{Housed, housed_from}
@@ -31,6 +31,7 @@ use Rattle.clif_ssa.proofs.Counting.{inserted_counted}
 use Rattle.clif_ssa.proofs.Walking.{copied_described, copied_counted}
 use Rattle.clif_ssa.proofs.Ordering.{nothing_contained, none_contained}
 use Rattle.clif_ssa.proofs.FrameEnds.{Ended, stage_is, zero_ends, finished, finishes}
+use Rattle.clif_ssa.proofs.KeptParameters.{itself_parameters, entry_parameters}
 use Rattle.clif_ssa.proofs.Looking.{Expecting, Opens, Opened, new_frame, idles_with, rests_with, looks_up}
 
 -- THE STACKS ------------------------------------------------------------------------------------------------------
@@ -49,6 +50,7 @@ refit c f g frames tables m look_up same base =
       sound = base.sound;
       same = base.same;
       counts = base.counts;
+      parameters = base.parameters;
       firm = base.firm;
       housed = base.housed;
       stand = base.stand;
@@ -223,7 +225,8 @@ idle_ends c param block tables m base none home goes nothing =
       apart = tt;
       below = entered_goes m.function.layout m.state block tables (comes_from c) x c.first param goes;
     } in
-    zero_ends c f [] tables entered m base now.0 (inserted_counted c.own m.function m.state tables entered block same.definition base.counts) now.1 same.program rest refl
+    zero_ends c f [] tables entered m base now.0 (inserted_counted c.own m.function m.state tables entered block same.definition base.counts)
+    (entry_parameters m.function.layout m.state block tables base.describes.recorded) now.1 same.program rest refl
     (λ arm joins at.
     elim (arm_from c.own (inserted_in m.function block) m.state (p ∷ c.rest) entered block arm now.0 joins at) [
       | inl start ↦ inl start.0
@@ -337,6 +340,7 @@ uses own tables x ty block m n value nothing firm housed stand before counts sou
         sound = sound;
         same = record { count = λ k. refl; assigned = λ p y. refl; naming = λ j. refl; answer = λ j. refl };
         counts = counts;
+        parameters = itself_parameters tables m.state m.state before.recorded (λ v b. refl);
         firm = firm;
         housed = housed;
         stand = stand;
@@ -356,7 +360,14 @@ uses own tables x ty block m n value nothing firm housed stand before counts sou
     last_result_answers hands.tables (comes_from c) x block hands.value (record { sound = hands.base.sound; goes = hands.goes }) in
     record {
       kept = record {
-        kept = record { tables = hands.tables; describes = hands.base.describes; sound = hands.base.sound; same = hands.base.same; counts = hands.base.counts };
+        kept = record {
+          tables = hands.tables;
+          describes = hands.base.describes;
+          sound = hands.base.sound;
+          same = hands.base.same;
+          counts = hands.base.counts;
+          parameters = hands.base.parameters;
+        };
         known = subst (λ v. Knows hands.tables block x v) at known;
       };
       firm = hands.base.firm;
@@ -383,6 +394,7 @@ pub record Completes (own : Own) (before : Blocks) (rest : List Pending) (m n : 
   pub sound : BlocksSound tables
   pub same : SameProgram before tables
   pub counts : CountsArguments own n.function n.state tables
+  pub parameters : KeepsParameters before tables n.state
   pub firm : Firm n.function
   pub housed : Housed n.function
   pub stand : BranchesStand n.function n.state
@@ -419,6 +431,7 @@ completes_keeps own tables x ty param block rest m n no_calls no_results firm ho
       sound = sound;
       same = record { count = λ k. refl; assigned = λ q y. refl; naming = λ j. refl; answer = λ j. refl };
       counts = copied_counted own m.function m.state t tables x param [] counts complete.same_predecessors;
+      parameters = itself_parameters tables m.state t before.recorded complete.same_records;
       firm = firm;
       housed = housed;
       stand = stand;
@@ -458,6 +471,7 @@ completes_keeps own tables x ty param block rest m n no_calls no_results firm ho
       sound = hands.base.sound;
       same = hands.base.same;
       counts = hands.base.counts;
+      parameters = hands.base.parameters;
       firm = hands.base.firm;
       housed = hands.base.housed;
       stand = stand_since m.function m.state complete.done.function complete.done.state stand hands.base.since;

@@ -68,15 +68,15 @@ recorded_then old mid new x value b blocks first next y c =
 
 pub looks_up : (x : ℕ) (ty : «Type») (block : ℕ) (passed : List ℕ) (reached value : ℕ) (m n : Stage) (t : SsaState)
     → WalksTo m.function m.state x block passed reached → reached < length m.function.blocks → Got x ty reached value m n
-    → Copies n.state t x value (before_first reached passed) → t.blocks ≡ n.state.blocks → SameLookups n.state t
+    → Copies n.state t x value (before_first reached passed) → t.blocks ≡ n.state.blocks → SameLookups n.state t → t.tracking ≡ n.state.tracking
     → LooksUp x ty block m (stage n.function t n.look_up)
-looks_up x ty block passed reached value m n t walks exists got copies blocks lookups = by (record_of m.state x reached) refl
+looks_up x ty block passed reached value m n t walks exists got copies blocks lookups tracking = by (record_of m.state x reached) refl
   where
     same_sealed : (b : ℕ) → sealed_of t b ≡ sealed_of n.state b
-    same_sealed b = ap (λ bs. let s : SsaState = record { records = t.records; blocks = bs } in sealed_of s b) blocks
+    same_sealed b = ap (λ bs. let s : SsaState = record t { blocks = bs } in sealed_of s b) blocks
 
     same_predecessors : (b : ℕ) → predecessors_of t b ≡ predecessors_of n.state b
-    same_predecessors b = ap (λ bs. let s : SsaState = record { records = t.records; blocks = bs } in predecessors_of s b) blocks
+    same_predecessors b = ap (λ bs. let s : SsaState = record t { blocks = bs } in predecessors_of s b) blocks
 
     copies_to : (v : ℕ) → value ≡ v → n.state ≡ m.state → record_of m.state x reached ≡ Some v → Copies m.state t x v passed
     copies_to v is same at =
@@ -94,6 +94,7 @@ looks_up x ty block passed reached value m n t walks exists got copies blocks lo
       copies = subst (λ w. Copies m.state t x w (reached ∷ before_first reached passed)) is
           (recorded_then (record_of m.state) (record_of n.state) (record_of t) x value reached (before_first reached passed)
           (λ y c. adds.recorded y c ∙ ap (λ w. if y == x && c == reached then Some w else record_of m.state y c) (sym is)) copies);
+      tracking = tracking ∙ adds.tracking;
       predecessors = λ b. same_predecessors b ∙ adds.predecessors b;
     }
 
@@ -129,6 +130,7 @@ looks_up x ty block passed reached value m n t walks exists got copies blocks lo
           blocks = λ b. same_sealed b ∙ ap (λ (s : SsaState). sealed_of s b) all.2;
           predecessors = λ b. same_predecessors b ∙ ap (λ (s : SsaState). predecessors_of s b) all.2;
           lookups = λ y b. lookups y b ∙ ap (λ (s : SsaState). lookups_of s y b) all.2;
+          tracking = tracking ∙ ap (λ (s : SsaState). s.tracking) all.2;
           look_up = all.3;
         })
     by None none = inr (sealed_or_not (got.adds none).1 (got.adds none).0 none (is_yes (sealed_of m.state reached)) refl)
@@ -147,9 +149,9 @@ pub looked-named : (g : Body) (mid t : SsaState) (value : ℕ) → value < lengt
     → ((y b v : ℕ) → record_of t y b ≡ Some v → (record_of mid y b ≡ Some v) ⊎ (v ≡ value)) → NamesExist g mid → NamesExist g t
 looked-named g mid t value exists blocks recorded named =
     named-more g g mid t (has_more g)
-    (λ b. ap (λ bs. let s : SsaState = record { records = t.records; blocks = bs } in predecessors_of s b) blocks)
+    (λ b. ap (λ bs. let s : SsaState = record t { blocks = bs } in predecessors_of s b) blocks)
     (λ y b v is. elim (recorded y b v is) [ inl old ↦ inl old | inr new ↦ inr (omega (arith, exists, new)) ])
-    (λ b p here. inl (subst (λ bs. let s : SsaState = record { records = t.records; blocks = bs } in Contains (pending_of (sealed_of s b)) p) blocks here))
+    (λ b p here. inl (subst (λ bs. let s : SsaState = record t { blocks = bs } in Contains (pending_of (sealed_of s b)) p) blocks here))
     named
 
 inside_more : (f : Body) (b : ℕ) (ty : «Type») → length f.values < length (with_param f b ty).values

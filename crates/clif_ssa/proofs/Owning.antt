@@ -98,7 +98,7 @@ inst_kept own f s blocks blocks' b shape types loc before extends counts sealed 
           (ordered_given own (with_own own b (length f.insts) shape) f s [] blocks (given_still own f s [] blocks b shape before) (ordered_of own f s [] blocks before));
     }
 
-born_or_complete : {x : ℕ} → ◌≡◌ {A = Kind} (born x) complete → ⊥
+born_or_complete : {x y : ℕ} → ◌≡◌ {A = Kind} (born x) (complete y) → ⊥
 born_or_complete same = cc
 
 born_or_pending : {x y : ℕ} → ◌≡◌ {A = Kind} (born x) (pending y) → ⊥
@@ -111,8 +111,8 @@ born_kinds blocks place names v = record {
   pending_before = λ w b x is. pending_case w b x is (values_cases place blocks.function.definition names v w);
 }
   where
-    complete_case : (w b : ℕ) → all_born place blocks.function.definition names v w ≡ record { home = front b; kind = complete }
-        → IsBorn place blocks.function.definition names v w → blocks.function.definition w ≡ record { home = front b; kind = complete }
+    complete_case : {made_for : ℕ} (w b : ℕ) → all_born place blocks.function.definition names v w ≡ record { home = front b; kind = complete made_for }
+        → IsBorn place blocks.function.definition names v w → blocks.function.definition w ≡ record { home = front b; kind = complete made_for }
     complete_case w b is (inl new) = absurd (born_or_complete (ap (λ (d : Definition). d.kind) (sym new.4 ∙ is)))
     complete_case w b is (inr old) = sym old ∙ is
 

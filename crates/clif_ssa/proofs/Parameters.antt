@@ -210,8 +210,8 @@ parameter_described own f s t completing blocks x b ty firm before there none wr
     let waits_new : IsWaiting g after b (new_pending f x) = record { parameter = param_home_new f b ty; defined = is_new } in
     let home_before : (v c : ℕ) → v ≢ n → param_home g v ≡ Some c → param_home f v ≡ Some c =
     λ v c other is. sym (home-append f.values (param_node ty b ∷ []) v (omega (arith, param_exists g v c is, long, other))) ∙ is in
-    let complete_old : (v c : ℕ) → after.function.definition v ≡ record { home = front c; kind = complete } → (v ≢ n) × (blocks.function.definition v ≡ record { home = front c; kind = complete }) =
-    λ v c is.
+    let complete_old : (made_for v c : ℕ) → after.function.definition v ≡ record { home = front c; kind = complete made_for } → (v ≢ n) × (blocks.function.definition v ≡ record { home = front c; kind = complete made_for }) =
+    λ made_for v c is.
     let other : v ≢ n = λ one. pending_or_complete (ap (λ (d : Definition). d.kind) (sym is_new) ∙ ap (λ w. (after.function.definition w).kind) (sym one) ∙ ap (λ (d : Definition). d.kind) is) in
     (other, sym (is_old v other) ∙ is) in
     record {
@@ -274,12 +274,12 @@ parameter_described own f s t completing blocks x b ty firm before there none wr
             | inl old ↦ before.waiting_recorded c p old old_none.1
             | inr now ↦ some_or_none (sym (recorded_here x b n (record_of s x b)) ∙ sym (written x b) ∙ ap (λ y. record_of t y b) (ap (λ (q : Pending). q.variable) now.1) ∙ ap (λ d. record_of t p.variable d) (sym now.0) ∙ is)
           ];
-      complete_there = λ c v is.
-          let old : (v ≢ n) × (blocks.function.definition v ≡ record { home = front c; kind = complete }) = complete_old v c is in
+      complete_there = λ {made_for} c v is.
+          let old : (v ≢ n) × (blocks.function.definition v ≡ record { home = front c; kind = complete made_for }) = complete_old made_for v c is in
           let home : param_home f v ≡ Some c = before.complete_there c v old.1 in
           home-append f.values (param_node ty b ∷ []) v (param_exists f v c home) ∙ home;
-      complete_first = λ c v u y is pends home.
-          let old : (v ≢ n) × (blocks.function.definition v ≡ record { home = front c; kind = complete }) = complete_old v c is in
+      complete_first = λ {made_for} c v u y is pends home.
+          let old : (v ≢ n) × (blocks.function.definition v ≡ record { home = front c; kind = complete made_for }) = complete_old made_for v c is in
           let v_home : param_home f v ≡ Some c = before.complete_there c v old.1 in
           elim (cases_eq u n) [
             | inl new_one ↦
@@ -316,15 +316,15 @@ parameter_described own f s t completing blocks x b ty firm before there none wr
                 (param_place_behind f b ty firm there p.param ((before.waiting c p here).parameter ∙ ap Some more.0))) moved)
           ];
       completing_order = λ c. in_order_small (block_at g c).params (parameters_of g c completing) (omega (arith, parameters_fewer g c completing, waits.one));
-      passes = λ c v arm edge is at j belongs.
-          let old : (v ≢ n) × (blocks.function.definition v ≡ record { home = front c; kind = complete }) = complete_old v c is in
+      passes = λ {made_for} c v arm edge is at j belongs.
+          let old : (v ≢ n) × (blocks.function.definition v ≡ record { home = front c; kind = complete made_for }) = complete_old made_for v c is in
           let old_edge : IsEdgeInto f s blocks c arm = edge_before f g s t blocks after c arm edges edge in
           before.passes c v arm old_edge old.1 at j
           (subst (λ k. BelongsTo own c edge.branch arm.edge k j) (param_place f b ty firm there v c (before.complete_there c v old.1)) belongs);
       instructions = λ c. instructions_kept f g blocks after c (own.insts c) extends (param_insts f b ty there c) (before.instructions c);
     }
   where
-    pending_or_complete : {y : ℕ} → ◌≡◌ {A = Kind} (pending y) complete → ⊥
+    pending_or_complete : {x y : ℕ} → ◌≡◌ {A = Kind} (pending y) (complete x) → ⊥
     pending_or_complete one = cc
 
     some_or_none : {y : ℕ} → ◌≡◌ {A = Option ℕ} (Some y) None → ⊥

@@ -10,7 +10,7 @@ use Rattle.clif_records.specs.declared.side_effects.SideEffects.{SideEffects}
 use Rattle.clif_records.specs.declared.tables.Pending.{Pending}
 use Rattle.clif_ssa.specs.Own.{Own}
 use Rattle.clif_records.specs.Tables.{is_yes, pending_of, record_at}
-use Rattle.clif_ssa.specs.Ssa.{SsaState, SomethingLeads, record_of, sealed_of, predecessors_of, SamePredecessors, Seals, Waits, Zeroes}
+use Rattle.clif_ssa.specs.Ssa.{SsaState, SomethingLeads, record_of, sealed_of, predecessors_of, RecordsStay, SamePredecessors, Seals, Waits, Zeroes}
 use Rattle.clif_records.specs.Stacks.{LookUpState, no_look_up}
 use Rattle.clif_ssa.specs.LookUp.{LooksUp, UsesVariable}
 use Rattle.clif_ssa.specs.Running.{stage, found, CompletesAll, MakesAll}
@@ -22,6 +22,7 @@ use Rattle.clif_ssa.proofs.Bodies.{firm_from}
 use Rattle.clif_ssa.proofs.Housing.{housed_from}
 use Rattle.clif_ssa.proofs.Ordering.{contains_first, none_contained}
 use Rattle.clif_ssa.proofs.Completing.{same_program, same_program_then}
+use Rattle.clif_ssa.proofs.KeptParameters.{itself_parameters, parameters_then}
 use Rattle.clif_ssa.proofs.Calling.{Popped}
 use Rattle.clif_ssa.proofs.AllCompleted.{sealing_keeps}
 use Rattle.clif_ssa.proofs.Machine.{uses_keeps}
@@ -36,13 +37,25 @@ something_leads s b some = by (predecessors_of s b) refl
     by [] none = absurd (some none)
     by (i ∷ branches) is = (b, i, subst (λ xs. Contains xs i) (sym is) (contains_first i branches))
 
+-- nothing is constructed
+unfoldable pub keeps_itself : (own : Own) (tables : Blocks) (f : Body) (s : SsaState) → DescribesSoundly own f s tables → Keeps own tables f s
+keeps_itself own tables f s both = record {
+  tables = tables;
+  describes = both.0;
+  sound = both.1;
+  same = same_program tables;
+  counts = both.2;
+  parameters = itself_parameters tables s s both.0.recorded (λ v b. refl);
+}
+
 -- USES ------------------------------------------------------------------------------------------------------------
 
 -- the variable is recorded
 pub known_use : (own : Own) (f : Body) (s : SsaState) (tables : Blocks) (x b v : ℕ) → DescribesSoundly own f s tables → record_of s x b ≡ Some v
     → KeepsAndKnows own tables f s b x v
+unfolding keeps_itself
 known_use own f s tables x b v both is = record {
-  kept = record { tables = tables; describes = both.0; sound = both.1; same = same_program tables; counts = both.2 };
+  kept = keeps_itself own tables f s both;
   known = record { value = v; is_recorded = both.0.recorded b x ∙ is; resolves = refl };
 }
 
@@ -102,12 +115,13 @@ popped_nothing ty f s l nothing = subst (λ k. Popped ty (stage f s k)) (sym not
 -- SEALING ---------------------------------------------------------------------------------------------------------
 
 pub seals_by_look_up : (f g : Body) (s r t : SsaState) (b : ℕ) (waiting : List Pending) (first last : LookUpState) (told : List ℕ)
-    → r.records ≡ s.records → Seals s r b → SamePredecessors s r → waiting ≡ pending_of (sealed_of s b) → first ≡ no_look_up
+    → r.records ≡ s.records → r.tracking ≡ s.tracking → Seals s r b → SamePredecessors s r → waiting ≡ pending_of (sealed_of s b) → first ≡ no_look_up
     → CompletesAll b waiting (stage f r first) (stage g t last) → told ≡ last.zeros → SealsByLookUp f s g t b told
-seals_by_look_up f g s r t b waiting first last told records seals same list nothing completes is_told = record {
+seals_by_look_up f g s r t b waiting first last told records tracking seals same list nothing completes is_told = record {
   sealed = r;
   look_up = last;
   records = λ v c. ap (λ rows. record_at rows v c) records;
+  tracking = tracking;
   seals = seals;
   predecessors = same;
   completes =
@@ -137,14 +151,18 @@ seal_keeps own f g s t tables b (Ok r) known spares both same locally looks = by
         sealing_keeps own f s case.sealed tables b no_look_up (stage g t case.look_up) known both case.records case.seals case.predecessors spares refl refl case.completes
 
 -- what is kept in turn
-pub keeps_then : (own : Own) (tables : Blocks) (f g : Body) (s t : SsaState) (first : Keeps own tables f s)
+pub keeps_then : (own : Own) (tables : Blocks) (f g : Body) (s t : SsaState) (first : Keeps own tables f s) → RecordsStay s t
     → ((blocks : Blocks) → DescribesSoundly own f s blocks → Keeps own blocks g t) → Keeps own tables g t
-keeps_then own tables f g s t first next =
+keeps_then own tables f g s t first stay next =
     let then : Keeps own first.tables g t = next first.tables (first.describes, first.sound, first.counts) in
-    record { tables = then.tables; describes = then.describes; sound = then.sound; same = same_program_then tables first.tables then.tables first.same then.same; counts = then.counts }
-
-pub keeps_itself : (own : Own) (tables : Blocks) (f : Body) (s : SsaState) → DescribesSoundly own f s tables → Keeps own tables f s
-keeps_itself own tables f s both = record { tables = tables; describes = both.0; sound = both.1; same = same_program tables; counts = both.2 }
+    record {
+      tables = then.tables;
+      describes = then.describes;
+      sound = then.sound;
+      same = same_program_then tables first.tables then.tables first.same then.same;
+      counts = then.counts;
+      parameters = parameters_then tables first.tables then.tables s t first.describes.recorded stay first.parameters then.parameters;
+    }
 
 -- a block that is no entry with branches is none later: the layout may have more blocks behind, and the branches stay
 pub spares_later : (f g : Body) (s t : SsaState) → OnlyConstructs f g → SamePredecessors s t → ((b i : ℕ) → Contains (predecessors_of s b) i → has_entry f.layout ≡ true)

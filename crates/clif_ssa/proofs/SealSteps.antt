@@ -29,11 +29,11 @@ same_lookups s t records x b = ap (λ rows. lookups_at rows x b) records
 
 -- IT ISN'T SEALED -------------------------------------------------------------------------------------------------
 
-pub refused_makes : (b : ℕ) (f : Body) (s t : SsaState) (e : BuildError) → t.records ≡ s.records → SameBlocks s t → SealMakes b f s f t (Err e)
-refused_makes b f s t e records blocks = record {
+pub refused_makes : (b : ℕ) (f : Body) (s t : SsaState) (e : BuildError) → t.records ≡ s.records → t.tracking ≡ s.tracking → SameBlocks s t → SealMakes b f s f t (Err e)
+refused_makes b f s t e records tracking blocks = record {
   sealed = tt;
   err = inl (λ c. ap is_yes (blocks c));
-  local = λ _. record { sealed = tt; refused = inl blocks; records = same_records s t records; counted = tt; function = tt; told = tt };
+  local = λ _. record { sealed = tt; refused = inl blocks; records = same_records s t records; tracking = tracking; counted = tt; function = tt; told = tt };
   completes = λ _. tt;
   tells = tt;
 }
@@ -51,16 +51,16 @@ refused_keeps b f s t records blocks same known = record {
 
 -- NOTHING LEADS TO IT ---------------------------------------------------------------------------------------------
 
-pub local_makes : (b : ℕ) (f g : Body) (s t u : SsaState) (waiting : List Pending) (answer : Result SideEffects BuildError) → t.records ≡ s.records → Seals s t b → SamePredecessors s t
-    → waiting ≡ pending_of (sealed_of s b) → (predecessors_of t b ≢ [] → ⊥) → SameRecords t u → u.blocks ≡ t.blocks → OnOk answer (CountsEach t u b waiting)
+pub local_makes : (b : ℕ) (f g : Body) (s t u : SsaState) (waiting : List Pending) (answer : Result SideEffects BuildError) → t.records ≡ s.records → t.tracking ≡ s.tracking → Seals s t b → SamePredecessors s t
+    → waiting ≡ pending_of (sealed_of s b) → (predecessors_of t b ≢ [] → ⊥) → SameRecords t u → u.tracking ≡ t.tracking → u.blocks ≡ t.blocks → OnOk answer (CountsEach t u b waiting)
     → OnOk answer (g ≡ completed f waiting) → IfOk answer (λ r. r.instructions_added_to_blocks.items ≡ completing_blocks f waiting)
     → IfOk answer (λ r. TellsZeros f g r.instructions_added_to_blocks.items) → SealMakes b f s g u answer
-local_makes b f g s t u waiting answer records seals same list alone kept blocks counted function told tells =
+local_makes b f g s t u waiting answer records before seals same list alone kept after blocks counted function told tells =
     let one : SealsOne s u b = seals-one s t u b seals (λ c. ap (λ known. is_yes (sealed_at known c)) blocks) in
     record {
       sealed = on_any answer one;
       err = on_any_err answer (inr one);
-      local = λ _. sealed-locally f g s t u b waiting answer seals (same_records s t records) kept (same_lookups s t records) counted blocks list function told;
+      local = λ _. sealed-locally f g s t u b waiting answer seals (same_records s t records) kept (same_lookups s t records) before after counted blocks list function told;
       completes = λ some. absurd (alone (λ none. some (sym (same b) ∙ none)));
       tells = tells;
     }
@@ -93,15 +93,15 @@ failed_makes b f g s t u e seals same some leaves = record {
   tells = tt;
 }
 
-pub looked_makes : (b : ℕ) (f g : Body) (s t u : SsaState) (waiting : List Pending) (first last : LookUpState) (answer : SideEffects) → t.records ≡ s.records → Seals s t b
+pub looked_makes : (b : ℕ) (f g : Body) (s t u : SsaState) (waiting : List Pending) (first last : LookUpState) (answer : SideEffects) → t.records ≡ s.records → t.tracking ≡ s.tracking → Seals s t b
     → SamePredecessors s t → waiting ≡ pending_of (sealed_of s b) → predecessors_of t b ≢ [] → StepLeaves f t g u → first ≡ no_look_up
     → CompletesAll b waiting (stage f t first) (stage g u last) → TellsMore f g first.zeros last.zeros → answer.instructions_added_to_blocks.items ≡ last.zeros
     → SealMakes b f s g u (Ok answer)
-looked_makes b f g s t u waiting first last answer records seals same list some leaves new completes tells told = record {
+looked_makes b f g s t u waiting first last answer records tracking seals same list some leaves new completes tells told = record {
   sealed = seals-one s t u b seals leaves.flags;
   err = tt;
   local = λ none. absurd (some (same b ∙ none));
-  completes = λ _. seals_by_look_up f g s t u b waiting first last answer.instructions_added_to_blocks.items records seals same list new completes told;
+  completes = λ _. seals_by_look_up f g s t u b waiting first last answer.instructions_added_to_blocks.items records tracking seals same list new completes told;
   tells = subst (λ xs. TellsZeros f g xs) (sym told) (tells_all f g first.zeros last.zeros (ap (λ (l : LookUpState). l.zeros) new) tells);
 }
 

@@ -11,6 +11,7 @@ use Rattle.clif_records.specs.declared.tables.Sealed.TheVariants.{No}
 use Rattle.clif_ssa.specs.Constructs.{OnlyConstructs}
 use Rattle.clif_ssa.specs.Pools.{MayPool, UseIsFull}
 use Rattle.clif_records.specs.Stacks.{LookUpState, calls_for}
+use Rattle.clif_records.specs.Tracking.{with_binding}
 use Rattle.clif_ssa.specs.Running.{stage, CountsOnce, Got}
 use Rattle.clif_ssa.specs.Ssa.{SsaState, record_of, sealed_of, predecessors_of, HasMore, KnowsNoMore, Records, RecordsStay, SameBlocks, SameLookups, SamePredecessors, SameRecords, SealedStays, CountsLookup}
 use Rattle.clif_ssa.specs.Steps.{StepKeeps, StepEnds}
@@ -130,7 +131,7 @@ ends_typed ty same g answer is ends = subst (λ (t : «Type»). StepEnds (UseIsF
 
 -- A RECORD --------------------------------------------------------------------------------------------------------
 
-stay_recorded : (s t : SsaState) (x b v : ℕ) → record_of s x b ≡ None → Records s t x b v → RecordsStay s t
+pub stay_recorded : (s t : SsaState) (x b v : ℕ) → record_of s x b ≡ None → Records s t x b v → RecordsStay s t
 stay_recorded s t x b v none recorded y c w is = recorded y c ∙ by (y == x && c == b) refl
   where
     by : (test : Bool) → (y == x && c == b) ≡ test → (if test then Some v else record_of s y c) ≡ Some w
@@ -272,11 +273,12 @@ keeps_begun x f g s t u b ty there none sealed made recorded blocks lookups reco
 
 -- what is had of a parameter that waits, or whose look-up began
 pub got_waiting : (x : ℕ) (ty : «Type») (b v : ℕ) (f g : Body) (s t u : SsaState) (l l' : LookUpState) → record_of s x b ≡ None → is_yes (sealed_of s b) ≡ false
-    → v ≡ length f.values → g ≡ with_param f b ty → Records s t x b (length f.values) → t.blocks ≡ s.blocks → SameLookups s t → u.records ≡ t.records
+    → v ≡ length f.values → g ≡ with_param f b ty → Records s t x b (length f.values) → t.tracking ≡ with_binding s.tracking x (length f.values) → t.blocks ≡ s.blocks → SameLookups s t
+    → u.records ≡ t.records → u.tracking ≡ t.tracking
     → ((c : ℕ) → sealed_of u c ≡ (if c == b then No (pending_of (sealed_of t c) ++ record { variable = x; param = v } ∷ []) else sealed_of t c))
     → SamePredecessors t u → l' ≡ record l { results = v ∷ l.results } → Got x ty b v (stage f s l) (stage g u l')
-got_waiting x ty b v f g s t u l l' none unsealed number made recorded blocks lookups records waiting same pushed =
-    added x ty b f g s u l l' (Ok v) none number made (λ y c. ap (λ rows. record_at rows y c) records ∙ recorded y c)
+got_waiting x ty b v f g s t u l l' none unsealed number made recorded bound blocks lookups records tracking waiting same pushed =
+    added x ty b f g s u l l' (Ok v) none number made (λ y c. ap (λ rows. record_at rows y c) records ∙ recorded y c) (tracking ∙ bound)
     (λ c. same c ∙ ap (λ all. predecessors_at all c) blocks)
     (λ _. (
       waiting_from s t u x b v (length f.values) blocks number waiting,
@@ -286,11 +288,12 @@ got_waiting x ty b v f g s t u l l' none unsealed number made recorded blocks lo
     (λ sealed. absurd (no_yes (sym unsealed ∙ sealed)))
 
 pub got_begun : (x : ℕ) (ty : «Type») (b v : ℕ) (f g : Body) (s t u : SsaState) (l l' : LookUpState) → record_of s x b ≡ None → is_yes (sealed_of s b) ≡ true
-    → v ≡ length f.values → g ≡ with_param f b ty → Records s t x b (length f.values) → t.blocks ≡ s.blocks → SameLookups s t → SameRecords t u → u.blocks ≡ t.blocks
+    → v ≡ length f.values → g ≡ with_param f b ty → Records s t x b (length f.values) → t.tracking ≡ with_binding s.tracking x (length f.values) → t.blocks ≡ s.blocks → SameLookups s t
+    → SameRecords t u → u.blocks ≡ t.blocks → u.tracking ≡ t.tracking
     → CountsLookup t u x b → l' ≡ record l { calls = calls_for (predecessors_of t b) v b ++ l.calls } → Got x ty b v (stage f s l) (stage g u l')
-got_begun x ty b v f g s t u l l' none sealed number made recorded blocks lookups records still counted begun =
+got_begun x ty b v f g s t u l l' none sealed number made recorded bound blocks lookups records still tracking counted begun =
     let all : u.blocks ≡ s.blocks = still ∙ blocks in
-    added x ty b f g s u l l' (Ok v) none number made (λ y c. records y c ∙ recorded y c) (λ c. ap (λ known. predecessors_at known c) all)
+    added x ty b f g s u l l' (Ok v) none number made (λ y c. records y c ∙ recorded y c) (tracking ∙ bound) (λ c. ap (λ known. predecessors_at known c) all)
     (λ unsealed. absurd (no_yes (sym unsealed ∙ sealed)))
     (λ _. (
       λ c. ap (λ known. sealed_at known c) all,

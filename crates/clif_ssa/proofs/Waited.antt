@@ -81,9 +81,9 @@ result-taken l next new value none same one taken =
     )
 
 pub parameter-completed : (x : ℕ) (ty : «Type») (param block value : ℕ) (f : Body) (s t : SsaState) (l k : LookUpState) (n : Stage) → SameRecords s t → t.blocks ≡ s.blocks
-    → CountsLookup s t x block → k ≡ record l { calls = calls_for (predecessors_of s block) param block ++ l.calls } → MakesAll x ty (stage f t k) value n
+    → t.tracking ≡ s.tracking → CountsLookup s t x block → k ≡ record l { calls = calls_for (predecessors_of s block) param block ++ l.calls } → MakesAll x ty (stage f t k) value n
     → CompletesParameter x ty param block (stage f s l) n
-parameter-completed x ty param block value f s t l k n records blocks counted begun all = record {
+parameter-completed x ty param block value f s t l k n records blocks tracking counted begun all = record {
   begun = stage f t k;
   done = all.last;
   value = value;
@@ -91,6 +91,7 @@ parameter-completed x ty param block value f s t l k n records blocks counted be
   same_records = records;
   same_blocks = λ b. ap (λ (bs : List SsaBlock). sealed_at bs b) blocks;
   same_predecessors = λ b. ap (λ (bs : List SsaBlock). predecessors_at bs b) blocks;
+  same_tracking = tracking;
   begins = record { counted = counted; look_up = begun };
   made = all.made;
   answered = ap (λ (j : LookUpState). j.results) all.ended;
@@ -205,13 +206,14 @@ counted-since s t u block waiting pending (Ok r) lookups same counts =
 counted-since s t u block waiting pending (Err e) lookups same counts = tt
 
 pub sealed-locally : (f g : Body) (s t u : SsaState) (b : ℕ) (waiting : List Pending) (answer : Result SideEffects BuildError) → Seals s t b → SameRecords s t → SameRecords t u
-    → SameLookups s t → OnOk answer (CountsEach t u b waiting)
+    → SameLookups s t → t.tracking ≡ s.tracking → u.tracking ≡ t.tracking → OnOk answer (CountsEach t u b waiting)
     → u.blocks ≡ t.blocks → waiting ≡ pending_of (sealed_of s b) → OnOk answer (g ≡ completed f waiting)
     → IfOk answer (λ r. r.instructions_added_to_blocks.items ≡ completing_blocks f waiting) → SealsLocally f s g u b answer
-sealed-locally f g s t u b waiting answer seals first next lookups counts blocks same function told = record {
+sealed-locally f g s t u b waiting answer seals first next lookups before after counts blocks same function told = record {
   sealed = on_any answer (λ c. ap (λ (bs : List SsaBlock). sealed_at bs c) blocks ∙ seals c);
   refused = on_any_err answer (inr (λ c. ap (λ (bs : List SsaBlock). sealed_at bs c) blocks ∙ seals c));
   records = λ x c. next x c ∙ first x c;
+  tracking = after ∙ before;
   counted = counted-since s t u b waiting (pending_of (sealed_of s b)) answer lookups same counts;
   function = subst (λ ps. OnOk answer (g ≡ completed f ps)) same function;
   told = subst (λ ps. IfOk answer (λ r. r.instructions_added_to_blocks.items ≡ completing_blocks f ps)) same told;

@@ -181,7 +181,7 @@ block_described own f s blocks before = blocks_described own f (f.blocks ++ empt
 
 -- THE FIRST TABLES ------------------------------------------------------------------------------------------------
 
-unborn_or_complete : ◌≡◌ {A = Kind} Kind.unborn complete → ⊥
+unborn_or_complete : {x : ℕ} → ◌≡◌ {A = Kind} Kind.unborn (complete x) → ⊥
 unborn_or_complete same = cc
 
 pub first_described : (name : UserFuncName) (signature : SignatureShape) → DescribesSoundly no_own (empty_body name signature) no_state no_blocks

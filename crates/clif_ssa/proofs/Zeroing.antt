@@ -94,7 +94,7 @@ zero_described own f s completing blocks b x ty firm before there =
     (record {
       edges = edges;
       passed = same_passed f g s blocks after old_arms extends;
-      kinds = new_kinds blocks after z new is_new is_old (λ is. zero_or_complete is) (λ y is. zero_or_pending is);
+      kinds = new_kinds blocks after z new is_new is_old (λ y is. zero_or_complete is) (λ y is. zero_or_pending is);
       params = put_params f b ty;
       homes = same_home;
       entries = λ c. refl;
@@ -149,7 +149,7 @@ zero_described own f s completing blocks b x ty firm before there =
     zero_or_pending : {x y : ℕ} → ◌≡◌ {A = Kind} (zero_of x) (pending y) → ⊥
     zero_or_pending same = cc
 
-    zero_or_complete : {x : ℕ} → ◌≡◌ {A = Kind} (zero_of x) complete → ⊥
+    zero_or_complete : {x y : ℕ} → ◌≡◌ {A = Kind} (zero_of x) (complete y) → ⊥
     zero_or_complete same = cc
 
 -- THE ALIAS -------------------------------------------------------------------------------------------------------
@@ -341,7 +341,7 @@ alias_pends own f s p ps blocks z b can sealed before v y ends is =
               ]
         ]
 
-pending_or_complete : {x : ℕ} → ◌≡◌ {A = Kind} (pending x) complete → ⊥
+pending_or_complete : {x y : ℕ} → ◌≡◌ {A = Kind} (pending x) (complete y) → ⊥
 pending_or_complete same = cc
 
 -- those that are still to be completed are parameters of the same blocks
@@ -393,15 +393,15 @@ pub alias_order : (own : Own) (f : Body) (s : SsaState) (p : Pending) (ps : List
 alias_order own f s p ps blocks z b can sealed before edges =
     let v : ℕ = p.param in
     let g : Body = with_alias f v z in
-    let complete_other : (u c : ℕ) → blocks.function.definition u ≡ record { home = front c; kind = complete } → u ≢ v =
-    λ u c is same. pending_or_complete (sym (ap (λ (d : Definition). d.kind) sealed.waits) ∙ ap (λ w. (blocks.function.definition w).kind) (sym same) ∙ ap (λ (d : Definition). d.kind) is) in
+    let complete_other : (made_for u c : ℕ) → blocks.function.definition u ≡ record { home = front c; kind = complete made_for } → u ≢ v =
+    λ made_for u c is same. pending_or_complete (sym (ap (λ (d : Definition). d.kind) sealed.waits) ∙ ap (λ w. (blocks.function.definition w).kind) (sym same) ∙ ap (λ (d : Definition). d.kind) is) in
     record {
-      complete_there = λ c u is. alias_home_other f v z u (complete_other u c is) ∙ before.complete_there c u is;
-      complete_first = λ c u w x is pends home.
+      complete_there = λ {made_for} c u is. alias_home_other f v z u (complete_other made_for u c is) ∙ before.complete_there c u is;
+      complete_first = λ {made_for} c u w x is pends home.
           let w_other : w ≢ v = λ same. none_some (sym (alias_home_same f v z b can) ∙ ap (param_home g) (sym same) ∙ home) in
           let old : place_of u (block_at f c).params < place_of w (block_at f c).params = before.complete_first c u w x is pends (sym (alias_home_other f v z w w_other) ∙ home) in
           elim (alias_params f v z b can c) [
-            | inl here ↦ subst (λ params. place_of u params < place_of w params) (sym here.1) (order_without u w v (block_at f c).params (complete_other u c is) w_other old)
+            | inl here ↦ subst (λ params. place_of u params < place_of w params) (sym here.1) (order_without u w v (block_at f c).params (complete_other made_for u c is) w_other old)
             | inr apart ↦ subst (λ params. place_of u params < place_of w params) (sym apart.1) old
           ];
       waiting_order = λ c.

@@ -15,3 +15,5 @@ pub mod Structure
 pub mod Structured
 pub mod Within
 pub mod Moving
+pub mod Lending
+pub mod Tracked

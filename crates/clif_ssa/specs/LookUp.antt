@@ -13,6 +13,7 @@ use Rattle.clif_records.specs.declared.look_up.Call.TheVariants.{UseVar, FinishP
 use Rattle.clif_records.specs.declared.tables.Sealed.TheVariants.{No}
 use Rattle.clif_records.specs.Tables.{is_yes, pending_of}
 use Rattle.clif_records.specs.Passed.{before_first}
+use Rattle.clif_records.specs.Tracking.{with_binding}
 use Rattle.clif_records.specs.Stacks.{LookUpState, calls_for}
 use Rattle.clif_ssa.specs.Ssa.{SsaState, record_of, sealed_of, predecessors_of, zeroed, zero_value, SameBlocks, SamePredecessors, SameLookups, CountsLookup}
 
@@ -70,6 +71,7 @@ pub record FindsRecord (x block : ℕ) (m n : Stage) : Type 0 where
   pub blocks : SameBlocks m.state n.state
   pub predecessors : SamePredecessors m.state n.state
   pub lookups : SameLookups m.state n.state
+  pub tracking : n.state.tracking ≡ m.state.tracking
   pub look_up : n.look_up ≡ record m.look_up { results = value ∷ m.look_up.results }
 
 -- it finds none: a new parameter of the block reached is recorded there and in the blocks passed until then
@@ -80,6 +82,7 @@ pub record AddsParameter (x : ℕ) (ty : «Type») (block reached : ℕ) (m n : 
   pub unrecorded : record_of m.state x reached ≡ None
   pub function : n.function ≡ with_param m.function reached ty
   pub copies : Copies m.state n.state x (length m.function.values) (reached ∷ before_first reached passed)
+  pub tracking : n.state.tracking ≡ with_binding m.state.tracking x (length m.function.values)
   pub predecessors : SamePredecessors m.state n.state
 
 -- where that block is unsealed, the parameter waits, and is a result
@@ -227,6 +230,7 @@ pub record CompletesParameter (x : ℕ) (ty : «Type») (param block : ℕ) (m n
   pub same_records : (y b : ℕ) → record_of begun.state y b ≡ record_of m.state y b
   pub same_blocks : SameBlocks m.state begun.state
   pub same_predecessors : SamePredecessors m.state begun.state
+  pub same_tracking : begun.state.tracking ≡ m.state.tracking
   pub begins : BeginsLookUp x param block m begun
   pub made : MakesCalls x ty begun done
   pub answered : done.look_up.results ≡ value ∷ []

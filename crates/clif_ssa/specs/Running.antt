@@ -9,6 +9,7 @@ use Rattle.clif_records.specs.declared.look_up.Call.TheVariants.{UseVar, FinishP
 use Rattle.clif_records.specs.declared.tables.Pending.{Pending}
 use Rattle.clif_records.specs.declared.tables.Sealed.TheVariants.{No}
 use Rattle.clif_records.specs.Tables.{is_yes, pending_of}
+use Rattle.clif_records.specs.Tracking.{with_binding}
 use Rattle.clif_ssa.specs.Ssa.{SsaState, record_of, lookups_of, sealed_of, predecessors_of, Records, SameBlocks, SamePredecessors, SameLookups}
 use Rattle.clif_records.specs.Stacks.{LookUpState}
 use Rattle.clif_ssa.specs.LookUp.{Stage, BeginsLookUp, CompletesParameter, MakesCalls}
@@ -57,6 +58,7 @@ work_of m x = length m.look_up.calls + work_below m.state x (length m.function.b
 pub record Adds (x : ℕ) (ty : «Type») (block : ℕ) (m n : Stage) : Type 0 where
   pub function : n.function ≡ with_param m.function block ty
   pub recorded : Records m.state n.state x block (length m.function.values)
+  pub tracking : n.state.tracking ≡ with_binding m.state.tracking x (length m.function.values)
   pub predecessors : SamePredecessors m.state n.state
   pub waits : is_yes (sealed_of m.state block) ≡ false
       → ((b : ℕ) → sealed_of n.state b ≡ (if b == block then No (pending_of (sealed_of m.state b) ++ record { variable = x; param = length m.function.values } ∷ []) else sealed_of m.state b))

@@ -17,6 +17,7 @@ pub record SealsLocally (f : Body) (s : SsaState) (g : Body) (t : SsaState) (blo
   pub sealed : OnOk answer (Seals s t block)
   pub refused : OnErr answer (SameBlocks s t ⊎ Seals s t block)
   pub records : SameRecords s t
+  pub tracking : t.tracking ≡ s.tracking
   pub counted : OnOk answer (CountsEach s t block (pending_of (sealed_of s block)))
   pub function : OnOk answer (g ≡ completed f (pending_of (sealed_of s block)))
   pub told : IfOk answer (λ r. r.instructions_added_to_blocks.items ≡ completing_blocks f (pending_of (sealed_of s block)))
@@ -27,6 +28,7 @@ pub record SealsByLookUp (f : Body) (s : SsaState) (g : Body) (t : SsaState) (bl
   pub sealed : SsaState
   pub look_up : LookUpState
   pub records : SameRecords s sealed
+  pub tracking : sealed.tracking ≡ s.tracking
   pub seals : Seals s sealed block
   pub predecessors : SamePredecessors s sealed
   pub completes : CompletesAll block (pending_of (sealed_of s block)) (stage f sealed no_look_up) (stage g t look_up)

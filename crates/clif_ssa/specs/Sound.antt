@@ -85,7 +85,7 @@ HomeFits blocks v (born n) =
     (blocks.naming n ≡ record { home = (blocks.function.definition v).home; origin = fresh })
     × (blocks.answer n ≡ v) × ((blocks.function.definition v).home ≢ start)
 HomeFits blocks v (pending x) = (block : ℕ) × ((blocks.function.definition v).home ≡ front block)
-HomeFits blocks v complete = (block : ℕ) × ((blocks.function.definition v).home ≡ front block) × (blocks.sealed block ≡ true)
+HomeFits blocks v (complete x) = (block : ℕ) × ((blocks.function.definition v).home ≡ front block) × (blocks.sealed block ≡ true)
 HomeFits blocks v (zero_of x) = (block : ℕ) × ((blocks.function.definition v).home ≡ front block)
 
 -- the edges of an instruction
@@ -157,15 +157,16 @@ pub record Describes (own : Own) (f : Body) (s : SsaState) (completing : List Pe
       ⊎ Contains completing (record { variable = x; param = v })
   pub waiting_recorded : (b : ℕ) (p : Pending) → Contains (pending_of (sealed_of s b)) p → record_of s p.variable b ≢ None
   -- a complete parameter is one of its block, before those that wait; they stand in the order in which they are completed
-  pub complete_there : (b v : ℕ) → blocks.function.definition v ≡ record { home = front b; kind = complete } → param_home f v ≡ Some b
-  pub complete_first : (b v u x : ℕ) → blocks.function.definition v ≡ record { home = front b; kind = complete }
+  pub complete_there : {made_for : ℕ} (b v : ℕ) → blocks.function.definition v ≡ record { home = front b; kind = complete made_for }
+      → param_home f v ≡ Some b
+  pub complete_first : {made_for : ℕ} (b v u x : ℕ) → blocks.function.definition v ≡ record { home = front b; kind = complete made_for }
       → blocks.function.definition u ≡ record { home = front b; kind = pending x } → param_home f u ≡ Some b
       → place_of v (block_at f b).params < place_of u (block_at f b).params
   pub waiting_order : (b : ℕ) → InOrder (block_at f b).params (pending_of (sealed_of s b))
   pub completing_order : (b : ℕ) → InOrder (block_at f b).params (parameters_of f b completing)
   -- each edge to its block passes what the arm gives it, where that belongs to it
-  pub passes : (b v : ℕ) (arm : Arm) (edge : IsEdgeInto f s blocks b arm)
-      → blocks.function.definition v ≡ record { home = front b; kind = complete } → arm.target ≡ front b
+  pub passes : {made_for : ℕ} (b v : ℕ) (arm : Arm) (edge : IsEdgeInto f s blocks b arm)
+      → blocks.function.definition v ≡ record { home = front b; kind = complete made_for } → arm.target ≡ front b
       → (j : ℕ) → BelongsTo own b edge.branch arm.edge (place_of v (block_at f b).params) j
       → passed_at f edge.branch arm.edge j ≡ Some (Value (blocks.function.argument v arm))
   -- the blocks' instructions
@@ -180,7 +181,7 @@ abbrev pub IsBehind : Kind → ℕ → ℕ → Type 0
 IsBehind unborn place callers = ⊥
 IsBehind (born n) place callers = place < callers
 IsBehind (pending x) place callers = callers ≤ place
-IsBehind complete place callers = callers ≤ place
+IsBehind (complete x) place callers = callers ≤ place
 IsBehind (zero_of x) place callers = ⊥
 
 -- An edge that passes so many arguments, so many of them the caller's, passes one more to each complete parameter and
@@ -189,7 +190,7 @@ abbrev pub IsCounted : Kind → ℕ → ℕ → ℕ → ℕ → Type 0
 IsCounted unborn place callers count given = Unit {0}
 IsCounted (born n) place callers count given = Unit {0}
 IsCounted (pending x) place callers count given = count + callers ≤ place + given
-IsCounted complete place callers count given = place + given < count + callers
+IsCounted (complete x) place callers count given = place + given < count + callers
 IsCounted (zero_of x) place callers count given = Unit {0}
 
 -- In each block the caller's parameters come first. The edges of the branches that lead to it pass what the caller
@@ -216,14 +217,39 @@ pub record SameProgram (blocks blocks' : Blocks) : Type 0 where
   pub naming : (n : ℕ) → blocks'.naming n ≡ blocks.naming n
   pub answer : (n : ℕ) → blocks'.answer n ≡ blocks.answer n
 
+-- the value is a parameter that was made for the variable
+abbrev pub IsParameterFor : Blocks → ℕ → ℕ → Type 0
+IsParameterFor blocks v x =
+    ((blocks.function.definition v).kind ≡ pending x) ⊎ ((blocks.function.definition v).kind ≡ complete x)
+
+-- what a value is stays; a parameter that waited may be complete
+abbrev pub KindStays : Kind → Kind → Type 0
+KindStays unborn kind = Unit {0}
+KindStays (born n) kind = kind ≡ born n
+KindStays (pending x) kind = (kind ≡ pending x) ⊎ (kind ≡ complete x)
+KindStays (complete x) kind = kind ≡ complete x
+KindStays (zero_of x) kind = kind ≡ zero_of x
+
+-- From the tables before a call to those behind it: each value stays what it is, also one that becomes an alias; a
+-- parameter that is new is on record for its variable in some block; and what is on record for a variable was so
+-- before, in some block, or is a new parameter that was made for it.
+pub record KeepsParameters (blocks tables : Blocks) (t : SsaState) : Type 0 where
+  pub kinds : (v : ℕ) → KindStays (blocks.function.definition v).kind (tables.function.definition v).kind
+  pub on_record : (v x : ℕ) → (blocks.function.definition v).kind ≡ unborn → IsParameterFor tables v x
+      → (b : ℕ) × (record_of t x b ≡ Some v)
+  pub for_variable : (v x b : ℕ) → record_of t x b ≡ Some v
+      → ((c : ℕ) × (blocks.recorded c x ≡ Some v))
+      ⊎ (((blocks.function.definition v).kind ≡ unborn) × IsParameterFor tables v x)
+
 -- What a call of the construction keeps: there are sound tables with the same program's side that describe what it
--- left.
+-- left, and parameters are kept.
 pub record Keeps (own : Own) (blocks : Blocks) (g : Body) (t : SsaState) : Type 0 where
   pub tables : Blocks
   pub describes : Describes own g t [] tables
   pub sound : BlocksSound tables
   pub same : SameProgram blocks tables
   pub counts : CountsArguments own g t tables
+  pub parameters : KeepsParameters blocks tables t
 
 -- the same, and the value holds the variable at the end of the block
 pub record KeepsAndKnows (own : Own) (blocks : Blocks) (g : Body) (t : SsaState) (block variable value : ℕ) : Type 0 where

@@ -20,14 +20,18 @@ use Rattle.std.specs.FinMap as map
 use Rattle.std.specs.Coded.{Coded, code_by, coded×, coded_list}
 use Rattle.clif_records.specs.contracts.tables.SsaBlock as block
 use Rattle.clif_records.specs.Tables.{RecordMap, record_map_code, record_at, lookups_at, one_more, sealed_at, predecessors_at, is_yes, pending_of}
+use Rattle.clif_records.specs.Tracking.{Tracked, tracked_code, nothing_tracked, with_binding}
 
--- what is known of each variable in each block, and of each block
+-- what is known of each variable in each block, and of each block; which variables are marked, and which values are recorded
 pub record SsaState : Type 0 where
   pub records : RecordMap
   pub blocks : List SsaBlock
+  pub tracking : Tracked
 
 abbrev pub ssa_state_code : Coded SsaState
-ssa_state_code = code_by (RecordMap × List SsaBlock) (coded× record_map_code (coded_list (block.the_row).coded)) (λ s. (s.records, s.blocks)) (λ p. record { records = p.0; blocks = p.1 }) (λ s i. s)
+ssa_state_code =
+    code_by (RecordMap × (List SsaBlock × Tracked)) (coded× record_map_code (coded× (coded_list (block.the_row).coded) tracked_code)) (λ s. (s.records, (s.blocks, s.tracking)))
+    (λ p. record { records = p.0; blocks = (p.1).0; tracking = (p.1).1 }) (λ s i. s)
 
 abbrev pub record_of : SsaState → ℕ → ℕ → Option ℕ
 record_of s variable block = record_at s.records variable block
@@ -49,7 +53,7 @@ pub record NamesExist (f : Body) (s : SsaState) : Type 0 where
 
 -- nothing is known
 abbrev pub no_state : SsaState
-no_state = record { records = map.empty; blocks = [] }
+no_state = record { records = map.empty; blocks = []; tracking = nothing_tracked }
 
 -- that is so wherever a branch leads to a block
 abbrev pub SomethingLeads : SsaState → Type 0
@@ -72,6 +76,10 @@ SealedStays old new = (b : ℕ) → is_yes (sealed_of new b) ≡ is_yes (sealed_
 abbrev pub Records : SsaState → SsaState → ℕ → ℕ → ℕ → Type 0
 Records old new variable block value =
     (v b : ℕ) → record_of new v b ≡ (if v == variable && b == block then Some value else record_of old v b)
+
+-- what is tracked is as before, or with a value for a variable
+abbrev pub MayBind : SsaState → SsaState → ℕ → ℕ → Type 0
+MayBind old new variable value = (new.tracking ≡ old.tracking) ⊎ (new.tracking ≡ with_binding old.tracking variable value)
 
 -- each record is as before
 abbrev pub SameRecords : SsaState → SsaState → Type 0
@@ -193,14 +201,17 @@ completing_blocks f [] = []
 completing_blocks f (p ∷ pending) =
     option_to_list (param_home f p.param) ++ completing_blocks (zeroed_in (param_home f p.param) f p.param) pending
 
--- a use of a variable that isn't recorded in an unsealed block: a new parameter is recorded and waits
+-- a use of a variable that isn't recorded in an unsealed block: a new parameter is recorded and waits; stack maps need it, if the
+-- variable is marked
 pub record Waits (old new : SsaState) (f g : Body) (variable : ℕ) (ty : «Type») (block : ℕ) : Type 0 where
   pub function : g ≡ with_param f block ty
   pub recorded : Records old new variable block (length f.values)
+  pub tracking : new.tracking ≡ with_binding old.tracking variable (length f.values)
   pub waiting : (b : ℕ) → sealed_of new b ≡ (if b == block then No (pending_of (sealed_of old b) ++ record { variable = variable; param = length f.values } ∷ []) else sealed_of old b)
 
--- the same in a sealed block: the new parameter is recorded, and is another name of a zero
+-- the same in a sealed block: the new parameter is recorded, and is another name of a zero, which stack maps don't need
 pub record Zeroes (old new : SsaState) (f g : Body) (variable : ℕ) (ty : «Type») (block : ℕ) : Type 0 where
   pub function : g ≡ zeroed (with_param f block ty) block (length f.values)
   pub recorded : Records old new variable block (length f.values)
+  pub tracking : new.tracking ≡ with_binding old.tracking variable (length f.values)
   pub unchanged : SameBlocks old new

@@ -17,13 +17,17 @@ ghost use Rattle.clif_ssa.specs.SoundLaws.{DescribesSoundly, IsOpen};
 ghost use Rattle.clif_ssa.specs.Structure.{HasRecordOf, LooksOnce, LosesWaiting, Remembers};
 ghost use Rattle.clif_ssa.specs.Structured.{HasType, Structured, VariableTypes};
 ghost use Rattle.clif_records.specs.Stacks.{no_look_up};
+ghost use Rattle.clif_records.specs.Tracking.{recorded_of, with_binding, with_mark};
+ghost use Rattle.std.specs.Borrow.{sem};
+ghost use Rattle.clif_ssa.specs.Lending.{lends_builder_recorded};
 ghost use Rattle.clif_ssa.specs.LookUp.{branch_block, LooksUp, MakesCall, UsesVariable, CompletesParameter};
 ghost use Rattle.clif_ssa.specs.Running.{stage, found, with_call, CallsFit, CompletesAll, MakesAll, ToComplete};
 ghost use Rattle.clif_ssa.specs.Sealing.{SealsBelow, SealsOne, SealsLocally, SealsByLookUp};
 ghost use Rattle.clif_ssa.specs.Steps.{SealKeeps, SealMakes, StepEnds, StepKeeps, StepLeaves, StepPools, UsesLocally};
+ghost use Rattle.clif_ssa.specs.Tracked.{TracksMade};
 ghost use Rattle.clif_ssa.specs.Zeros.{steps_before};
 ghost use Rattle.clif_ssa.specs.Within.{HoldsBranches, HoldsWaiting, StaysWithin};
-ghost use Rattle.clif_ssa.specs.Ssa.{no_state, record_of, sealed_of, predecessors_of, lookups_of, completed, completing_blocks, CountsEach, CountsLookup, Declares, HasMore, IsLocal, Named, NamesExist, Records, KnowsNoMore, RecordsStay, Removes, SamePredecessors, SameBlocks, SameLookups, SameRecords, SealedStays, Seals, Waits, Zeroes};
+ghost use Rattle.clif_ssa.specs.Ssa.{no_state, record_of, sealed_of, predecessors_of, lookups_of, completed, completing_blocks, CountsEach, CountsLookup, Declares, HasMore, IsLocal, MayBind, Named, NamesExist, Records, KnowsNoMore, RecordsStay, Removes, SamePredecessors, SameBlocks, SameLookups, SameRecords, SealedStays, Seals, Waits, Zeroes};
 
 use crate::ending::finish_look_up;
 use crate::ssa_tables::{Reached, SsaTables};
@@ -33,7 +37,7 @@ use clif_records::look_up::{Call, LookUp};
 use clif_records::passed::PassedBlocks;
 use clif_records::tables::Pending;
 use clif_records::{SideEffects, Variable};
-use clif_types::{Block, BuildError, EntityRef, Inst, Type, Value};
+use clif_types::{Block, BuildError, EntityRef, EntitySet, Inst, Type, Value};
 use std::alloc::Global;
 use std::marker::Model;
 use std::mem;
@@ -73,12 +77,12 @@ impl SSABuilder {
         }
     }
 
-    /// Forgets everything. It keeps the room of the blocks, and gives back the memory of the records.
+    /// Forgets everything. It keeps the room of the blocks and of the records, and gives back that of the sets.
     pub fn clear(&mut self)
         ensures nothing { self.new ≡ no_state }
         ensures looks_once { LooksOnce self.new }
     {
-        self.tables.clear();
+        self.tables.clear(self.alloc);
     }
 
     /// Whether the builder knows nothing, as a new one.
@@ -93,6 +97,7 @@ impl SSABuilder {
         ensures records { self.new.records ≡ self.old.records }
         ensures blocks { (b : ℕ) → sealed_of self.new b ≡ sealed_of self.old b }
         ensures predecessors { SamePredecessors self.old self.new }
+        ensures tracking { self.new.tracking ≡ self.old.tracking }
         ensures described { (own : Own) (f : Body) (tables : Blocks) → Describes own f self.old [] tables → Describes own f self.new [] tables }
         ensures remembers { (f : Body) (x b : ℕ) → Remembers x b f self.old f self.new }
         ensures looks_once { LooksOnce self.old → LooksOnce self.new }
@@ -112,6 +117,7 @@ impl SSABuilder {
         ensures err { OnErr result (SamePredecessors self.old self.new) }
         ensures records { self.new.records ≡ self.old.records }
         ensures blocks { SameBlocks self.old self.new }
+        ensures tracking { self.new.tracking ≡ self.old.tracking }
         ensures described { (own : Own) (f : Body) (tables : Blocks) → inst < length f.insts → has_entry f.layout ≡ true → ((j : ℕ) → Contains (predecessors_of self.old block) j → branch_block f j ≢ branch_block f inst) → PassesOwn own f block inst → DescribesSoundly own f self.old tables → OnOk result (DescribesSoundly own f self.new tables) }
         ensures looks_once { LooksOnce self.old → LooksOnce self.new }
         ensures structured { (types : VariableTypes) (own : Own) (f : Body) → inst < length f.insts → ((j : ℕ) → Contains (predecessors_of self.old block) j → j ≢ inst) → ((k : ℕ) → edge_target f inst k ≡ Some block → args_of (slice_get (edges_at f inst) k) ≡ own.passed inst k) → Structured types own f self.old [] → OnOk result (Structured types own f self.new []) }
@@ -129,6 +135,7 @@ impl SSABuilder {
         ensures removed { Removes self.old self.new block inst }
         ensures records { self.new.records ≡ self.old.records }
         ensures blocks { SameBlocks self.old self.new }
+        ensures tracking { self.new.tracking ≡ self.old.tracking }
         ensures described { (own : Own) (f : Body) (tables : Blocks) → DescribesSoundly own f self.old tables → DescribesSoundly own f self.new tables }
         ensures looks_once { LooksOnce self.old → LooksOnce self.new }
         ensures structured { (types : VariableTypes) (own : Own) (f : Body) → Structured types own f self.old [] → Structured types own f self.new [] }
@@ -159,6 +166,7 @@ impl SSABuilder {
         ensures err { OnErr result ((func.new ≡ func.old) × SamePredecessors self.old self.new) }
         ensures records { self.new.records ≡ self.old.records }
         ensures blocks { SameBlocks self.old self.new }
+        ensures tracking { self.new.tracking ≡ self.old.tracking }
         ensures described { (own : Own) (tables : Blocks) → PassesOwn own func.old from inst → PassesOwn own func.old to inst → ((j : ℕ) → Contains (predecessors_of self.old to) j → j ≢ inst → branch_block func.old j ≢ branch_block func.old inst) → DescribesSoundly own func.old self.old tables → OnOk result (DescribesSoundly own func.new self.new tables) }
         ensures structured { (types : VariableTypes) (own : Own) → ((k : ℕ) → edge_target func.old inst k ≡ Some to → args_of (slice_get (edges_at func.old inst) k) ≡ own.passed inst k) → Structured types own func.old self.old [] → OnOk result (Structured types own func.new self.new []) }
         ensures looks_once { LooksOnce self.old → LooksOnce self.new }
@@ -184,6 +192,7 @@ impl SSABuilder {
         ensures err { OnErr result ((func.new ≡ func.old) × SamePredecessors self.old self.new) }
         ensures records { self.new.records ≡ self.old.records }
         ensures blocks { SameBlocks self.old self.new }
+        ensures tracking { self.new.tracking ≡ self.old.tracking }
         ensures looks_once { LooksOnce self.old → LooksOnce self.new }
         ensures no_more { KnowsNoMore self.old self.new (to + 1) }
         ensures only_memory { OnErr result (result ≡ Err BuildError.Memory) }
@@ -245,7 +254,8 @@ impl SSABuilder {
         self.tables.is_sealed(block)
     }
 
-    /// Records that a variable has a value in a block from here on.
+    /// Records that a variable has a value in a block from here on. Stack maps need the value, if the
+    /// variable is marked. After an error each record is as it was, and stack maps may need the value.
     pub fn def_var(
         &mut self,
         variable: Variable,
@@ -254,6 +264,8 @@ impl SSABuilder {
     ) -> Result<(), BuildError>
         ensures ok { OnOk result (Records self.old self.new variable block value) }
         ensures err { OnErr result (SameRecords self.old self.new) }
+        ensures tracking { OnOk result (self.new.tracking ≡ with_binding self.old.tracking variable value) }
+        ensures refused { OnErr result (MayBind self.old self.new variable value) }
         ensures blocks { self.new.blocks ≡ self.old.blocks }
         ensures lookups { SameLookups self.old self.new }
         ensures keeps { (own : Own) (f : Body) (tables : Blocks) (n : ℕ) → DescribesSoundly own f self.old tables → IsOpen f self.old block → tables.answer n ≡ value → (tables.naming n).home ≢ start → tables.assigned (last_place tables block) variable ≡ None → OnOk result (DescribesSoundly own f self.new (with_write tables block variable n)) }
@@ -265,6 +277,31 @@ impl SSABuilder {
         self.tables.record(variable, block, value)
     }
 
+    /// Marks a variable: stack maps need each value that it gets from here on, by an assignment or as a
+    /// parameter that is made for it. After an error nothing has changed.
+    pub fn mark_var_needs_stack_map(&mut self, variable: Variable) -> Result<(), BuildError>
+        ensures ok { OnOk result (self.new ≡ record self.old { tracking = with_mark self.old.tracking variable }) }
+        ensures err { OnErr result (self.new ≡ self.old) }
+        ensures only_memory { OnErr result (result ≡ Err BuildError.Memory) }
+    {
+        self.tables.mark(variable)
+    }
+
+    /// The values that stack maps need.
+    pub fn stack_map_values(&self) -> &EntitySet<Value>
+        ensures { result.now ≡ recorded_of self.now.tracking }
+    {
+        self.tables.stack_map_values()
+    }
+
+    /// The values that stack maps need, to which more may be added.
+    pub fn stack_map_values_mut(&mut self) -> &mut EntitySet<Value>
+        ensures* writes_back { sem 𝓛 (lends_builder_recorded self.entry result) }
+        ensures value { result.now ≡ recorded_of self.old.tracking }
+    {
+        self.tables.stack_map_values_mut()
+    }
+
     /// The value of a variable of type `ty` in a block.
     ///
     /// Where none is recorded, the walk goes from the block along single predecessors of sealed blocks to
@@ -272,7 +309,8 @@ impl SSABuilder {
     /// pass a block again, a parameter is appended to the block reached and recorded. In an unsealed
     /// block it is the answer, and waits until the block is sealed. In a sealed one the predecessors are
     /// looked up at once: where one value comes from them the parameter becomes another name of it, and
-    /// where none does, of a zero.
+    /// where none does, of a zero. Stack maps need each parameter that is made, if the variable is marked, and
+    /// no zero.
     pub fn use_var(
         &mut self,
         func: &mut Function,
@@ -305,6 +343,7 @@ impl SSABuilder {
         ensures more { HasMore func.old func.new }
         ensures constructs { OnlyConstructs func.old func.new }
         ensures tells { IfOk result (λ r. TellsZeros func.old func.new r.1.instructions_added_to_blocks.items) }
+        ensures tracks { NamesExist func.old self.old → OnOk result (TracksMade (length func.old.values) self.old self.new) }
         ensures within { (holds : ℕ → Bool) → HoldsBranches func.old self.old holds → holds block ≡ true → IfOk result (λ r. StaysWithin holds func.old func.new r.1.instructions_added_to_blocks.items) }
         ensures names { NamesExist func.old self.old → NamesExist func.new self.new }
         ensures exists { NamesExist func.old self.old → IfOk result (λ r. r.0 < length func.new.values) }
@@ -512,6 +551,7 @@ impl SSABuilder {
         ensures function { OnOk result (func.new ≡ completed func.old waiting.now) }
         ensures told { IfOk result (λ r. r.instructions_added_to_blocks.items ≡ completing_blocks func.old waiting.now) }
         ensures records { SameRecords self.old self.new }
+        ensures tracking { self.new.tracking ≡ self.old.tracking }
         ensures counted { OnOk result (CountsEach self.old self.new block waiting.now) }
         ensures blocks { self.new.blocks ≡ self.old.blocks }
         ensures looks_once { ToComplete self.old block waiting.now → LooksOnce self.new }
@@ -581,6 +621,7 @@ impl SSABuilder {
         ensures more { HasMore func.old func.new }
         ensures constructs { OnlyConstructs func.old func.new }
         ensures tells { IfOk result (λ r. TellsZeros func.old func.new r.instructions_added_to_blocks.items) }
+        ensures tracks { NamesExist func.old self.old → OnOk result (TracksMade (length func.old.values) self.old self.new) }
         ensures within { (holds : ℕ → Bool) → HoldsBranches func.old self.old holds → HoldsWaiting func.old self.old holds block → IfOk result (λ r. StaysWithin holds func.old func.new r.instructions_added_to_blocks.items) }
         ensures names { NamesExist func.old self.old → NamesExist func.new self.new }
         ensures pools { NamesExist func.old self.old → MayPoolAll (types_of func.old (pending_of (sealed_of self.old block))) func.old.tables func.new.tables }
@@ -611,6 +652,7 @@ impl SSABuilder {
         ensures more { HasMore func.old func.new }
         ensures constructs { OnlyConstructs func.old func.new }
         ensures tells { IfOk result (λ r. TellsZeros func.old func.new r.instructions_added_to_blocks.items) }
+        ensures tracks { NamesExist func.old self.old → OnOk result (TracksMade (length func.old.values) self.old self.new) }
         ensures within { (holds : ℕ → Bool) → HoldsBranches func.old self.old holds → ((b : ℕ) → b < length func.old.blocks → HoldsWaiting func.old self.old holds b) → IfOk result (λ r. StaysWithin holds func.old func.new r.instructions_added_to_blocks.items) }
         ensures names { NamesExist func.old self.old → NamesExist func.new self.new }
         ensures pools { NamesExist func.old self.old → MayPoolWaiting func.old self.old func.new.tables }

@@ -6,13 +6,16 @@ ghost use Rattle.clif_instructions.specs.Members.{Stands, stands_in};
 ghost use Rattle.clif_ssa.specs.Constructs.{TellsMore};
 ghost use Rattle.clif_records.specs.Tables.{is_yes, pending_of};
 ghost use Rattle.clif_records.specs.declared.tables.Sealed.{Sealed};
-ghost use Rattle.clif_ssa.specs.Ssa.{no_state, Declares, Removes, Seals, record_of, sealed_of, predecessors_of, lookups_of, Named, Records, KnowsNoMore, SameRecords, SameBlocks, SamePredecessors, SameLookups, CountsLookup};
+ghost use Rattle.std.specs.Borrow.{sem};
+ghost use Rattle.clif_ssa.specs.Lending.{lends_tables_recorded};
+ghost use Rattle.clif_ssa.specs.Ssa.{no_state, MayBind, Declares, Removes, Seals, record_of, sealed_of, predecessors_of, lookups_of, Named, Records, KnowsNoMore, SameRecords, SameBlocks, SamePredecessors, SameLookups, CountsLookup};
 ghost use Rattle.clif_ssa.specs.Moving.{LeadsOnce};
 ghost use Rattle.clif_ssa.specs.Pools.{UseIsFull};
 ghost use Rattle.clif_ssa.specs.Running.{stage, Got};
 ghost use Rattle.clif_ssa.specs.Steps.{StepKeeps, StepEnds, UsesLocally};
 ghost use Rattle.clif_records.specs.Passed.{before_first};
 ghost use Rattle.clif_records.specs.Stacks.{calls_for};
+ghost use Rattle.clif_records.specs.Tracking.{recorded_of, with_binding, with_mark};
 ghost use Rattle.clif_ssa.specs.LookUp.{single_predecessor, WalksTo, Copies};
 
 use crate::zeros::replace_by_zero;
@@ -20,8 +23,9 @@ use clif_ir::Function;
 use clif_records::look_up::LookUp;
 use clif_records::passed::PassedBlocks;
 use clif_records::tables::{BlockTable, PendingList, VariableTable};
+use clif_records::tracking::Tracking;
 use clif_records::{SideEffects, Variable};
-use clif_types::{Block, BuildError, Inst, Type, Value};
+use clif_types::{Block, BuildError, EntitySet, Inst, Type, Value};
 use std::alloc::Global;
 use std::marker::Model;
 
@@ -38,6 +42,7 @@ pub struct Reached {
 pub struct SsaTables {
     pub(crate) variables: VariableTable,
     pub(crate) blocks: BlockTable,
+    pub(crate) tracking: Tracking,
 }
 
 impl Model for SsaTables {
@@ -47,7 +52,7 @@ impl Model for SsaTables {
 
     ghost coded = { ssa_state_code };
 
-    ghost view = { λ s. record { records = s.variables; blocks = s.blocks } };
+    ghost view = { λ s. record { records = s.variables; blocks = s.blocks; tracking = s.tracking } };
 }
 
 impl SsaTables {
@@ -58,22 +63,24 @@ impl SsaTables {
         SsaTables {
             variables: VariableTable::new(alloc),
             blocks: BlockTable::new(alloc),
+            tracking: Tracking::new(alloc),
         }
     }
 
-    /// Forgets everything. It keeps the room of the blocks, and gives back the memory of the records.
-    pub(crate) fn clear(&mut self)
+    /// Forgets everything. It keeps the room of the blocks and of the records, and gives back that of the sets.
+    pub(crate) fn clear(&mut self, alloc: Global)
         ensures { self.new ≡ no_state }
     {
         self.variables.clear();
         self.blocks.clear();
+        self.tracking = Tracking::new(alloc);
     }
 
     /// Whether nothing is known.
     pub(crate) fn is_empty(&self) -> bool
         ensures { IsTrue result ↔ (self.now ≡ no_state) }
     {
-        self.variables.is_empty() && self.blocks.is_empty()
+        self.variables.is_empty() && self.blocks.is_empty() && self.tracking.is_empty()
     }
 
     /// Makes a block known.
@@ -81,6 +88,7 @@ impl SsaTables {
         ensures records { self.new.records ≡ self.old.records }
         ensures blocks { (b : ℕ) → sealed_of self.new b ≡ sealed_of self.old b }
         ensures predecessors { SamePredecessors self.old self.new }
+        ensures tracking { self.new.tracking ≡ self.old.tracking }
         ensures known { OnOk result (block < length self.new.blocks) }
         ensures no_more { KnowsNoMore self.old self.new (block + 1) }
         ensures only_memory { OnErr result (result ≡ Err BuildError.Memory) }
@@ -98,6 +106,7 @@ impl SsaTables {
         ensures err { OnErr result (SamePredecessors self.old self.new) }
         ensures records { self.new.records ≡ self.old.records }
         ensures blocks { SameBlocks self.old self.new }
+        ensures tracking { self.new.tracking ≡ self.old.tracking }
         ensures no_more { KnowsNoMore self.old self.new (block + 1) }
         ensures only_memory { OnErr result (result ≡ Err BuildError.Memory) }
     {
@@ -110,6 +119,7 @@ impl SsaTables {
         ensures err { OnErr result (SamePredecessors self.old self.new) }
         ensures records { self.new.records ≡ self.old.records }
         ensures blocks { SameBlocks self.old self.new }
+        ensures tracking { self.new.tracking ≡ self.old.tracking }
         ensures no_more { KnowsNoMore self.old self.new (block + 1) }
         ensures only_memory { OnErr result (result ≡ Err BuildError.Memory) }
     {
@@ -125,6 +135,7 @@ impl SsaTables {
         ensures removed { Removes self.old self.new block branch }
         ensures records { self.new.records ≡ self.old.records }
         ensures blocks { SameBlocks self.old self.new }
+        ensures tracking { self.new.tracking ≡ self.old.tracking }
         ensures no_more { length self.new.blocks ≤ length self.old.blocks }
     {
         self.blocks.remove_predecessor(block, branch);
@@ -180,7 +191,8 @@ impl SsaTables {
         self.variables.lookups(variable, block)
     }
 
-    /// Records a value for a variable in a block. After an error each record is as it was.
+    /// Records a value for a variable in a block, and for stack maps, if the variable is marked. After an
+    /// error each record is as it was, and stack maps may need the value.
     pub(crate) fn record(
         &mut self,
         variable: Variable,
@@ -191,9 +203,36 @@ impl SsaTables {
         ensures err { OnErr result (SameRecords self.old self.new) }
         ensures lookups { SameLookups self.old self.new }
         ensures blocks { self.new.blocks ≡ self.old.blocks }
+        ensures tracking { OnOk result (self.new.tracking ≡ with_binding self.old.tracking variable value) }
+        ensures refused { OnErr result (MayBind self.old self.new variable value) }
         ensures only_memory { OnErr result (result ≡ Err BuildError.Memory) }
     {
+        self.tracking.bind(variable, value)?;
         self.variables.set(variable, block, value)
+    }
+
+    /// Marks a variable. After an error nothing has changed.
+    pub(crate) fn mark(&mut self, variable: Variable) -> Result<(), BuildError>
+        ensures ok { OnOk result (self.new ≡ record self.old { tracking = with_mark self.old.tracking variable }) }
+        ensures err { OnErr result (self.new ≡ self.old) }
+        ensures only_memory { OnErr result (result ≡ Err BuildError.Memory) }
+    {
+        self.tracking.mark(variable)
+    }
+
+    /// The values that stack maps need.
+    pub(crate) fn stack_map_values(&self) -> &EntitySet<Value>
+        ensures { result.now ≡ recorded_of self.now.tracking }
+    {
+        self.tracking.recorded()
+    }
+
+    /// The values that stack maps need, to which more may be added.
+    pub(crate) fn stack_map_values_mut(&mut self) -> &mut EntitySet<Value>
+        ensures* writes_back { sem 𝓛 (lends_tables_recorded self.entry result) }
+        ensures value { result.now ≡ recorded_of self.old.tracking }
+    {
+        self.tracking.recorded_mut()
     }
 
     /// Counts a look-up of a variable in the predecessors of a block.
@@ -206,6 +245,7 @@ impl SsaTables {
         ensures err { OnErr result (SameLookups self.old self.new) }
         ensures records { SameRecords self.old self.new }
         ensures blocks { self.new.blocks ≡ self.old.blocks }
+        ensures tracking { self.new.tracking ≡ self.old.tracking }
         ensures only_memory { OnErr result (result ≡ Err BuildError.Memory) }
     {
         self.variables.count_lookup(variable, block)
@@ -223,6 +263,7 @@ impl SsaTables {
         ensures err { OnErr result (SameBlocks self.old self.new) }
         ensures records { self.new.records ≡ self.old.records }
         ensures predecessors { SamePredecessors self.old self.new }
+        ensures tracking { self.new.tracking ≡ self.old.tracking }
         ensures no_more { KnowsNoMore self.old self.new (block + 1) }
         ensures only_memory { OnErr result (result ≡ Err BuildError.Memory) }
     {
@@ -236,6 +277,7 @@ impl SsaTables {
         ensures err { OnErr result (SameBlocks self.old self.new) }
         ensures records { self.new.records ≡ self.old.records }
         ensures predecessors { SamePredecessors self.old self.new }
+        ensures tracking { self.new.tracking ≡ self.old.tracking }
         ensures no_more { KnowsNoMore self.old self.new (block + 1) }
         ensures only_memory { OnErr result (result ≡ Err BuildError.Memory) }
     {
@@ -310,6 +352,7 @@ impl SsaTables {
         ensures others { (x b : ℕ) → (record_of self.new x b ≡ record_of self.old x b) ⊎ ((x ≡ variable) × (stands_in b passed.now ≡ true)) }
         ensures blocks { self.new.blocks ≡ self.old.blocks }
         ensures lookups { SameLookups self.old self.new }
+        ensures tracking { self.new.tracking ≡ self.old.tracking }
         ensures none_lost { (x b : ℕ) → record_of self.new x b ≡ None → record_of self.old x b ≡ None }
         ensures only_memory { OnErr result (result ≡ Err BuildError.Memory) }
     {
@@ -329,6 +372,7 @@ impl SsaTables {
         ensures counts { SameLookups self.old self.new ⊎ CountsLookup self.old self.new variable block }
         ensures records { SameRecords self.old self.new }
         ensures blocks { self.new.blocks ≡ self.old.blocks }
+        ensures tracking { self.new.tracking ≡ self.old.tracking }
         ensures look_up { OnOk result (look_up.new ≡ record look_up.old { calls = calls_for (predecessors_of self.old block) param block ++ look_up.old.calls }) }
         ensures only_memory { OnErr result (result ≡ Err BuildError.Memory) }
     {
@@ -349,6 +393,7 @@ impl SsaTables {
         ensures number { IfOk result (λ v. v ≡ length func.old.values) }
         ensures function { OnOk result (func.new ≡ with_param func.old block ty) }
         ensures records { OnOk result (Records self.old self.new variable block (length func.old.values)) }
+        ensures tracking { OnOk result (self.new.tracking ≡ with_binding self.old.tracking variable (length func.old.values)) }
         ensures blocks { self.new.blocks ≡ self.old.blocks }
         ensures lookups { SameLookups self.old self.new }
         ensures keeps { StepKeeps variable ty func.old self.old func.new self.new }

@@ -27,6 +27,10 @@ pub enum Fact {
     Told(usize),
     /// The zero at a place among them was put into a block.
     ToldAt(usize, u32),
+    /// Whether stack maps need a value.
+    IsNeeded(u32, bool),
+    /// Stack maps need so many values.
+    Needed(usize),
 }
 
 /// Whether a fact holds.
@@ -42,5 +46,7 @@ pub fn holds(rt: &impl Abort, made: &Fixture, fact: Fact) -> bool {
         Fact::IsSealed(block, is_sealed) => made.is_sealed(rt, block) == is_sealed,
         Fact::Told(count) => made.told_count() == count,
         Fact::ToldAt(place, block) => made.told(rt, place) == block,
+        Fact::IsNeeded(value, is_needed) => made.is_needed(rt, value) == is_needed,
+        Fact::Needed(count) => made.needed_count() == count,
     }
 }

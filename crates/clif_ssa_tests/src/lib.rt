@@ -7,6 +7,8 @@ mod facts;
 #[cfg(test)]
 mod long;
 #[cfg(test)]
+mod marks;
+#[cfg(test)]
 mod moves;
 #[cfg(test)]
 mod predecessors;

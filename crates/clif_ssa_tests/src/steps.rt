@@ -42,6 +42,10 @@ pub enum Step {
     Use(u32, u8, u32),
     /// Uses a variable of a type in a block, whatever value it finds.
     Ask(u32, u8, Type),
+    /// Marks a variable: stack maps need its values.
+    Mark(u8),
+    /// Declares that stack maps need a value.
+    NeedValue(u32),
     /// Seals a block, and puts so many zeros.
     Seal(u32, usize),
     /// Seals all blocks, and puts so many zeros.
@@ -166,6 +170,8 @@ fn make(rt: &impl Abort, made: &mut Fixture, step: Step) -> Result<(), Fail> {
             made.uses(rt, block, variable, ty)?;
             Ok(())
         }
+        Step::Mark(variable) => made.mark(variable),
+        Step::NeedValue(value) => made.declare_value(rt, value),
         Step::Seal(block, zeros) => seal(rt, made, block, zeros),
         Step::SealAll(zeros) => seal_all(rt, made, zeros),
         Step::Is(fact) => {

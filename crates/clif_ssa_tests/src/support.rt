@@ -186,6 +186,33 @@ impl Fixture {
         Ok(())
     }
 
+    /// Marks a variable: stack maps need its values.
+    pub fn mark(&mut self, variable: u8) -> Result<(), Fail> {
+        self.ssa.mark_var_needs_stack_map(var(variable))?;
+        Ok(())
+    }
+
+    /// Declares that stack maps need a value.
+    pub fn declare_value(&mut self, rt: &impl Abort, value: u32) -> Result<(), Fail> {
+        let value = self.value(rt, value);
+        self.ssa.stack_map_values_mut().insert(value)?;
+        Ok(())
+    }
+
+    /// Whether stack maps need a value.
+    pub fn is_needed(&self, rt: &impl Abort, value: u32) -> bool {
+        self.ssa.stack_map_values().contains(v(rt, value))
+    }
+
+    /// How many values stack maps need.
+    pub fn needed_count(&self) -> usize {
+        let mut count: usize = 0;
+        for _value in self.ssa.stack_map_values().iter() {
+            count = count.saturating_add(1);
+        }
+        count
+    }
+
     /// Uses a variable of this type, and answers the number of its value.
     pub fn uses(
         &mut self,

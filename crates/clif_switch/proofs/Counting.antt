@@ -15,7 +15,7 @@ use Rattle.clif_meaning.specs.Acceptance.{table_branch}
 use Rattle.clif_meaning.specs.Instruction.{Compare, Convert, Edge, Instruction}
 use Rattle.clif_meaning.specs.Ledger.{Ledger, is_inserted, ledger_with, with_begun_at, with_served}
 use Rattle.clif_meaning.specs.Name.{Name, answer_of}
-use Rattle.clif_meaning.specs.Request.{AnsweredCall, Request, CreateBlock, SwitchToBlock, SealBlock, SealAllBlocks, InsertBlockAfter, SetColdBlock, EnsureInsertedBlock, AppendBlockParams, AppendFunctionParams, DeclareVar, DefVar, UseVar, MakeEntry, MakeEdge, MakeJumpTable, MakeExceptionTable, Annotate, Build, ChangeJumpDestination, Finalize, GivenEntry, ServedBy, TriedBy, Imported, Script, script_of}
+use Rattle.clif_meaning.specs.Request.{AnsweredCall, Request, CreateBlock, SwitchToBlock, SealBlock, SealAllBlocks, InsertBlockAfter, SetColdBlock, EnsureInsertedBlock, AppendBlockParams, AppendFunctionParams, DeclareVar, DefVar, UseVar, MakeEntry, MakeEdge, MakeJumpTable, MakeExceptionTable, Annotate, NeedStackMap, Build, ChangeJumpDestination, Finalize, GivenEntry, ServedBy, TriedBy, Imported, Script, script_of}
 use Rattle.clif_builder.specs.declared.builder.FunctionBuilder.{FunctionBuilder}
 use Rattle.clif_builder.specs.Ledger.{ledger_of}
 use Rattle.clif_builder.proofs.Lasting.{ledger-behind}
@@ -86,7 +86,8 @@ counted ledger (MakeEntry entry) = none_more (length ledger.jump_tables)
 counted ledger (MakeEdge edge) = none_more (length ledger.jump_tables)
 counted ledger (MakeJumpTable default entries) = one_longer ledger.jump_tables _ ∙ one_more (length ledger.jump_tables)
 counted ledger (MakeExceptionTable signature normal items) = none_more (length ledger.jump_tables)
-counted ledger (Annotate values) = none_more (length ledger.jump_tables)
+counted ledger (Annotate inside values) = none_more (length ledger.jump_tables)
+counted ledger (NeedStackMap need) = none_more (length ledger.jump_tables)
 counted ledger (Build entries instruction) = set_kept ledger.jump_tables entries ∙ none_more (length ledger.jump_tables)
 counted ledger (ChangeJumpDestination branch from to) = none_more (length ledger.jump_tables)
 counted ledger Finalize = none_more (length ledger.jump_tables)

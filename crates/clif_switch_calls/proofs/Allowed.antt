@@ -7,7 +7,7 @@ use Rattle.clif_meaning.specs.Instruction.{Instruction}
 use Rattle.clif_meaning.specs.Ledger.{Ledger, answers_to, empty_ledger, has_block, is_filled, is_terminator, ledger_after, ledger_with, next_answer, with_begun, with_filled_at, with_instruction, with_terminator}
 use Rattle.clif_meaning.specs.Name.{Name}
 use Rattle.clif_meaning.specs.Program.{Assign, Item, Program, empty_program, program_of, redirected_item, with_call, with_inserted, with_item_at}
-use Rattle.clif_meaning.specs.Request.{Request, CreateBlock, SwitchToBlock, SealBlock, SealAllBlocks, InsertBlockAfter, SetColdBlock, EnsureInsertedBlock, AppendBlockParams, AppendFunctionParams, DeclareVar, DefVar, UseVar, MakeEntry, MakeEdge, MakeJumpTable, MakeExceptionTable, Annotate, Build, ChangeJumpDestination, Finalize, Script}
+use Rattle.clif_meaning.specs.Request.{Request, CreateBlock, SwitchToBlock, SealBlock, SealAllBlocks, InsertBlockAfter, SetColdBlock, EnsureInsertedBlock, AppendBlockParams, AppendFunctionParams, DeclareVar, DefVar, UseVar, MakeEntry, MakeEdge, MakeJumpTable, MakeExceptionTable, Annotate, NeedStackMap, Build, ChangeJumpDestination, Finalize, Script}
 use Rattle.clif_expansion.specs.ConstantCalls.{AreAllowed}
 use Rattle.clif_expansion.proofs.Emissions.{begun_current}
 use Rattle.clif_expansion.proofs.EmittedPrograms.{one_longer}
@@ -52,7 +52,8 @@ same_current (MakeEntry entry) ledger program same = same
 same_current (MakeEdge edge) ledger program same = same
 same_current (MakeJumpTable default entries) ledger program same = same
 same_current (MakeExceptionTable signature normal items) ledger program same = same
-same_current (Annotate values) ledger program same = same
+same_current (Annotate inside values) ledger program same = same
+same_current (NeedStackMap need) ledger program same = same
 same_current (Build entries instruction) ledger program same = item_current (with_inserted program) program.current _ ∙ same ∙ sym (built_current ledger instruction)
 same_current (ChangeJumpDestination branch from into) ledger program same = same
 same_current Finalize ledger program same = same
@@ -100,7 +101,8 @@ none_more (MakeEntry entry) ledger program before x later = before.none x later
 none_more (MakeEdge edge) ledger program before x later = before.none x later
 none_more (MakeJumpTable default entries) ledger program before x later = before.none x later
 none_more (MakeExceptionTable signature normal items) ledger program before x later = before.none x later
-none_more (Annotate values) ledger program before x later = before.none x later
+none_more (Annotate inside values) ledger program before x later = before.none x later
+none_more (NeedStackMap need) ledger program before x later = before.none x later
 none_more (Build entries instruction) ledger program before x later = item_elsewhere (with_inserted program) program.current _ x (λ c is. let below = before.current c (sym before.same ∙ is) in omega (arith, below, later)) (before.none x later)
 none_more (ChangeJumpDestination branch from into) ledger program before x later = redirected_none branch from into (program.items x) (before.none x later)
 none_more Finalize ledger program before x later = before.none x later
@@ -134,7 +136,8 @@ current_more (MakeEntry entry) ledger program before may block is = before.curre
 current_more (MakeEdge edge) ledger program before may block is = before.current block (is)
 current_more (MakeJumpTable default entries) ledger program before may block is = before.current block (is)
 current_more (MakeExceptionTable signature normal items) ledger program before may block is = before.current block (is)
-current_more (Annotate values) ledger program before may block is = before.current block (is)
+current_more (Annotate inside values) ledger program before may block is = before.current block (is)
+current_more (NeedStackMap need) ledger program before may block is = before.current block (is)
 current_more (Build entries instruction) ledger program before may block is = before.current block (sym (built_current ledger instruction) ∙ is)
 current_more (ChangeJumpDestination branch from into) ledger program before may block is = before.current block (is)
 current_more Finalize ledger program before may block is = before.current block (is)

@@ -4,7 +4,7 @@ use Rattle.clif_meaning.specs.Instruction.{Instruction}
 use Rattle.clif_meaning.specs.Name.{Name, answer_of}
 use Rattle.clif_types.specs.declared.types.«Type».{«Type»}
 use Rattle.clif_meaning.specs.Program.{Item, Instruct, Program, result_names, result_types}
-use Rattle.clif_meaning.specs.Request.{Request, CreateBlock, SwitchToBlock, SealBlock, SealAllBlocks, InsertBlockAfter, SetColdBlock, EnsureInsertedBlock, AppendBlockParams, AppendFunctionParams, DeclareVar, DefVar, UseVar, MakeEntry, MakeEdge, MakeJumpTable, MakeExceptionTable, Annotate, Build, ChangeJumpDestination, Finalize, Script}
+use Rattle.clif_meaning.specs.Request.{Request, CreateBlock, SwitchToBlock, SealBlock, SealAllBlocks, InsertBlockAfter, SetColdBlock, EnsureInsertedBlock, AppendBlockParams, AppendFunctionParams, DeclareVar, DefVar, UseVar, MakeEntry, MakeEdge, MakeJumpTable, MakeExceptionTable, Annotate, NeedStackMap, Build, ChangeJumpDestination, Finalize, Script}
 use Rattle.clif_expansion.specs.Emission.{building}
 use Rattle.clif_expansion.specs.JoinedPrograms.{built_items}
 use Rattle.clif_switch_calls.specs.SwitchCalls.{bare_edge}
@@ -95,7 +95,8 @@ entered_next program place (MakeEntry entry) more entered = entered
 entered_next program place (MakeEdge edge) more entered = entered
 entered_next program place (MakeJumpTable default entries) more entered = entered
 entered_next program place (MakeExceptionTable signature normal items) more entered = entered
-entered_next program place (Annotate values) more entered = entered
+entered_next program place (Annotate inside values) more entered = entered
+entered_next program place (NeedStackMap need) more entered = entered
 entered_next program place (Build entries instruction) more entered = entered
 entered_next program place (ChangeJumpDestination branch from to) more entered = entered
 entered_next program place Finalize more entered = entered
@@ -123,7 +124,8 @@ typed_next types place (MakeEntry entry) more typed = typed
 typed_next types place (MakeEdge edge) more typed = typed
 typed_next types place (MakeJumpTable default entries) more typed = typed
 typed_next types place (MakeExceptionTable signature normal items) more typed = typed
-typed_next types place (Annotate values) more typed = typed
+typed_next types place (Annotate inside values) more typed = typed
+typed_next types place (NeedStackMap need) more typed = typed
 typed_next types place (Build entries instruction) more typed = typed.1
 typed_next types place (ChangeJumpDestination branch from to) more typed = typed
 typed_next types place Finalize more typed = typed

@@ -17,7 +17,7 @@ use Rattle.clif_ranges.proofs.Searching.{begins}
 use Rattle.clif_meaning.specs.Acceptance.{table_branch}
 use Rattle.clif_meaning.specs.Instruction.{Compare, Instruction}
 use Rattle.clif_meaning.specs.Name.{Name, answer_of}
-use Rattle.clif_meaning.specs.Request.{Request, CreateBlock, SwitchToBlock, SealBlock, SealAllBlocks, InsertBlockAfter, SetColdBlock, EnsureInsertedBlock, AppendBlockParams, AppendFunctionParams, DeclareVar, DefVar, UseVar, MakeEntry, MakeEdge, MakeJumpTable, MakeExceptionTable, Annotate, Build, ChangeJumpDestination, Finalize, ServedBy, Script}
+use Rattle.clif_meaning.specs.Request.{Request, CreateBlock, SwitchToBlock, SealBlock, SealAllBlocks, InsertBlockAfter, SetColdBlock, EnsureInsertedBlock, AppendBlockParams, AppendFunctionParams, DeclareVar, DefVar, UseVar, MakeEntry, MakeEdge, MakeJumpTable, MakeExceptionTable, Annotate, NeedStackMap, Build, ChangeJumpDestination, Finalize, ServedBy, Script}
 use Rattle.clif_expansion.specs.Emission.{building}
 use Rattle.clif_expansion.specs.Switching.{targets_of}
 use Rattle.clif_expansion.proofs.Placing.{contained_first, contained_later}
@@ -48,7 +48,8 @@ module _ (base tables : ℕ) (targets : List Name) where
   to_behind target (MakeEdge edge) more to = to
   to_behind target (MakeJumpTable default entries) more to = to
   to_behind target (MakeExceptionTable signature normal items) more to = to
-  to_behind target (Annotate values) more to = to
+  to_behind target (Annotate inside values) more to = to
+  to_behind target (NeedStackMap need) more to = to
   to_behind target (Build entries instruction) more to = inr to
   to_behind target (ChangeJumpDestination branch from into) more to = to
   to_behind target Finalize more to = to
@@ -70,7 +71,8 @@ module _ (base tables : ℕ) (targets : List Name) where
   to_within target (MakeEdge edge) calls more later to = later to
   to_within target (MakeJumpTable default entries) calls more later to = later to
   to_within target (MakeExceptionTable signature normal items) calls more later to = later to
-  to_within target (Annotate values) calls more later to = later to
+  to_within target (Annotate inside values) calls more later to = later to
+  to_within target (NeedStackMap need) calls more later to = later to
   to_within target (Build entries instruction) calls more later (inl here) = inl here
   to_within target (Build entries instruction) calls more later (inr to) = inr (later to)
   to_within target (ChangeJumpDestination branch from into) calls more later to = later to

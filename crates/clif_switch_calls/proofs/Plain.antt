@@ -7,7 +7,7 @@ use Rattle.clif_meaning.specs.Instruction.{Edge, Instruction}
 use Rattle.clif_meaning.specs.Ledger.{AValue, AnInstruction, Answered, BlockState, Ledger, answers_to, block_state, has_block, changed_by, empty_ledger, is_inserted, is_terminator, ledger_after, ledger_with, led_by, left_by, new_block, next_answer, redirected_state, sealed, value_answer_type, with_begun, with_begun_at, with_cold_mark, with_filled_at, with_instruction, with_layout, with_parameter_types, with_predecessor, with_state, with_terminator}
 use Rattle.clif_meaning.specs.Name.{Name, answer_of, same_name}
 use Rattle.clif_meaning.specs.Program.{Program, result_types, with_call}
-use Rattle.clif_meaning.specs.Request.{Request, CreateBlock, SwitchToBlock, SealBlock, SealAllBlocks, InsertBlockAfter, SetColdBlock, EnsureInsertedBlock, AppendBlockParams, AppendFunctionParams, DeclareVar, DefVar, UseVar, MakeEntry, MakeEdge, MakeJumpTable, MakeExceptionTable, Annotate, Build, ChangeJumpDestination, Finalize, Script}
+use Rattle.clif_meaning.specs.Request.{Request, CreateBlock, SwitchToBlock, SealBlock, SealAllBlocks, InsertBlockAfter, SetColdBlock, EnsureInsertedBlock, AppendBlockParams, AppendFunctionParams, DeclareVar, DefVar, UseVar, MakeEntry, MakeEdge, MakeJumpTable, MakeExceptionTable, Annotate, NeedStackMap, Build, ChangeJumpDestination, Finalize, Script}
 use Rattle.clif_expansion.specs.PerformedCalls.{HaveTypes}
 use Rattle.clif_expansion.proofs.EmittedPrograms.{one_longer}
 use Rattle.clif_expansion.proofs.Joins.{answers_last}
@@ -133,7 +133,8 @@ kept_names ledger (MakeEntry entry) all = before_more (length ledger.answers) (s
 kept_names ledger (MakeEdge edge) all = before_more (length ledger.answers) (suc (length ledger.answers)) (names_of ledger.blocks) (omega arith) all
 kept_names ledger (MakeJumpTable default entries) all = before_more (length ledger.answers) (suc (length ledger.answers)) (names_of ledger.blocks) (omega arith) all
 kept_names ledger (MakeExceptionTable signature normal items) all = before_more (length ledger.answers) (suc (length ledger.answers)) (names_of ledger.blocks) (omega arith) all
-kept_names ledger (Annotate values) all = before_more (length ledger.answers) (suc (length ledger.answers)) (names_of ledger.blocks) (omega arith) all
+kept_names ledger (Annotate inside values) all = before_more (length ledger.answers) (suc (length ledger.answers)) (names_of ledger.blocks) (omega arith) all
+kept_names ledger (NeedStackMap need) all = before_more (length ledger.answers) (suc (length ledger.answers)) (names_of ledger.blocks) (omega arith) all
 kept_names ledger (Build entries instruction) all =
     subst (AreBefore (suc (length ledger.answers))) (sym (built_names ledger instruction)) (before_more (length ledger.answers) (suc (length ledger.answers)) (names_of ledger.blocks) (omega arith) all)
 kept_names ledger (ChangeJumpDestination branch from to) all =
@@ -200,7 +201,8 @@ typed_first types place (MakeEntry entry) more head rest = rest
 typed_first types place (MakeEdge edge) more head rest = rest
 typed_first types place (MakeJumpTable default entries) more head rest = rest
 typed_first types place (MakeExceptionTable signature normal items) more head rest = rest
-typed_first types place (Annotate values) more head rest = rest
+typed_first types place (Annotate inside values) more head rest = rest
+typed_first types place (NeedStackMap need) more head rest = rest
 typed_first types place (Build entries instruction) more head rest = (head, rest)
 typed_first types place (ChangeJumpDestination branch from to) more head rest = rest
 typed_first types place Finalize more head rest = rest
@@ -222,7 +224,8 @@ head_typed types ledger (MakeEntry entry) have = tt
 head_typed types ledger (MakeEdge edge) have = tt
 head_typed types ledger (MakeJumpTable default entries) have = tt
 head_typed types ledger (MakeExceptionTable signature normal items) have = tt
-head_typed types ledger (Annotate values) have = tt
+head_typed types ledger (Annotate inside values) have = tt
+head_typed types ledger (NeedStackMap need) have = tt
 head_typed types ledger (Build entries instruction) have = λ ty gives.
     have (answer_of (length ledger.answers) 1) ty
     (ap value_answer_type (answers_last ledger.answers (AnInstruction ∷ map AValue (result_types instruction.operation instruction.controlling)) 1)

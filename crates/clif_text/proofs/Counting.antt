@@ -8,9 +8,10 @@ use Rattle.clif_text.specs.declared.reader.Reader.{Reader}
 use Rattle.clif_arguments.specs.declared.scope.Kind.{Kind}
 use Rattle.clif_arguments.specs.declared.scope.Scope.{Scope}
 use Rattle.clif_arguments.specs.declared.scope.Totals.{Totals}
+use Rattle.clif_arguments.specs.declared.scope.Unnamed.{Unnamed}
 use Rattle.clif_text.specs.Grammar.{IsCall}
-use Rattle.clif_arguments.specs.Given.{numbered_kind, next_of, no_totals, totals_after, totals_behind, totals_from, unnamed_tables, with_tables, numbered_from, names_behind, names_with, is_instruction, first_answer, GiveNames}
-use Rattle.clif_arguments.specs.Scope.{given_in, names_of, AddsTables, Counts, KeepsNumbered}
+use Rattle.clif_arguments.specs.Given.{numbered_kind, next_of, no_totals, totals_after, totals_behind, totals_from, unnamed_in, with_unnamed, numbered_from, names_behind, names_with, is_instruction, first_answer, GiveNames}
+use Rattle.clif_arguments.specs.Scope.{given_in, names_of, AddsUnnamed, Counts, KeepsNumbered}
 use Rattle.clif_arguments.specs.Header.{header_said}
 use Rattle.clif_text.specs.Reader.{IsCounted, WordsSay, NamesAnswers}
 
@@ -30,22 +31,22 @@ names_counted reader counted =
 same_given : (old new : Scope) → new.names ≡ old.names → given_in new ≡ given_in old
 same_given old new same = ap (λ names. λ word. get_by (λ key. slice_cmp nat_cmp word key.now) names) same
 
-counted_more : (old new : Reader) (mid end : Scope) (call : Call) (answered : Option Kind) (tables : ℕ) → answered ≡ numbered_kind call → tables ≡ unnamed_tables call → Counts answered old.scope mid → AddsTables tables mid end → KeepsNumbered end new.scope
+counted_more : (old new : Reader) (mid end : Scope) (call : Call) (answered : Option Kind) (unnamed : Unnamed) → answered ≡ numbered_kind call → unnamed ≡ unnamed_in call → Counts answered old.scope mid → AddsUnnamed unnamed mid end → KeepsNumbered end new.scope
     → new.calls.items ≡ old.calls.items ++ call ∷ [] → IsCounted old → IsCounted new
-counted_more old new mid end call answered tables is made counts adds keeps calls counted =
+counted_more old new mid end call answered unnamed is made counts adds keeps calls counted =
     let before = old.calls.items in
     let numbers = numbered_from no_totals before in
     let next : next_of answered old.scope.totals ≡ next_of (numbered_kind call) (totals_from no_totals before) = ap (λ k. next_of k old.scope.totals) is ∙ ap (next_of (numbered_kind call)) counted.totals in record {
       numbered = keeps.numbered ∙ (adds.numbered ∙ (counts.numbered ∙ (ap (λ ns. ns ++ next_of answered old.scope.totals ∷ []) counted.numbered ∙ (ap (λ one. numbers ++ one ∷ []) next ∙ (sym (numbered_push no_totals before call) ∙ ap (numbered_from no_totals) (sym calls))))));
-      totals = keeps.totals ∙ (adds.totals ∙ (ap (λ n. with_tables n mid.totals) made ∙ (ap (with_tables (unnamed_tables call)) counts.totals
-          ∙ (ap (λ k. with_tables (unnamed_tables call) (totals_behind k old.scope.totals)) is ∙ (ap (totals_after call) counted.totals ∙ (sym (totals_push no_totals before call) ∙ ap (totals_from no_totals) (sym calls)))))));
+      totals = keeps.totals ∙ (adds.totals ∙ (ap (λ n. with_unnamed n mid.totals) made ∙ (ap (with_unnamed (unnamed_in call)) counts.totals
+          ∙ (ap (λ k. with_unnamed (unnamed_in call) (totals_behind k old.scope.totals)) is ∙ (ap (totals_after call) counted.totals ∙ (sym (totals_push no_totals before call) ∙ ap (totals_from no_totals) (sym calls)))))));
     }
 
 -- a call was read and counted, and names were given to its answers
-pub words_say : (old new : Reader) (mid end : Scope) (call : Call) (given words : List (List ℕ)) (number place : ℕ) (instruction : Bool) (answered : Option Kind) (tables : ℕ) → IsCall (names_of old.scope) words call → answered ≡ numbered_kind call
-    → tables ≡ unnamed_tables call → Counts answered old.scope mid → AddsTables tables mid end → instruction ≡ is_instruction call → place ≡ length old.calls.items → NamesAnswers instruction place given end new.scope → new.header ≡ old.header → new.calls.items ≡ old.calls.items ++ call ∷ [] → new.lines.items ≡ old.lines.items ++ number ∷ [] → WordsSay given words number old new
-words_say old new mid end call given words number place instruction answered tables stands is made counts adds makes at names header calls lines counted = (
-  counted_more old new mid end call answered tables is made counts adds names.keeps calls counted,
+pub words_say : (old new : Reader) (mid end : Scope) (call : Call) (given words : List (List ℕ)) (number place : ℕ) (instruction : Bool) (answered : Option Kind) (unnamed : Unnamed) → IsCall (names_of old.scope) words call → answered ≡ numbered_kind call
+    → unnamed ≡ unnamed_in call → Counts answered old.scope mid → AddsUnnamed unnamed mid end → instruction ≡ is_instruction call → place ≡ length old.calls.items → NamesAnswers instruction place given end new.scope → new.header ≡ old.header → new.calls.items ≡ old.calls.items ++ call ∷ [] → new.lines.items ≡ old.lines.items ++ number ∷ [] → WordsSay given words number old new
+words_say old new mid end call given words number place instruction answered unnamed stands is made counts adds makes at names header calls lines counted = (
+  counted_more old new mid end call answered unnamed is made counts adds names.keeps calls counted,
   record {
     call = call;
     names = given;

@@ -1,17 +1,20 @@
 -- Which words stand for which call. Source: own; docs/SCRIPTS.md describes the same format.
 use Rattle.std.specs.Prelude.{◌≡◌, ℕ, ◌++◌, List, [], ◌∷◌, codes}
+use Rattle.std.specs.Int.NonZero.{non_zero_u8_get}
 use Rattle.clif_types.specs.Texts.{int_cc_text}
 use Rattle.clif_types.specs.declared.extfunc.ExtFuncData.{ExtFuncData}
 use Rattle.clif_types.specs.declared.globalvalue.GlobalValueData.{GlobalValueData}
 use Rattle.clif_types.specs.declared.globalvalue.GlobalValueData.TheVariants as global
 use Rattle.clif_opcodes.specs.Names.{binary_name, cond_trap_name, convert_name, float_const_name, stack_name, unary_name}
-use Rattle.clif_words.specs.Spelling.{AreFlags, IsBytes, IsMagnitude, IsNumber, IsTrapCode, IsTypeWord, flag_word}
+use Rattle.clif_words.specs.Spelling.{AreFlags, IsBytes, IsMagnitude, IsNumber, IsTrapCode, IsTypeWord, flag_word, overlap_word}
 use Rattle.clif_calls.specs.declared.call.Call.{Call}
 use Rattle.clif_calls.specs.declared.call.Call.TheVariants as call
 use Rattle.clif_calls.specs.declared.entry.EntryCall.{EntryCall}
 use Rattle.clif_calls.specs.declared.entry.EntryCall.TheVariants as entry
 use Rattle.clif_calls.specs.declared.immediate.ImmediateCall.{ImmediateCall}
 use Rattle.clif_calls.specs.declared.immediate.ImmediateCall.TheVariants as immediate
+use Rattle.clif_calls.specs.declared.memory.MemoryCall.{MemoryCall}
+use Rattle.clif_calls.specs.declared.memory.MemoryCall.TheVariants as memory
 use Rattle.clif_calls.specs.declared.outside.OutsideCall.{OutsideCall}
 use Rattle.clif_calls.specs.declared.outside.OutsideCall.TheVariants as outside
 use Rattle.clif_calls.specs.declared.table.ThrowingCall.{ThrowingCall}
@@ -21,6 +24,7 @@ use Rattle.clif_calls.specs.declared.plan.Plan.{Plan}
 use Rattle.clif_calls.specs.declared.plan.Plan.TheVariants as plan
 use Rattle.clif_arguments.specs.Arguments.{AreAnswers, AreClosed, AreItems, AreLast, AreSwitchCases, IsAnswer, IsEdge, IsExceptionTable, IsExternalName, IsFunctionRef, IsInst, IsJumpTable, IsLastEdge, IsLastOffset, IsSignatureName, IsSlot, IsTableEdge, IsVariable, Names}
 use Rattle.clif_arguments.specs.Header.{IsSignature}
+use Rattle.clif_text.specs.Texts.{library_call_name}
 
 -- The words stand for an instruction of this plan, which neither branches nor ends its block.
 abbrev pub IsPlain : Names → List (List ℕ) → Plan → Type 0
@@ -81,6 +85,22 @@ IsImmediate names words (immediate.IaddImmS x imm) = (a n : List ℕ) × (words 
 IsImmediate names words (immediate.IcmpImmS cond x imm) =
     (a n : List ℕ) × (words ≡ codes "icmp_imm_s" ∷ int_cc_text cond ∷ a ∷ n ∷ []) × IsAnswer names a x × IsNumber n imm
 
+-- The words stand for a memory helper: its name, its condition if it has one, its values, its numbers, whether the bytes overlap, and
+-- its flags.
+abbrev pub IsMemory : Names → List (List ℕ) → MemoryCall → Type 0
+IsMemory names words (memory.CallLibrary callee first second size) =
+    (v : List (List ℕ)) × (words ≡ library_call_name callee ∷ v) × AreAnswers names v (first ∷ second ∷ size ∷ [])
+IsMemory names words (memory.Copy dest src size dest_align src_align apart flags) =
+    (v f : List (List ℕ)) × (n a b : List ℕ) × (words ≡ codes "emit_small_memory_copy" ∷ (v ++ n ∷ a ∷ b ∷ overlap_word apart ∷ f))
+    × AreAnswers names v (dest ∷ src ∷ []) × IsMagnitude n size × IsMagnitude a dest_align × IsMagnitude b src_align × AreFlags f flags
+IsMemory names words (memory.Fill buffer ch size align flags) =
+    (f : List (List ℕ)) × (p c n a : List ℕ) × (words ≡ codes "emit_small_memset" ∷ p ∷ c ∷ n ∷ a ∷ f)
+    × IsAnswer names p buffer × IsMagnitude c ch × IsMagnitude n size × IsMagnitude a align × AreFlags f flags
+IsMemory names words (memory.Compare cond left right size left_align right_align flags) =
+    (v f : List (List ℕ)) × (n a b : List ℕ) × (words ≡ codes "emit_small_memory_compare" ∷ int_cc_text cond ∷ (v ++ n ∷ a ∷ b ∷ f))
+    × AreAnswers names v (left ∷ right ∷ []) × IsMagnitude n size
+    × IsMagnitude a (non_zero_u8_get left_align) × IsMagnitude b (non_zero_u8_get right_align) × AreFlags f flags
+
 -- The words stand for a call along the edges of an exception table: its name, what it calls, what is passed, and the table.
 abbrev pub IsThrowing : Names → List (List ℕ) → ThrowingCall → Type 0
 IsThrowing names words (throwing.TryCall function args table) =
@@ -118,6 +138,7 @@ IsCall names words (call.Plain instruction) = IsPlain names words (plan_of instr
 IsCall names words (call.Cursor instruction) = (i : List (List ℕ)) × (words ≡ codes "cursor" ∷ i) × IsPlain names i (plan_of instruction)
 IsCall names words (call.Outside called) = IsOutside names words called
 IsCall names words (call.Immediate called) = IsImmediate names words called
+IsCall names words (call.Memory called) = IsMemory names words called
 IsCall names words (call.SetSrcloc srcloc) = (n : List ℕ) × (words ≡ codes "set_srcloc" ∷ n ∷ []) × IsMagnitude n srcloc
 IsCall names words call.CollectDebugInfo = words ≡ codes "collect_debug_info" ∷ []
 IsCall names words (call.SetValLabel value label) = (a n : List ℕ) × (words ≡ codes "set_val_label" ∷ a ∷ n ∷ []) × IsAnswer names a value × IsMagnitude n label

@@ -2,7 +2,7 @@
 use Rattle.std.specs.Prelude.{List, [], ◌++◌, ℕ, codes}
 use Rattle.std.specs.Fmt.{decimal}
 use Rattle.clif_types.specs.Texts.{bytes_text, type_text}
-use Rattle.clif_text.specs.Texts.{answer_text, answers_text, entry_text, immediate_text, items_text, outside_text, plan_text, switch_cases_text, table_edge_text, throwing_text, variable_text}
+use Rattle.clif_text.specs.Texts.{answer_text, answers_text, entry_text, immediate_text, items_text, memory_text, outside_text, plan_text, switch_cases_text, table_edge_text, throwing_text, variable_text}
 use Rattle.clif_text.specs.declared.writer.Operands.{Operands}
 use Rattle.clif_text.specs.declared.writer.Operands.TheVariants as operands
 
@@ -27,6 +27,7 @@ operands_text (operands.Exceptions signature normal items) =
 operands_text (operands.Branch index table) = codes " " ++ (answer_text index ++ (codes " jt" ++ decimal table))
 operands_text (operands.Outside called) = outside_text called.now
 operands_text (operands.Immediate called) = immediate_text called
+operands_text (operands.Memory called) = memory_text called
 operands_text (operands.Switch value otherwise entries) =
     codes " " ++ (answer_text value ++ (codes " " ++ (answer_text otherwise ++ switch_cases_text entries.now)))
 operands_text (operands.Throwing called) = throwing_text called.now

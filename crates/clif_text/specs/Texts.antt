@@ -1,6 +1,7 @@
 -- The text of a call, as a line of a script that gives no names. Source: own; docs/SCRIPTS.md describes the format.
 use Rattle.std.specs.Prelude.{ℕ, ℤ, List, [], ◌∷◌, ◌++◌, ◌==◌, codes, flat_map, nat_abs, if◌then◌else◌}
 use Rattle.std.specs.Fmt.{decimal, signed_decimal}
+use Rattle.std.specs.Int.NonZero.{non_zero_u8_get}
 use Rattle.clif_opcodes.specs.Names.{binary_name, cond_trap_name, convert_name, float_const_name, stack_name, unary_name}
 use Rattle.clif_types.specs.Texts.{bytes_text, type_text, call_conv_text, external_name_text, int_cc_text, lib_call_text, mem_flags_text, signature_text, trap_code_text, user_func_name_text}
 use Rattle.clif_types.specs.Signature.{SignatureShape}
@@ -10,8 +11,10 @@ use Rattle.clif_types.specs.declared.extname.ExternalName.TheVariants as name
 use Rattle.clif_types.specs.declared.extname.UserFuncName.{UserFuncName}
 use Rattle.clif_types.specs.declared.globalvalue.GlobalValueData.{GlobalValueData}
 use Rattle.clif_types.specs.declared.globalvalue.GlobalValueData.TheVariants as global
+use Rattle.clif_types.specs.declared.libcall.LibCall.{LibCall}
+use Rattle.clif_types.specs.declared.libcall.LibCall.TheVariants.{Memcpy, Memmove, Memset, Memcmp}
 use Rattle.clif_types.specs.declared.target.TargetFrontendConfig.{TargetFrontendConfig}
-use Rattle.clif_words.specs.Spelling.{pointer_text}
+use Rattle.clif_words.specs.Spelling.{overlap_word, pointer_text}
 use Rattle.clif_calls.specs.declared.call.Name.{Name}
 use Rattle.clif_calls.specs.declared.call.Edge.{Edge}
 use Rattle.clif_calls.specs.declared.switch.SwitchEntry.{SwitchEntry}
@@ -21,6 +24,8 @@ use Rattle.clif_calls.specs.declared.entry.EntryCall.{EntryCall}
 use Rattle.clif_calls.specs.declared.entry.EntryCall.TheVariants as entry
 use Rattle.clif_calls.specs.declared.immediate.ImmediateCall.{ImmediateCall}
 use Rattle.clif_calls.specs.declared.immediate.ImmediateCall.TheVariants as immediate
+use Rattle.clif_calls.specs.declared.memory.MemoryCall.{MemoryCall}
+use Rattle.clif_calls.specs.declared.memory.MemoryCall.TheVariants as memory
 use Rattle.clif_calls.specs.declared.outside.OutsideCall.{OutsideCall}
 use Rattle.clif_calls.specs.declared.outside.OutsideCall.TheVariants as outside
 use Rattle.clif_calls.specs.declared.table.Passed.{Passed}
@@ -152,6 +157,29 @@ immediate_text (immediate.IaddImmS x imm) = codes "iadd_imm_s " ++ (answer_text 
 immediate_text (immediate.IcmpImmS cond x imm) =
     codes "icmp_imm_s " ++ (int_cc_text cond ++ (codes " " ++ (answer_text x ++ (codes " " ++ signed_decimal imm))))
 
+-- the name of a helper that calls this function on three values
+abbrev pub library_call_name : LibCall → List ℕ
+library_call_name Memcpy = codes "call_memcpy"
+library_call_name Memmove = codes "call_memmove"
+library_call_name Memset = codes "call_memset"
+library_call_name Memcmp = codes "call_memcmp"
+
+-- ` 12 4 4`
+abbrev pub numbers_text : List ℕ → List ℕ
+numbers_text numbers = flat_map (λ number. codes " " ++ decimal number) numbers
+
+-- a memory helper
+abbrev pub memory_text : MemoryCall → List ℕ
+memory_text (memory.CallLibrary callee first second size) = library_call_name callee ++ answers_text (first ∷ second ∷ size ∷ [])
+memory_text (memory.Copy dest src size dest_align src_align apart flags) =
+    codes "emit_small_memory_copy" ++ (answers_text (dest ∷ src ∷ [])
+    ++ (numbers_text (size ∷ dest_align ∷ src_align ∷ []) ++ (codes " " ++ (overlap_word apart ++ mem_flags_text flags))))
+memory_text (memory.Fill buffer ch size align flags) =
+    codes "emit_small_memset " ++ (answer_text buffer ++ (numbers_text (ch ∷ size ∷ align ∷ []) ++ mem_flags_text flags))
+memory_text (memory.Compare cond left right size left_align right_align flags) =
+    codes "emit_small_memory_compare " ++ (int_cc_text cond ++ (answers_text (left ∷ right ∷ [])
+    ++ (numbers_text (size ∷ non_zero_u8_get left_align ∷ non_zero_u8_get right_align ∷ []) ++ mem_flags_text flags)))
+
 -- a call along the edges of an exception table
 abbrev pub throwing_text : ThrowingCall → List ℕ
 throwing_text (throwing.TryCall function args table) = codes "try_call fn" ++ (decimal function ++ (arguments_text args.items ++ (codes " extable" ++ decimal table)))
@@ -183,6 +211,7 @@ call_text (call.Plain instruction) = plan_text (plan_of instruction)
 call_text (call.Cursor instruction) = codes "cursor " ++ plan_text (plan_of instruction)
 call_text (call.Outside called) = outside_text called
 call_text (call.Immediate called) = immediate_text called
+call_text (call.Memory called) = memory_text called
 call_text (call.SetSrcloc srcloc) = codes "set_srcloc " ++ decimal srcloc
 call_text call.CollectDebugInfo = codes "collect_debug_info"
 call_text (call.SetValLabel value label) = codes "set_val_label " ++ (answer_text value ++ (codes " " ++ decimal label))

@@ -15,6 +15,7 @@ use crate::instructions::{
     read_stack_call, read_stack_store_call, read_store_call, read_unary_call, read_vconst_call,
     stack_named, unary_named,
 };
+use crate::memory::read_memory_call;
 use crate::outside::read_outside_call;
 use crate::switch::read_switch_call;
 use crate::throwing::read_throwing_call;
@@ -28,16 +29,9 @@ use clif_words::types::type_named;
 use std::alloc::Global;
 
 // The calls of the format that aren't understood so far, without the type that may follow their name.
-const NOT_SUPPORTED: [&str; 9] = [
+const NOT_SUPPORTED: [&str; 2] = [
     "declare_var_needs_stack_map",
     "declare_value_needs_stack_map",
-    "call_memcpy",
-    "call_memmove",
-    "call_memset",
-    "call_memcmp",
-    "emit_small_memory_copy",
-    "emit_small_memset",
-    "emit_small_memory_compare",
 ];
 
 // The call of this name, with what follows it; not all of that may be taken.
@@ -97,6 +91,13 @@ fn read_call<'a>(
         "call" | "call_indirect" => read_outside_call(alloc, head, args),
         "iadd_imm_s" | "icmp_imm_s" => read_immediate_call(head, args),
         "switch" => read_switch_call(alloc, head, args),
+        "call_memcpy"
+        | "call_memmove"
+        | "call_memset"
+        | "call_memcmp"
+        | "emit_small_memory_copy"
+        | "emit_small_memset"
+        | "emit_small_memory_compare" => read_memory_call(head, args),
         "create_exception_table" | "try_call" | "try_call_indirect" => {
             read_throwing_call(alloc, head, args)
         }
@@ -353,6 +354,7 @@ pub(crate) fn answers_of(call: &Call) -> Answers
         | Call::UseVar { .. }
         | Call::TryUseVar { .. }
         | Call::Immediate(_) => (false, 1),
+        Call::Memory(called) => (false, usize::from(called.result().is_some())),
         Call::AppendBlockParamsForFunctionParams { .. }
         | Call::AppendBlockParamsForFunctionReturns { .. } => (false, usize::MAX),
         Call::SwitchToBlock { .. }

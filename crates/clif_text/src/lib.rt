@@ -5,6 +5,7 @@ mod calls;
 mod entries;
 mod immediate;
 mod instructions;
+mod memory;
 mod outside;
 mod reader;
 mod switch;

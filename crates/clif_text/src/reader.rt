@@ -2,13 +2,13 @@
 ghost use Rattle.std.specs.Prelude.{◌≡◌, ◌≢◌, ◌++◌, ◌∷◌, [], ℕ, List, IfOk, IfErr, IfNone, IfSome, OnOk, codes, true};
 ghost use Rattle.std.specs.List.{All};
 ghost use Rattle.clif_words.specs.Cursor.{texts};
-ghost use Rattle.clif_arguments.specs.Given.{numbered_kind, unnamed_tables};
+ghost use Rattle.clif_arguments.specs.Given.{numbered_kind, unnamed_in};
 ghost use Rattle.clif_text.specs.Reader.{NamesAnswers};
 ghost use Rattle.clif_text.specs.Script as script;
 
 use crate::calls::{Answers, answers_of, call_of};
 use clif_arguments::header::{Header, is_header};
-use clif_arguments::scope::{Kind, Scope, is_name};
+use clif_arguments::scope::{Kind, Scope, Unnamed, is_name};
 use clif_calls::{Call, EntryCall, Name, OutsideAnswer, table_count};
 use clif_types::{Signature, TargetFrontendConfig, UserFuncName};
 use clif_words::error::{Expected, Fault, LineError, ReadError};
@@ -114,9 +114,9 @@ impl<'a> Reader<'a> {
     {
         let call = call_of(self.alloc, words, &self.scope)?;
         let answers = answers_of(&call);
-        let tables = tables_made(self.alloc, &call)?;
+        let unnamed = unnamed_in(self.alloc, &call)?;
         self.scope.count(kind_answered(&call))?;
-        self.scope.add_tables(tables)?;
+        self.scope.add_unnamed(unnamed)?;
         give_names(&mut self.scope, self.calls.len(), names, answers)?;
         self.calls.push(call)?;
         self.lines.push(number)?;
@@ -139,14 +139,19 @@ fn kind_answered(call: &Call) -> Option<Kind>
     }
 }
 
-// How many jump tables the call makes that no name leads to.
-fn tables_made(alloc: Global, call: &Call) -> Result<usize, AllocError>
-    ensures { IfOk result (λ count. count ≡ unnamed_tables call.now) }
+// How many entries of tables the call makes that no name leads to.
+fn unnamed_in(alloc: Global, call: &Call) -> Result<Unnamed, AllocError>
+    ensures { IfOk result (λ made. made ≡ unnamed_in call.now) }
 {
-    match call {
-        Call::Switch { entries, .. } => table_count(alloc, entries.as_slice()),
-        _ => Ok(0),
-    }
+    let (jump_tables, imports) = match call {
+        Call::Switch { entries, .. } => (table_count(alloc, entries.as_slice())?, 0),
+        Call::Memory(called) => (0, usize::from(called.called_function().is_some())),
+        _ => (0, 0),
+    };
+    Ok(Unnamed {
+        jump_tables,
+        imports,
+    })
 }
 
 // The name that the word gives to an instruction, if it has an `@` before it and the call makes one.

@@ -1,11 +1,13 @@
 //! Scripts as text, written.
 ghost use Rattle.std.specs.Prelude.{◌≡◌, ◌++◌, Some, IfOk, string_bytes};
-ghost use Rattle.clif_text.specs.Texts.{answer_text, answers_text, argument_text, passed_text, edge_text, entry_text, global_text, immediate_text, imported_name_text, imported_text, item_text, items_text, offset_text, outside_text, arguments_text, plan_text, switch_case_text, switch_cases_text, table_edge_text, throwing_text, call_text, calls_text, header_text};
+ghost use Rattle.clif_text.specs.Texts.{answer_text, answers_text, argument_text, passed_text, edge_text, entry_text, global_text, immediate_text, imported_name_text, imported_text, item_text, items_text, memory_text, offset_text, outside_text, arguments_text, plan_text, switch_case_text, switch_cases_text, table_edge_text, throwing_text, call_text, calls_text, header_text};
 ghost use Rattle.clif_text.specs.Operands.{operands_text};
+ghost use Rattle.clif_words.specs.Spelling.{overlap_word};
 
+use crate::memory::library_call_name;
 use clif_calls::{
-    Call, Edge, EntryCall, ImmediateCall, Name, OutsideCall, Passed, Plan, SwitchEntry, TableEdge,
-    TableItem, ThrowingCall,
+    Call, Edge, EntryCall, ImmediateCall, MemoryCall, Name, OutsideCall, Passed, Plan, SwitchEntry,
+    TableEdge, TableItem, ThrowingCall,
 };
 use clif_records::Variable;
 use clif_types::{
@@ -382,6 +384,84 @@ impl fmt::Display for ImmediateText {
     }
 }
 
+// A memory helper.
+#[derive(Clone, Copy)]
+struct MemoryText(MemoryCall);
+
+impl fmt::Display for MemoryText {
+    ghost output = { λ text. Some (memory_text text.0) };
+
+    fn fmt<W: fmt::Write>(&self, f: &mut fmt::Formatter<W>) -> fmt::Result {
+        match self.0 {
+            MemoryCall::CallLibrary {
+                callee,
+                first,
+                second,
+                size,
+            } => {
+                let operands = [first, second, size];
+                write!(f, "{}{}", library_call_name(callee), AnswersText(&operands))
+            }
+            MemoryCall::Copy {
+                dest,
+                src,
+                size,
+                dest_align,
+                src_align,
+                non_overlapping,
+                flags,
+            } => {
+                let operands = [dest, src];
+                write!(f, "emit_small_memory_copy{}", AnswersText(&operands))?;
+                let overlap = overlap_word(non_overlapping);
+                write!(f, " {size} {dest_align} {src_align} {overlap}{flags}")
+            }
+            MemoryCall::Fill {
+                buffer,
+                ch,
+                size,
+                buffer_align,
+                flags,
+            } => {
+                let buffer = AnswerText(buffer);
+                write!(
+                    f,
+                    "emit_small_memset {buffer} {ch} {size} {buffer_align}{flags}"
+                )
+            }
+            MemoryCall::Compare {
+                int_cc,
+                left,
+                right,
+                size,
+                left_align,
+                right_align,
+                flags,
+            } => {
+                let operands = [left, right];
+                write!(
+                    f,
+                    "emit_small_memory_compare {int_cc}{}",
+                    AnswersText(&operands)
+                )?;
+                let (left_align, right_align) = (left_align.get(), right_align.get());
+                write!(f, " {size} {left_align} {right_align}{flags}")
+            }
+        }
+    }
+}
+
+// Whether it is said of bytes that they don't overlap.
+fn overlap_word(non_overlapping: bool) -> &'static str
+    ensures { result.now ≡ overlap_word non_overlapping }
+{
+    if non_overlapping {
+        "nonoverlap"
+    } else {
+        "overlap"
+    }
+}
+
 // A call along the edges of an exception table.
 #[derive(Clone, Copy)]
 struct ThrowingText<'a>(&'a ThrowingCall);
@@ -412,8 +492,8 @@ impl fmt::Display for ThrowingText<'_> {
     }
 }
 
-// What is written behind the name of a call, or, of an instruction, an entry, an outside call or an instruction with a constant,
-// with its name.
+// What is written behind the name of a call, or, of an instruction, an entry, an outside call, a memory helper or an instruction with
+// a constant, with its name.
 #[derive(Clone, Copy)]
 enum Operands<'a> {
     None,
@@ -433,6 +513,7 @@ enum Operands<'a> {
     Branch(Name, JumpTable),
     Outside(&'a OutsideCall),
     Immediate(ImmediateCall),
+    Memory(MemoryCall),
     Switch(Name, Name, &'a [SwitchEntry]),
     Throwing(&'a ThrowingCall),
     Number(u32),
@@ -470,6 +551,7 @@ impl fmt::Display for Operands<'_> {
             Operands::Branch(index, table) => write!(f, " {} {table}", AnswerText(*index)),
             Operands::Outside(called) => write!(f, "{}", OutsideText(called)),
             Operands::Immediate(called) => write!(f, "{}", ImmediateText(*called)),
+            Operands::Memory(called) => write!(f, "{}", MemoryText(*called)),
             Operands::Switch(value, otherwise, entries) => {
                 let (value, otherwise) = (AnswerText(*value), AnswerText(*otherwise));
                 write!(f, " {value} {otherwise}{}", SwitchCasesText(entries))
@@ -535,6 +617,7 @@ fn parts(call: &Call) -> (&'static str, Operands<'_>)
         Call::Cursor(instruction) => ("cursor ", Operands::Instruction(instruction.plan())),
         Call::Outside(called) => ("", Operands::Outside(called)),
         Call::Immediate(called) => ("", Operands::Immediate(*called)),
+        Call::Memory(called) => ("", Operands::Memory(*called)),
         Call::SetSrcloc { srcloc } => ("set_srcloc", Operands::Number(srcloc.bits())),
         Call::CollectDebugInfo => ("collect_debug_info", Operands::None),
         Call::SetValLabel { value, label } => (

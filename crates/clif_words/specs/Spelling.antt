@@ -67,3 +67,7 @@ pub record AreFlags (words : List (List ℕ)) (flags : MemFlagsShape) : Type 0 w
   pub order : (words ≡ flag_word flags.notrap (codes "notrap") ++ flag_word flags.aligned (codes "aligned"))
       ⊎ (words ≡ flag_word flags.aligned (codes "aligned") ++ flag_word flags.notrap (codes "notrap"))
   pub region : flags.alias_region ≡ None
+
+-- whether it is said of bytes that they don't overlap
+abbrev pub overlap_word : (apart : Bool) → List ℕ
+overlap_word apart = if apart then codes "nonoverlap" else codes "overlap"

@@ -38,6 +38,16 @@ pub enum Expected {
     SwitchCase,
     /// A key of a switch, in 128 bits.
     SwitchKey,
+    /// How many bytes are copied, filled or compared.
+    ByteCount,
+    /// A byte.
+    Byte,
+    /// The alignment of an address.
+    Alignment,
+    /// The alignment of an address, which isn't 0.
+    NonZeroAlignment,
+    /// Whether bytes overlap, as `overlap` or `nonoverlap`.
+    Overlap,
     /// A signature that was imported.
     Signature,
     /// A function that was imported.
@@ -115,6 +125,11 @@ impl fmt::Display for Expected {
             Expected::TableItem => "tag7, default or context",
             Expected::SwitchCase => "a key, a colon and a block",
             Expected::SwitchKey => "a key of 128 bits",
+            Expected::ByteCount => "a size of 64 bits",
+            Expected::Byte => "a byte",
+            Expected::Alignment => "an alignment of 8 bits",
+            Expected::NonZeroAlignment => "an alignment from 1 to 255",
+            Expected::Overlap => "overlap or nonoverlap",
             Expected::Signature => "a signature",
             Expected::Function => "a function",
             Expected::SlotSize => "a size of 32 bits",

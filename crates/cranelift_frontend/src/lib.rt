@@ -16,6 +16,7 @@ pub use clif_ir::{
     InstructionData, JumpTableData, PooledConstOpcode, Successors, UnaryOpcode, ValueDef,
     ValueLabelStart, ValueList,
 };
+pub use clif_memory_helpers::MemoryHelpers;
 pub use clif_opcodes::{
     Control, Demand, Opcode, OperandKind, OtherOperands, ResultKind, StackOpcode, Typing,
 };

@@ -4,10 +4,9 @@
 ghost use Rattle.std.specs.Prelude.{◌≡◌, IfOk};
 ghost use Rattle.clif_ir.specs.Body.{empty_body};
 
-use clif_types::types::I32;
 use cranelift_frontend::{
-    AbiParam, CallConv, Function, PointerWidth, Signature, TargetFrontendConfig, UserFuncName,
-    Value,
+    AbiParam, CallConv, Function, PointerWidth, Signature, TargetFrontendConfig, Type,
+    UserFuncName, Value,
 };
 use std::alloc::{AllocError, Global};
 use std::process::Abort;
@@ -19,16 +18,32 @@ pub const CONFIG: TargetFrontendConfig = TargetFrontendConfig {
     page_size_align_log2: 12,
 };
 
-/// The function `name`, which takes so many parameters of type I32 and returns an I32.
-pub fn function(alloc: Global, name: &str, params: usize) -> Result<Function, AllocError>
+fn abi_params(alloc: Global, types: &[Type]) -> Result<Vec<AbiParam>, AllocError> {
+    let mut params = Vec::new(alloc);
+    for ty in types {
+        params.push(AbiParam::new(*ty))?;
+    }
+    Ok(params)
+}
+
+/// A signature with parameters of these types, which returns values of those.
+pub fn signature(
+    alloc: Global,
+    params: &[Type],
+    returns: &[Type],
+) -> Result<Signature, AllocError> {
+    Ok(Signature {
+        params: abi_params(alloc, params)?,
+        returns: abi_params(alloc, returns)?,
+        call_conv: CallConv::SystemV,
+    })
+}
+
+/// The function `name` of this signature.
+pub fn function(alloc: Global, name: &str, signature: Signature) -> Result<Function, AllocError>
     ensures { IfOk result (λ func. func ≡ empty_body func.name func.signature) }
 {
     let name = UserFuncName::testcase(String::from_str(alloc, name)?);
-    let mut signature = Signature::new(alloc, CallConv::SystemV);
-    for _ in 0..params {
-        signature.params.push(AbiParam::new(I32))?;
-    }
-    signature.returns.push(AbiParam::new(I32))?;
     Ok(Function::with_name_signature(alloc, name, signature))
 }
 

@@ -1,14 +1,17 @@
-//! What `finalize` refuses.
+//! The texts of errors, and what stands after a refusal.
 #![tactic(auto)]
 
-use crate::fixture::function;
-use crate::front_end;
-use crate::steps::Operand::Constant;
-use crate::steps::Step::{Create, Enter, Make, NoCurrent, Seal};
-use crate::steps::built;
+use crate::queries::Query::{Current, Entry, Pristine, Values};
+use crate::steps::Attempt::{Define, DefineEarly, DefineMistyped, UseEarly};
+use crate::steps::Deed::{Create, Declare, Seal, Switch};
+use crate::steps::Operand::{Constant, Read};
+use crate::steps::Step::{Do, Has, Is, Isnt, Make, Try};
+use crate::steps::Trait::Number;
+use crate::steps::{Step, finishes, plain};
+use clif_types::types::{I16, I32};
 use cranelift_frontend::{
-    Block, DefVariableError, EntityRef, FinalizeError, FunctionBuilder, FunctionBuilderContext,
-    Inst, UseVariableError, VERSION, Value, Variable,
+    Block, DefVariableError, EntityRef, FinalizeError, Inst, UseVariableError, VERSION, Value,
+    Variable,
 };
 use std::fmt::Write;
 use std::test::Fail;
@@ -66,48 +69,54 @@ the types of variable 0 and value 1 are not the same.
     Ok(())
 }
 
+const UNDECLARED: [Step; 17] = [
+    Do(Create),
+    Do(Switch(0)),
+    Isnt(Entry(0)),
+    Try(UseEarly(0)),
+    Is(Entry(0)),
+    Isnt(Pristine(0)),
+    Is(Values(0)),
+    Make(Constant(I16, 1)),
+    Try(DefineEarly(0, 0)),
+    Do(Declare(0, I32)),
+    Try(DefineMistyped(0, 0)),
+    Make(Constant(I32, 1)),
+    Try(Define(0, 1)),
+    Make(Read(0)),
+    Has(1, Number(1)),
+    Has(2, Number(1)),
+    Do(Seal(0)),
+];
+
 /// A use of an undeclared variable is refused, and the current block is in the layout then; once the variable is
 /// declared, it is used. An assignment is refused where the variable isn't declared, or has another type, and nothing
 /// has changed then.
 #[test]
 fn undeclared_variables(rt: HostRuntime) -> Result<(), Fail> {
-    let variable = Variable::from_u32(0);
-    let mut ctx = FunctionBuilderContext::new(rt.alloc());
-    let mut func = function(rt.alloc(), "undeclared", 0)?;
-    let mut builder = FunctionBuilder::new(&mut func, &mut ctx);
-    let block = Block::from_u32(0);
-    front_end::create(&rt, &mut builder);
-    front_end::enter(&rt, &mut builder, block);
-    assert!(rt; builder.func().entry_block().is_none());
-    front_end::try_use(&rt, &mut builder, variable, None);
-    assert_eq!(rt; builder.func().entry_block(), Some(block));
-    assert!(rt; !builder.is_pristine(block));
-    assert_eq!(rt; builder.func().value_count(), 0);
-    let small = front_end::narrow_constant(&rt, &mut builder, 1);
-    let error = DefVariableError::DefinedBeforeDeclared(variable);
-    front_end::try_define(&rt, &mut builder, variable, small, Err(error));
-    front_end::declare(&rt, &mut builder);
-    let error = DefVariableError::TypeMismatch(variable, small);
-    front_end::try_define(&rt, &mut builder, variable, small, Err(error));
-    let one = front_end::constant(&rt, &mut builder, 1);
-    front_end::try_define(&rt, &mut builder, variable, one, Ok(()));
-    front_end::try_use(&rt, &mut builder, variable, Some(one));
-    front_end::seal(&rt, &mut builder, block);
-    Ok(())
+    let unfilled = FinalizeError::Unfilled(Block::from_u32(0));
+    let parts = [UNDECLARED.as_slice()];
+    finishes(&rt, rt.alloc(), plain("undeclared"), &parts, Err(unfilled))
 }
+
+const UNSEALED: [Step; 4] = [
+    Do(Create),
+    Isnt(Current(0)),
+    Do(Switch(0)),
+    Make(Constant(I32, 1)),
+];
+
+const SEALED: [Step; 1] = [Do(Seal(0))];
 
 /// A block that has an instruction is sealed and filled when the building ends, or it is named.
 #[test]
 fn unfinished_blocks(rt: HostRuntime) -> Result<(), Fail> {
     let block = Block::from_u32(0);
-    let unsealed = [Create, NoCurrent, Enter(0), Make(Constant(1))];
-    let unfilled = [Create, NoCurrent, Enter(0), Make(Constant(1)), Seal(0)];
-    for (steps, error) in [
-        (unsealed.as_slice(), FinalizeError::Unsealed(block)),
-        (unfilled.as_slice(), FinalizeError::Unfilled(block)),
-    ] {
-        let answer = built(&rt, rt.alloc(), "unfinished", 0, steps)?;
-        assert_eq!(rt; answer.err(), Some(error));
-    }
-    Ok(())
+    let alloc = rt.alloc();
+    let first = [UNSEALED.as_slice()];
+    let told = Err(FinalizeError::Unsealed(block));
+    finishes(&rt, alloc, plain("unfinished"), &first, told)?;
+    let both = [UNSEALED.as_slice(), SEALED.as_slice()];
+    let told = Err(FinalizeError::Unfilled(block));
+    finishes(&rt, alloc, plain("unfinished"), &both, told)
 }

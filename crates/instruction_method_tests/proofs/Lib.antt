@@ -1,1 +1,1 @@
-pub mod TryTables
+pub mod Serving

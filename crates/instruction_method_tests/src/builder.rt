@@ -4,7 +4,7 @@
 use crate::fixture::{Given, function, is_row};
 use crate::formats::has_format;
 use crate::ins::{branches, makes, makes_at_cursor, makes_format, prepared};
-use crate::rows::{BRANCH_ROWS, ROWS, Row, TABLE_ROWS};
+use crate::rows::{Row, branch_rows, rows, table_rows};
 use crate::tables::{by_address, by_function, by_jump_table};
 use cranelift_frontend::{FunctionBuilder, FunctionBuilderContext, Opcode};
 use std::alloc::Global;
@@ -66,7 +66,7 @@ fn by_builder(rt: &impl Abort, alloc: Global, way: Way, row: &Row) -> Result<(),
 /// Each method of `ins()` for an instruction without edges.
 #[test]
 fn methods_of_ins(rt: HostRuntime) -> Result<(), Fail> {
-    for row in ROWS.iter() {
+    for row in rows() {
         by_builder(&rt, rt.alloc(), Way::Method, row)?;
     }
     Ok(())
@@ -75,7 +75,7 @@ fn methods_of_ins(rt: HostRuntime) -> Result<(), Fail> {
 /// The same by the builder's cursor.
 #[test]
 fn methods_of_cursor(rt: HostRuntime) -> Result<(), Fail> {
-    for row in ROWS.iter() {
+    for row in rows() {
         by_builder(&rt, rt.alloc(), Way::AtCursor, row)?;
     }
     Ok(())
@@ -85,7 +85,7 @@ fn methods_of_cursor(rt: HostRuntime) -> Result<(), Fail> {
 #[test]
 fn methods_for_formats(rt: HostRuntime) -> Result<(), Fail> {
     let mut made: usize = 0;
-    for row in ROWS.iter() {
+    for row in rows() {
         if has_format(row.0) {
             by_builder(&rt, rt.alloc(), Way::Format, row)?;
             made = made.saturating_add(1);
@@ -98,7 +98,7 @@ fn methods_for_formats(rt: HostRuntime) -> Result<(), Fail> {
 /// The methods of `ins()` for a jump and a branch.
 #[test]
 fn branches_of_ins(rt: HostRuntime) -> Result<(), Fail> {
-    for row in BRANCH_ROWS.iter() {
+    for row in branch_rows() {
         by_builder(&rt, rt.alloc(), Way::Method, row)?;
     }
     Ok(())
@@ -107,7 +107,7 @@ fn branches_of_ins(rt: HostRuntime) -> Result<(), Fail> {
 /// The methods of `ins()` for instructions with a table, each with one that was made for it.
 #[test]
 fn tables_of_ins(rt: HostRuntime) -> Result<(), Fail> {
-    for row in TABLE_ROWS.iter() {
+    for row in table_rows() {
         by_builder(&rt, rt.alloc(), Way::Method, row)?;
     }
     Ok(())

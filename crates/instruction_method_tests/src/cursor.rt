@@ -5,9 +5,9 @@ ghost use Rattle.std.specs.Prelude.{◌≡◌, ◌<◌, length};
 ghost use Rattle.clif_ir.specs.Body.{value_at};
 ghost use Rattle.clif_cursor.specs.Cursor.{CanAppend};
 
-use crate::fixture::{Given, callee, function, is_row, signature};
+use crate::fixture::{Given, callee, function, is_row, is_same_type, signature};
 use crate::methods::{branch, make};
-use crate::rows::{BRANCH_ROWS, ROWS, Row};
+use crate::rows::{Row, branch_rows, rows};
 use cranelift_frontend::types::{I32, I64};
 use cranelift_frontend::{
     Block, EntityRef, FuncCursor, FuncRef, Function, Opcode, SigRef, StackSlotData, Type, Value,
@@ -22,7 +22,7 @@ fn asserts_typed(rt: &impl Abort, cursor: &FuncCursor<'_>, value: Value, ty: Typ
     ensures ty { (value_at cursor.now.func.now value).ty ≡ ty }
 {
     assert!(rt; value.index() < cursor.func().value_count());
-    assert!(rt; cursor.func().value_type(value) == ty);
+    assert!(rt; is_same_type(cursor.func().value_type(value), ty));
 }
 
 // Asserts that the cursor's block exists and isn't filled.
@@ -161,7 +161,7 @@ fn by_cursor(rt: &impl Abort, alloc: Global, row: &Row) -> Result<(), Fail> {
 /// Each method of the cursor for an instruction without edges.
 #[test]
 fn methods_of_func_cursor(rt: HostRuntime) -> Result<(), Fail> {
-    for row in ROWS.iter() {
+    for row in rows() {
         by_cursor(&rt, rt.alloc(), row)?;
     }
     Ok(())
@@ -170,7 +170,7 @@ fn methods_of_func_cursor(rt: HostRuntime) -> Result<(), Fail> {
 /// The methods of the cursor for a jump and a branch.
 #[test]
 fn branches_of_func_cursor(rt: HostRuntime) -> Result<(), Fail> {
-    for row in BRANCH_ROWS.iter() {
+    for row in branch_rows() {
         by_cursor(&rt, rt.alloc(), row)?;
     }
     Ok(())

@@ -1,14 +1,14 @@
 //! The function that each row is made in, and how what was made is compared with the row.
 #![tactic(auto)]
 
-ghost use Rattle.std.specs.Prelude.{◌≡◌, IfOk};
+ghost use Rattle.std.specs.Prelude.{◌≡◌, IfOk, IsTrue};
 ghost use Rattle.clif_ir.specs.Body.{empty_body};
 
 use crate::rows::{Edge, Immediate, Passed, Row};
 use cranelift_frontend::{
     AbiParam, BlockArg, BlockCall, CallConv, EntityRef, ExtFuncData, ExternalName, FuncRef,
-    Function, Inst, InstructionData, MemFlagsData, SigRef, Signature, StackSlot, UserFuncName,
-    Value, types,
+    Function, Inst, InstructionData, MemFlagsData, SigRef, Signature, StackSlot, Type,
+    UserFuncName, Value, types,
 };
 use std::alloc::{AllocError, Global};
 use std::process::Abort;
@@ -42,10 +42,11 @@ pub fn function(alloc: Global) -> Result<Function, AllocError>
 
 /// A signature that takes and returns an I32.
 pub fn signature(alloc: Global) -> Result<Signature, AllocError> {
-    let mut signature = Signature::new(alloc, CallConv::SystemV);
-    signature.params.push(AbiParam::new(types::I32))?;
-    signature.returns.push(AbiParam::new(types::I32))?;
-    Ok(signature)
+    Ok(Signature {
+        params: vec![in alloc; AbiParam::new(types::I32)]?,
+        returns: vec![in alloc; AbiParam::new(types::I32)]?,
+        call_conv: CallConv::SystemV,
+    })
 }
 
 /// The function `g`, which has a signature.
@@ -58,6 +59,13 @@ pub fn callee(alloc: Global, signature: SigRef) -> Result<ExtFuncData, AllocErro
         colocated: false,
         patchable: false,
     })
+}
+
+/// Whether two types are equal.
+pub fn is_same_type(a: Type, b: Type) -> bool
+    ensures { IsTrue result → (a ≡ b) }
+{
+    a == b
 }
 
 /// Flags that say `notrap` or `aligned`, or both.

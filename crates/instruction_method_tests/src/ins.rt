@@ -7,7 +7,7 @@ ghost use Rattle.clif_records.specs.Tables.{is_yes};
 ghost use Rattle.clif_ssa.specs.Ssa.{sealed_of};
 ghost use Rattle.clif_builder.specs.Builder.{HasCurrent};
 
-use crate::fixture::{Given, callee, signature};
+use crate::fixture::{Given, callee, is_same_type, signature};
 use crate::formats::make_by_format;
 use crate::methods::{branch, make};
 use cranelift_frontend::types::{I32, I64};
@@ -50,7 +50,7 @@ fn asserts_typed(rt: &impl Abort, builder: &FunctionBuilder<'_>, value: Value, t
     ensures ty { (value_at builder.now.func.now value).ty ≡ ty }
 {
     asserts_value(rt, builder, value);
-    assert!(rt; builder.func().value_type(value) == ty);
+    assert!(rt; is_same_type(builder.func().value_type(value), ty));
 }
 
 // Asserts that a stack slot was made.

@@ -64,11 +64,26 @@ pub struct Row(
 );
 
 /// The methods of `InstBuilder` for an instruction that has no edges: 40. The trait has 45 methods for an instruction, one
-/// for each value of [`Opcode`]; [`BRANCH_ROWS`] has two more, and [`TABLE_ROWS`] the other three. Beside these it has
+/// for each value of [`Opcode`]; [`branch_rows`] has two more, and [`table_rows`] the other three. Beside these it has
 /// seven for a format, which make the instructions of the same rows.
 ///
 /// v0 and v1 have the type I32 and v2 the type I64; v3 is a parameter of block1.
-pub const ROWS: [Row; 40] = [
+pub fn rows() -> &'static [Row] {
+    &ROWS
+}
+
+/// The two whose edges are arguments.
+pub fn branch_rows() -> &'static [Row] {
+    &BRANCH_ROWS
+}
+
+/// The three that take a table of their own.
+pub fn table_rows() -> &'static [Row] {
+    &TABLE_ROWS
+}
+
+// A test asks for the rows by a call, since a proof about a loop over the table itself has all of it in sight.
+static ROWS: [Row; 40] = [
     Row(Iconst, "v4 = iconst.i32 7", &[], Immediate::Number(7), &[]),
     Row(
         FloatConst(FloatConstOpcode::F16const),
@@ -327,8 +342,7 @@ pub const ROWS: [Row; 40] = [
     ),
 ];
 
-/// The two whose edges are arguments.
-pub const BRANCH_ROWS: [Row; 2] = [
+static BRANCH_ROWS: [Row; 2] = [
     Row(
         Jump,
         "jump block1(v0)",
@@ -345,8 +359,7 @@ pub const BRANCH_ROWS: [Row; 2] = [
     ),
 ];
 
-/// The three that take a table of their own.
-pub const TABLE_ROWS: [Row; 3] = [
+static TABLE_ROWS: [Row; 3] = [
     Row(
         BrTable,
         "br_table v0, block2, [block1(v1), block2]",

@@ -3,6 +3,7 @@
 //! A script has one variable that counts blocks down, and traps when there are no more, and others that it uses and
 //! assigns at random. A block names its parameter and what was given in it. A block isn't sealed before the last block
 //! is filled that may lead to it.
+mod helpers;
 mod steps;
 mod switches;
 mod terminators;

@@ -1,6 +1,6 @@
-//! `random_scripts SEED COUNT` makes COUNT scripts with outside calls, of the seeds from SEED on, and builds a function of
-//! each. The script and its function run side by side in three worlds, on the two interpreters of `clif_interpreter`. It
-//! prints that they agree, and fails where two runs differ, or where too few of them show anything.
+//! `random_scripts SEED COUNT` makes COUNT scripts with outside calls and memory helpers, of the seeds from SEED on, and builds a
+//! function of each. The script and its function run side by side in three worlds, on the two interpreters of
+//! `clif_interpreter`. It prints that they agree, and fails where two runs differ, or where too few of them show anything.
 #![tactic(auto)]
 
 mod generator;

@@ -2,7 +2,7 @@
 use clif_interpreter::{Event, Memory, Outside};
 
 /// How many bytes are accessible, from [`START`] on.
-pub const SIZE: usize = 16;
+pub const SIZE: usize = 64;
 
 /// The address of the first accessible byte.
 pub const START: u64 = 4096;

@@ -12,11 +12,11 @@ use Rattle.clif_tables.specs.Entries.{TableEntry}
 use Rattle.clif_meaning.specs.Acceptance.{allows, is_open}
 use Rattle.clif_meaning.specs.Bits.{AreValues}
 use Rattle.clif_meaning.specs.Instruction.{Edge, Instruction, Operation, Switch}
-use Rattle.clif_meaning.specs.Ledger.{AValue, Ledger, VariableState, answers_to, changed_by, empty_ledger, is_inserted, is_terminator, new_variable, or_invalid, touched_at, type_of, value_answer_type, variable_type, with_begun, with_begun_at, with_filled_at, with_instruction, with_predecessor, with_terminator}
+use Rattle.clif_meaning.specs.Ledger.{AValue, Ledger, VariableState, answers_to, changed_by, empty_ledger, is_inserted, is_terminator, new_variable, or_invalid, touched_at, type_of, value_answer_type, variable_type, with_begun, with_begun_at, with_filled_at, with_instruction, with_predecessor, with_terminator, marked_at, with_need}
 use Rattle.clif_meaning.specs.Name.{Name, answer_of, same_name}
 use Rattle.clif_meaning.specs.Premises.{EachItem, EntryTakes, IsItemWellTyped, WellTyped}
 use Rattle.clif_meaning.specs.Program.{Program, Item, Instruct, Use, Assign, answers_from, empty_program, extended, redirected_instruction, redirected_item, result_names, result_types, with_inserted, with_item_at}
-use Rattle.clif_meaning.specs.Request.{Request, CreateBlock, SwitchToBlock, SealBlock, SealAllBlocks, InsertBlockAfter, SetColdBlock, EnsureInsertedBlock, AppendBlockParams, AppendFunctionParams, DeclareVar, DefVar, UseVar, MakeEntry, MakeEdge, MakeJumpTable, MakeExceptionTable, Annotate, Build, ChangeJumpDestination, Finalize}
+use Rattle.clif_meaning.specs.Request.{Request, CreateBlock, SwitchToBlock, SealBlock, SealAllBlocks, InsertBlockAfter, SetColdBlock, EnsureInsertedBlock, AppendBlockParams, AppendFunctionParams, DeclareVar, DefVar, UseVar, MakeEntry, MakeEdge, MakeJumpTable, MakeExceptionTable, Annotate, NeedStackMap, Build, ChangeJumpDestination, Finalize, StackMapNeed, OfVariable, OfValue}
 use Rattle.clif_meaning.specs.World.{World}
 use Rattle.clif_meaning.specs.ScriptMachine.{ScriptRun, ScriptState}
 use Rattle.clif_meaning.proofs.EachStep.{each_step}
@@ -44,6 +44,15 @@ touched_on (state ∷ states) zero zero ty is = is
 touched_on (state ∷ states) zero (suc v) ty is = is
 touched_on (state ∷ states) (suc touched) zero ty is = is
 touched_on (state ∷ states) (suc touched) (suc v) ty is = touched_on states touched v ty is
+
+-- so does a mark
+marked_on : (states : List VariableState) (marked v : ℕ) (ty : «Type») → option_map (λ state. state.ty) (slice_get states v) ≡ Some ty
+    → option_map (λ state. state.ty) (slice_get (marked_at marked states) v) ≡ Some ty
+marked_on [] marked v ty is = is
+marked_on (state ∷ states) zero zero ty is = is
+marked_on (state ∷ states) zero (suc v) ty is = is
+marked_on (state ∷ states) (suc marked) zero ty is = is
+marked_on (state ∷ states) (suc marked) (suc v) ty is = marked_on states marked v ty is
 
 declared_on : (states more : List VariableState) (v : ℕ) (ty : «Type») → option_map (λ state. state.ty) (slice_get states v) ≡ Some ty
     → option_map (λ state. state.ty) (slice_get (states ++ more) v) ≡ Some ty
@@ -95,6 +104,10 @@ module _ (ledger : Ledger) (v : ℕ) (ty : «Type») (is : variable_type ledger 
   instruction_on : (instruction : Instruction Name Name) → variable_type (with_instruction ledger instruction) v ≡ Some ty
   instruction_on instruction = same_variables (with_instruction ledger instruction).variables (instruction_variables ledger instruction)
 
+  needed_on : (need : StackMapNeed) → option_map (λ state. state.ty) (slice_get (with_need need ledger.variables) v) ≡ Some ty
+  needed_on (OfVariable variable) = marked_on ledger.variables variable v ty is
+  needed_on (OfValue value) = is
+
   asked_on : (request : Request) → variable_type (changed_by ledger request) v ≡ Some ty
   asked_on CreateBlock = is
   asked_on (SwitchToBlock block) = is
@@ -112,7 +125,8 @@ module _ (ledger : Ledger) (v : ℕ) (ty : «Type») (is : variable_type ledger 
   asked_on (MakeEdge edge) = is
   asked_on (MakeJumpTable default entries) = is
   asked_on (MakeExceptionTable signature normal items) = is
-  asked_on (Annotate values) = is
+  asked_on (Annotate inside values) = is
+  asked_on (NeedStackMap need) = needed_on need
   asked_on (Build entries instruction) = instruction_on instruction
   asked_on (ChangeJumpDestination branch from to) = is
   asked_on Finalize = is

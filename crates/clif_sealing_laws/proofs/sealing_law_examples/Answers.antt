@@ -6,7 +6,7 @@ use Rattle.clif_renaming.proofs.Premises.{premises_stay}
 use Rattle.clif_sealing_laws.proofs.sealing_law_examples.Goals as goal
 
 pub returns : goal.returns
-returns c = λ signature. record {
+returns c = λ config signature. record {
   first_emits_nothing = refl;
   last_emits_nothing = refl;
   differ = refl;

@@ -222,7 +222,7 @@ IsBlank unborn = Unit {0}
 IsBlank (zero_of x) = Unit {0}
 IsBlank (born n) = ⊥
 IsBlank (pending x) = ⊥
-IsBlank complete = ⊥
+IsBlank (complete x) = ⊥
 
 -- a variable or name that holds a zero has no bits set, and neither has a zero
 pub record ZerosAreZero (program : Program) (function : Function) (path : Path) (variables : ℕ → ℕ) (names : Name → ℕ) (values : ℕ → ℕ) : Type 0 where

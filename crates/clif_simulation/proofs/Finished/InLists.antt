@@ -11,12 +11,12 @@ in_either {X} (x ∷ xs) ys y (inr there) = by (in_either xs ys y there)
     by (inl first) = inl (inr first)
     by (inr second) = inr second
 
-in_first : {X : Type 0} (xs ys : List X) (y : X) → In y xs → In y (xs ++ ys)
+pub in_first : {X : Type 0} (xs ys : List X) (y : X) → In y xs → In y (xs ++ ys)
 in_first [] ys y there = absurd there
 in_first (x ∷ xs) ys y (inl here) = inl here
 in_first (x ∷ xs) ys y (inr there) = inr (in_first xs ys y there)
 
-in_second : {X : Type 0} (xs ys : List X) (y : X) → In y ys → In y (xs ++ ys)
+pub in_second : {X : Type 0} (xs ys : List X) (y : X) → In y ys → In y (xs ++ ys)
 in_second [] ys y there = there
 in_second (x ∷ xs) ys y there = inr (in_second xs ys y there)
 

@@ -80,6 +80,10 @@ module _ (calls : List AnsweredCall) (f : Body) (s : SsaState) (consistent : IsC
   others_home v there =
       stands_home f consistent v b (subst (Stands v) (sym params_are) (stands_second (carries.own.params b) others v there))
 
+  -- a complete parameter of the block, whatever variable it was made for
+  abbrev pub CompleteHere : ℕ → Type 0
+  CompleteHere v = (x : ℕ) × (function.definition v ≡ record { home = front b; kind = complete x })
+
   -- no parameter of the block is a zero, or on the way to one
   parameter_no_blank : (v : ℕ) → param_home f v ≡ Some b → IsBlank (function.definition v).kind → ⊥
   parameter_no_blank v home blank = by (function.definition v).kind blank (carries.counts.behind b v home)
@@ -89,7 +93,7 @@ module _ (calls : List AnsweredCall) (f : Body) (s : SsaState) (consistent : IsC
       by (zero_of x) is behind = behind
       by (born n) is behind = is
       by (pending x) is behind = is
-      by complete is behind = is
+      by (complete x) is behind = is
 
   module _ (B : Name) (named : block_name calls b ≡ Some B) where
     abbrev pub parameters : List Name
@@ -173,12 +177,13 @@ module _ (calls : List AnsweredCall) (f : Body) (s : SsaState) (consistent : IsC
     callers = length (carries.own.params b)
 
     -- a parameter that is complete is so as its block is entered
-    of_complete : (fits : HomeFits carries.tables v complete) → (function.definition v).kind ≡ complete → function.definition v ≡ record { home = front b; kind = complete }
-    of_complete fits kind =
-        let defined : function.definition v ≡ record { home = front fits.0; kind = complete } =
-        ap (λ (k : Kind). record { home = (function.definition v).home; kind = k }) kind ∙ ap (λ (p : Place). record { home = p; kind = complete }) fits.1 in
+    of_complete : (x : ℕ) (fits : HomeFits carries.tables v (complete x)) → (function.definition v).kind ≡ complete x
+        → function.definition v ≡ record { home = front b; kind = complete x }
+    of_complete x fits kind =
+        let defined : function.definition v ≡ record { home = front fits.0; kind = complete x } =
+        ap (λ (k : Kind). record { home = (function.definition v).home; kind = k }) kind ∙ ap (λ (p : Place). record { home = p; kind = complete x }) fits.1 in
         let same : fits.0 ≡ b = some_is fits.0 b (sym (carries.describes.complete_there fits.0 v defined) ∙ home) in
-        defined ∙ ap (λ (d : ℕ). record { home = front d; kind = complete }) same
+        defined ∙ ap (λ (d : ℕ). record { home = front d; kind = complete x }) same
 
     -- one that waits is born there
     of_pending : (x : ℕ) → (function.definition v).kind ≡ pending x → (function.definition v).home ≡ front b
@@ -196,7 +201,7 @@ module _ (calls : List AnsweredCall) (f : Body) (s : SsaState) (consistent : IsC
     of_kind unborn kind fits behind = absurd behind
     of_kind (born n) kind fits behind = let name = own_named v behind (block_name calls b) refl in own_born name.0 name.1 v behind
     of_kind (pending x) kind fits behind = of_pending x kind
-    of_kind complete kind fits behind = ap (λ (d : Definition). d.home) (of_complete fits kind)
+    of_kind (complete x) kind fits behind = ap (λ (d : Definition). d.home) (of_complete x fits kind)
     of_kind (zero_of x) kind fits behind = absurd behind
 
     -- each parameter of the block is born as the block is entered
@@ -208,14 +213,14 @@ module _ (calls : List AnsweredCall) (f : Body) (s : SsaState) (consistent : IsC
         (reached : place + length (carries.own.passed i k) < passed_count f i k + callers)
       where
         of_reached : (kind : Kind) → (function.definition v).kind ≡ kind → HomeFits carries.tables v kind → IsBehind kind place callers
-            → IsCounted kind place callers (passed_count f i k) (length (carries.own.passed i k)) → function.definition v ≡ record { home = front b; kind = complete }
+            → IsCounted kind place callers (passed_count f i k) (length (carries.own.passed i k)) → CompleteHere v
         of_reached unborn kind fits behind passes = absurd behind
         of_reached (born n) kind fits behind passes = absurd (omega (arith, behind, past))
         of_reached (pending x) kind fits behind passes = absurd (omega (arith, passes, reached))
-        of_reached complete kind fits behind passes = of_complete fits kind
+        of_reached (complete x) kind fits behind passes = (x, of_complete x fits kind)
         of_reached (zero_of x) kind fits behind passes = absurd behind
 
-        pub passed_complete : function.definition v ≡ record { home = front b; kind = complete }
+        pub passed_complete : CompleteHere v
         passed_complete = of_reached (function.definition v).kind refl (carries.describes.homes v) (carries.counts.behind b v home) counted
 
   -- Where nothing waits ---------------------------------------------------------------------------------------------------
@@ -233,17 +238,16 @@ module _ (calls : List AnsweredCall) (f : Body) (s : SsaState) (consistent : IsC
 
     is_complete : (v : ℕ) → param_home f v ≡ Some b → length (carries.own.params b) ≤ place_of v (block_at f b).params
         → (kind : Kind) → (function.definition v).kind ≡ kind → HomeFits carries.tables v kind
-        → IsBehind kind (place_of v (block_at f b).params) (length (carries.own.params b)) → function.definition v ≡ record { home = front b; kind = complete }
+        → IsBehind kind (place_of v (block_at f b).params) (length (carries.own.params b)) → CompleteHere v
     is_complete v home past unborn kind fits behind = absurd behind
     is_complete v home past (born n) kind fits behind = absurd (omega (arith, behind, past))
     is_complete v home past (pending x) kind fits behind =
         absurd (none_pending v x (unaliased_home f v b home) kind (λ c waits. some_is c b (sym waits.parameter ∙ home)))
-    is_complete v home past complete kind fits behind = of_complete v home fits kind
+    is_complete v home past (complete x) kind fits behind = (x, of_complete v home x fits kind)
     is_complete v home past (zero_of x) kind fits behind = absurd behind
 
     -- a parameter of the block that isn't a caller's is complete
-    pub parameter_complete : (v : ℕ) → param_home f v ≡ Some b → length (carries.own.params b) ≤ place_of v (block_at f b).params
-        → function.definition v ≡ record { home = front b; kind = complete }
+    pub parameter_complete : (v : ℕ) → param_home f v ≡ Some b → length (carries.own.params b) ≤ place_of v (block_at f b).params → CompleteHere v
     parameter_complete v home past =
         is_complete v home past (function.definition v).kind refl (carries.describes.homes v) (carries.counts.behind b v home)
 
@@ -263,7 +267,7 @@ module _ (calls : List AnsweredCall) (f : Body) (s : SsaState) (consistent : IsC
       -- Behind an arm to the block's front the caller's parameters have their bits; each of the others has those of what the arm
       -- gives it, and what is no parameter keeps its own.
       module _ (source : Place) (number : ℕ) (path : Path) (old new : ℕ → ℕ)
-          (gets : (w : ℕ) → function.definition w ≡ record { home = front b; kind = complete } → new w ≡ old (function.resolve (function.argument w (record { source = source; target = front b; edge = number }))))
+          (gets : (w : ℕ) → CompleteHere w → new w ≡ old (function.resolve (function.argument w (record { source = source; target = front b; edge = number }))))
           (keeps : (w : ℕ) → (function.definition w).home ≢ front b → new w ≡ old w)
           (stays : (w : ℕ) → IsBlank (function.definition w).kind → new w ≡ old w)
           (zeros : (w : ℕ) → IsBlank (function.definition w).kind → old w ≡ 0)
@@ -271,10 +275,10 @@ module _ (calls : List AnsweredCall) (f : Body) (s : SsaState) (consistent : IsC
           abbrev into_front : Arm
           into_front = record { source = source; target = front b; edge = number }
 
-          complete_unborn : (w n : ℕ) → (function.definition w).kind ≡ complete → (function.definition w).kind ≢ born n
-          complete_unborn w n is other = absurd (apart (sym is ∙ other))
+          complete_unborn : (w x n : ℕ) → (function.definition w).kind ≡ complete x → (function.definition w).kind ≢ born n
+          complete_unborn w x n is other = absurd (apart (sym is ∙ other))
             where
-              apart : complete ≡ born n → ⊥
+              apart : complete x ≡ born n → ⊥
               apart h = cc
 
           at_front : (w : ℕ) → live w → (kind : Kind) → function.definition w ≡ record { home = front b; kind = kind }
@@ -284,14 +288,14 @@ module _ (calls : List AnsweredCall) (f : Body) (s : SsaState) (consistent : IsC
           at_front w is_live (pending x) defined fits =
               absurd (none_pending w x (sym (carries.describes.resolves w) ∙ is_live) (ap (λ (d : Definition). d.kind) defined)
               (λ c waits. same_block (sym (ap (λ (d : Definition). d.home) waits.defined) ∙ ap (λ (d : Definition). d.home) defined)))
-          at_front w is_live complete defined fits =
+          at_front w is_live (complete x) defined fits =
               let u : ℕ = function.argument w into_front in
               inr (inl (
                 function.resolve u,
                 carries.describes.resolves (function.resolve u) ∙ ap (resolved f) (carries.describes.resolves u) ∙ resolved_twice f u consistent ∙ sym (carries.describes.resolves u),
-                (function_steps program function into_front path).complete_here w defined,
-                gets w defined,
-                inr (λ n. complete_unborn w n (ap (λ (d : Definition). d.kind) defined)),
+                (function_steps program function into_front path).complete_here w x defined,
+                gets w (x, defined),
+                inr (λ n. complete_unborn w x n (ap (λ (d : Definition). d.kind) defined)),
               ))
           at_front w is_live (zero_of x) defined fits =
               let blank : IsBlank (function.definition w).kind = subst IsBlank (sym (ap (λ (d : Definition). d.kind) defined)) tt in
@@ -364,7 +368,7 @@ module _ (calls : List AnsweredCall) (f : Body) (s : SsaState) (consistent : IsC
               let whole = (place_among v home past).0 in
               sym (at_second passed more (length passed + at) at refl)
               ∙ ap (λ (args : List BlockArg). slice_get args (length passed + at)) (sym (carries.passes_first b into.branch number into.leads into.to).1)
-              ∙ carries.describes.passes b v arm into (parameter_complete v home past) refl (length passed + at) (omega (arith, whole))
+              ∙ carries.describes.passes b v arm into (parameter_complete v home past).1 refl (length passed + at) (omega (arith, whole))
 
           parameter_gets : (v : ℕ) → param_home f v ≡ Some b → length (carries.own.params b) ≤ place_of v (block_at f b).params → new v ≡ old (resolved f (function.argument v arm))
           parameter_gets v home past =
@@ -375,8 +379,8 @@ module _ (calls : List AnsweredCall) (f : Body) (s : SsaState) (consistent : IsC
           other_keeps : (v : ℕ) → (Stands v others → ⊥) → new v ≡ old v
           other_keeps v other = assigned_elsewhere others theirs old v other
 
-          gets : (w : ℕ) → function.definition w ≡ record { home = front b; kind = complete } → new w ≡ old (function.resolve (function.argument w arm))
-          gets w defined =
+          gets : (w : ℕ) → CompleteHere w → new w ≡ old (function.resolve (function.argument w arm))
+          gets w (_, defined) =
               let home : param_home f w ≡ Some b = carries.describes.complete_there b w defined in
               parameter_gets w home
               (subst (λ (d : Definition). IsBehind d.kind (place_of w (block_at f b).params) (length (carries.own.params b))) defined (carries.counts.behind b w home))

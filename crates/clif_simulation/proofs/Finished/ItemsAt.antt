@@ -60,7 +60,7 @@ module _ (calls : List AnsweredCall) (own : Own) (f : Body) (s : SsaState) (tabl
       answers = fits.1;
     }
     born_by w b k (pending x) fits at = absurd (omega (arith, same_step (sym fits.1 ∙ at)))
-    born_by w b k complete fits at = absurd (omega (arith, same_step (sym fits.1 ∙ at)))
+    born_by w b k (complete x) fits at = absurd (omega (arith, same_step (sym fits.1 ∙ at)))
     born_by w b k (zero_of x) fits at = absurd (omega (arith, same_step (sym fits.1 ∙ at)))
 
     pub is_born : (w b k : ℕ) → (tables.function.definition w).home ≡ inside b (suc k) → IsBorn w b k

@@ -40,6 +40,7 @@ use Rattle.clif_simulation.proofs.Finished.Fronts.{HasFront, has_front, placed_i
 use Rattle.clif_simulation.proofs.Finished.Placing.{map_length}
 use Rattle.clif_simulation.proofs.Finished.Straight.{arms, first_arm}
 use Rattle.clif_simulation.proofs.Unfinished.Counted.{as_many_values}
+use Rattle.clif_simulation.proofs.Finished.Sources.{Moving}
 use Rattle.clif_simulation.proofs.Finished.Stepping
 
 -- What is passed to the entry --------------------------------------------------------------------------------------------
@@ -79,36 +80,36 @@ from_start machine (suc j) = ap machine.next (from_start machine j)
 module _ (calls : List AnsweredCall) (f : Body) (ssa : SsaState) (consistent : IsConsistent f) (carries : Whole calls f ssa) (finished : IsFinished calls f ssa)
     (width : PointerWidth) (world : World) (signature : SignatureShape) (placed : IsWellPlaced (program_code (program_so_far calls)))
     (targets : EachItem (HasGoodTargets (ledger_after (script_of calls)) (program_so_far calls)) (program_so_far calls))
-    (typed : WellTyped (ledger_after (script_of calls)) (program_so_far calls) signature)
+    (typed : WellTyped (ledger_after (script_of calls)) (program_so_far calls) signature) (moving : Moving calls carries.own f ssa)
     (entry : Name) (is_entry : (program_so_far calls).entry ≡ Some entry) (as_many : length world.arguments ≡ length ((program_so_far calls).parameters entry))
   where
     abbrev left_run : ScriptRun
-    left_run = Stepping.left_run calls f ssa consistent carries finished width world signature placed targets typed
+    left_run = Stepping.left_run calls f ssa consistent carries finished width world signature placed targets typed moving
 
     abbrev right_run : FunctionRun
-    right_run = Stepping.right_run calls f ssa consistent carries finished width world signature placed targets typed
+    right_run = Stepping.right_run calls f ssa consistent carries finished width world signature placed targets typed moving
 
     abbrev left_machine : Machine ScriptState Observation
-    left_machine = Stepping.left_machine calls f ssa consistent carries finished width world signature placed targets typed
+    left_machine = Stepping.left_machine calls f ssa consistent carries finished width world signature placed targets typed moving
 
     abbrev right_machine : Machine FunctionState Observation
-    right_machine = Stepping.right_machine calls f ssa consistent carries finished width world signature placed targets typed
+    right_machine = Stepping.right_machine calls f ssa consistent carries finished width world signature placed targets typed moving
 
     abbrev Related : ScriptState → FunctionState → Type 0
-    Related = Stepping.Related calls f ssa consistent carries finished width world signature placed targets typed
+    Related = Stepping.Related calls f ssa consistent carries finished width world signature placed targets typed moving
 
     abbrev program : Program
-    program = Stepping.program calls f ssa consistent carries finished width world signature placed targets typed
+    program = Stepping.program calls f ssa consistent carries finished width world signature placed targets typed moving
 
     abbrev function : Function
-    function = Stepping.function calls f ssa consistent carries finished width world signature placed targets typed
+    function = Stepping.function calls f ssa consistent carries finished width world signature placed targets typed moving
 
-    -- nothing is tracked in a finished function
+    -- both agree about what moves and what doesn't
     abbrev labels : Labels program function
     labels = no_labels program function
 
     abbrev live : ℕ → Type 0
-    live = Stepping.live calls f ssa consistent carries finished width world signature placed targets typed
+    live = Stepping.live calls f ssa consistent carries finished width world signature placed targets typed moving
 
     abbrev tables : Blocks
     tables = carries.tables
@@ -238,7 +239,7 @@ module _ (calls : List AnsweredCall) (f : Body) (ssa : SsaState) (consistent : I
           };
         }))
 
-    pub simulates : Simulates left_machine right_machine Related (Stepping.measure calls f ssa consistent carries finished width world signature placed targets typed)
+    pub simulates : Simulates left_machine right_machine Related (Stepping.measure calls f ssa consistent carries finished width world signature placed targets typed moving)
     simulates = record {
       ahead = length has.zeros;
       at_first = λ j within.
@@ -246,6 +247,6 @@ module _ (calls : List AnsweredCall) (f : Body) (ssa : SsaState) (consistent : I
           (left_after j (length has.zeros - j) (omega (arith, within)))
           ∙ sym left_quiet;
       starts = related_first (state_after right_machine (length has.zeros)) (left_after (length has.zeros) 0 (omega arith));
-      shows = Stepping.shows calls f ssa consistent carries finished width world signature placed targets typed;
-      step = Stepping.step calls f ssa consistent carries finished width world signature placed targets typed;
+      shows = Stepping.shows calls f ssa consistent carries finished width world signature placed targets typed moving;
+      step = Stepping.step calls f ssa consistent carries finished width world signature placed targets typed moving;
     }

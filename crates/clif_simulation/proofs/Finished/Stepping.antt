@@ -1,7 +1,7 @@
 -- One step of the script's machine is matched by the function's machine: both stand before the same items of a block and
 -- agree, or ended in one way. A step along an edge is matched by that and the zeros of the block that it leads to.
 use Rattle.std.proofs.Common.{◌≡◌, ℕ, suc, ◌+◌, ◌-◌, ◌<◌, ◌≤◌, nat_lt, true, List, [], ◌∷◌, ◌++◌, map, length, drop, flat_map, slice_get, Option, Some, None, Contains, ◌⊎◌, inl, inr, refl, sym, ◌∙◌, ap, ap₂, subst, subst₂, arith}
-use Rattle.std.specs.Prelude.{Bool, IsTrue, if◌then◌else◌}
+use Rattle.std.specs.Prelude.{IsTrue}
 use Rattle.std.proofs.lemmas.Bool.Decides.{nat_tests}
 use Rattle.clif_types.specs.Signature.{SignatureShape}
 use Rattle.clif_types.specs.declared.target.PointerWidth.{PointerWidth}
@@ -25,15 +25,14 @@ use Rattle.clif_meaning.specs.Instruction.{Argument, Known, CallResult, CallPayl
 use Rattle.clif_meaning.specs.Program.{Item, Instruct, Use, Assign}
 use Rattle.clif_meaning.specs.World.{World}
 use Rattle.clif_meaning.specs.Outcome.{Outcome, Gives, Goes, Returns, Traps, Calls, NoStep, outcome_of}
-use Rattle.clif_meaning.specs.Store.{assigned, argument_bits, memory_beside, shown_memory}
+use Rattle.clif_meaning.specs.Store.{assigned, argument_bits, shown_memory}
 use Rattle.clif_meaning.specs.Machine.{Machine, Control, At, HasReturned, HasTrapped, IsStuck, Observation, Ending, ending_of}
 use Rattle.clif_meaning.specs.ScriptMachine as script
 use Rattle.clif_meaning.specs.ScriptMachine.{ScriptRun, ScriptState, script_machine}
 use Rattle.clif_meaning.specs.FunctionMachine as function_machine_of
-use Rattle.clif_meaning.specs.FunctionMachine.{FunctionRun, FunctionState, ByMaps, function_machine, value_bits, same_value}
+use Rattle.clif_meaning.specs.FunctionMachine.{FunctionRun, FunctionState, function_machine, value_bits, same_value}
 use Rattle.clif_meaning.specs.FunctionView.{Placed}
-use Rattle.clif_meaning.specs.View.{view_of, edge_of, edges_of, argument_of}
-use Rattle.clif_meaning.specs.Headline.{script_run, function_run}
+use Rattle.clif_meaning.specs.View.{edge_of, edges_of, argument_of}
 use Rattle.clif_meaning.specs.Premises.{EachItem, HasGoodTargets, WellTyped}
 use Rattle.clif_meaning.specs.WellPlaced.{item_names, known_argument, passed_operands, program_code, IsWellPlaced}
 use Rattle.clif_meaning.proofs.Stuttering.{Matched, steps_from}
@@ -42,9 +41,11 @@ use Rattle.clif_simulation.proofs.Whole.{Whole}
 use Rattle.clif_instructions.specs.declared.block_call.BlockArg.{BlockArg}
 use Rattle.clif_simulation.specs.Carries.{answered_argument, answered_edge, as_passed, carried, own_placed}
 use Rattle.clif_simulation.specs.Laws.{IsFinished}
+use Rattle.clif_simulation.specs.Marked.{collected_run, marked_script_run}
 use Rattle.clif_simulation.proofs.Finished.Giving.{In, first_contained, in_contained}
 use Rattle.clif_simulation.proofs.Finished.InLists.{among_all}
 use Rattle.clif_simulation.proofs.Finished.Agreement.{Agrees, GivesThere, ZerosAreZero, given_agrees, used_agrees, assigned_agrees, given_zeros, used_zeros, assigned_zeros, agrees_still, zeros_still}
+use Rattle.clif_simulation.proofs.Finished.Calling
 use Rattle.clif_simulation.proofs.Finished.Entered.{EntersThere, entered_agrees, entered_zeros}
 use Rattle.clif_simulation.proofs.Labelling.Labels.{Labels, no_labels}
 use Rattle.clif_simulation.proofs.Finished.Entry.{resolved_twice}
@@ -58,10 +59,10 @@ use Rattle.clif_simulation.proofs.Listed.{place_within}
 use Rattle.clif_simulation.proofs.Finished.OwnEdges
 use Rattle.clif_simulation.proofs.Finished.OwnEdges.{last_item}
 use Rattle.clif_simulation.proofs.Finished.OperandTypes.{outcomes_alike}
+use Rattle.clif_simulation.proofs.Finished.Sources.{Moving}
 use Rattle.clif_simulation.proofs.Finished.Targets
 use Rattle.clif_simulation.proofs.Finished.Placing.{at_second, map_at, map_length, placed_item}
 use Rattle.clif_simulation.proofs.Finished.TwoParts.{nothing_assigned}
-use Rattle.clif_simulation.proofs.Labelling.Unmarked.{none_marked, none_tracked}
 use Rattle.clif_simulation.proofs.Finished.Matching.{script_still, function_still, observation, remaining, first_is, rest_is, item_here, rest_behind, same_bits, matched_by_one, matched_by_none, matched_by_more, SameEnd, same_ending, same_outcomes}
 
 -- what is passed has the same bits where the names have those of their answers
@@ -104,13 +105,13 @@ edge_passes instruction n edge is x known = among_all (λ (e : Edge Name Name). 
 module _ (calls : List AnsweredCall) (f : Body) (ssa : SsaState) (consistent : IsConsistent f) (carries : Whole calls f ssa) (finished : IsFinished calls f ssa)
     (width : PointerWidth) (world : World) (signature : SignatureShape) (placed : IsWellPlaced (program_code (program_so_far calls)))
     (targets : EachItem (HasGoodTargets (ledger_after (script_of calls)) (program_so_far calls)) (program_so_far calls))
-    (typed : WellTyped (ledger_after (script_of calls)) (program_so_far calls) signature)
+    (typed : WellTyped (ledger_after (script_of calls)) (program_so_far calls) signature) (moving : Moving calls carries.own f ssa)
   where
     abbrev pub left_run : ScriptRun
-    left_run = script_run (script_of calls) (view_of f) world
+    left_run = marked_script_run calls f world moving.marked moving.tracked moving.hidden
 
     abbrev pub right_run : FunctionRun
-    right_run = function_run (script_of calls) (view_of f) world ByMaps
+    right_run = collected_run calls f world moving.collector moving.hidden
 
     abbrev pub left_machine : Machine ScriptState Observation
     left_machine = script_machine left_run
@@ -127,7 +128,7 @@ module _ (calls : List AnsweredCall) (f : Body) (ssa : SsaState) (consistent : I
     abbrev pub function : Function
     function = Edges.function calls f ssa consistent carries finished placed
 
-    -- nothing is tracked in a finished function
+    -- both agree about what moves and what doesn't
     abbrev labels : Labels program function
     labels = no_labels program function
 
@@ -611,7 +612,7 @@ module _ (calls : List AnsweredCall) (f : Body) (ssa : SsaState) (consistent : I
 
     -- An outside call ---------------------------------------------------------------------------------------------------------
 
-    -- Both show the same event, nothing that a script names moves so far, and both get the same answer.
+    -- Both show the same event, what denotes the same moves alike, and both get the same answer.
     module _ (b : ℕ) (B : Name) (k : ℕ) (path : Path) (place : ℕ) (instruction : Instruction Name Name) (results : List Name) (rest : List Item) (i : ℕ) (left : List ℕ)
         (p : ScriptState) (q : FunctionState) (r : IsAt b B k (Instruct place instruction results ∷ rest) (i ∷ left) path p q)
         (callee : Callee) (call : CallShape) (arguments : List Bits)
@@ -633,21 +634,13 @@ module _ (calls : List AnsweredCall) (f : Body) (ssa : SsaState) (consistent : I
 
         events_are : p'.events ≡ q'.events
         events_are =
-            ap₂ (λ (memory : Memory) (events : List Event).
-            record { callee = callee; arguments = arguments; memory = shown_memory left_run.hidden memory } ∷ events) r.same_memory r.same_events
+            Calling.events_are calls f ssa consistent carries finished world signature placed typed moving p q r.same_memory r.same_events
+            (placed_inst f i).stack_map no_map callee call arguments path r.follows r.agrees r.zeros
 
         memory_is : p'.memory ≡ q'.memory
         memory_is =
-            ap₂ (λ (memory : Memory) (events : List Event). memory_beside left_run.hidden memory (world.memory_after events call)) r.same_memory events_are
-            ∙ sym (ap (λ (entries : _).
-            memory_beside left_run.hidden (function_machine_of.entries_moved right_run (world.moved q'.events call) entries q.memory) (world.memory_after q'.events call)) no_map)
-
-        variable_stays : (x : ℕ) → p'.variables x ≡ p.variables x
-        variable_stays x =
-            ap (λ (t : Bool). if t then world.moved p'.events call (left_run.variable_type x) (p.variables x) else p.variables x) (none_marked (script_of calls) x)
-
-        name_stays : (x : Name) → p'.names x ≡ p.names x
-        name_stays x = ap (λ (t : Bool). if t then world.moved p'.events call (left_run.name_type x) (p.names x) else p.names x) (none_tracked (script_of calls) x)
+            Calling.memory_is calls f ssa consistent carries finished world signature placed typed moving p q r.same_memory r.same_events
+            (placed_inst f i).stack_map no_map callee call arguments path r.follows r.agrees r.zeros
 
         called : IsAt b B k (Instruct place instruction results ∷ rest) (i ∷ left) path p' q'
         called = record {
@@ -662,17 +655,10 @@ module _ (calls : List AnsweredCall) (f : Body) (ssa : SsaState) (consistent : I
           function_at = r.function_at;
           same_memory = memory_is;
           same_events = events_are;
-          agrees = record {
-            of_variable = λ x w is_live fit same. variable_stays x ∙ r.agrees.of_variable x w is_live fit same;
-            of_name = λ n w is_live fit same. name_stays n ∙ r.agrees.of_name n w is_live fit same;
-          };
-          zeros = record {
-            held = record {
-              of_variable = λ x is_nothing. variable_stays x ∙ r.zeros.held.of_variable x is_nothing;
-              of_name = λ n is_nothing. name_stays n ∙ r.zeros.held.of_name n is_nothing;
-            };
-            of_value = r.zeros.of_value;
-          };
+          agrees = Calling.agrees_behind calls f ssa consistent carries finished world signature placed typed moving p q r.same_memory r.same_events
+              (placed_inst f i).stack_map no_map callee call arguments path r.follows r.agrees r.zeros;
+          zeros = Calling.zeros_behind calls f ssa consistent carries finished world signature placed typed moving p q r.same_memory r.same_events
+              (placed_inst f i).stack_map no_map callee call arguments path r.follows r.agrees r.zeros;
         }
 
         abbrev takes : List (Edge ℕ ℕ) → Answer → FunctionState

@@ -1,20 +1,21 @@
--- What an instruction gives, and a parameter of the caller's, the ledger has as a value.
-use Rattle.std.proofs.Common.{◌≡◌, ℕ, zero, suc, ◌+◌, ◌<◌, Bool, true, false, List, [], ◌∷◌, ◌++◌, length, map, Option, Some, None, inl, inr, refl, sym, ◌∙◌, ap, subst, arith}
-use Rattle.std.specs.Prelude.{IsTrue, fold, if◌then◌else◌, is_some, option_and_then, slice_get}
+-- What an item gives, and a parameter of the caller's, the ledger has as a value.
+use Rattle.std.proofs.Common.{◌≡◌, ℕ, zero, suc, ◌+◌, ◌<◌, false, List, [], ◌∷◌, ◌++◌, length, map, Option, Some, None, inl, inr, refl, sym, ◌∙◌, ap, subst, arith}
+use Rattle.std.specs.Prelude.{IsTrue, fold, is_some, option_and_then, slice_get}
 use Rattle.std.specs.List.{AllByRecursion}
 use Rattle.std.proofs.lemmas.Option.{slice_get_within}
 use Rattle.clif_types.specs.declared.types.«Type».{«Type»}
-use Rattle.clif_meaning.specs.Name.{Name, answer_of, same_name}
+use Rattle.clif_meaning.specs.Name.{Name, answer_of}
 use Rattle.clif_meaning.specs.Instruction.{Instruction}
-use Rattle.clif_meaning.specs.Request.{Annotate, AnsweredCall, AppendBlockParams, AppendFunctionParams, Build, ChangeJumpDestination, CreateBlock, DeclareVar, DefVar, EnsureInsertedBlock, Finalize, InsertBlockAfter, MakeEdge, MakeEntry, MakeExceptionTable, MakeJumpTable, Request, Script, SealAllBlocks, SealBlock, SetColdBlock, SwitchToBlock, UseVar, script_of}
+use Rattle.clif_meaning.specs.Request.{Annotate, NeedStackMap, AnsweredCall, AppendBlockParams, AppendFunctionParams, Build, ChangeJumpDestination, CreateBlock, DeclareVar, DefVar, EnsureInsertedBlock, Finalize, InsertBlockAfter, MakeEdge, MakeEntry, MakeExceptionTable, MakeJumpTable, Request, Script, SealAllBlocks, SealBlock, SetColdBlock, SwitchToBlock, UseVar, script_of}
 use Rattle.clif_meaning.specs.Ledger.{AValue, AnInstruction, Answered, Ledger, answers_to, empty_ledger, ledger_with, value_answer_type}
 use Rattle.clif_meaning.specs.Program.{Item, Instruct, Use, Assign, Program, answers_from, empty_program, extended, result_names, result_types, with_call, with_inserted, with_item_at, with_parameters}
 use Rattle.clif_simulation.specs.Carries.{IsValue}
 use Rattle.clif_simulation.specs.Reading.{IsGivenFresh}
-use Rattle.clif_simulation.specs.Tables.{program_so_far}
-use Rattle.clif_simulation.proofs.Carrying.{all_append}
+use Rattle.clif_simulation.specs.Tables.{item_at, program_so_far}
 use Rattle.clif_simulation.proofs.Redirections.EachRedirected.{all_redirected}
 use Rattle.clif_simulation.proofs.Finished.Giving.{In, contained_in}
+use Rattle.clif_simulation.proofs.Labelling.EachGiven.{items_with, parameters_leave, parameters_with}
+use Rattle.clif_simulation.proofs.Listed.{all_at}
 use Rattle.clif_simulation.proofs.Numbers.{slice_get-front, slice_get-last}
 
 -- Among these answers the name's is a value.
@@ -26,7 +27,7 @@ IsValueIn answers name = IsTrue (is_some (value_answer_type (answer_in (slice_ge
 
 abbrev GivesValues : List (List Answered) → Item → Type 0
 GivesValues answers (Instruct place instruction results) = AllByRecursion (IsValueIn answers) results
-GivesValues answers (Use variable name) = Unit {0}
+GivesValues answers (Use variable name) = IsValueIn answers name
 GivesValues answers (Assign variable name) = Unit {0}
 
 record AreValues (answers : List (List Answered)) (program : Program) : Type 0 where
@@ -57,7 +58,7 @@ module _ (answers : List (List Answered)) (new : List Answered) where
 
   item_stays : (item : Item) → GivesValues answers item → GivesValues after item
   item_stays (Instruct place instruction results) gives = values_stay results gives
-  item_stays (Use variable name) gives = tt
+  item_stays (Use variable name) gives = value_stays name gives
   item_stays (Assign variable name) gives = tt
 
   items_stay : (items : List Item) → AllByRecursion (GivesValues answers) items → AllByRecursion (GivesValues after) items
@@ -78,28 +79,6 @@ module _ (answers : List (List Answered)) (new : List Answered) where
             let next : index + suc k ≡ suc index + k = omega arith in
             subst (λ (i : ℕ). IsTrue (is_some (value_answer_type (slice_get new i)))) next (are (suc k) (omega (arith, below)))),
       )
-
-  -- an item at the end of the current block
-  items_with : (program : Program) (current : Option Name) (item : Item) → ((block : Name) → AllByRecursion (GivesValues after) (program.items block)) → GivesValues after item
-      → (block : Name) → AllByRecursion (GivesValues after) ((with_item_at program current item).items block)
-  items_with program None item all one block = all block
-  items_with program (Some current) item all one block = by (same_name block current)
-    where
-      by : (t : Bool) → AllByRecursion (GivesValues after) (if t then program.items block ++ item ∷ [] else program.items block)
-      by true = all_append (GivesValues after) (program.items block) (item ∷ []) (all block) (one, tt)
-      by false = all block
-
-  parameters_leave : (program : Program) (current : Option Name) (item : Item) → (with_item_at program current item).parameters ≡ program.parameters
-  parameters_leave program None item = refl
-  parameters_leave program (Some current) item = refl
-
-  parameters_with : (program : Program) (names : List Name) (taking : Name) → ((block : Name) → AllByRecursion (IsValueIn after) (program.parameters block))
-      → AllByRecursion (IsValueIn after) names → (block : Name) → AllByRecursion (IsValueIn after) ((with_parameters program taking names).parameters block)
-  parameters_with program names taking all are block = by (same_name block taking)
-    where
-      by : (t : Bool) → AllByRecursion (IsValueIn after) (if t then program.parameters block ++ names else program.parameters block)
-      by true = all_append (IsValueIn after) (program.parameters block) names (all block) are
-      by false = all block
 
   -- the items and parameters that were there
   module _ (program : Program) (was : AreValues answers program) where
@@ -143,10 +122,10 @@ module _ (ledger : Ledger) (program : Program) (was : AreValues ledger.answers p
       → AreValues (ledger.answers ++ new ∷ []) (record (with_item_at from program.current item) { place = suc program.place })
   with_item_here new from item items parameters gives =
       made ledger.answers new program was (with_item_at from program.current item)
-      (items_with ledger.answers new from program.current item
+      (items_with (GivesValues (ledger.answers ++ new ∷ [])) from program.current item
       (λ block. subst (λ (of : Name → List Item). AllByRecursion (GivesValues (ledger.answers ++ new ∷ [])) (of block)) (sym items) (old_items ledger.answers new program was block)) gives)
       (λ block. subst (λ (of : Name → List Name). AllByRecursion (IsValueIn (ledger.answers ++ new ∷ [])) (of block))
-      (sym (parameters_leave ledger.answers new from program.current item ∙ parameters)) (old_parameters ledger.answers new program was block))
+      (sym (parameters_leave from program.current item ∙ parameters)) (old_parameters ledger.answers new program was block))
 
   -- parameters of the caller's
   takes : (block : Name) (types : List «Type»)
@@ -154,7 +133,7 @@ module _ (ledger : Ledger) (program : Program) (was : AreValues ledger.answers p
   takes block types =
       made ledger.answers (map AValue types) program was (with_parameters program block (answers_from program.place 0 types))
       (old_items ledger.answers (map AValue types) program was)
-      (parameters_with ledger.answers (map AValue types) program (answers_from program.place 0 types) block (old_parameters ledger.answers (map AValue types) program was)
+      (parameters_with (IsValueIn (ledger.answers ++ map AValue types ∷ [])) program (answers_from program.place 0 types) block (old_parameters ledger.answers (map AValue types) program was)
       (subst (λ (place : ℕ). AllByRecursion (IsValueIn (ledger.answers ++ map AValue types ∷ [])) (answers_from place 0 types)) (sym was.place)
       (values_new ledger.answers (map AValue types) 0 types (λ k below.
       let same : k ≡ 0 + k = omega arith in
@@ -172,6 +151,13 @@ module _ (ledger : Ledger) (program : Program) (was : AreValues ledger.answers p
       let same : suc k ≡ 1 + k = omega arith in
       subst (λ (i : ℕ). IsTrue (is_some (value_answer_type (slice_get (AnInstruction ∷ map AValue types) i)))) same (typed_value types k below))))
 
+  -- a use
+  uses : (variable : ℕ) → Becomes (UseVar variable)
+  uses variable =
+      with_item_here (answers_to ledger (UseVar variable)) (with_inserted program) (Use variable (answer_of program.place 0)) refl refl
+      (subst (λ (place : ℕ). IsValueIn (ledger.answers ++ answers_to ledger (UseVar variable) ∷ []) (answer_of place 0)) (sym was.place)
+      (value_new ledger.answers (answers_to ledger (UseVar variable)) 0 refl))
+
   redirects : (branch from to : Name) → Becomes (ChangeJumpDestination branch from to)
   redirects branch from to =
       made ledger.answers [] program was (extended program (ChangeJumpDestination branch from to))
@@ -185,7 +171,7 @@ module _ (ledger : Ledger) (program : Program) (was : AreValues ledger.answers p
   becomes (Build entries instruction) = builds instruction
   becomes (ChangeJumpDestination branch from to) = redirects branch from to
   becomes (DefVar variable value) = with_item_here _ program (Assign variable value) refl refl tt
-  becomes (UseVar variable) = with_item_here _ (with_inserted program) (Use variable (answer_of program.place 0)) refl refl tt
+  becomes (UseVar variable) = uses variable
   becomes EnsureInsertedBlock = keeps _ (with_inserted program) refl refl
   becomes (SwitchToBlock block) = keeps _ (record program { current = Some block }) refl refl
   becomes CreateBlock = keeps _ program refl refl
@@ -198,7 +184,8 @@ module _ (ledger : Ledger) (program : Program) (was : AreValues ledger.answers p
   becomes (MakeEdge edge) = keeps _ program refl refl
   becomes (MakeJumpTable default entries) = keeps _ program refl refl
   becomes (MakeExceptionTable signature normal items) = keeps _ program refl refl
-  becomes (Annotate values) = keeps _ program refl refl
+  becomes (Annotate inside values) = keeps _ program refl refl
+  becomes (NeedStackMap need) = keeps _ program refl refl
   becomes Finalize = keeps _ program refl refl
 
 are_from : (ledger : Ledger) (program : Program) (script : Script) → AreValues ledger.answers program
@@ -209,7 +196,7 @@ are_from ledger program (request ∷ script) was = are_from (ledger_with ledger 
 are_values : (calls : List AnsweredCall) → AreValues (fold ledger_with empty_ledger (script_of calls)).answers (program_so_far calls)
 are_values calls = are_from empty_ledger empty_program (script_of calls) (record { place = refl; items = λ block. tt; parameters = λ block. tt })
 
-listed : {X : Type 0} (P : X → Type 0) (xs : List X) (x : X) → AllByRecursion P xs → In x xs → P x
+pub listed : {X : Type 0} (P : X → Type 0) (xs : List X) (x : X) → AllByRecursion P xs → In x xs → P x
 listed P [] x all there = absurd there
 listed P (y ∷ xs) x all (inl here) = subst P (sym here) all.0
 listed P (y ∷ xs) x all (inr later) = listed P xs x all.1 later
@@ -224,3 +211,8 @@ fresh_value calls name (inl given) =
 fresh_value calls name (inr given) =
     listed (IsValueIn (fold ledger_with empty_ledger (script_of calls)).answers) ((program_so_far calls).parameters given.0) name
     ((are_values calls).parameters given.0) (contained_in ((program_so_far calls).parameters given.0) name given.1)
+
+-- and so was what a use answers
+pub used_value : (calls : List AnsweredCall) (block : Name) (k x : ℕ) (name : Name) → item_at calls block k ≡ Some (Use x name) → IsValue calls name
+used_value calls block k x name stands =
+    all_at (GivesValues (fold ledger_with empty_ledger (script_of calls)).answers) ((program_so_far calls).items block) k (Use x name) ((are_values calls).items block) stands

@@ -1,5 +1,5 @@
 -- The labels of an unfinished function: those names and values that both runs move at outside calls.
-use Rattle.std.proofs.Common.{◌≡◌, ◌≢◌, ℕ, zero, suc, ◌==◌, ◌&&◌, if◌then◌else◌, Bool, true, false, List, [], ◌∷◌, Option, Some, None, Contains, ◌⊎◌, inl, inr, refl, sym, ◌∙◌, ap, subst, arith}
+use Rattle.std.proofs.Common.{◌≡◌, ◌≢◌, ℕ, suc, ◌==◌, ◌&&◌, Bool, true, false, List, [], Some, Contains, ◌⊎◌, inl, inr, refl, sym, ◌∙◌, ap, subst, arith}
 use Rattle.std.specs.Prelude.{IsTrue}
 use Rattle.std.proofs.lemmas.Bool.Decides.{nat_tests}
 use Rattle.clif_ir.specs.Body.{Body, resolved}
@@ -16,33 +16,29 @@ use Rattle.clif_meaning.specs.Premises.{EachItem, KeepsTrackedApart}
 use Rattle.clif_meaning.specs.Program.{Item, Instruct, Use, Assign}
 use Rattle.clif_meaning.specs.Request.{AnsweredCall, script_of}
 use Rattle.clif_meaning.specs.View.{view_of}
-use Rattle.clif_meaning.specs.WellPlaced.{item_gives}
 use Rattle.clif_meaning.proofs.StraightLine.{nothing_contained}
 use Rattle.clif_simulation.specs.Carries.{CallsNothing}
-use Rattle.clif_simulation.specs.Reading.{AnswersTracked, IsGivenFresh, IsOver, IsResult, LeavesValues, MovesAlike, MovesTracked}
-use Rattle.clif_simulation.specs.Tables.{IsGiven, IsParameter, answered, assigned_by, block_name, code, item_at, origin_of, program_so_far}
+use Rattle.clif_simulation.specs.Reading.{AnswersTracked, IsGivenFresh, IsOver, IsResult, LeavesValues, MovesAlike, MovesTracked, NoneMarked}
+use Rattle.clif_simulation.specs.Tables.{answered, block_name, code, item_at, program_so_far}
 use Rattle.clif_simulation.proofs.Codes
 use Rattle.clif_simulation.proofs.Unfinished.Ended.{alias_nowhere, defined-end, with_ends_only}
 use Rattle.clif_simulation.proofs.Labelling.FreshValues.{fresh_value}
+use Rattle.clif_simulation.proofs.Labelling.GivenBy.{assigned_item, given_fresh, read_item}
 use Rattle.clif_simulation.proofs.GivenNames.{is_named}
 use Rattle.clif_simulation.proofs.Finished.Giving.{contained_in}
 use Rattle.clif_simulation.proofs.Finished.IntoBlock
 use Rattle.clif_simulation.proofs.Finished.ItemsAt
 use Rattle.clif_simulation.proofs.Labelling.Labels.{IsBornLabelled, Labels, false_no_true, no_labels}
+use Rattle.clif_simulation.proofs.Labelling.Outside.{collects}
 use Rattle.clif_simulation.proofs.LedgerValues.{value_type}
 use Rattle.clif_simulation.proofs.Listed.{all_at}
-use Rattle.clif_simulation.proofs.Finished.Placing.{contained, contained_at}
+use Rattle.clif_simulation.proofs.Finished.Placing.{contained_at}
 use Rattle.clif_simulation.proofs.Finished.Targets.{name_types}
-use Rattle.clif_simulation.proofs.Labelling.Unmarked.{none_marked}
 use Rattle.clif_simulation.proofs.Whole.{Whole}
-
--- the values that a collector moves: of its set those that are no alias
-abbrev pub collects : Body → Collector → ℕ → Bool
-collects f ByMaps v = false
-collects f (OverSet members) v = members v && (resolved f v == v)
 
 -- Both runs move what has a label, a name and its value alike.
 pub record MovesLabelled (calls : List AnsweredCall) (f : Body) (tracked : Name → Bool) (collector : Collector) (program : Program) (function : Function) (labels : Labels program function) : Type 0 where
+  pub unmarked : NoneMarked calls
   pub of_name : (n : Name) → tracked n ≡ labels.of_name n
   pub of_value : (v : ℕ) → collects f collector v ≡ labels.of_value v
   pub types : (w : ℕ) (b : IsBornLabelled labels.of_name program function w) → name_types calls b.source ≡ (view_of f).value_type w
@@ -63,9 +59,6 @@ both_true : (a b : Bool) → (a && b) ≡ true → (a ≡ true) × (b ≡ true)
 both_true true true is = (refl, refl)
 both_true true false is = cc
 both_true false b is = cc
-
-some_is : {X : Type 0} (x y : X) → Some x ≡ Some y → x ≡ y
-some_is x y e = cc
 
 collects_none : (f : Body) (collector : Collector) → LeavesValues collector → (v : ℕ) → collects f collector v ≡ false
 collects_none f ByMaps leaves v = refl
@@ -90,85 +83,51 @@ module _ (calls : List AnsweredCall) (f : Body) (s : SsaState) (consistent : IsC
   abbrev pub function : Function
   function = carries.tables.function
 
+  -- a name and the value that is born with it
+  module _ (n : Name) (w : ℕ) (place : Place) (named : program.naming (code n) ≡ record { home = place; origin = fresh })
+      (defined : function.definition w ≡ record { home = place; kind = born (code n) })
+    where
+      home : HomeFits carries.tables w (born (code n))
+      home = subst (HomeFits carries.tables w) (ap (λ (d : Definition). d.kind) defined) (carries.describes.homes w)
+
+      begun : (carries.tables.naming (code n)).home ≢ start
+      begun none = home.2 (sym (ap (λ (m : Naming). m.home) home.0) ∙ none)
+
+      pub is_fresh : IsGivenFresh (program_so_far calls) n
+      is_fresh = given_fresh calls carries.tables carries.program n begun (ap (λ (m : Naming). m.origin) named)
+
+      pub is_answer : answered calls n ≡ w
+      is_answer =
+          let g = is_named calls carries.tables carries.program (code n) begun in
+          ap (answered calls) (sym (Codes.differ g.name n g.coded)) ∙ sym g.answers ∙ home.1
+
+      itself : resolved f w ≡ w
+      itself = subst (λ (v : ℕ). resolved f v ≡ v) home.1 (carries.describes.born_there (code n) begun (ap (λ (m : Naming). m.origin) named)).1
+
+      pub same_type : name_types calls n ≡ (view_of f).value_type w
+      same_type =
+          let typed = value_type calls n (fresh_value calls n is_fresh) in
+          ap or_invalid typed.1 ∙ sym (carries.values_typed n typed.0 typed.1).1 ∙ ap (view_of f).value_type is_answer
+
   module _ (tracked : Name → Bool) (collector : Collector) (moves : MovesTracked calls tracked collector) where
     -- a tracked name at an item
     plain_name : (item : Item) (block : Name) (k : ℕ) → item_at calls block k ≡ Some item → KeepsTrackedApart (ledger_after (script_of calls)) tracked item
     plain_name item block k stands = all_at (KeepsTrackedApart (ledger_after (script_of calls)) tracked) ((program_so_far calls).items block) k item (moves.apart block) stands
 
     unmarked : (n : Name) (x : ℕ) → (IsTrue (tracked n) → IsTrue (is_marked (ledger_after (script_of calls)) x)) → tracked n ≡ false
-    unmarked n x apart = not_true (tracked n) (λ is. none_is (subst IsTrue (none_marked (script_of calls) x) (apart is)))
-
-    no_number : (n : Name) → None ≡ Some (code n) → ⊥
-    no_number n h = cc
-
-    assigned_plain : (block : Name) (k x : ℕ) (n : Name) (item : Option Item) → item_at calls block k ≡ item → assigned_by item x ≡ Some (code n) → tracked n ≡ false
-    assigned_plain block k x n None stands is = absurd (no_number n is)
-    assigned_plain block k x n (Some (Instruct place instruction results)) stands is = absurd (no_number n is)
-    assigned_plain block k x n (Some (Use y used)) stands is = absurd (no_number n is)
-    assigned_plain block k x n (Some (Assign y from)) stands is = by (x == y) is
-      where
-        by : (test : Bool) → (if test then Some (code from) else None) ≡ Some (code n) → tracked n ≡ false
-        by true one =
-            let same : from ≡ n = Codes.differ from n (some_is (code from) (code n) one) in
-            unmarked n y (subst (λ (m : Name). IsTrue (tracked m) → IsTrue (is_marked (ledger_after (script_of calls)) y)) same (plain_name (Assign y from) block k stands))
-        by false none = absurd (no_number n none)
-
-    assigned_in : (b k x : ℕ) (n : Name) (o : Option Name) → block_name calls b ≡ o → program.assigned (inside b k) x ≡ Some (code n) → tracked n ≡ false
-    assigned_in b k x n None named is = absurd (no_number n (sym (carries.program.elsewhere_nothing b k x named) ∙ is))
-    assigned_in b zero x n (Some B) named is = absurd (no_number n (sym (carries.program.front_assigns_nothing b x) ∙ is))
-    assigned_in b (suc k) x n (Some B) named is = assigned_plain B k x n (item_at calls B k) refl (sym (carries.program.assigned b k B named x) ∙ is)
+    unmarked n x apart = not_true (tracked n) (λ is. none_is (subst IsTrue (moves.unmarked x) (apart is)))
 
     assigned_at : (place : Place) (x : ℕ) (n : Name) → program.assigned place x ≡ Some (code n) → tracked n ≡ false
-    assigned_at start x n is = absurd (no_number n (sym (carries.program.start_assigns_nothing x) ∙ is))
-    assigned_at (inside b k) x n is = assigned_in b k x n (block_name calls b) refl is
-
-    no_read : (x : ℕ) → fresh ≡ reads x → ⊥
-    no_read x h = cc
-
-    alone : (x y : Name) → Contains (x ∷ []) y → y ≡ x
-    alone x y there = by (contained_in (x ∷ []) y there)
-      where
-        by : (y ≡ x) ⊎ ⊥ → y ≡ x
-        by (inl same) = same
-        by (inr none) = absurd none
+    assigned_at place x n is =
+        let a = assigned_item calls carries.tables carries.program place x (code n) is in
+        unmarked n x (subst (λ (m : Name). IsTrue (tracked m) → IsTrue (is_marked (ledger_after (script_of calls)) x)) (Codes.differ a.from n a.coded)
+        (plain_name (Assign x a.from) a.block a.index a.stands))
 
     -- what a use answers isn't tracked
     used_plain : (n : Name) (x : ℕ) → (carries.tables.naming (code n)).home ≢ start → (carries.tables.naming (code n)).origin ≡ reads x → tracked n ≡ false
-    used_plain n x begun is = by (carries.program.given_only (code n) begun)
-      where
-        by_item : (g : IsGiven calls carries.tables (code n)) (item : Item) → g.item ≡ item → tracked n ≡ false
-        by_item g (Instruct place instruction results) here =
-            absurd (no_read x (sym (ap (λ (m : Naming). m.origin) g.naming ∙ ap origin_of here) ∙ is))
-        by_item g (Use y used) here =
-            let gives : Contains (used ∷ []) g.name = subst (λ (i : Item). Contains (item_gives (Some i)) g.name) here g.gives in
-            let same : used ≡ n = sym (alone used g.name gives) ∙ Codes.differ g.name n g.coded in
-            unmarked n y (subst (λ (m : Name). IsTrue (tracked m) → IsTrue (is_marked (ledger_after (script_of calls)) y)) same
-            (plain_name (Use y used) g.block_is g.index (g.stands ∙ ap (λ (i : Item). Some i) here)))
-        by_item g (Assign y from) here = absurd (nothing_contained g.name (subst (λ (i : Item). Contains (item_gives (Some i)) g.name) here g.gives))
-
-        by : IsGiven calls carries.tables (code n) ⊎ IsParameter calls carries.tables (code n) → tracked n ≡ false
-        by (inl g) = by_item g g.item refl
-        by (inr p) = absurd (no_read x (sym (ap (λ (m : Naming). m.origin) p.naming) ∙ is))
-
-    fresh_item : (n : Name) (g : IsGiven calls carries.tables (code n)) (item : Item) → g.item ≡ item → (carries.tables.naming (code n)).origin ≡ fresh → IsGivenFresh (program_so_far calls) n
-    fresh_item n g (Instruct place instruction results) here is = inl (record {
-      block = g.block_is;
-      place = place;
-      instruction = instruction;
-      results = results;
-      stands = contained ((program_so_far calls).items g.block_is) g.index (Instruct place instruction results) (g.stands ∙ ap (λ (i : Item). Some i) here);
-      among = subst (λ (m : Name). Contains results m) (Codes.differ g.name n g.coded) (subst (λ (i : Item). Contains (item_gives (Some i)) g.name) here g.gives);
-    })
-    fresh_item n g (Use y used) here is = absurd (no_read y (sym is ∙ ap (λ (m : Naming). m.origin) g.naming ∙ ap origin_of here))
-    fresh_item n g (Assign y from) here is = absurd (nothing_contained g.name (subst (λ (i : Item). Contains (item_gives (Some i)) g.name) here g.gives))
-
-    -- what the tables have as given afresh is so given
-    given_fresh : (n : Name) → (carries.tables.naming (code n)).home ≢ start → (carries.tables.naming (code n)).origin ≡ fresh → IsGivenFresh (program_so_far calls) n
-    given_fresh n begun is = by (carries.program.given_only (code n) begun)
-      where
-        by : IsGiven calls carries.tables (code n) ⊎ IsParameter calls carries.tables (code n) → IsGivenFresh (program_so_far calls) n
-        by (inl g) = fresh_item n g g.item refl is
-        by (inr p) = inr (p.block_is, subst (λ (m : Name). Contains ((program_so_far calls).parameters p.block_is) m) (Codes.differ p.name n p.coded) p.stands)
+    used_plain n x begun is =
+        let r = read_item calls carries.tables carries.program n begun x is in
+        unmarked n x (plain_name (Use x n) r.block r.index r.stands)
 
     born_parameter : (w : ℕ) (a : AnswersTracked calls tracked w) (B : Name) → Contains ((program_so_far calls).parameters B) a.name → IsBornLabelled tracked program function w
     born_parameter w a B there = by (carries.program.only_parameters B)
@@ -211,43 +170,21 @@ module _ (calls : List AnsweredCall) (f : Body) (s : SsaState) (consistent : IsC
     born_code m n h = cc
 
     -- a name and the value that is born with it
-    module _ (n : Name) (w : ℕ) (place : Place) (named : program.naming (code n) ≡ record { home = place; origin = fresh })
-        (defined : function.definition w ≡ record { home = place; kind = born (code n) })
+    labelled_alike : (n : Name) (w : ℕ) (place : Place) → program.naming (code n) ≡ record { home = place; origin = fresh }
+        → function.definition w ≡ record { home = place; kind = born (code n) } → tracked n ≡ collects f collector w
+    labelled_alike n w place named defined = by (tracked n) (collects f collector w) refl refl
       where
-        home : HomeFits carries.tables w (born (code n))
-        home = subst (HomeFits carries.tables w) (ap (λ (d : Definition). d.kind) defined) (carries.describes.homes w)
-
-        begun : (carries.tables.naming (code n)).home ≢ start
-        begun none = home.2 (sym (ap (λ (m : Naming). m.home) home.0) ∙ none)
-
-        is_fresh : IsGivenFresh (program_so_far calls) n
-        is_fresh = given_fresh n begun (ap (λ (m : Naming). m.origin) named)
-
-        is_answer : answered calls n ≡ w
-        is_answer =
-            let g = is_named calls carries.tables carries.program (code n) begun in
-            ap (answered calls) (sym (Codes.differ g.name n g.coded)) ∙ sym g.answers ∙ home.1
-
-        itself : resolved f w ≡ w
-        itself = subst (λ (v : ℕ). resolved f v ≡ v) home.1 (carries.describes.born_there (code n) begun (ap (λ (m : Naming). m.origin) named)).1
-
-        labelled_alike : tracked n ≡ collects f collector w
-        labelled_alike = by (tracked n) (collects f collector w) refl refl
-          where
-            by : (t c : Bool) → tracked n ≡ t → collects f collector w ≡ c → tracked n ≡ collects f collector w
-            by true true one other = one ∙ sym other
-            by false false one other = one ∙ sym other
-            by true false one other =
-                one ∙ sym (collects_each f (AnswersTracked calls tracked) collector moves.over w itself (record { name = n; is_tracked = one; is_given = is_fresh; answers = is_answer }))
-            by false true one other =
-                let b = born_of w (collects_such f (AnswersTracked calls tracked) collector moves.over w other) in
-                let codes : code b.source ≡ code n = born_code (code b.source) (code n) (ap (λ (d : Definition). d.kind) (sym b.defined ∙ defined)) in
-                ap tracked (sym (Codes.differ b.source n codes)) ∙ b.labelled ∙ sym other
-
-        same_type : name_types calls n ≡ (view_of f).value_type w
-        same_type =
-            let typed = value_type calls n (fresh_value calls n is_fresh) in
-            ap or_invalid typed.1 ∙ sym (carries.values_typed n typed.0 typed.1).1 ∙ ap (view_of f).value_type is_answer
+        by : (t c : Bool) → tracked n ≡ t → collects f collector w ≡ c → tracked n ≡ collects f collector w
+        by true true one other = one ∙ sym other
+        by false false one other = one ∙ sym other
+        by true false one other =
+            one
+            ∙ sym (collects_each f (AnswersTracked calls tracked) collector moves.over w (itself n w place named defined)
+            (record { name = n; is_tracked = one; is_given = is_fresh n w place named defined; answers = is_answer n w place named defined }))
+        by false true one other =
+            let b = born_of w (collects_such f (AnswersTracked calls tracked) collector moves.over w other) in
+            let codes : code b.source ≡ code n = born_code (code b.source) (code n) (ap (λ (d : Definition). d.kind) (sym b.defined ∙ defined)) in
+            ap tracked (sym (Codes.differ b.source n codes)) ∙ b.labelled ∙ sym other
 
     abbrev labels : Labels program function
     labels = record {
@@ -261,6 +198,7 @@ module _ (calls : List AnsweredCall) (f : Body) (s : SsaState) (consistent : IsC
 
     moves_tracked : MovesLabelled calls f tracked collector program function labels
     moves_tracked = record {
+      unmarked = moves.unmarked;
       of_name = λ n. refl;
       of_value = λ v. refl;
       types = λ w b. same_type b.source w b.place b.named b.defined;
@@ -294,7 +232,7 @@ module _ (calls : List AnsweredCall) (f : Body) (s : SsaState) (consistent : IsC
   labelled tracked collector (inl none) = (no_labels program function, inl none)
   labelled tracked collector (inr (inl nothing)) = (
     no_labels program function,
-    inr (record { of_name = nothing.untracked; of_value = collects_none f collector nothing.leaves; types = λ w b. absurd (false_no_true b.labelled) }),
+    inr (record { unmarked = nothing.unmarked; of_name = nothing.untracked; of_value = collects_none f collector nothing.leaves; types = λ w b. absurd (false_no_true b.labelled) }),
   )
   labelled tracked collector (inr (inr moves)) = (labels tracked collector moves, inr (moves_tracked tracked collector moves))
 
@@ -352,4 +290,4 @@ module _ (calls : List AnsweredCall) (f : Body) (s : SsaState) (consistent : IsC
     unfolding with_all
     ends_moves tracked collector (inl none) = inl none
     ends_moves tracked collector (inr moves) =
-        inr (record { of_name = moves.of_name; of_value = moves.of_value; types = λ w b. moves.types w (with_all w b) })
+        inr (record { unmarked = moves.unmarked; of_name = moves.of_name; of_value = moves.of_value; types = λ w b. moves.types w (with_all w b) })

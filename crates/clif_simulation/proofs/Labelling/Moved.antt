@@ -1,44 +1,27 @@
--- An outside call: both runs show the same event, memory is the same behind it, and what has a label moves, a name and its value
--- alike. So both still agree.
-use Rattle.std.proofs.Common.{◌≡◌, ◌⊎◌, inl, inr, ℕ, List, [], ◌∷◌, refl, sym, ◌∙◌, ap, ap₂, subst}
+-- An outside call of an unfinished function: what has a label moves, a name and its value alike. So both still agree.
+use Rattle.std.proofs.Common.{◌≡◌, ◌⊎◌, inl, inr, ℕ, List, [], refl, sym, ◌∙◌, ap, subst}
 use Rattle.std.specs.Prelude.{Bool, true, false, if◌then◌else◌}
-use Rattle.clif_types.specs.declared.types.«Type».{«Type»}
 use Rattle.clif_types.specs.declared.stackmap.UserStackMapEntry.{UserStackMapEntry}
 use Rattle.clif_ir.specs.Body.{Body}
 use Rattle.clif_paths.specs.Places.{Path}
 use Rattle.clif_paths.specs.State.{Function, Program}
 use Rattle.clif_paths.specs.Denotation.{denotes, instances, given, name}
 use Rattle.clif_meaning.specs.Bits.{Bits}
-use Rattle.clif_meaning.specs.Event.{CallShape, Callee, Event}
-use Rattle.clif_meaning.specs.Memory.{Memory}
+use Rattle.clif_meaning.specs.Event.{CallShape, Callee}
 use Rattle.clif_meaning.specs.Name.{Name}
-use Rattle.clif_meaning.specs.Request.{AnsweredCall, script_of}
-use Rattle.clif_meaning.specs.Store.{memory_beside, shown_memory}
+use Rattle.clif_meaning.specs.Request.{AnsweredCall}
 use Rattle.clif_meaning.specs.World.{World}
 use Rattle.clif_meaning.specs.ScriptMachine as script
 use Rattle.clif_meaning.specs.ScriptMachine.{ScriptRun, ScriptState}
 use Rattle.clif_meaning.specs.FunctionMachine as machine
 use Rattle.clif_meaning.specs.FunctionMachine.{Collector, ByMaps, OverSet, FunctionRun, FunctionState}
-use Rattle.clif_simulation.specs.Reading.{script_run_so_far, function_run_so_far}
+use Rattle.clif_simulation.specs.Reading.{script_run_so_far, function_run_so_far, NoneMarked}
 use Rattle.clif_simulation.specs.Tables.{code}
 use Rattle.clif_simulation.proofs.Finished.Agreement.{Agrees, NothingIsZero}
-use Rattle.clif_simulation.proofs.Labelling.Labelled.{MovesLabelled, collects}
+use Rattle.clif_simulation.proofs.Labelling.Labelled.{MovesLabelled}
 use Rattle.clif_simulation.proofs.Labelling.Labels.{IsBornLabelled, IsNothing, Labels, born_has, labelled_same}
-use Rattle.clif_simulation.proofs.Labelling.Unmarked.{none_marked}
-
-slots_left : (run : FunctionRun) (moved : «Type» → Bits → Bits) (collector : Collector) (memory : Memory) → machine.slots_after run moved [] collector memory ≡ memory
-slots_left run moved ByMaps memory = refl
-slots_left run moved (OverSet members) memory = refl
-
--- the bits behind a call, where this tells whether they move
-abbrev pub moved_if : Bool → Bits → Bits → Bits
-moved_if test moved bits = if test then moved else bits
-
-values_moved : (calls : List AnsweredCall) (f : Body) (world : World) (collector : Collector) (moved : «Type» → Bits → Bits) (values : ℕ → Bits) (v : ℕ)
-    → machine.values_after (function_run_so_far calls f world collector) moved collector values v
-    ≡ moved_if (collects f collector v) (moved ((function_run_so_far calls f world collector).function.value_type v) (values v)) (values v)
-values_moved calls f world ByMaps moved values v = refl
-values_moved calls f world (OverSet members) moved values v = refl
+use Rattle.clif_simulation.proofs.Labelling.Outside
+use Rattle.clif_simulation.proofs.Labelling.Outside.{moved_if}
 
 module _ (calls : List AnsweredCall) (f : Body) (world : World) (tracked : Name → Bool) (collector : Collector)
     (p : ScriptState) (q : FunctionState) (same_memory : p.memory ≡ q.memory) (same_events : p.events ≡ q.events)
@@ -56,21 +39,9 @@ module _ (calls : List AnsweredCall) (f : Body) (world : World) (tracked : Name 
     abbrev q' : FunctionState
     q' = machine.call_outside right_run q entries callee call arguments
 
-    pub events_are : p'.events ≡ q'.events
-    events_are =
-        ap₂ (λ (memory : Memory) (events : List Event).
-        record { callee = callee; arguments = arguments; memory = shown_memory left_run.hidden memory } ∷ events) same_memory same_events
-
-    pub memory_is : p'.memory ≡ q'.memory
-    memory_is =
-        ap₂ (λ (memory : Memory) (events : List Event). memory_beside left_run.hidden memory (world.memory_after events call)) same_memory events_are
-        ∙ sym (ap (λ (memory : Memory). memory_beside left_run.hidden memory (world.memory_after q'.events call))
-        (ap (λ (found : List UserStackMapEntry). machine.slots_after right_run (world.moved q'.events call) found collector q.memory) no_map
-        ∙ slots_left right_run (world.moved q'.events call) collector q.memory))
-
-    variable_stays : (x : ℕ) → p'.variables x ≡ p.variables x
-    variable_stays x =
-        ap (λ (t : Bool). if t then world.moved p'.events call (left_run.variable_type x) (p.variables x) else p.variables x) (none_marked (script_of calls) x)
+    variable_stays : NoneMarked calls → (x : ℕ) → p'.variables x ≡ p.variables x
+    variable_stays unmarked x =
+        ap (λ (t : Bool). if t then world.moved p'.events call (left_run.variable_type x) (p.variables x) else p.variables x) (unmarked x)
 
     -- What moves ----------------------------------------------------------------------------------------------------------
 
@@ -87,22 +58,16 @@ module _ (calls : List AnsweredCall) (f : Body) (world : World) (tracked : Name 
 
       pub value_is : (w : ℕ) → q'.values w ≡ value_behind q.values w
       value_is w =
-          values_moved calls f world collector (world.moved q'.events call) q.values w
+          Outside.value_is left_run f collector p q same_memory same_events entries no_map callee call arguments w
           ∙ ap (λ (t : Bool). moved_if t (world.moved q'.events call (right_run.function.value_type w) (q.values w)) (q.values w)) (moves.of_value w)
 
       zero_name : (names : Name → Bits) (n : Name) → names n ≡ 0 → name_behind names n ≡ 0
-      zero_name names n is = by (labels.of_name n)
-        where
-          by : (t : Bool) → moved_if t (world.moved p'.events call (left_run.name_type n) (names n)) (names n) ≡ 0
-          by true = ap (world.moved p'.events call (left_run.name_type n)) is ∙ world.moved_zero p'.events call (left_run.name_type n)
-          by false = is
+      zero_name names n is =
+          Outside.zero_moved left_run f collector p q same_memory same_events entries no_map callee call arguments p'.events (labels.of_name n) (left_run.name_type n) (names n) is
 
       pub zero_value : (values : ℕ → Bits) (w : ℕ) → values w ≡ 0 → value_behind values w ≡ 0
-      zero_value values w is = by (labels.of_value w)
-        where
-          by : (t : Bool) → moved_if t (world.moved q'.events call (right_run.function.value_type w) (values w)) (values w) ≡ 0
-          by true = ap (world.moved q'.events call (right_run.function.value_type w)) is ∙ world.moved_zero q'.events call (right_run.function.value_type w)
-          by false = is
+      zero_value values w is =
+          Outside.zero_moved left_run f collector p q same_memory same_events entries no_map callee call arguments q'.events (labels.of_value w) (right_run.function.value_type w) (values w) is
 
       -- Where both agreed about these bits of names and values, which may stand for those of the states, they agree about those behind.
       module _ (live : ℕ → Type 0) (path : Path) (names : Name → ℕ) (values : ℕ → ℕ) (agrees : Agrees live program function labels path p.variables names values)
@@ -119,17 +84,18 @@ module _ (calls : List AnsweredCall) (f : Body) (world : World) (tracked : Name 
               bits : names n ≡ values w
               bits = agrees.of_name n w is_live (one ∙ sym other) same
 
+              alike : (names n ≡ 0) ⊎ ((labels.of_name n ≡ labels.of_value w) × (left_run.name_type n ≡ right_run.function.value_type w)) → name_behind names n ≡ value_behind values w
+              alike same_move =
+                  Outside.moved_alike left_run f collector p q same_memory same_events entries no_map callee call arguments
+                  (labels.of_name n) (labels.of_value w) (left_run.name_type n) (right_run.function.value_type w) (names n) (values w) bits same_move
+
               by : IsNothing (denotes program function path w) ⊎ ((q : Path) × (denotes program function path w ≡ given (code b.source) q)) → name_behind names n ≡ value_behind values w
-              by (inl nothing) =
-                  let none : names n ≡ 0 = held.of_name n (subst IsNothing (sym same) nothing) in
-                  zero_name names n none ∙ sym (zero_value values w (sym bits ∙ none))
+              by (inl nothing) = alike (inl (held.of_name n (subst IsNothing (sym same) nothing)))
               by (inr has) =
-                  let is_source : n ≡ b.source = labelled_same program function labels path n b.source has.0 b.labelled (same ∙ has.1) in
-                  let types : left_run.name_type n ≡ right_run.function.value_type w = ap left_run.name_type is_source ∙ moves.types w b in
-                  ap (λ (t : Bool). moved_if t (world.moved p'.events call (left_run.name_type n) (names n)) (names n)) one
-                  ∙ ap (λ (events : List Event). world.moved events call (left_run.name_type n) (names n)) events_are
-                  ∙ ap₂ (λ (ty : «Type») (held_bits : ℕ). world.moved q'.events call ty held_bits) types bits
-                  ∙ sym (ap (λ (t : Bool). moved_if t (world.moved q'.events call (right_run.function.value_type w) (values w)) (values w)) other)
+                  alike (inr (
+                    one ∙ sym other,
+                    ap left_run.name_type (labelled_same program function labels path n b.source has.0 b.labelled (same ∙ has.1)) ∙ moves.types w b,
+                  ))
 
           -- and ones that are not
           both_stay : (n : Name) (w : ℕ) → labels.of_name n ≡ false → labels.of_value w ≡ false → names n ≡ values w → name_behind names n ≡ value_behind values w
@@ -150,13 +116,13 @@ module _ (calls : List AnsweredCall) (f : Body) (world : World) (tracked : Name 
               → Agrees live program function labels path p'.variables names' values'
           agrees_behind names' values' names_are values_are = record {
             of_variable = λ x w is_live fit same.
-                variable_stays x ∙ agrees.of_variable x w is_live fit same
+                variable_stays moves.unmarked x ∙ agrees.of_variable x w is_live fit same
                 ∙ sym (values_are w ∙ ap (λ (t : Bool). moved_if t (world.moved q'.events call (right_run.function.value_type w) (values w)) (values w)) fit);
             of_name = λ n w is_live fit same. names_are n ∙ names_alike n w is_live fit same ∙ sym (values_are w);
           }
 
           pub nothing_behind : (names' : Name → ℕ) → ((n : Name) → names' n ≡ name_behind names n) → NothingIsZero program path p'.variables names'
           nothing_behind names' names_are = record {
-            of_variable = λ x is. variable_stays x ∙ held.of_variable x is;
+            of_variable = λ x is. variable_stays moves.unmarked x ∙ held.of_variable x is;
             of_name = λ n is. names_are n ∙ zero_name names n (held.of_name n is);
           }

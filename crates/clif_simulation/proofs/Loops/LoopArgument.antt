@@ -165,28 +165,28 @@ module _ (carries : Carries loop_calls early_body loop_state) where
       by (inl found) = none_of (pending_of (sealed_of loop_state found.0)) (record { variable = x; param = 1 }) (none_waits found.0) found.1
       by (inr there) = nothing_contained (record { variable = x; param = 1 }) there
 
-  is_complete : (T.function.definition 1).kind ≡ complete
+  is_complete : (x : ℕ) × ((T.function.definition 1).kind ≡ complete x)
   is_complete = by (T.function.definition 1).kind refl (paths.counts.behind 1 1 refl)
     where
-      by : (kind : Kind) → (T.function.definition 1).kind ≡ kind → IsBehind kind 0 (length (carries.own.params 1)) → kind ≡ complete
+      by : (kind : Kind) → (T.function.definition 1).kind ≡ kind → IsBehind kind 0 (length (carries.own.params 1)) → (x : ℕ) × (kind ≡ complete x)
       by unborn e behind = absurd behind
       by (born n) e behind =
           let none : length (carries.own.params 1) ≡ 0 = ap (λ (params : List ℕ). length params) (carries.holds.parameters 1) in
           absurd (omega (arith, none, behind))
       by (pending x) e behind = absurd (waits_not x e)
-      by complete e behind = refl
+      by (complete x) e behind = (x, refl)
       by (zero_of x) e behind = absurd behind
 
-  defined : T.function.definition 1 ≡ record { home = front 1; kind = complete }
-  defined = by (subst (HomeFits T 1) is_complete (paths.describes.homes 1))
+  defined : T.function.definition 1 ≡ record { home = front 1; kind = complete is_complete.0 }
+  defined = by (subst (HomeFits T 1) is_complete.1 (paths.describes.homes 1))
     where
       one_is : (b : ℕ) → Some 1 ≡ Some b → b ≡ 1
       one_is b e = cc
 
-      by : HomeFits T 1 complete → T.function.definition 1 ≡ record { home = front 1; kind = complete }
+      by : HomeFits T 1 (complete is_complete.0) → T.function.definition 1 ≡ record { home = front 1; kind = complete is_complete.0 }
       by fits =
-          let there : T.function.definition 1 ≡ record { home = front fits.0; kind = complete } = λ i. record { home = fits.1 i; kind = is_complete i } in
-          subst (λ (b : ℕ). T.function.definition 1 ≡ record { home = front b; kind = complete }) (one_is fits.0 (paths.describes.complete_there fits.0 1 there)) there
+          let there : T.function.definition 1 ≡ record { home = front fits.0; kind = complete is_complete.0 } = λ i. record { home = fits.1 i; kind = is_complete.1 i } in
+          subst (λ (b : ℕ). T.function.definition 1 ≡ record { home = front b; kind = complete is_complete.0 }) (one_is fits.0 (paths.describes.complete_there fits.0 1 there)) there
 
   three : T.count 0 ≡ 3
   three = paths.program.counts 0 (block 0) refl
@@ -228,7 +228,7 @@ module _ (carries : Carries loop_calls early_body loop_state) where
       (ap (λ (v : ℕ). (T.function.definition (T.function.resolve (T.function.argument v (jump 0 3 0 1)))).home) resolves
       ∙ (ap (λ (v : ℕ). (T.function.definition (T.function.resolve v)).home) gets_itself ∙ at_front))
       (under.arguments.at_source 1 (jump 0 3 0 1)
-      (ap (λ (v : ℕ). (T.function.definition v).kind) resolves ∙ is_complete) at_front known)
+      (ap (λ (v : ℕ). (T.function.definition v).kind) resolves ∙ is_complete.1) at_front known)
 
   -- the way through block0 doesn't come to block1
   walk : Follows (arms T) (on 0 2 ∷ on 0 1 ∷ on 0 0 ∷ entry ∷ [])

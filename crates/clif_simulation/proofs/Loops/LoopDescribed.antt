@@ -294,18 +294,18 @@ waiting_order : (b : ℕ) → InOrder (block_at loop_body b).params (pending_of 
 waiting_order b = subst (InOrder (block_at loop_body b).params) (sym (none_waits b)) (λ j k below within. absurd (omega (arith, within)))
 
 -- the arguments of the one parameter
-abbrev Passes : ℕ → Arm → ℕ → Type 0
-Passes b arm branch =
-    loop_tables.function.definition 1 ≡ record { home = front b; kind = complete }
+abbrev Passes : ℕ → ℕ → Arm → ℕ → Type 0
+Passes made_for b arm branch =
+    loop_tables.function.definition 1 ≡ record { home = front b; kind = complete made_for }
     → (j : ℕ) → BelongsTo row_own b branch arm.edge (place_of 1 (block_at loop_body b).params) j
     → passed_at loop_body branch arm.edge j ≡ Some (Value (loop_tables.function.argument 1 arm))
 
-passes_there : (b v : ℕ) (arm : Arm) (edge : IsEdgeInto loop_body loop_state loop_tables b arm)
-    → loop_tables.function.definition v ≡ record { home = front b; kind = complete } → arm.target ≡ front b
+passes_there : {made_for : ℕ} (b v : ℕ) (arm : Arm) (edge : IsEdgeInto loop_body loop_state loop_tables b arm)
+    → loop_tables.function.definition v ≡ record { home = front b; kind = complete made_for } → arm.target ≡ front b
     → (j : ℕ) → BelongsTo row_own b edge.branch arm.edge (place_of v (block_at loop_body b).params) j
     → passed_at loop_body edge.branch arm.edge j ≡ Some (Value (loop_tables.function.argument v arm))
 unfolding computing_row
-passes_there b v arm edge defined at = is_one v (complete_of_row (λ c w. w ≡ 1) refl b v defined) defined
+passes_there {made_for} b v arm edge defined at = is_one v (complete_of_row (λ c w. w ≡ 1) refl b v defined) defined
   where
     other : {A : Type 0} (c : ℕ) → inside 1 0 ≡ inside (suc (suc c)) 0 → A
     other c e = absurd cc
@@ -313,20 +313,20 @@ passes_there b v arm edge defined at = is_one v (complete_of_row (λ c w. w ≡ 
     first : (j : ℕ) → j + 0 ≡ 0 → j ≡ 0
     first j e = omega (arith, e)
 
-    all : Passes b arm edge.branch
+    all : Passes made_for b arm edge.branch
     all =
-        edge_into Passes
+        edge_into (Passes made_for)
         (λ e j belongs. subst (λ (i : ℕ). passed_at loop_body 1 0 i ≡ Some (Value 0)) (sym (first j belongs)) refl)
         (λ e. other 0 (ap (λ (d : Definition). d.home) e)) (λ e. other 1 (ap (λ (d : Definition). d.home) e))
         (λ e j belongs. subst (λ (i : ℕ). passed_at loop_body 5 0 i ≡ Some (Value 3)) (sym (first j belongs)) refl)
         (λ e j belongs. subst (λ (i : ℕ). passed_at loop_body 5 1 i ≡ Some (Value 3)) (sym (first j belongs)) refl)
         b arm at edge
 
-    is_one : (w : ℕ) → w ≡ 1 → loop_tables.function.definition w ≡ record { home = front b; kind = complete }
+    is_one : (w : ℕ) → w ≡ 1 → loop_tables.function.definition w ≡ record { home = front b; kind = complete made_for }
         → (j : ℕ) → BelongsTo row_own b edge.branch arm.edge (place_of w (block_at loop_body b).params) j
         → passed_at loop_body edge.branch arm.edge j ≡ Some (Value (loop_tables.function.argument w arm))
     is_one w is =
-        subst (λ (u : ℕ). loop_tables.function.definition u ≡ record { home = front b; kind = complete }
+        subst (λ (u : ℕ). loop_tables.function.definition u ≡ record { home = front b; kind = complete made_for }
         → (j : ℕ) → BelongsTo row_own b edge.branch arm.edge (place_of u (block_at loop_body b).params) j
         → passed_at loop_body edge.branch arm.edge j ≡ Some (Value (loop_tables.function.argument u arm)))
         (sym is) all
@@ -360,7 +360,7 @@ row_described = record {
   completed = λ p there. absurd (nothing_contained p there);
   pends = λ v x ends e. absurd (none_pends v x e);
   waiting_recorded = λ b p there. none_waiting b p there;
-  complete_there = complete_of_row (λ b v. param_home loop_body v ≡ Some b) refl;
+  complete_there = λ b v e. complete_of_row (λ b v. param_home loop_body v ≡ Some b) refl b v e;
   complete_first = λ b v u x complete_is e home. absurd (none_pends u x (ap (λ (d : Definition). d.kind) e));
   waiting_order = waiting_order;
   completing_order = λ b j k below within. absurd (omega (arith, within));

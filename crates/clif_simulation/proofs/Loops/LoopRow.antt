@@ -25,6 +25,7 @@ use Rattle.clif_simulation.specs.CarryingExamples.{loop_calls, loop_body, loop_s
 use Rattle.clif_simulation.proofs.Values.{false_is}
 use Rattle.clif_simulation.proofs.Loops.LoopTables.{loop_tables, computing_row, row_sound}
 use Rattle.clif_simulation.proofs.Loops.LoopProgram.{each_block_of_row, each_items_of_row, other_block, row_program}
+use Rattle.clif_simulation.proofs.Loops.LoopTracked.{row_tracked}
 use Rattle.clif_simulation.proofs.Loops.LoopStructured.{have_edges, leads_own, row_structured}
 use Rattle.clif_simulation.proofs.Loops.LoopDescribed.{row_own, leads, none_waits, row_described, row_counted, not_start}
 
@@ -259,8 +260,14 @@ row_carried = record {
     describes = row_described;
     sound = row_sound;
     counts = row_counted;
+    tracked = row_tracked;
   };
 }
+
+-- what the caller made of it
+pub row_carried_own : row_carried.own ≡ row_own
+unfolding row_carried
+row_carried_own = refl
 
 pub row_finished : IsFinished loop_calls loop_body loop_state
 row_finished = record { none_waits = none_waits; entry_sealed = entry_sealed; filled_sealed = λ number name named filled. all_sealed number name named }

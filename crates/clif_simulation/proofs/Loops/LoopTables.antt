@@ -73,7 +73,7 @@ row_assigned _ x = None
 
 abbrev row_definition : ℕ → Definition
 row_definition zero = record { home = inside 0 1; kind = born 71 }
-row_definition (suc zero) = record { home = front 1; kind = complete }
+row_definition (suc zero) = record { home = front 1; kind = complete 0 }
 row_definition (suc (suc zero)) = record { home = inside 2 2; kind = born 305 }
 row_definition (suc (suc (suc zero))) = record { home = inside 2 3; kind = born 341 }
 row_definition (suc (suc (suc (suc v)))) = record { home = start; kind = unborn }
@@ -156,22 +156,22 @@ same_recorded (suc (suc (suc zero))) (suc x) = rw (high (suc x) 0 (omega arith))
 same_recorded (suc (suc (suc (suc b)))) x =
     rw (high (suc (suc (suc (suc b)))) 3 (omega arith), high (suc (suc (suc (suc b)))) 2 (omega arith), high (suc (suc (suc (suc b)))) 1 (omega arith), high (suc (suc (suc (suc b)))) 0 (omega arith)) refl
 
-not_complete : {A : Type 0} (n : ℕ) → born n ≡ complete → A
+not_complete : {A : Type 0} {x : ℕ} (n : ℕ) → born n ≡ complete x → A
 not_complete n e = absurd cc
 
-not_unborn : {A : Type 0} → unborn ≡ complete → A
+not_unborn : {A : Type 0} {x : ℕ} → unborn ≡ complete x → A
 not_unborn e = absurd cc
 
 complete_fronts : CompleteAtFronts loop_sheet.blocks
 unfolding computing_row
-complete_fronts = record { at_front = λ u is. by u (ap (λ (d : Definition). d.kind) (same_definition u) ∙ is) }
+complete_fronts = record { at_front = λ {x} u is. by x u (ap (λ (d : Definition). d.kind) (same_definition u) ∙ is) }
   where
-    by : (u : ℕ) → (row_definition u).kind ≡ complete → (b : ℕ) × ((loop_sheet.blocks.function.definition u).home ≡ front b) × (loop_sheet.blocks.sealed b ≡ true)
-    by zero e = not_complete 71 e
-    by (suc zero) e = (1, refl, refl)
-    by (suc (suc zero)) e = not_complete 305 e
-    by (suc (suc (suc zero))) e = not_complete 341 e
-    by (suc (suc (suc (suc u)))) e = not_unborn e
+    by : (x u : ℕ) → (row_definition u).kind ≡ complete x → (b : ℕ) × ((loop_sheet.blocks.function.definition u).home ≡ front b) × (loop_sheet.blocks.sealed b ≡ true)
+    by x zero e = not_complete 71 e
+    by x (suc zero) e = (1, refl, refl)
+    by x (suc (suc zero)) e = not_complete 305 e
+    by x (suc (suc (suc zero))) e = not_complete 341 e
+    by x (suc (suc (suc (suc u)))) e = not_unborn e
 
 pub row_sound : BlocksSound loop_tables
 row_sound =
@@ -290,7 +290,7 @@ same_front : (b : ℕ) → inside 1 0 ≡ inside b 0 → 1 ≡ b
 same_front b e = cc
 
 -- the one complete parameter, and no parameter that waits
-pub complete_of_row : (P : ℕ → ℕ → Type 0) → P 1 1 → (b v : ℕ) → loop_tables.function.definition v ≡ record { home = front b; kind = complete } → P b v
+pub complete_of_row : (P : ℕ → ℕ → Type 0) → P 1 1 → {made_for : ℕ} (b v : ℕ) → loop_tables.function.definition v ≡ record { home = front b; kind = complete made_for } → P b v
 complete_of_row P here b zero e = not_complete 71 (ap (λ (d : Definition). d.kind) e)
 complete_of_row P here b (suc zero) e = subst (λ (c : ℕ). P c 1) (same_front b (ap (λ (d : Definition). d.home) e)) here
 complete_of_row P here b (suc (suc zero)) e = not_complete 305 (ap (λ (d : Definition). d.kind) e)

@@ -117,7 +117,7 @@ no_kind : (kind : Kind) (callers given other : ℕ) → callers ≡ 0 → given 
 no_kind unborn callers given other c g o behind first second = absurd behind
 no_kind (born n) callers given other c g o behind first second = omega (arith, c, behind)
 no_kind (pending x) callers given other c g o behind first second = omega (arith, c, g, first)
-no_kind complete callers given other c g o behind first second = omega (arith, c, o, second)
+no_kind (complete x) callers given other c g o behind first second = omega (arith, c, o, second)
 no_kind (zero_of x) callers given other c g o behind first second = absurd behind
 
 pub one_argument : Carries loop_calls one_body loop_state → ⊥

@@ -6,7 +6,7 @@ use Rattle.std.specs.List.{AllByRecursion, list_any}
 use Rattle.clif_meaning.specs.Instruction.{Edge, Operation}
 use Rattle.clif_meaning.specs.Ledger.{AnInstruction, BlockState, Ledger, answers_to, is_inserted, is_terminator, led_by, ledger_after, ledger_with, left_by, new_block, next_answer, redirected_state, sealed, with_begun, with_begun_at, with_cold_mark, with_filled_at, with_layout, with_parameter_types, with_predecessor, with_state, with_terminator}
 use Rattle.clif_meaning.specs.Name.{Name, answer_of, same_name}
-use Rattle.clif_meaning.specs.Request.{AnsweredCall, Request, CreateBlock, SwitchToBlock, SealBlock, SealAllBlocks, InsertBlockAfter, SetColdBlock, EnsureInsertedBlock, AppendBlockParams, AppendFunctionParams, DeclareVar, DefVar, UseVar, MakeEntry, MakeEdge, MakeJumpTable, MakeExceptionTable, Annotate, Build, ChangeJumpDestination, Finalize, script_of}
+use Rattle.clif_meaning.specs.Request.{AnsweredCall, Request, CreateBlock, SwitchToBlock, SealBlock, SealAllBlocks, InsertBlockAfter, SetColdBlock, EnsureInsertedBlock, AppendBlockParams, AppendFunctionParams, DeclareVar, DefVar, UseVar, MakeEntry, MakeEdge, MakeJumpTable, MakeExceptionTable, Annotate, NeedStackMap, Build, ChangeJumpDestination, Finalize, script_of}
 use Rattle.clif_simulation.specs.Carries.{IsInstruction, LeadsBuilt}
 use Rattle.clif_simulation.proofs.Carrying.{all_append, all_mapped}
 use Rattle.clif_simulation.proofs.LedgerValues.{as_many}
@@ -123,7 +123,8 @@ module _ (calls : List AnsweredCall) (call : AnsweredCall) where
       by (MakeEdge edge) is may = old
       by (MakeJumpTable default entries) is may = old
       by (MakeExceptionTable signature normal items) is may = old
-      by (Annotate values) is may = old
+      by (Annotate inside values) is may = old
+      by (NeedStackMap need) is may = old
       by (Build entries instruction) is may =
           edges_led (IsInstruction after) (next_answer ledger) (new (ap (λ (request : Request). slice_get (answers_to ledger request) 0) is)) instruction.edges
           (with_terminator (with_begun ledger) instruction.operation)

@@ -16,7 +16,7 @@ use Rattle.clif_nodes.specs.declared.nodes.InstNode.{InstNode}
 use Rattle.clif_ir.specs.Body.{Body, inst_at}
 use Rattle.clif_ir.specs.Changes.{with_branch_target}
 use Rattle.clif_ir.specs.Consistent.{IsConsistent}
-use Rattle.clif_records.specs.Tables.{is_yes}
+use Rattle.clif_records.specs.Tables.{RecordMap, is_yes, record_at}
 use Rattle.clif_tables.specs.Lists.{stack_map_at}
 use Rattle.clif_ssa.specs.LookUp.{branch_block}
 use Rattle.clif_ssa.specs.Moving.{MovesBranch}
@@ -54,6 +54,7 @@ use Rattle.clif_simulation.proofs.Requests.{entry_stays}
 use Rattle.clif_simulation.proofs.Staying.{same_program-refl}
 use Rattle.clif_simulation.proofs.Values.{is_value_at, values_kept}
 use Rattle.clif_simulation.proofs.Whole.{Whole, declared_types, whole}
+use Rattle.clif_simulation.proofs.Tracking.Steps.{same_function, tracks_quiet}
 
 some_is : {x y : ℕ} → ◌≡◌ {A = Option ℕ} (Some x) (Some y) → x ≡ y
 some_is same = cc
@@ -170,7 +171,7 @@ pub record MayRedirect (calls : List AnsweredCall) (s : SsaState) (branch from t
 
 module _ (calls : List AnsweredCall) (f g : Body) (s t : SsaState) (consistent : IsConsistent f) (c : Carries calls f s) (branch from to : Name)
     (may : MayRedirect calls s branch from to) (records : t.records ≡ s.records)
-    (moved : MovesBranch f s g t (answered calls branch) (answered calls from) (answered calls to)) where
+    (moved : MovesBranch f s g t (answered calls branch) (answered calls from) (answered calls to)) (tracking : t.tracking ≡ s.tracking) where
   abbrev i : ℕ
   i = answered calls branch
 
@@ -548,6 +549,8 @@ module _ (calls : List AnsweredCall) (f g : Body) (s t : SsaState) (consistent :
         describes = described.0;
         sound = described.1;
         counts = described.2;
+        tracked = tracks_quiet calls call s t p.tables p.tracked tt tracking (λ x d. ap (λ (r : RecordMap). record_at r x d) records)
+            p.tables (same_function p.tables p.tables refl);
       }
     where
       apart_from : EntryIsFree f s → (j : ℕ) → Contains (predecessors_of s b) j → branch_block f j ≡ branch_block f i → j ≡ i

@@ -45,7 +45,7 @@ started signature =
     none (suc k) x here = cc
 
 pub created : (signature : SignatureShape) → Carries one_call (with_block (empty_calling signature)) no_state
-created signature = carries_created [] (empty_calling signature) no_state (started signature) no_state (0 ∷ []) refl (λ x b. refl) (λ b. refl) (λ b. refl)
+created signature = carries_created [] (empty_calling signature) no_state (started signature) no_state (0 ∷ []) refl (λ x b. refl) (λ b. refl) (λ b. refl) refl
 
 switched : Carries before_call block_with_callee no_state
 switched = carries_switched one_call block_with_callee no_state (created first_signature) (block 0) []

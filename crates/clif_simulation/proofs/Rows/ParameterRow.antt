@@ -18,14 +18,14 @@ use Rattle.clif_simulation.proofs.Beginning.{carries_nothing}
 use Rattle.clif_simulation.proofs.Calls.{carries_created}
 use Rattle.clif_simulation.proofs.ParameterCalls.{carries_params}
 
-consistent : IsConsistent block_alone
+pub consistent : IsConsistent block_alone
 consistent =
     with_block_consistent (empty_body (Testcase (102 ∷ [])) difference_signature) (empty_consistent (Testcase (102 ∷ [])) difference_signature) (omega arith)
 
 created : Carries (record { request = CreateBlock; numbers = 0 ∷ [] } ∷ []) block_alone no_state
 created =
     carries_created [] (empty_body (Testcase (102 ∷ [])) difference_signature) no_state (carries_nothing (Testcase (102 ∷ [])) difference_signature) no_state (0 ∷ []) refl
-    (λ x b. refl) (λ b. refl) (λ b. refl)
+    (λ x b. refl) (λ b. refl) (λ b. refl) refl
 
 pub carried : Carries parameter_calls (parameter_body i32) no_state
 carried =

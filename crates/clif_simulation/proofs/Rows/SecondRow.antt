@@ -88,10 +88,10 @@ five_calls =
     ∷ record { request = EnsureInsertedBlock; numbers = [] } ∷ record { request = SwitchToBlock (block 1); numbers = [] } ∷ []
 
 one : Carries one_call (with_block empty) no_state
-one = carries_created [] empty no_state (carries_nothing (Testcase (50 ∷ [])) first_signature) no_state (0 ∷ []) refl (λ x b. refl) (λ b. refl) (λ b. refl)
+one = carries_created [] empty no_state (carries_nothing (Testcase (50 ∷ [])) first_signature) no_state (0 ∷ []) refl (λ x b. refl) (λ b. refl) (λ b. refl) refl
 
 two : Carries two_calls (with_block (with_block empty)) no_state
-two = carries_created one_call (with_block empty) no_state one no_state (1 ∷ []) refl (λ x b. refl) (λ b. refl) (λ b. refl)
+two = carries_created one_call (with_block empty) no_state one no_state (1 ∷ []) refl (λ x b. refl) (λ b. refl) (λ b. refl) refl
 
 three : Carries three_calls (with_block (with_block empty)) no_state
 three = carries_switched two_calls (with_block (with_block empty)) no_state two (block 0) []

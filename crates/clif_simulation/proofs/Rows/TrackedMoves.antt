@@ -15,6 +15,7 @@ use Rattle.clif_simulation.specs.Tables.{answered, program_so_far}
 use Rattle.clif_simulation.specs.CallCarryingExamples.{call_instruction}
 use Rattle.clif_simulation.specs.TrackedExamples.{assigned_calls, call_result, first_parameter, only, over_only, tracked_calls, used_calls}
 use Rattle.clif_simulation.proofs.Finished.Giving.{same_or_other}
+use Rattle.clif_simulation.proofs.Labelling.Unmarked.{none_marked}
 
 none_is : {X : Type 0} → IsTrue false → X
 none_is is = let no_way : ⊥ = cc in absurd no_way
@@ -44,6 +45,7 @@ module _ (n : Name) (v : ℕ) (is_given : IsGivenFresh (program_so_far tracked_c
 
   pub moves_only : MovesTracked tracked_calls (only n) (over_only v)
   moves_only = record {
+    unmarked = none_marked (script_of tracked_calls) (tt, (tt, (tt, (tt, (tt, tt)))));
     apart = λ other. by other (same_name other (block 0)) refl;
     over = λ value. (
       λ member. it_answers value (eqb-true value v member),

@@ -324,7 +324,7 @@ module _ (calls : List AnsweredCall) (f : Body) (s : SsaState) (consistent : IsC
           (length (carries.own.passed a.i is.n)) = carries.counts.counted d a.i is.n w leads to home in
           let reached : place_of w (block_at f d).params + length (carries.own.passed a.i is.n) < passed_count f a.i is.n + length (carries.own.params d) =
           omega (arith, stands, behind, count, place_within is.call.args is.j (Value v) is.passes) in
-          let defined = IntoBlock.passed_complete calls f s consistent carries d w home (omega (arith, stands)) a.i is.n counted reached in
+          let (_, defined) = IntoBlock.passed_complete calls f s consistent carries d w home (omega (arith, stands)) a.i is.n counted reached in
           let arm = Beside.arm calls f s consistent carries q path name a is.n is.call is.stands in
           let into = Beside.into calls f s consistent carries q path name a is.n is.call is.stands in
           let passes : passed_at f a.i is.n is.j ≡ Some (Value (carries.tables.function.argument w arm)) =

@@ -47,7 +47,8 @@ use Rattle.clif_simulation.proofs.Unfinished.Counted.{gives_results, as_many, as
 use Rattle.clif_simulation.proofs.Labelling.Labelled.{MovesBy, MovesLabelled, ends_labels, ends_moves, labelled, labelled_value}
 use Rattle.clif_simulation.proofs.Labelling.Labelled
 use Rattle.clif_simulation.proofs.Labelling.Labels.{Labels}
-use Rattle.clif_simulation.proofs.Labelling.Moved.{moved_if}
+use Rattle.clif_simulation.proofs.Labelling.Outside
+use Rattle.clif_simulation.proofs.Labelling.Outside.{moved_if}
 use Rattle.clif_simulation.proofs.Labelling.Moved
 use Rattle.clif_simulation.proofs.Finished.Entry
 use Rattle.clif_simulation.proofs.Finished.ItemsAt
@@ -485,10 +486,10 @@ module _ (calls : List AnsweredCall) (f : Body) (ssa : SsaState) (consistent : I
         q' = function_machine_of.call_outside right_run q [] callee call arguments
 
         events_are : p'.events ≡ q'.events
-        events_are = Moved.events_are calls f world tracked collector p q a.same_memory a.same_events [] refl callee call arguments
+        events_are = Outside.events_are left_run f collector p q a.same_memory a.same_events [] refl callee call arguments
 
         memory_is : p'.memory ≡ q'.memory
-        memory_is = Moved.memory_is calls f world tracked collector p q a.same_memory a.same_events [] refl callee call arguments
+        memory_is = Outside.memory_is left_run f collector p q a.same_memory a.same_events [] refl callee call arguments
 
         -- the bits that stand for those of names and values move as these do
         abbrev names_behind : Name → ℕ

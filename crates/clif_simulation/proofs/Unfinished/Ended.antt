@@ -47,7 +47,7 @@ module _ (function : Function) where
     same_kind arm path before w unborn = refl
     same_kind arm path before w (born n) = refl
     same_kind arm path before w (pending x) = refl
-    same_kind arm path before w complete = before (function.resolve (function.argument w arm)) (ends (function.argument w arm))
+    same_kind arm path before w (complete x) = before (function.resolve (function.argument w arm)) (ends (function.argument w arm))
     same_kind arm path before w (zero_of x) = refl
 
     pub denotes-end : (path : Path) (w : ℕ) → function.resolve w ≡ w → denotes program (with_ends_only function) path w ≡ denotes program function path w

@@ -270,8 +270,8 @@ module _ (calls : List AnsweredCall) (f : Body) (s : SsaState) (consistent : IsC
                 none_first (carries.own.params b) has.complete (map (λ (p : Pending). p.param) (waiting_in f s [] b))
                 (sym (ap (λ (ps : List ℕ). length ps) has.in_order) ∙ as_callers)
 
-            not_there : (w : ℕ) → function.definition w ≡ record { home = front b; kind = complete } → ⊥
-            not_there w defined =
+            not_there : (w x : ℕ) → function.definition w ≡ record { home = front b; kind = complete x } → ⊥
+            not_there w x defined =
                 let home : param_home f w ≡ Some b = carries.describes.complete_there b w defined in
                 let past = subst (λ (d : Definition). IsBehind d.kind (place_of w (block_at f b).params) (length (carries.own.params b))) defined (carries.counts.behind b w home) in
                 let within : place_of w (block_at f b).params < length (block_at f b).params = stands_place w (block_at f b).params (home_stands f consistent w b home) in
@@ -281,7 +281,7 @@ module _ (calls : List AnsweredCall) (f : Body) (s : SsaState) (consistent : IsC
             goes_alone = (
               old,
               IntoBlock.enters_front calls f s consistent carries b (sealed_none (sealed_of s b) is) B named seals sealed_there source number path old old
-                  (λ w defined. absurd (not_there w defined)) (λ w elsewhere. refl) (λ w blank. refl) zeros.of_value,
+                  (λ w (x, defined). absurd (not_there w x defined)) (λ w elsewhere. refl) (λ w blank. refl) zeros.of_value,
               inr (alike_before labels source number path old bits variables names agrees zeros mine entering),
               λ w. callers_bits no_complete w ∙ ap (λ (params : List ℕ). assigned same_value params mine old w) alone,
             )

@@ -110,7 +110,7 @@ module _ (calls : List AnsweredCall) (f : Body) (s : SsaState) (consistent : IsC
     kinds w is_live at unborn kind fits = absurd (not_start (front b) b 0 refl (sym at ∙ fits))
     kinds w is_live at (born n) kind fits = inl (IntoBlock.born_there calls f s consistent carries b B named w n at fits)
     kinds w is_live at (pending x) kind fits = inr (inl (x, kind, waits_bits w x is_live at kind))
-    kinds w is_live at complete kind fits =
+    kinds w is_live at (complete x) kind fits =
         let here : fits.0 ≡ b = same_block (sym fits.1 ∙ at) in
         absurd (not_both (carries.tables.sealed b) (ap carries.tables.sealed (sym here) ∙ fits.2) unsealed)
     kinds w is_live at (zero_of x) kind fits = inr (inr (x, kind))

@@ -64,6 +64,7 @@ use Rattle.clif_simulation.proofs.Finished.Placing.{at_second, contained, map_at
 use Rattle.clif_simulation.proofs.Finished.Stepping.{edge_passes, function_along, none_passed, same_arguments, script_along, some_passed}
 use Rattle.clif_simulation.proofs.Labelling.Labelled.{MovesBy, MovesLabelled, labelled_value}
 use Rattle.clif_simulation.proofs.Labelling.Moved
+use Rattle.clif_simulation.proofs.Labelling.Outside
 use Rattle.clif_simulation.proofs.Finished.Straight.{next_arm}
 use Rattle.clif_simulation.proofs.Finished.OperandTypes.{outcomes_alike_so_far}
 use Rattle.clif_simulation.proofs.Finished.Targets
@@ -571,10 +572,10 @@ module _ (coming : Coming) (arrivals : Arrivals) (calls : List AnsweredCall) (f 
           edges_are = ap (λ (o : Placed). o.instruction.edges) placed_is
 
           events_are : p'.events ≡ q'.events
-          events_are = Moved.events_are calls f world tracked collector a.state c.state r.same_memory r.same_events (placed_inst f i).stack_map no_map callee call arguments
+          events_are = Outside.events_are left_run f collector a.state c.state r.same_memory r.same_events (placed_inst f i).stack_map no_map callee call arguments
 
           memory_is : p'.memory ≡ q'.memory
-          memory_is = Moved.memory_is calls f world tracked collector a.state c.state r.same_memory r.same_events (placed_inst f i).stack_map no_map callee call arguments
+          memory_is = Outside.memory_is left_run f collector a.state c.state r.same_memory r.same_events (placed_inst f i).stack_map no_map callee call arguments
 
           agrees_behind_call : Agrees live program function labels path p'.variables p'.names q'.values
           agrees_behind_call =

@@ -452,7 +452,7 @@ module _ (calls : List AnsweredCall) (f : Body) (ssa : SsaState) (consistent : I
             where
               same_variable : unknown x (straight e 0) ≡ unknown y (straight e 0) → x ≡ y
               same_variable h = cc
-          by_kind at complete of_kind one = absurd (other (one ∙ nothing_yet (function.resolve (function.argument w (first_arm e)))))
+          by_kind at (complete y) of_kind one = absurd (other (one ∙ nothing_yet (function.resolve (function.argument w (first_arm e)))))
             where
               other : unknown x (straight e 0) ≡ absent → ⊥
               other h = cc
@@ -501,7 +501,7 @@ module _ (calls : List AnsweredCall) (f : Body) (ssa : SsaState) (consistent : I
             where
               other : given (code n) (straight e 0) ≡ unknown y (straight e 0) → ⊥
               other h = cc
-          by_kind complete of_kind one = absurd (other (one ∙ nothing_yet (function.resolve (function.argument w (first_arm e)))))
+          by_kind (complete y) of_kind one = absurd (other (one ∙ nothing_yet (function.resolve (function.argument w (first_arm e)))))
             where
               other : given (code n) (straight e 0) ≡ absent → ⊥
               other h = cc
@@ -528,8 +528,8 @@ module _ (calls : List AnsweredCall) (f : Body) (ssa : SsaState) (consistent : I
             where
               other : absent ≡ unknown y (straight e 0) → ⊥
               other h = cc
-          by_kind complete of_kind one =
-              let there : (block : ℕ) × ((carries.whole.tables.function.definition w).home ≡ front block) × (carries.whole.tables.sealed block ≡ true) = fits w at complete of_kind in
+          by_kind (complete y) of_kind one =
+              let there : (block : ℕ) × ((carries.whole.tables.function.definition w).home ≡ front block) × (carries.whole.tables.sealed block ≡ true) = fits w at (complete y) of_kind in
               let here : there.0 ≡ e = same_block (sym there.1 ∙ at_front w at) in
               not_both (sym (Opened.seal_is calls f ssa carries entry is_entry false unsealed) ∙ ap carries.whole.tables.sealed (sym here) ∙ there.2)
             where

@@ -23,9 +23,10 @@ enum Step {
     CallIndirect,
     Load,
     Store,
+    Help,
 }
 
-const STEPS: [Step; 11] = [
+const STEPS: [Step; 14] = [
     Step::Constant,
     Step::Add,
     Step::Subtract,
@@ -37,6 +38,9 @@ const STEPS: [Step; 11] = [
     Step::CallIndirect,
     Step::Load,
     Step::Store,
+    Step::Help,
+    Step::Help,
+    Step::Help,
 ];
 
 const CONDITIONS: [IntCC; 10] = [
@@ -105,6 +109,7 @@ impl Generator {
             }
             Step::Load => self.load(),
             Step::Store => self.store(),
+            Step::Help => self.help(),
         }
     }
 
@@ -127,12 +132,11 @@ impl Generator {
         let imm = self.random.random_range(-100i64..100);
         let call = ImmediateCall::IcmpImmS { cond, x, imm };
         let holds = self.call(Call::Immediate(call))?;
-        let value = self.instruction(PlainInstruction::Uextend { ty: I64, x: holds })?;
-        self.give(value)
+        self.give_wide(holds)
     }
 
     // A value that later steps of the block may name.
-    fn give(&mut self, value: Name) -> Result<(), AllocError> {
+    pub(super) fn give(&mut self, value: Name) -> Result<(), AllocError> {
         self.values.push(value)?;
         Ok(())
     }

@@ -1,5 +1,5 @@
 use Rattle.std.proofs.Common.{refl, ap, List, [], ◌∷◌}
-use Rattle.std.specs.Prelude.{Option, Some, unwrap_or}
+use Rattle.std.specs.Prelude.{Option, unwrap_or}
 use Rattle.clif_meaning.specs.Acceptance.{no_exceptions, table_branch, tried_address, tried_function}
 use Rattle.clif_meaning.specs.Instruction.{Edge}
 use Rattle.clif_meaning.specs.Ledger.{ExceptionTable}

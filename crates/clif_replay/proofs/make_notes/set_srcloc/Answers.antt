@@ -1,4 +1,4 @@
-use Rattle.std.proofs.Common.{◌∙◌, ap, refl}
+use Rattle.std.proofs.Common.{◌∙◌, ap, false, refl}
 use Rattle.clif_builder.specs.declared.builder.FunctionBuilder.{FunctionBuilder}
 use Rattle.clif_resolution.specs.declared.answers.Answer.TheVariants as answer
 use Rattle.clif_replay.proofs.Making.{made-answer}
@@ -14,5 +14,5 @@ returns-clause-made c =
     (record { func = ap (λ (b : FunctionBuilder). b.func.ghost_name) done.builder; ctx = ap (λ (b : FunctionBuilder). b.ctx.ghost_name) done.builder })
     (ap (λ (b : FunctionBuilder). b.func.now.name) done.builder) (ap (λ (b : FunctionBuilder). b.failed) done.builder ∙ c.requires.sound)
     (ap (λ (b : FunctionBuilder). b.ctx.now.variables) done.builder) (λ naming declared calls ready. refl)
-    (λ naming declared calls ready. note-ready c.notes_add_nothing.ensures calls old new c.args.answers.now _ ready (done.stands declared calls ready.stands)
+    (λ naming declared calls ready. note-ready c.notes_add_nothing.ensures calls old new c.args.answers.now false _ ready (done.stands declared calls ready.stands)
     (ap (λ (b : FunctionBuilder). b.func.now.tables.jump_tables) done.builder, ap (λ (b : FunctionBuilder). b.func.now.tables.exception_tables) done.builder))

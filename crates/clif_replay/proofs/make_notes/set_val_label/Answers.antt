@@ -1,4 +1,4 @@
-use Rattle.std.proofs.Common.{◌∙◌, ap, sym, subst}
+use Rattle.std.proofs.Common.{◌∙◌, ap, false, sym, subst}
 use Rattle.std.specs.Prelude.{slice_index_or}
 use Rattle.std.proofs.lemmas.Result.{err_from_is_err_and}
 use Rattle.clif_ir.specs.Body.{Body}
@@ -46,7 +46,7 @@ returns-clause-made c =
     (ap (λ (x : ContextState). x.variables) c.set_val_label.ensures.sets.context)
     (λ naming declared calls ready. note-some calls old c.args.answers.now ready c.args.name c.in-Some.value
     (ap (λ (f : Body). value_of f c.args.answers.now c.args.name) (sym c.func.ensures) ∙ sym c.value_named.ensures ∙ c.in-Some.is))
-    (λ naming declared calls ready. note-ready c.notes_add_nothing.ensures calls old new c.args.answers.now _ ready (done.sets.stands declared calls ready.stands) (done.grows.6, done.grows.8))
+    (λ naming declared calls ready. note-ready c.notes_add_nothing.ensures calls old new c.args.answers.now false _ ready (done.sets.stands declared calls ready.stands) (done.grows.6, done.grows.8))
 
 pub returns-clause-labels : goal.returns-clause-labels
 returns-clause-labels c = (

@@ -7,8 +7,8 @@ use Rattle.clif_replay.proofs.script.make_calls.Given as goal
 
 abbrev pub invariant-loop-place : goal.invariant-loop-place
 invariant-loop-place l = record {
-  in_step : IsInStep l.initial.builder.func.now.signature (calls_before l.initial.builder.func.now.signature l.calls l.place) l.builder l.answers.items;
-  rest : HasRest l.initial.builder.func.now.signature l.calls l.place;
+  in_step : IsInStep l.config l.initial.builder.func.now.signature (calls_before l.config l.initial.builder.func.now.signature l.calls l.place) l.builder l.answers.items;
+  rest : HasRest l.config l.initial.builder.func.now.signature l.calls l.place;
   types : l.types.items ≡ l.builder.ctx.now.variables;
   loans : SameLoans l.initial.builder l.builder;
   sound : l.builder.failed ≡ false;

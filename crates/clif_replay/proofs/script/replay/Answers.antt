@@ -10,7 +10,7 @@ pub returns-in_err-build : goal.returns-in_err-build
 returns-in_err-build c =
     let p = err_from_is_err_and c.from_residual.result c.from_residual.ensures.1 in
     let none = p.1 ∙ ap Err p.2 in
-    let told = told-as c.args.calls.now c.args.name c.args.signature c.with_name_signature-func.result c.in_err-build.field-0.0 c.from_residual.result c.with_name_signature-func.ensures none c.in_err-build.ensures.told in
+    let told = told-as c.args.config c.args.calls.now c.args.name c.args.signature c.with_name_signature-func.result c.in_err-build.field-0.0 c.from_residual.result c.with_name_signature-func.ensures none c.in_err-build.ensures.told in
     record {
       same_meaning = of-none c.from_residual.result _ _ none;
       built = of-none c.from_residual.result _ _ none;
@@ -26,8 +26,8 @@ returns-in_err-build c =
 
 pub returns : goal.returns
 returns c =
-    let done = subst (λ (start : Body). ReplayMakes c.args.calls.now start.name start.signature c.args.config.pointer_width c.build.new.func) c.with_name_signature-func.ensures c.in_ok-build.ensures.finished in
-    let told = told-answer c.args.calls.now c.args.name c.args.signature _ done.accepted in
+    let done = subst (λ (start : Body). ReplayMakes c.args.calls.now start.name start.signature c.args.config c.build.new.func) c.with_name_signature-func.ensures c.in_ok-build.ensures.finished in
+    let told = told-answer c.args.config c.args.calls.now c.args.name c.args.signature _ done.accepted in
     record {
       same_meaning = done.same_meaning;
       built = done.built;

@@ -11,7 +11,7 @@ returns-clause-makes g c = λ zero.
     let script = c.args.script in
     record {
       function = c.in-Ok.func;
-      makes = subst (λ (calls : List Call). ReplayMakes calls script.name script.signature script.config.pointer_width c.in-Ok.func) c.as_slice.ensures.value
+      makes = subst (λ (calls : List Call). ReplayMakes calls script.name script.signature script.config c.in-Ok.func) c.as_slice.ensures.value
           (record {
             same_meaning = c.in-Ok.ensures.same_meaning;
             built = c.in-Ok.ensures.built;

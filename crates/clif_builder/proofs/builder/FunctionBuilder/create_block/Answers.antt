@@ -13,10 +13,10 @@ returns-clause-told c =
     told_by c.args.self.now _ c.make_block-made.result _ _
     (λ calls agrees _.
     let made = c.make_block-made.ensures in
-    created calls _ _ _ _ _ _ agrees made.function made.number made.records made.sealed made.predecessors made.status made.variables)
+    created calls _ _ _ _ _ _ agrees made.function made.number made.records made.sealed made.predecessors made.status made.variables made.tracking)
     (λ signature calls stands _ ledger.
     let made = c.make_block-made.ensures in
-    created_stands signature calls _ _ _ _ _ _ stands made.function made.records made.sealed made.predecessors made.status ledger)
+    created_stands signature calls _ _ _ _ _ _ stands made.function made.records made.sealed made.predecessors made.status made.tracking ledger)
 
 pub returns-clause-call : goal.returns-clause-call
 returns-clause-call c =

@@ -1,4 +1,4 @@
-use Rattle.std.proofs.Common.{true, refl}
+use Rattle.std.proofs.Common.{refl}
 use Rattle.clif_instructions.specs.ExceptionTables.{exception_shape}
 use Rattle.clif_inst_builder.specs.Served.{exception_tables}
 use Rattle.clif_builder.proofs.Entries.{tables_kept}

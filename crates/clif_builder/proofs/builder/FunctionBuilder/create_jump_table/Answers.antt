@@ -1,4 +1,4 @@
-use Rattle.std.proofs.Common.{false, refl}
+use Rattle.std.proofs.Common.{refl}
 use Rattle.clif_inst_builder.specs.Served.{jump_tables}
 use Rattle.clif_builder.proofs.Entries.{tables_kept}
 use Rattle.clif_builder.proofs.Tabling.{created_aside, table_created, table_refused}

@@ -7,19 +7,23 @@ use Rattle.clif_builder.proofs.Remembered.{remembers_assigned}
 use Rattle.clif_builder.proofs.LedgerVariables.{assigned}
 use Rattle.clif_builder.proofs.Standing.{current_open}
 use Rattle.clif_builder.proofs.StandingResults.{assigned_stands}
+use Rattle.clif_builder.proofs.Tracks.{binds}
 use Rattle.clif_builder.proofs.builder.FunctionBuilder.def_var.Goals as goal
+
+pub returns-clause-tracks : goal.returns-clause-tracks
+returns-clause-tracks c = binds c.def_var-recorded.result _ _ _ _ c.def_var-recorded.ensures.tracking
 
 pub returns-clause-told : goal.returns-clause-told
 returns-clause-told c = λ name.
     told c.args.self.now _ c.def_var-recorded.result _ _
     (λ calls agrees names.
     let done = c.def_var-recorded.ensures in
-    assigned calls _ _ _ _ c.args.variable name c.in-Some.block c.args.value _ agrees c.requires.value_exists c.requires.same_type done.ok done.blocks done.status done.variables)
+    assigned calls _ _ _ _ c.args.variable name c.in-Some.block c.args.value _ agrees c.requires.value_exists c.requires.same_type done.ok done.tracking done.blocks done.status done.variables)
     (λ signature calls stands names ledger.
     let done = c.def_var-recorded.ensures in
     assigned_stands signature calls _ _ _ _ c.args.variable c.args.value c.in-Some.block name _ stands c.in-Some.is c.law_consistent.ensures
-    (current_open c.args.self.now c.requires.current c.in-Some.block c.in-Some.is) c.requires.value_exists c.requires.same_type names done.ok done.blocks done.status
-    ledger)
+    (current_open c.args.self.now c.requires.current c.in-Some.block c.in-Some.is) c.requires.value_exists c.requires.same_type names done.ok done.tracking
+    done.blocks done.status ledger)
 
 pub returns-clause-call : goal.returns-clause-call
 returns-clause-call c =

@@ -50,7 +50,7 @@ loop-edge-preserved c =
           × (c.args.edges.now ≡ [] → i.ssa ≡ s) × (LooksOnce s → LooksOnce i.ssa))
           (sym w.self-inside-is) (
             declare_more s t w.declare_block_predecessor.new.self c.args.inst c.args.edges.now c.loop-edge.edge-index c.edge-item.result c.edge-item.result inside c.edge-item.is
-                c.loop-edge.invariant.0 not_last done.records done.blocks done.ok,
+                c.loop-edge.invariant.0 not_last done.records done.blocks done.tracking done.ok,
             (λ f exists before. names_more f t w.declare_block_predecessor.new.self c.args.inst block exists done.records done.blocks done.ok (c.loop-edge.invariant.1 f exists before)),
             c.loop-edge.invariant.2,
             c.loop-edge.invariant.3,

@@ -11,6 +11,7 @@ use Rattle.clif_builder.specs.Construction.{IsSealingAll}
 use Rattle.clif_builder.proofs.Growing.{on_ok_step}
 use Rattle.clif_builder.proofs.Statuses.{begins_from}
 use Rattle.clif_builder.proofs.LedgerLists.{if-no, if-yes}
+use Rattle.clif_builder.proofs.Tracks.{tracks}
 use Rattle.clif_builder.proofs.context.FunctionBuilderContext.seal_all_blocks.Goals as goal
 
 order : (n k : ℕ) → (n ≤ k) ⊎ (k < n)
@@ -19,6 +20,7 @@ order n k = grind arith
 pub returns-clause-is_sealing : goal.returns-clause-is_sealing
 returns-clause-is_sealing c =
     let done = c.in_ok-side_effects.ensures in
+    let named : NamesExist c.args.func.now c.self.inside.ssa = subst (λ (v : ContextState). NamesExist c.args.func.now v.ssa) (sym c.self.view_is) c.requires.named in
     let told : List ℕ = c.in_ok-side_effects.side_effects.instructions_added_to_blocks.items in
     let sealing : IsSealingAll c.args.func.now c.self.inside.ssa c.seal_all_blocks.new.func c.seal_all_blocks.new.self told = record {
       constructs = done.constructs;
@@ -31,6 +33,7 @@ returns-clause-is_sealing c =
             | inr below ↦ done.sealed b below ∙ sym (if-yes (ltb b (length c.args.func.now.blocks)) true (is_yes (sealed_of c.self.inside.ssa b)) (lt-ltb b (length c.args.func.now.blocks) below))
           ];
       stay = done.stay;
+      tracks = tracks (done.tracks named);
       remembers = done.remembers;
       structured = done.structured;
       keeps = λ own tables spares. done.keeps own tables (λ b below. spares b (lt-ltb b (length c.args.func.now.blocks) below));

@@ -10,11 +10,13 @@ use Rattle.clif_builder.specs.Context.{ContextState}
 use Rattle.clif_builder.specs.Construction.{IsSealing}
 use Rattle.clif_builder.proofs.Growing.{on_ok_step}
 use Rattle.clif_builder.proofs.Statuses.{begins_from}
+use Rattle.clif_builder.proofs.Tracks.{tracks}
 use Rattle.clif_builder.proofs.context.FunctionBuilderContext.seal_block.Goals as goal
 
 pub returns-clause-is_sealing : goal.returns-clause-is_sealing
 returns-clause-is_sealing c =
     let done = c.in_ok-side_effects.ensures in
+    let named : NamesExist c.args.func.now c.self.inside.ssa = subst (λ (v : ContextState). NamesExist c.args.func.now v.ssa) (sym c.self.view_is) c.requires.named in
     let told : List ℕ = c.in_ok-side_effects.side_effects.instructions_added_to_blocks.items in
     let sealing : IsSealing c.args.func.now c.self.inside.ssa c.seal_block.new.func c.seal_block.new.self c.args.block told = record {
       constructs = done.constructs;
@@ -23,6 +25,7 @@ returns-clause-is_sealing c =
       predecessors = done.predecessors;
       sealed = done.sealed;
       stay = done.stay;
+      tracks = tracks (done.tracks named);
       remembers = done.remembers;
       structured = done.structured;
       keeps = λ own tables spares. done.keeps own tables (spares c.args.block (eq-eqb c.args.block c.args.block refl));

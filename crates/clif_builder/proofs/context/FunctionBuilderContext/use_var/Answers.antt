@@ -1,13 +1,15 @@
 use Rattle.std.proofs.Common.{List, ℕ, sym, ap, subst}
-use Rattle.clif_ssa.specs.Ssa.{SsaState}
+use Rattle.clif_ssa.specs.Ssa.{SsaState, NamesExist}
 use Rattle.clif_builder.specs.Context.{ContextState}
 use Rattle.clif_builder.specs.Construction.{IsUse}
 use Rattle.clif_builder.proofs.Statuses.{begins_from}
+use Rattle.clif_builder.proofs.Tracks.{tracks}
 use Rattle.clif_builder.proofs.context.FunctionBuilderContext.use_var.Goals as goal
 
 pub returns-clause-is_use : goal.returns-clause-is_use
 returns-clause-is_use c =
     let done = c.in_ok-value.ensures in
+    let named : NamesExist c.args.func.now c.self.inside.ssa = subst (λ (v : ContextState). NamesExist c.args.func.now v.ssa) (sym c.self.view_is) c.requires.named in
     let told : List ℕ = c.in_ok-value.side_effects.instructions_added_to_blocks.items in
     let is_use : IsUse c.args.func.now c.self.inside.ssa c.use_var.new.func c.use_var.new.self c.args.variable c.args.ty c.args.block c.in_ok-value.value told = record {
       constructs = done.constructs;
@@ -18,6 +20,7 @@ returns-clause-is_use c =
       stay = done.stay;
       remembers = done.remembers;
       recorded = done.recorded;
+      tracks = tracks (done.tracks named);
       structured = done.structured;
       keeps = done.keeps;
     } in (

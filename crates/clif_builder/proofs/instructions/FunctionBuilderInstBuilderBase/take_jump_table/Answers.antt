@@ -1,4 +1,4 @@
-use Rattle.std.proofs.Common.{false, refl, sym, ◌∙◌}
+use Rattle.std.proofs.Common.{refl, sym, ◌∙◌}
 use Rattle.std.specs.Prelude.{Ok}
 use Rattle.clif_inst_builder.specs.Served.{jump_tables}
 use Rattle.clif_builder.proofs.Entries.{tables_kept}

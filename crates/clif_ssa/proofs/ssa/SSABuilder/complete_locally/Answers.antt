@@ -18,6 +18,7 @@ loop-pending-init c = record {
   told = refl;
   records = λ v b. refl;
   counted = λ v b. refl;
+  tracking = refl;
   blocks = refl;
   more = has_more c.args.func.now;
   constructs = constructs_none c.args.func.now;
@@ -38,6 +39,7 @@ loop-pending-preserved c =
           (drop c.loop-pending.pending-index c.args.waiting.now)
           (drop-item c.args.waiting.now c.loop-pending.pending-index c.pending-item.result inside c.pending-item.is) c.in_ok-count_lookup.ensures.ok v b
           ∙ c.loop-pending.invariant.counted v b;
+      tracking = first_of (search rules, grind (arith, common_steps));
       blocks = first_of (search rules, grind (arith, common_steps));
       more = first_of (search rules, grind (arith, common_steps));
       constructs = constructs_then c.args.func.now c.loop-pending.func c.replace_by_zero.new.func c.loop-pending.invariant.constructs c.replace_by_zero.ensures.constructs;

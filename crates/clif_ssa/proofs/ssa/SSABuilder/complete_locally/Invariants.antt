@@ -16,6 +16,7 @@ invariant-loop-pending l = record {
   records : SameRecords l.initial.self-inside.tables l.self-inside.tables;
   counted : (v b : ℕ) → counted_for l.block (drop l.pending-index l.waiting) v b (lookups_of l.self-inside.tables v b)
       ≡ counted_for l.block l.waiting v b (lookups_of l.initial.self-inside.tables v b);
+  tracking : l.self-inside.tables.tracking ≡ l.initial.self-inside.tables.tracking;
   blocks : l.self-inside.tables.blocks ≡ l.initial.self-inside.tables.blocks;
   more : HasMore l.initial.func l.func;
   once : ToComplete l.initial.self-inside.tables l.block l.waiting → ToComplete l.self-inside.tables l.block (drop l.pending-index l.waiting);

@@ -128,7 +128,7 @@ returns-clause-completes c =
     rw (← c.self.view_is)
     (parameter-completed c.args.waiting.variable (value_at c.args.func.now c.args.waiting.param).ty c.args.waiting.param c.args.block c.in_ok-_value._value
     c.args.func.now c.self.inside.tables c.begin_look_up.new.self c.args.look_up.now c.begin_look_up.new.look_up (stage c.make_calls.new.func c.make_calls.new.self c.make_calls.new.look_up)
-    c.begin_look_up.ensures.records c.begin_look_up.ensures.blocks c.in_ok-begin_look_up.ensures.counted c.in_ok-begin_look_up.ensures.look_up
+    c.begin_look_up.ensures.records c.begin_look_up.ensures.blocks c.begin_look_up.ensures.tracking c.in_ok-begin_look_up.ensures.counted c.in_ok-begin_look_up.ensures.look_up
     typed)
 
 -- WHICH CONSTANTS -------------------------------------------------------------------------------------------------

@@ -50,7 +50,7 @@ pub returns-clause-looks : goal.returns-clause-looks
 returns-clause-looks c =
     rw (← c.self.view_is)
     (looked_copied c.args.variable c.args.ty c.args.block c.walk.new.passed c.in_ok-reached.reached.block c.in_ok-value.value (stage c.args.func.now c.self.inside.tables c.args.look_up.now) (stage c.record_or_parameter.new.func c.record_or_parameter.new.self c.record_or_parameter.new.look_up) c.copy_record.new.self c.copy_record.result c.in_ok-reached.ensures.ok c.in_ok-reached.ensures.exists
-    c.in_ok-value.ensures.got c.copy_record.ensures.ok c.copy_record.ensures.blocks c.copy_record.ensures.lookups)
+    c.in_ok-value.ensures.got c.copy_record.ensures.ok c.copy_record.ensures.blocks c.copy_record.ensures.lookups c.copy_record.ensures.tracking)
 
 pub returns-clause-keeps : goal.returns-clause-keeps
 returns-clause-keeps c =

@@ -11,6 +11,7 @@ use Rattle.clif_ssa.proofs.Waited.{named-kept, no_more-sealed, other-same, seale
 use Rattle.clif_ssa.proofs.PuttingSteps.{full_before}
 use Rattle.clif_ssa.proofs.SealPools.{first_pools, first_waits, next_full, next_pools, next_waits}
 use Rattle.clif_ssa.proofs.StructuredPublic.{seal_structured}
+use Rattle.clif_ssa.proofs.Tracks.{seals_track}
 use Rattle.clif_ssa.proofs.WithinUses.{leads_of, seals_within}
 use Rattle.std.proofs.lemmas.Result.{err_from_is_err_and}
 use Rattle.clif_ssa.proofs.ssa.SSABuilder.seal_all_blocks.Goals as goal
@@ -86,7 +87,7 @@ loop-number-preserved c =
           tells_more_then c.args.func.now c.loop-number.func c.seal_one_block.new.func _ _ _ c.seal_one_block.ensures.keeps.constructs c.loop-number.invariant.tells
           (_, c.in_ok-append.ensures.ok, c.in_ok-told.ensures.makes.tells);
       keeps = λ own tables spares both.
-          keeps_then own tables c.loop-number.func c.seal_one_block.new.func c.loop-number.self c.seal_one_block.new.self (c.loop-number.invariant.keeps own tables spares both)
+          keeps_then own tables c.loop-number.func c.seal_one_block.new.func c.loop-number.self c.seal_one_block.new.self (c.loop-number.invariant.keeps own tables spares both) c.seal_one_block.ensures.keeps.stay
           (λ blocks described.
           seal_keeps own c.loop-number.func c.seal_one_block.new.func c.loop-number.self c.seal_one_block.new.self blocks c.new-block.result (Ok c.in_ok-told.told)
           c.law_consistent.ensures
@@ -177,6 +178,20 @@ returns-clause-within c = λ holds branches waiting.
     let at : c.loop-number.number ≡ length c.args.func.now.blocks = first_of (search rules, grind (arith, common_steps)) in
     seals_within holds c.args.func.now c.loop-number.func c.args.self.now c.loop-number.self c.loop-number.number _
     (leads_of holds c.args.func.now c.args.self.now c.requires.named branches) (λ b below. waiting b (omega (arith, below, at))) c.loop-number.invariant.in_turn
+
+pub returns-clause-tracks : goal.returns-clause-tracks
+returns-clause-tracks c = λ named.
+    seals_track c.args.func.now c.loop-number.func c.args.self.now c.loop-number.self c.loop-number.number _ named c.loop-number.invariant.in_turn
+
+pub returns-in_err-told-clause-tracks : goal.returns-in_err-told-clause-tracks
+returns-in_err-told-clause-tracks c =
+    let p = err_from_is_err_and c.from_residual.result c.from_residual.ensures.1 in
+    λ named. rw p.1 tt
+
+pub returns-in_err-append-clause-tracks : goal.returns-in_err-append-clause-tracks
+returns-in_err-append-clause-tracks c =
+    let p = err_from_is_err_and c.from_residual-in_err-append.result c.from_residual-in_err-append.ensures.1 in
+    λ named. rw p.1 tt
 
 -- HOW MUCH IS TAKEN -----------------------------------------------------------------------------------------------
 

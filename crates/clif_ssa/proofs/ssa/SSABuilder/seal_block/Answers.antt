@@ -1,6 +1,7 @@
 use Rattle.clif_ssa.proofs.Alongside.{seal_remembers, seal_loses}
 use Rattle.clif_ssa.proofs.Public.{seal_keeps}
 use Rattle.clif_ssa.proofs.StructuredPublic.{seal_structured}
+use Rattle.clif_ssa.proofs.Tracks.{seal_tracks}
 use Rattle.clif_ssa.proofs.WithinUses.{leads_of, seal_within}
 use Rattle.clif_ssa.proofs.ssa.SSABuilder.seal_block.Goals as goal
 
@@ -29,6 +30,11 @@ returns-clause-within c = λ holds branches waiting.
     seal_within holds c.args.func.now c.seal_one_block-told.new.func c.args.self.now c.seal_one_block-told.new.self c.args.block c.seal_one_block-told.result
     (leads_of holds c.args.func.now c.args.self.now c.requires.named branches) waiting
     c.seal_one_block-told.ensures.keeps.predecessors c.seal_one_block-told.ensures.makes.local c.seal_one_block-told.ensures.makes.completes
+
+pub returns-clause-tracks : goal.returns-clause-tracks
+returns-clause-tracks c = λ named.
+    seal_tracks c.args.func.now c.seal_one_block-told.new.func c.args.self.now c.seal_one_block-told.new.self c.args.block c.seal_one_block-told.result
+    named c.seal_one_block-told.ensures.makes.local c.seal_one_block-told.ensures.makes.completes
 
 -- WHAT IS PASSED ON -----------------------------------------------------------------------------------------------
 

@@ -37,7 +37,7 @@ pub returns-in_err-waiting-clause-makes : goal.returns-in_err-waiting-clause-mak
 returns-in_err-waiting-clause-makes c =
     let p = err_from_is_err_and c.from_residual.result c.from_residual.ensures.1 in
     rw (p.1, p.2, ← c.self.view_is)
-    (refused_makes c.args.block c.args.func.now c.self.inside.tables c.seal.new.self c.in_err-waiting.field-0.0 c.seal.ensures.records c.in_err-waiting.ensures.err)
+    (refused_makes c.args.block c.args.func.now c.self.inside.tables c.seal.new.self c.in_err-waiting.field-0.0 c.seal.ensures.records c.seal.ensures.tracking c.in_err-waiting.ensures.err)
 
 pub returns-in_err-waiting-clause-keeps : goal.returns-in_err-waiting-clause-keeps
 returns-in_err-waiting-clause-keeps c =
@@ -55,8 +55,8 @@ pub returns-then-not-has_any_predecessors-clause-makes : goal.returns-then-not-h
 returns-then-not-has_any_predecessors-clause-makes c =
     let same : c.as_slice.result.now ≡ pending_of (sealed_of c.self.inside.tables c.args.block) = first_of (search rules, grind (arith, common_steps)) in
     rw (← c.self.view_is)
-    (local_makes c.args.block c.args.func.now c.complete_locally.new.func c.self.inside.tables c.seal.new.self c.complete_locally.new.self c.as_slice.result.now c.complete_locally.result c.seal.ensures.records c.in_ok-waiting.ensures.ok c.seal.ensures.predecessors same (λ some. let no : false ≡ true = c.if-not-has_any_predecessors.ensures.1 some in cc)
-    c.complete_locally.ensures.records c.complete_locally.ensures.blocks c.complete_locally.ensures.counted c.complete_locally.ensures.function c.complete_locally.ensures.told c.complete_locally.ensures.tells)
+    (local_makes c.args.block c.args.func.now c.complete_locally.new.func c.self.inside.tables c.seal.new.self c.complete_locally.new.self c.as_slice.result.now c.complete_locally.result c.seal.ensures.records c.seal.ensures.tracking c.in_ok-waiting.ensures.ok c.seal.ensures.predecessors same (λ some. let no : false ≡ true = c.if-not-has_any_predecessors.ensures.1 some in cc)
+    c.complete_locally.ensures.records c.complete_locally.ensures.tracking c.complete_locally.ensures.blocks c.complete_locally.ensures.counted c.complete_locally.ensures.function c.complete_locally.ensures.told c.complete_locally.ensures.tells)
 
 pub returns-then-not-has_any_predecessors-clause-keeps : goal.returns-then-not-has_any_predecessors-clause-keeps
 returns-then-not-has_any_predecessors-clause-keeps c =
@@ -104,7 +104,7 @@ returns-clause-makes c =
     let same : c.as_slice-2.result.now ≡ pending_of (sealed_of c.self.inside.tables c.args.block) = first_of (search rules, grind (arith, common_steps)) in
     let told : c.give_back-instructions_added_to_blocks.result.items ≡ c.complete_all.new.look_up.zeros = first_of (search rules, grind (arith, common_steps)) in
     rw (c.give_back-instructions_added_to_blocks.ensures.kept, ← c.self.view_is)
-    (looked_makes c.args.block c.args.func.now c.complete_all.new.func c.self.inside.tables c.seal.new.self c.complete_all.new.self c.as_slice-2.result.now c.take_look_up-look_up.result c.complete_all.new.look_up (record { instructions_added_to_blocks = c.give_back-instructions_added_to_blocks.result }) c.seal.ensures.records c.in_ok-waiting.ensures.ok c.seal.ensures.predecessors same (c.if-not-has_any_predecessors.ensures.0 refl) leaves
+    (looked_makes c.args.block c.args.func.now c.complete_all.new.func c.self.inside.tables c.seal.new.self c.complete_all.new.self c.as_slice-2.result.now c.take_look_up-look_up.result c.complete_all.new.look_up (record { instructions_added_to_blocks = c.give_back-instructions_added_to_blocks.result }) c.seal.ensures.records c.seal.ensures.tracking c.in_ok-waiting.ensures.ok c.seal.ensures.predecessors same (c.if-not-has_any_predecessors.ensures.0 refl) leaves
     c.take_look_up-look_up.ensures.empty all c.in_ok-complete_all.ensures.tells told)
 
 pub returns-clause-keeps : goal.returns-clause-keeps

@@ -1,4 +1,4 @@
-use Rattle.std.proofs.Common.{rules, ◌≡◌, ◌≢◌, Some, None, true, [], ◌∙◌, refl, sym, subst, arith, inl}
+use Rattle.std.proofs.Common.{rules, length, ◌≡◌, ◌≢◌, Some, None, true, [], ◌∙◌, refl, sym, subst, arith, inl}
 use Rattle.std.proofs.lemmas.Grind.{common_steps}
 use Rattle.clif_records.specs.Tables.{is_yes}
 use Rattle.clif_ssa.specs.Ssa.{record_of, sealed_of, predecessors_of, Named, NamesExist}
@@ -16,6 +16,7 @@ use Rattle.clif_ssa.proofs.Losing.{same_remembers}
 use Rattle.clif_records.proofs.RecordLaws.{on_ok}
 use Rattle.clif_ssa.proofs.Public.{something_leads, popped_nothing, known_use, local_use, machine_use, uses_machine}
 use Rattle.clif_ssa.proofs.StructuredPublic.{local_structured, machine_structured}
+use Rattle.clif_ssa.proofs.Tracks.{local_tracks, machine_tracks, tracks_none}
 use Rattle.clif_ssa.proofs.WithinUses.{leads_of, same_within, local_within, machine_within}
 use Rattle.std.proofs.lemmas.Result.{err_from_is_err_and}
 use Rattle.clif_ssa.proofs.ssa.SSABuilder.use_var.Goals as goal
@@ -219,6 +220,35 @@ returns-clause-within c =
     machine_within holds c.args.func.now c.look_up_in.new.func c.make_calls.new.func c.take_look_up-look_up.new.self c.look_up_in.new.self c.make_calls.new.self
     c.args.variable c.args.ty c.args.block _ c.look_up_in.new.look_up c.make_calls.new.look_up c.in_ok-value.value _ c.take_look_up-look_up.ensures.empty
     (leads_of holds c.args.func.now c.take_look_up-look_up.new.self named branches) held c.in_ok-look_up_in.ensures.looks c.in_ok-value.ensures.made told)
+
+-- WHAT IS RECORDED FOR STACK MAPS -----------------------------------------------------------------------------------
+
+pub returns-in-Some-clause-tracks : goal.returns-in-Some-clause-tracks
+returns-in-Some-clause-tracks c = λ named. tracks_none (length c.args.func.now.values) c.args.self.now named.recorded
+
+pub returns-then-is_local-clause-tracks : goal.returns-then-is_local-clause-tracks
+returns-then-is_local-clause-tracks c = λ named.
+    let none : record_of c.args.self.now c.args.variable c.args.block ≡ None = search rules in
+    local_tracks c.args.func.now c.use_locally.new.func c.args.self.now c.use_locally.new.self c.args.variable c.args.ty c.args.block c.use_locally.result
+    named none c.use_locally.ensures.used.waits c.use_locally.ensures.used.zero
+
+pub returns-in_err-look_up_in-clause-tracks : goal.returns-in_err-look_up_in-clause-tracks
+returns-in_err-look_up_in-clause-tracks c =
+    let p = err_from_is_err_and c.from_residual.result c.from_residual.ensures.1 in
+    λ named. rw p.1 tt
+
+pub returns-in_err-value-clause-tracks : goal.returns-in_err-value-clause-tracks
+returns-in_err-value-clause-tracks c =
+    let p = err_from_is_err_and c.from_residual-in_err-value.result c.from_residual-in_err-value.ensures.1 in
+    λ named. rw p.1 tt
+
+pub returns-clause-tracks : goal.returns-clause-tracks
+returns-clause-tracks c =
+    rw (← c.take_look_up-look_up.ensures.kept, c.give_back-instructions_added_to_blocks.ensures.kept)
+    (λ named.
+    machine_tracks c.args.func.now c.look_up_in.new.func c.make_calls.new.func c.take_look_up-look_up.new.self c.look_up_in.new.self c.make_calls.new.self
+    c.args.variable c.args.ty c.args.block _ c.look_up_in.new.look_up c.make_calls.new.look_up c.in_ok-value.value named
+    c.in_ok-look_up_in.ensures.looks c.in_ok-value.ensures.made)
 
 -- HOW MUCH IS TAKEN -----------------------------------------------------------------------------------------------
 

@@ -52,8 +52,8 @@ returns-in_err-begin_look_up-clause-ends c =
 
 pub returns-then-is_sealed-clause-got : goal.returns-then-is_sealed-clause-got
 returns-then-is_sealed-clause-got c =
-    got_begun c.args.variable c.args.ty c.args.block c.in_ok-param.param c.args.func.now c.new_parameter.new.func c.args.self.now c.new_parameter.new.self c.begin_look_up.new.self c.args.look_up.now c.begin_look_up.new.look_up c.requires.unrecorded (ap (λ known. is_yes (sealed_at known c.args.block)) (sym c.new_parameter.ensures.blocks) ∙ sym c.if-is_sealed.ensures) c.in_ok-param.ensures.number c.in_ok-param.ensures.function c.in_ok-param.ensures.records
-    c.new_parameter.ensures.blocks c.new_parameter.ensures.lookups c.begin_look_up.ensures.records c.begin_look_up.ensures.blocks c.in_ok-begin_look_up.ensures.counted c.in_ok-begin_look_up.ensures.look_up
+    got_begun c.args.variable c.args.ty c.args.block c.in_ok-param.param c.args.func.now c.new_parameter.new.func c.args.self.now c.new_parameter.new.self c.begin_look_up.new.self c.args.look_up.now c.begin_look_up.new.look_up c.requires.unrecorded (ap (λ known. is_yes (sealed_at known c.args.block)) (sym c.new_parameter.ensures.blocks) ∙ sym c.if-is_sealed.ensures) c.in_ok-param.ensures.number c.in_ok-param.ensures.function c.in_ok-param.ensures.records c.in_ok-param.ensures.tracking
+    c.new_parameter.ensures.blocks c.new_parameter.ensures.lookups c.begin_look_up.ensures.records c.begin_look_up.ensures.blocks c.begin_look_up.ensures.tracking c.in_ok-begin_look_up.ensures.counted c.in_ok-begin_look_up.ensures.look_up
 
 pub returns-then-is_sealed-clause-keeps : goal.returns-then-is_sealed-clause-keeps
 returns-then-is_sealed-clause-keeps c =
@@ -111,8 +111,8 @@ returns-in_err-wait-clause-ends c =
 
 pub returns-clause-got : goal.returns-clause-got
 returns-clause-got c =
-    got_waiting c.args.variable c.args.ty c.args.block c.in_ok-param.param c.args.func.now c.new_parameter.new.func c.args.self.now c.new_parameter.new.self c.wait.new.self c.args.look_up.now c.push_result.new.self c.requires.unrecorded (ap (λ known. is_yes (sealed_at known c.args.block)) (sym c.new_parameter.ensures.blocks) ∙ sym c.if-is_sealed.ensures) c.in_ok-param.ensures.number c.in_ok-param.ensures.function c.in_ok-param.ensures.records
-    c.new_parameter.ensures.blocks c.new_parameter.ensures.lookups c.wait.ensures.records c.in_ok-wait.ensures.ok c.wait.ensures.predecessors c.in_ok-push_result.ensures.ok
+    got_waiting c.args.variable c.args.ty c.args.block c.in_ok-param.param c.args.func.now c.new_parameter.new.func c.args.self.now c.new_parameter.new.self c.wait.new.self c.args.look_up.now c.push_result.new.self c.requires.unrecorded (ap (λ known. is_yes (sealed_at known c.args.block)) (sym c.new_parameter.ensures.blocks) ∙ sym c.if-is_sealed.ensures) c.in_ok-param.ensures.number c.in_ok-param.ensures.function c.in_ok-param.ensures.records c.in_ok-param.ensures.tracking
+    c.new_parameter.ensures.blocks c.new_parameter.ensures.lookups c.wait.ensures.records c.wait.ensures.tracking c.in_ok-wait.ensures.ok c.wait.ensures.predecessors c.in_ok-push_result.ensures.ok
 
 pub returns-clause-keeps : goal.returns-clause-keeps
 returns-clause-keeps c =

@@ -1,7 +1,8 @@
-use Rattle.std.proofs.Common.{ap, length, refl, subst}
+use Rattle.std.proofs.Common.{◌≡◌, ap, length, refl, subst}
 use Rattle.std.proofs.lemmas.Result.{err_from_is_err_and}
 use Rattle.clif_ssa.specs.Ssa.{Records}
 use Rattle.clif_records.specs.Tables.{sealed_at, predecessors_at}
+use Rattle.clif_records.specs.Tracking.{with_binding}
 use Rattle.clif_ssa.proofs.CountedOnce.{once_recorded}
 use Rattle.clif_ssa.proofs.Steps.{ends_memory, ends_ok, ends_unmade, keeps_same, keeps_recorded, keeps_unrecorded, known_same}
 use Rattle.clif_ssa.proofs.ssa_tables.SsaTables.new_parameter.Goals as goal
@@ -58,6 +59,10 @@ returns-in_err-record-clause-lookups c = c.record.ensures.lookups
 pub returns-clause-records : goal.returns-clause-records
 returns-clause-records c =
     subst (λ v. Records c.args.self.now c.record.new.self c.args.variable c.args.block v) c.in_ok-param.ensures.number c.in_ok-record.ensures.ok
+
+pub returns-clause-tracking : goal.returns-clause-tracking
+returns-clause-tracking c =
+    subst (λ v. c.record.new.self.tracking ≡ with_binding c.args.self.now.tracking c.args.variable v) c.in_ok-param.ensures.number c.in_ok-record.ensures.tracking
 
 pub returns-clause-blocks : goal.returns-clause-blocks
 returns-clause-blocks c = c.record.ensures.blocks

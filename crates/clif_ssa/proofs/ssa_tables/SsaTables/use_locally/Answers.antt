@@ -67,7 +67,7 @@ returns-in_err-zero-clause-ends c =
 pub returns-then-is_sealed-clause-used : goal.returns-then-is_sealed-clause-used
 returns-then-is_sealed-clause-used c =
     use_zeroes c.args.variable c.args.ty c.args.block c.args.func.now c.args.self.now c.new_parameter.new.func c.replace_by_zero.new.func c.count_lookup.new.self c.in_ok-param.param c.in_ok-zero.zero c.new-side_effects.result c.replace_by_zero.new.side_effects
-    (ap (λ known. is_yes (sealed_at known c.args.block)) (sym c.new_parameter.ensures.blocks) ∙ sym c.if-is_sealed.ensures) c.in_ok-param.ensures.number c.in_ok-param.ensures.function (λ y b. c.count_lookup.ensures.records y b ∙ c.in_ok-param.ensures.records y b) (λ b. ap (λ known. sealed_at known b) (c.count_lookup.ensures.blocks ∙ c.new_parameter.ensures.blocks))
+    (ap (λ known. is_yes (sealed_at known c.args.block)) (sym c.new_parameter.ensures.blocks) ∙ sym c.if-is_sealed.ensures) c.in_ok-param.ensures.number c.in_ok-param.ensures.function (λ y b. c.count_lookup.ensures.records y b ∙ c.in_ok-param.ensures.records y b) (c.count_lookup.ensures.tracking ∙ c.in_ok-param.ensures.tracking) (λ b. ap (λ known. sealed_at known b) (c.count_lookup.ensures.blocks ∙ c.new_parameter.ensures.blocks))
     (counted_from c.args.self.now c.new_parameter.new.self c.count_lookup.new.self c.args.variable c.args.block c.new_parameter.ensures.lookups c.in_ok-count_lookup.ensures.ok) c.in_ok-zero.ensures.zero c.in_ok-zero.ensures.answer c.new-side_effects.ensures c.in_ok-zero.ensures.told
     c.replace_by_zero.ensures.constructs c.in_ok-zero.ensures.tells
 
@@ -103,7 +103,7 @@ returns-in_err-wait-clause-ends c =
 pub returns-clause-used : goal.returns-clause-used
 returns-clause-used c =
     use_waits c.args.variable c.args.ty c.args.block c.args.func.now c.args.self.now c.new_parameter.new.func c.wait.new.self c.in_ok-param.param c.new-side_effects.result (ap (λ known. is_yes (sealed_at known c.args.block)) (sym c.new_parameter.ensures.blocks) ∙ sym c.if-is_sealed.ensures) c.in_ok-param.ensures.number c.in_ok-param.ensures.function
-    (λ y b. ap (λ rows. record_at rows y b) c.wait.ensures.records ∙ c.in_ok-param.ensures.records y b) (λ y b. ap (λ rows. lookups_at rows y b) c.wait.ensures.records ∙ c.new_parameter.ensures.lookups y b)
+    (λ y b. ap (λ rows. record_at rows y b) c.wait.ensures.records ∙ c.in_ok-param.ensures.records y b) (c.wait.ensures.tracking ∙ c.in_ok-param.ensures.tracking) (λ y b. ap (λ rows. lookups_at rows y b) c.wait.ensures.records ∙ c.new_parameter.ensures.lookups y b)
     (waiting_from c.args.self.now c.new_parameter.new.self c.wait.new.self c.args.variable c.args.block c.in_ok-param.param (length c.args.func.now.values) c.new_parameter.ensures.blocks c.in_ok-param.ensures.number c.in_ok-wait.ensures.ok) c.new-side_effects.ensures
 
 pub returns-clause-keeps : goal.returns-clause-keeps

@@ -1,0 +1,55 @@
+-- What the calls that ask for stack maps make of a builder. Source: own, after the crate's documentation of
+-- `declare_var_needs_stack_map` and `declare_value_needs_stack_map`.
+use Rattle.std.specs.Prelude.{◌≡◌, ◌≢◌, ◌<◌, ◌≤◌, ℕ, length, Result, Err, OnOk, OnErr, Some, None, slice_get}
+use Rattle.clif_types.specs.declared.error.BuildError.{BuildError}
+use Rattle.clif_types.specs.declared.error.BuildError.TheVariants.{Full}
+use Rattle.clif_types.specs.declared.types.«Type».{«Type»}
+use Rattle.clif_types.specs.Types.{bytes_of}
+use Rattle.clif_ir.specs.Body.{value_at}
+use Rattle.clif_records.specs.Tracking.{Tracked, with_mark, with_recorded}
+use Rattle.clif_ssa.specs.Ssa.{record_of}
+use Rattle.clif_builder.specs.declared.builder.FunctionBuilder.{FunctionBuilder}
+use Rattle.clif_builder.specs.Builder.{HasCurrent}
+use Rattle.clif_builder.specs.Calls.{IsCall}
+use Rattle.clif_builder.specs.Context.{ContextState}
+use Rattle.clif_builder.specs.Growth.{Grows, RemembersIn}
+use Rattle.clif_builder.specs.Tracking.{with_tracking}
+
+-- a stack map has room for a value of this type: it has 1 to 16 bytes
+pub record FitsStackMap (ty : «Type») : Type 0 where
+  pub some : 1 ≤ bytes_of ty
+  pub fits : bytes_of ty ≤ 16
+
+-- the variable is declared, and its type fits
+pub record VariableFits (c : ContextState) (variable : ℕ) : Type 0 where
+  pub ty : «Type»
+  pub declared : slice_get c.variables variable ≡ Some ty
+  pub fits : FitsStackMap ty
+
+-- the variable was neither used nor assigned so far: it is on record in no block
+abbrev pub IsUnused : ContextState → ℕ → Type 0
+IsUnused c variable = (block : ℕ) → record_of c.ssa variable block ≡ None
+
+-- A call of the builder changes what is tracked, and nothing else. After an error nothing has changed.
+pub record TracksFrom (old new : FunctionBuilder) (answer : Result (Unit {0}) BuildError) (tracked : Tracked) : Type 0 where
+  pub call : IsCall old new answer
+  pub function : new.func.now ≡ old.func.now
+  pub context : OnOk answer (new.ctx.now ≡ with_tracking old.ctx.now tracked)
+  pub kept : OnErr answer (new.ctx.now ≡ old.ctx.now)
+  pub never_full : answer ≢ Err Full
+  pub grows : OnOk answer (Grows old.func.now new.func.now)
+  pub remembers : (x b : ℕ) → OnOk answer (RemembersIn x b old new)
+  pub current : HasCurrent old → OnOk answer (HasCurrent new)
+
+-- the variable is marked
+abbrev pub MarksVariable : FunctionBuilder → FunctionBuilder → Result (Unit {0}) BuildError → ℕ → Type 0
+MarksVariable old new answer variable = TracksFrom old new answer (with_mark old.ctx.now.ssa.tracking variable)
+
+-- the value is recorded
+abbrev pub RecordsValue : FunctionBuilder → FunctionBuilder → Result (Unit {0}) BuildError → ℕ → Type 0
+RecordsValue old new answer value = TracksFrom old new answer (with_recorded old.ctx.now.ssa.tracking value)
+
+-- a value of the function whose type fits
+pub record ValueFits (b : FunctionBuilder) (value : ℕ) : Type 0 where
+  pub exists : value < length b.func.now.values
+  pub fits : FitsStackMap (value_at b.func.now value).ty

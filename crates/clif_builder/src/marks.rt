@@ -1,0 +1,51 @@
+//! The builder's calls that ask for stack maps, by which a collector finds the objects that it moves. Which values stack
+//! maps need is recorded; `finalize` makes no stack map yet.
+ghost use Rattle.std.specs.Prelude.{[]};
+ghost use Rattle.clif_meaning.specs.Name.{Name};
+ghost use Rattle.clif_meaning.specs.Request.{NeedStackMap, OfValue, OfVariable};
+ghost use Rattle.clif_builder.specs.Calls.{IsTold, answered};
+ghost use Rattle.clif_builder.specs.Ledger.{NamesValue};
+ghost use Rattle.clif_builder.specs.Marks.{IsUnused, MarksVariable, RecordsValue, ValueFits, VariableFits};
+
+use crate::builder::FunctionBuilder;
+use clif_ssa::Variable;
+use clif_types::{BuildError, Value};
+
+impl<'a> FunctionBuilder<'a> {
+    /// Has stack maps name each value that a variable gets: those that are assigned to it, and the block
+    /// parameters that are made for it.
+    ///
+    /// The variable is declared, was neither used nor assigned so far, and has a type of 1 to 16 bytes. No
+    /// instruction is made, and no other call answers otherwise. The only errors are `Memory` and `Failed`;
+    /// after one nothing has changed.
+    pub fn declare_var_needs_stack_map(&mut self, variable: Variable) -> Result<(), BuildError>
+        requires fits { VariableFits self.old.ctx.now variable }
+        requires unused { IsUnused self.old.ctx.now variable }
+        ensures marks { MarksVariable self.old self.new result variable }
+        ensures told { IsTold self.old self.new result (λ calls. Unit {0}) (λ u. answered (NeedStackMap (OfVariable variable)) []) }
+    {
+        if self.failed {
+            return Err(BuildError::Failed);
+        }
+        let marked = self.ctx.mark_var(variable);
+        self.failed = marked.is_err();
+        marked
+    }
+
+    /// Has stack maps name a value, where it is live across a call.
+    ///
+    /// The value has a type of 1 to 16 bytes. No instruction is made, and no other call answers otherwise.
+    /// The only errors are `Memory` and `Failed`; after one nothing has changed.
+    pub fn declare_value_needs_stack_map(&mut self, value: Value) -> Result<(), BuildError>
+        requires { ValueFits self.old value }
+        ensures records { RecordsValue self.old self.new result value }
+        ensures told { (name : Name) → IsTold self.old self.new result (λ calls. NamesValue calls name value) (λ u. answered (NeedStackMap (OfValue name)) []) }
+    {
+        if self.failed {
+            return Err(BuildError::Failed);
+        }
+        let recorded = self.ctx.record_value(value);
+        self.failed = recorded.is_err();
+        recorded
+    }
+}

@@ -1,0 +1,330 @@
+//! Scripts whose functions have several blocks, and their texts: layout, parameters, changed branches and try calls.
+#![tactic(auto)]
+
+use crate::support::gives;
+use std::test::Fail;
+
+const SCRIPTS: [(&str, &str); 9] = [
+    (BOTH_ARMS, BOTH_ARMS_TEXT),
+    (DIFFERENCE, DIFFERENCE_TEXT),
+    (BEHIND, BEHIND_TEXT),
+    (SAME, SAME_TEXT),
+    (PASSED, PASSED_TEXT),
+    (RETURNED, RETURNED_TEXT),
+    (ENTRY, ENTRY_TEXT),
+    (MEET, MEET_TEXT),
+    (FORMS, FORMS_TEXT),
+];
+
+#[test]
+fn blocks(rt: HostRuntime) -> Result<(), Fail> {
+    for (script, text) in SCRIPTS.iter() {
+        gives(&rt, rt.alloc(), script.as_bytes(), 0, text, "")?;
+    }
+    Ok(())
+}
+
+// The row of this name, with its last block cold: the header of a cold block says so.
+const BOTH_ARMS: &str = "\
+function %both_arms () -> i32 system_v
+x = declare_var i32
+block0 = create_block
+block1 = create_block
+block2 = create_block
+block3 = create_block
+set_cold_block block3
+switch_to_block block0
+five = iconst.i32 5
+def_var x five
+jump block1
+switch_to_block block1
+value = use_var x
+brif value block2 block3
+switch_to_block block2
+seal_block block2
+value = use_var x
+minus_one = iconst.i32 -1
+sum = iadd value minus_one
+def_var x sum
+brif sum block1 block1
+seal_block block1
+switch_to_block block3
+seal_block block3
+value = use_var x
+return value
+seal_block block0
+";
+
+const BOTH_ARMS_TEXT: &str = "\
+function %both_arms() -> i32 system_v {
+block0:
+    v0 = iconst.i32 5
+    jump block1(v0)  ; v0 = 5
+
+block1(v1: i32):
+    brif v1, block2, block3
+
+block2:
+    v2 = iconst.i32 -1
+    v3 = iadd.i32 v1, v2  ; v2 = -1
+    brif v3, block1(v3), block1(v3)
+
+block3 cold:
+    return v1
+}
+";
+
+// A difference keeps the order of its operands. Its block is put into the layout before anything is in it.
+const DIFFERENCE: &str = "\
+function %difference () -> i32 system_v
+b = create_block
+switch_to_block b
+ensure_inserted_block
+v0 = iconst.i32 3
+v1 = iconst.i32 1
+v2 = isub v0 v1
+return v2
+seal_block b
+";
+
+const DIFFERENCE_TEXT: &str = "\
+function %difference() -> i32 system_v {
+block0:
+    v0 = iconst.i32 3
+    v1 = iconst.i32 1
+    v2 = isub v0, v1  ; v0 = 3, v1 = 1
+    return v2
+}
+";
+
+// A block that was put behind the entry stays there, whichever is filled first.
+const BEHIND: &str = "\
+function %behind () -> i32 system_v
+block0 = create_block
+block1 = create_block
+block2 = create_block
+switch_to_block block0
+jump block1
+insert_block_after block2 block0
+switch_to_block block1
+seal_block block1
+v0 = iconst.i32 1
+return v0
+switch_to_block block2
+seal_block block2
+v1 = iconst.i32 2
+return v1
+seal_block block0
+";
+
+const BEHIND_TEXT: &str = "\
+function %behind() -> i32 system_v {
+block0:
+    jump block1
+
+block2:
+    v1 = iconst.i32 2
+    return v1  ; v1 = 2
+
+block1:
+    v0 = iconst.i32 1
+    return v0  ; v0 = 1
+}
+";
+
+// The entry has the function's parameters.
+const SAME: &str = "\
+function %same (i32) -> i32 system_v
+b = create_block
+x = append_block_params_for_function_params b
+switch_to_block b
+seal_block b
+return x
+";
+
+const SAME_TEXT: &str = "\
+function %same(i32) -> i32 system_v {
+block0(v0: i32):
+    return v0
+}
+";
+
+// A block has a parameter that a branch passes; it gets its number first.
+const PASSED: &str = "\
+function %passed () -> i32 system_v
+entry = create_block
+last = create_block
+taken = append_block_param last i32
+switch_to_block entry
+seal_block entry
+one = iconst.i32 1
+jump last(one)
+switch_to_block last
+seal_block last
+return taken
+";
+
+const PASSED_TEXT: &str = "\
+function %passed() -> i32 system_v {
+block0:
+    v1 = iconst.i32 1
+    jump block1(v1)  ; v1 = 1
+
+block1(v0: i32):
+    return v0
+}
+";
+
+// The same with the types that the function returns.
+const RETURNED: &str = "\
+function %passed () -> i32 system_v
+entry = create_block
+last = create_block
+taken = append_block_params_for_function_returns last
+switch_to_block entry
+seal_block entry
+one = iconst.i32 1
+jump last(one)
+switch_to_block last
+seal_block last
+return taken
+";
+
+const RETURNED_TEXT: &str = PASSED_TEXT;
+
+// A branch leads to the entry while it is unsealed, and is changed before that is sealed: the variable that was read in the
+// other block, by then sealed, is what the entry assigned.
+const ENTRY: &str = "\
+function %entry () -> i32 system_v
+entry = create_block
+reader = create_block
+last = create_block
+variable = declare_var i32
+switch_to_block entry
+x = iconst.i32 1
+try_def_var variable x
+@branch = brif x entry reader
+switch_to_block reader
+read = try_use_var variable
+seal_block reader
+return read
+change_jump_destination @branch entry last
+switch_to_block last
+return x
+seal_all_blocks
+";
+
+const ENTRY_TEXT: &str = "\
+function %entry() -> i32 system_v {
+block0:
+    v0 = iconst.i32 1
+    v1 -> v0
+    brif v0, block2, block1  ; v0 = 1
+
+block1:
+    return v1  ; v1 = 1
+
+block2:
+    return v0  ; v0 = 1
+}
+";
+
+// Both edges of a try call lead to a block that uses a variable, and so does a jump with another value of it: the call is one
+// of two predecessors, so the variable's parameter stays, and the call passes its value along both edges.
+const MEET: &str = "\
+function %meet (i64) -> i64 system_v
+s = import_signature (i64) -> i32 system_v
+f = import_function %f s
+entry = create_block
+calling = create_block
+jumping = create_block
+meeting = create_block
+x = append_block_param entry i64
+variable = declare_var i32
+switch_to_block entry
+seal_block entry
+brif x calling jumping
+switch_to_block calling
+seal_block calling
+one = iconst.i32 1
+def_var variable one
+normal = block_call meeting
+caught = block_call meeting
+t = create_exception_table s normal default caught
+try_call f (x) t
+switch_to_block jumping
+seal_block jumping
+two = iconst.i32 2
+def_var variable two
+jump meeting
+switch_to_block meeting
+seal_block meeting
+met = use_var variable
+return met
+";
+
+const MEET_TEXT: &str = "\
+function %meet(i64) -> i64 system_v {
+    sig0 = (i64) -> i32 system_v
+    fn0 = %f sig0
+
+block0(v0: i64):
+    brif v0, block1, block2
+
+block1:
+    v1 = iconst.i32 1
+    try_call fn0(v0), sig0, block3(v1), [ default: block3(v1) ]  ; v1 = 1, v1 = 1
+
+block2:
+    v2 = iconst.i32 2
+    jump block3(v2)  ; v2 = 2
+
+block3(v3: i32):
+    return v3
+}
+";
+
+// The forms of a try call: a tag, a default and a context, in the order in which they were given; and a call of what is at an
+// address, with no items.
+const FORMS: &str = "\
+function %forms (i64) -> i64 system_v
+s = import_signature (i64) -> i32 system_v
+f = import_function %f s
+entry = create_block
+second = create_block
+tagged = create_block
+returned = create_block
+other = create_block
+v0 = append_block_param entry i64
+address = append_block_param entry i64
+v2 = append_block_param entry i64
+v3 = append_block_param entry i64
+v4 = append_block_param entry i64
+unwinder = append_block_param entry i64
+v6 = append_block_param entry i64
+x = append_block_param entry i64
+switch_to_block entry
+normal = block_call returned(ret0)
+caught = block_call tagged(exn0)
+rest = block_call other
+t = create_exception_table s normal tag1 caught default rest context unwinder
+try_call f (x) t
+switch_to_block second
+normal = block_call returned(ret0)
+u = create_exception_table s normal
+try_call_indirect address (x) u
+seal_all_blocks
+";
+
+const FORMS_TEXT: &str = "\
+function %forms(i64) -> i64 system_v {
+    sig0 = (i64) -> i32 system_v
+    fn0 = %f sig0
+
+block0(v0: i64, v1: i64, v2: i64, v3: i64, v4: i64, v5: i64, v6: i64, v7: i64):
+    try_call fn0(v7), sig0, block3(ret0), [ tag1: block2(exn0), default: block4, context v5 ]
+
+block1:
+    try_call_indirect v1(v7), sig0, block3(ret0), []
+}
+";
