@@ -24,7 +24,6 @@ pub mod Named
 mod Appending
 pub mod Statuses
 pub mod StandingCallers
-mod StandingOpen
 pub mod Standing
 pub mod Redirected
 pub mod StandingResults

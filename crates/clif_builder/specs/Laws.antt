@@ -2,44 +2,13 @@
 use Rattle.std.specs.Prelude.{ℕ, List, Option}
 use Rattle.clif_types.specs.Signature.{SignatureShape}
 use Rattle.clif_ir.specs.Body.{Body}
-use Rattle.clif_ir.specs.Consistent.{IsConsistent}
 use Rattle.clif_meaning.specs.Request.{AnsweredCall, script_of}
 use Rattle.clif_meaning.specs.View.{view_of}
 use Rattle.clif_meaning.specs.Typing.{EdgesMatch}
 use Rattle.clif_meaning.specs.Premises.{CallersEdgesMatch}
-use Rattle.clif_meaning.specs.WellPlaced.{program_code, IsWellPlaced, Records, RecordsWellPlaced, WellPlaced}
-use Rattle.clif_simulation.specs.Tables.{program_so_far}
-use Rattle.clif_simulation.specs.Carries.{NothingLeads}
-use Rattle.clif_ssa.specs.Sound.{EntryIsFree}
-use Rattle.clif_simulation.specs.Structure.{AreRecords, NoneWaits}
-use Rattle.clif_simulation.specs.Reading.{may_grow, ReadsRightFromAnywhere}
-use Rattle.clif_simulation.specs.Interrupted.{ReadsRight}
-use Rattle.clif_simulation.specs.Coming.{ReadsRightComing}
+use Rattle.clif_simulation.specs.Structure.{NoneWaits}
 use Rattle.clif_builder.specs.Context.{ContextState}
 use Rattle.clif_builder.specs.StandsFor.{StandsIn}
-
--- Where the parts of a builder stand for a list of calls, they read right on runs and bits, with any branches and parameters of
--- the caller's: beside a run of the list's program that is interrupted at unsealed blocks, a run of the unfinished function has
--- the bits of the names and, at a block's end so far, of the variables. Edges into unsealed or pristine blocks need not match
--- yet. Each function is consistent (`Function::law_consistent`).
-abbrev pub StandingReadsRight : Type 0
-StandingReadsRight =
-    (declared : SignatureShape) (calls : List AnsweredCall) (f : Body) (c : ContextState) (position : Option ℕ)
-    → IsConsistent f → StandsIn declared calls f c position → ReadsRight calls declared f c.ssa
-
--- They do so along edges that may still come, too: beside runs that go, from a block's end so far, along any edge of a set into
--- unsealed blocks, with any memory, any events and any bits of the target's parameters, alike on both sides. What a name is given
--- before is asked whichever of these edges come. So a block that only a coming branch will reach is read as well.
-abbrev pub StandingReadsRightComing : Type 0
-StandingReadsRightComing =
-    (declared : SignatureShape) (calls : List AnsweredCall) (f : Body) (c : ContextState) (position : Option ℕ)
-    → IsConsistent f → StandsIn declared calls f c position → ReadsRightComing (may_grow calls) calls declared f c.ssa
-
--- Where no branch was made, they do so from every pair of states at the front of an unsealed entry.
-abbrev pub StandingReadsRightFromAnywhere : Type 0
-StandingReadsRightFromAnywhere =
-    (declared : SignatureShape) (calls : List AnsweredCall) (f : Body) (c : ContextState) (position : Option ℕ)
-    → IsConsistent f → StandsIn declared calls f c position → NothingLeads c.ssa → ReadsRightFromAnywhere calls declared f c.ssa
 
 -- Once no parameter waits, the arguments of every edge and the parameters of its target agree, where the caller's do:
 -- edges that control never takes, and edges to the entry, are no exception.
@@ -47,18 +16,3 @@ abbrev pub StandingMatchesEdges : Type 0
 StandingMatchesEdges =
     (declared : SignatureShape) (calls : List AnsweredCall) (f : Body) (c : ContextState) (position : Option ℕ)
     → StandsIn declared calls f c position → NoneWaits c.ssa → CallersEdgesMatch (script_of calls) → EdgesMatch (view_of f)
-
--- Where the names of the list's program are given before they are named, and the entry is free (a branch may name it while it
--- is unsealed), the unfinished function's values are defined before they are named,
-abbrev pub StandingIsWellPlaced : Type 0
-StandingIsWellPlaced =
-    (declared : SignatureShape) (calls : List AnsweredCall) (f : Body) (c : ContextState) (position : Option ℕ)
-    → IsConsistent f → StandsIn declared calls f c position → EntryIsFree f c.ssa → IsWellPlaced (program_code (program_so_far calls))
-    → WellPlaced (view_of f)
-
--- and so is what the builder recorded at the ends of its blocks, and what answered uses.
-abbrev pub StandingRecordsAreWellPlaced : Type 0
-StandingRecordsAreWellPlaced =
-    (declared : SignatureShape) (calls : List AnsweredCall) (f : Body) (c : ContextState) (position : Option ℕ) (records : Records)
-    → IsConsistent f → StandsIn declared calls f c position → EntryIsFree f c.ssa → IsWellPlaced (program_code (program_so_far calls))
-    → AreRecords calls f c.ssa records → RecordsWellPlaced (view_of f) records

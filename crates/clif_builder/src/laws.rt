@@ -2,7 +2,7 @@
 //! are the laws.
 
 ghost use Rattle.clif_builder.specs.Growth.{BuilderUsesAgree};
-ghost use Rattle.clif_builder.specs.Laws.{StandingIsWellPlaced, StandingMatchesEdges, StandingReadsRight, StandingReadsRightComing, StandingReadsRightFromAnywhere, StandingRecordsAreWellPlaced};
+ghost use Rattle.clif_builder.specs.Laws.{StandingMatchesEdges};
 ghost use Rattle.clif_builder.specs.LeadsLaw.{LeadsAreReadByNumber};
 ghost use Rattle.clif_builder.specs.LedgerLaws.{LedgerIsReadByNumber, NotesAddNothing, RequestsAskForTheirShapes, TableCallsAddNothing};
 
@@ -11,38 +11,10 @@ pub fn uses_agree()
     ensures { BuilderUsesAgree }
 {}
 
-/// The unfinished function of a builder that stands for a list of calls has the bits of the names and variables of the
-/// list's program, with any branches and parameters of the caller's, beside each run that is interrupted at unsealed blocks;
-/// edges into unsealed or pristine blocks need not match yet.
-pub fn standing_reads_right()
-    ensures { StandingReadsRight }
-{}
-
-/// It has them beside runs that also go along edges that may still come, from a block's end so far into unsealed blocks.
-pub fn standing_reads_right_coming()
-    ensures { StandingReadsRightComing }
-{}
-
-/// Where no branch was made, it has them from every pair of states at the front of an unsealed entry.
-pub fn standing_reads_right_from_anywhere()
-    ensures { StandingReadsRightFromAnywhere }
-{}
-
 /// Once no parameter waits, the edges of the function of a builder that stands for a list of calls match, where the
 /// caller's do.
 pub fn standing_matches_edges()
     ensures { StandingMatchesEdges }
-{}
-
-/// The values of the unfinished function of a builder that stands for a list of calls are defined before they are named, where
-/// the names of the list's program are given before and the entry is free: once it is sealed, no branch leads to it.
-pub fn standing_is_well_placed()
-    ensures { StandingIsWellPlaced }
-{}
-
-/// So is what the builder recorded, before the ends of its blocks, and what uses returned.
-pub fn standing_records_are_well_placed()
-    ensures { StandingRecordsAreWellPlaced }
 {}
 
 /// What a ledger that agrees with a builder says of names, the builder says of their numbers: of blocks and their states,

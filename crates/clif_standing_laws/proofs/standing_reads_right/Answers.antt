@@ -1,7 +1,7 @@
 use Rattle.clif_simulation.specs.Reading.{may_grow}
 use Rattle.clif_simulation.proofs.Unfinished.OpenReading
-use Rattle.clif_builder.proofs.StandingOpen.{are_open}
-use Rattle.clif_builder.proofs.laws.standing_reads_right.Goals as goal
+use Rattle.clif_standing_laws.proofs.StandingOpen.{are_open}
+use Rattle.clif_standing_laws.proofs.standing_reads_right.Goals as goal
 
 pub returns : goal.returns
 returns c = λ declared calls f context position consistent stands.

@@ -1,0 +1,3 @@
+mod StandingOpen
+-- The worked example of a parameter that moves.
+mod Moved

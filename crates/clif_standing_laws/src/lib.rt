@@ -1,0 +1,44 @@
+//! Laws of the unfinished function of a builder that stands for a list of calls: it reads right, and its values are placed
+//! well; and a worked example of a finished function whose collector moves what is recorded. The functions here have empty bodies,
+//! and their contracts are the laws.
+#![tactic(auto)]
+
+ghost use Rattle.clif_standing_laws.specs.Laws.{StandingIsWellPlaced, StandingReadsRight, StandingReadsRightComing, StandingReadsRightFromAnywhere, StandingRecordsAreWellPlaced};
+ghost use Rattle.clif_standing_laws.specs.MovingExamples.{MovingExamples};
+
+/// The unfinished function of a builder that stands for a list of calls has the bits of the names and variables of the
+/// list's program, with any branches and parameters of the caller's, beside each run that is interrupted at unsealed blocks;
+/// edges into unsealed or pristine blocks need not match yet.
+pub fn standing_reads_right()
+    ensures { StandingReadsRight }
+{}
+
+/// It has them beside runs that also go along edges that may still come, from a block's end so far into unsealed blocks.
+pub fn standing_reads_right_coming()
+    ensures { StandingReadsRightComing }
+{}
+
+/// Where no branch was made, it has them from every pair of states at the front of an unsealed entry.
+pub fn standing_reads_right_from_anywhere()
+    ensures { StandingReadsRightFromAnywhere }
+{}
+
+/// The values of the unfinished function of a builder that stands for a list of calls are defined before they are named, where
+/// the names of the list's program are given before and the entry is free: once it is sealed, no branch leads to it.
+pub fn standing_is_well_placed()
+    ensures { StandingIsWellPlaced }
+{}
+
+/// So is what the builder recorded, before the ends of its blocks, and what uses returned.
+pub fn standing_records_are_well_placed()
+    ensures { StandingRecordsAreWellPlaced }
+{}
+
+/// A list of calls that asks for stack maps for a variable, assigns a parameter to it, makes an outside call, and returns what a
+/// use of the variable answers behind that is accepted, a builder may stand for it, and its function is finished. It meets the
+/// premises of the law on collectors over what is recorded (`carrying_means_the_same_tracked` of `clif_simulation`), in a world in
+/// which the parameter moves; so the function means what the list means. Under a collector over nothing it doesn't, and where the
+/// parameter isn't recorded the list isn't carried.
+pub fn marked_parameter_moves()
+    ensures { MovingExamples }
+{}
