@@ -4,7 +4,7 @@
 use crate::callees::Arg::{Exn, Known, Ret};
 use crate::callees::Call::{Function, Indirect, TryFunction, TryIndirect};
 use crate::callees::Item::{Context, Default, Tag};
-use crate::callees::{Throws, To, call_of, import, put_call, put_calls};
+use crate::callees::{self, Throws, To, call_of, import, put_call, put_calls};
 use crate::facts::Fact::{HasType, IsResult, ResultAt};
 use crate::steps::Step::{Create, Iconst, Is, Jump, LayOut, Param, Return, ReturnTwo};
 use crate::steps::make_all;
@@ -241,23 +241,37 @@ fn has_parts(rt: &impl Abort, exception: &ExceptionTargets) {
     assert!(rt; exception.items() == items.as_slice());
 }
 
+// Asserts the name of the shape of a call, whether it ends its block, and the parts of its table.
+fn has_shape(
+    rt: &impl Abort,
+    func: &mut clif_ir::Function,
+    call: callees::Call<'_>,
+    name: &str,
+    ends: bool,
+) -> Result<(), Fail> {
+    let shape = call_of(rt, func, call)?;
+    is_of(rt, &shape, name, ends);
+    if let Some(exception) = shape.exception_targets() {
+        has_parts(rt, exception);
+    }
+    Ok(())
+}
+
 #[test]
 fn shapes(rt: HostRuntime) -> Result<(), Fail> {
     let mut func = sample(rt.alloc())?;
-    let call = call_of(&rt, &mut func, Function(0, &[2, 1]))?;
-    is_of(&rt, &call, "call", false);
-    let call = call_of(&rt, &mut func, Indirect(0, &[2, 1]))?;
-    is_of(&rt, &call, "call_indirect", false);
     let to = Throws {
         sig: 4,
         normal: To(3, &[]),
         items: &[Tag(9, To(2, &[])), Context(6), Default(To(5, &[]))],
     };
-    let call = call_of(&rt, &mut func, TryFunction(0, &[2, 1], to))?;
-    is_of(&rt, &call, "try_call", true);
-    has_parts(&rt, call.exception_targets().expect(&rt, "a table"));
-    let call = call_of(&rt, &mut func, TryIndirect(&[2, 1], to))?;
-    is_of(&rt, &call, "try_call_indirect", true);
-    has_parts(&rt, call.exception_targets().expect(&rt, "a table"));
+    for (call, name, ends) in [
+        (Function(0, &[2, 1]), "call", false),
+        (Indirect(0, &[2, 1]), "call_indirect", false),
+        (TryFunction(0, &[2, 1], to), "try_call", true),
+        (TryIndirect(&[2, 1], to), "try_call_indirect", true),
+    ] {
+        has_shape(&rt, &mut func, call, name, ends)?;
+    }
     Ok(())
 }
