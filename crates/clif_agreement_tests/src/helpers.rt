@@ -2,10 +2,10 @@
 #![tactic(auto)]
 
 use crate::support::{both_end, built, script_of};
+use clif_builder::FunctionBuilderContext;
 use clif_interpreter::{End, Ending, Memory};
 use clif_ir::Function;
 use clif_text::Script;
-use cranelift_frontend::FunctionBuilderContext;
 use std::alloc::Global;
 use std::cmp::Ordering;
 use std::process::Abort;

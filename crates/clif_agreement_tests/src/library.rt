@@ -4,10 +4,10 @@
 
 use crate::refusals::told;
 use crate::support::{STEPS, built, script_of, text_ends};
+use clif_builder::FunctionBuilderContext;
 use clif_interpreter::outside::Zeros;
 use clif_interpreter::{End, Memory, World, function};
 use clif_ir::Function;
-use cranelift_frontend::FunctionBuilderContext;
 use std::alloc::Global;
 use std::process::Abort;
 use std::test::Fail;

@@ -2,9 +2,9 @@
 #![tactic(auto)]
 
 use crate::support::{STEPS, built, script_of, zeros};
+use clif_builder::FunctionBuilderContext;
 use clif_interpreter::outside::Zeros;
 use clif_interpreter::{End, Ending, RunError, World, function, script};
-use cranelift_frontend::FunctionBuilderContext;
 use std::alloc::Global;
 use std::process::Abort;
 use std::test::Fail;

@@ -4,12 +4,12 @@
 ghost use Rattle.std.specs.Prelude.{◌≡◌};
 ghost use Rattle.clif_builder.specs.Context.{empty_context};
 
+use clif_builder::FunctionBuilderContext;
 use clif_interpreter::outside::Zeros;
 use clif_interpreter::{End, Ending, Memory, World, function, script};
 use clif_ir::Function;
 use clif_script::replay;
 use clif_text::{Script, read};
-use cranelift_frontend::FunctionBuilderContext;
 use std::alloc::Global;
 use std::process::Abort;
 use std::test::Fail;

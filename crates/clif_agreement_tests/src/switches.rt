@@ -6,6 +6,7 @@ ghost use Rattle.std.specs.Prelude.{◌≡◌};
 use crate::support::{
     STEPS, both_end, built, returned, script_of, text_answers, text_ends_in_zeros, zeros,
 };
+use clif_builder::FunctionBuilderContext;
 use clif_interpreter::outside::Zeros;
 use clif_interpreter::run::Choices;
 use clif_interpreter::{End, World, function};
@@ -13,7 +14,6 @@ use clif_ir::Function;
 use clif_script::row_text;
 use clif_text::Script;
 use clif_types::TrapCode;
-use cranelift_frontend::FunctionBuilderContext;
 use std::alloc::Global;
 use std::process::Abort;
 use std::test::Fail;

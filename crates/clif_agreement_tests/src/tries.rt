@@ -2,11 +2,11 @@
 #![tactic(auto)]
 
 use crate::support::{STEPS, built, script_of, zeros};
+use clif_builder::FunctionBuilderContext;
 use clif_interpreter::{Callee, End, Ending, Event, Memory, Outside, World, function, script};
 use clif_ir::Function;
 use clif_text::Script;
 use clif_types::{EntityRef, ExternalName, SigRef};
-use cranelift_frontend::FunctionBuilderContext;
 use std::alloc::{AllocError, Global};
 use std::process::Abort;
 use std::test::Fail;

@@ -14,13 +14,11 @@ use Rattle.clif_opcodes.specs.Typing.{AreOfKinds, FitOperands, Row}
 use Rattle.clif_instructions.specs.declared.instructions.InstructionData.{InstructionData}
 use Rattle.clif_instructions.specs.declared.instructions.InstructionData.TheVariants.{UnaryImm, UnaryIeee, UnaryConst, Unary, Binary, IntCompare, Concat, Split, Convert, Ternary, Load, Store, StackLoad, StackStore, Jump, Brif, BranchTable, MultiAry, Trap, CondTrap, Call, CallIndirect, TryCall, TryCallIndirect}
 use Rattle.clif_instructions.specs.Instruction.{operands, typing_of}
-use Rattle.clif_tables.specs.Lists.{TableLists}
 use Rattle.clif_nodes.specs.declared.nodes.InstNode.{InstNode}
 use Rattle.clif_ir.specs.Body.{Body, inst_at, block_at}
 use Rattle.clif_tables.specs.Callees.{types_of}
-use Rattle.clif_meaning.specs.Instruction.{operation_typing}
 use Rattle.clif_meaning.specs.Typing as premise
-use Rattle.clif_meaning.specs.View.{instruction_of, operation_of}
+use Rattle.clif_meaning.specs.View.{instruction_of}
 use Rattle.clif_meaning.proofs.OperationTypes.{operation_typed}
 use Rattle.clif_check.specs.declared.error.CheckErrorKind.{CheckErrorKind}
 use Rattle.clif_check.specs.declared.error.CheckErrorKind.TheVariants as kind

@@ -2,7 +2,7 @@
 use Rattle.std.proofs.Common.{◌≡◌, List, [], ◌∷◌, refl, sym, ap, ap₂, ◌∙◌, Option}
 use Rattle.std.specs.Prelude.{fold}
 use Rattle.std.specs.List.{AllByRecursion, AllZip}
-use Rattle.clif_meaning.specs.Instruction.{Edge, Instruction}
+use Rattle.clif_meaning.specs.Instruction.{Edge}
 use Rattle.clif_meaning.specs.Ledger.{ExceptionTable, Ledger, empty_ledger, ledger_after, ledger_with, with_served, with_tried}
 use Rattle.clif_meaning.specs.Name.{Name}
 use Rattle.clif_meaning.specs.Program.{Program, empty_program, program_of, with_call}

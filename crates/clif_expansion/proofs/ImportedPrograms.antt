@@ -1,17 +1,15 @@
 -- Imports keep programs that go with joined ledgers: they put nothing into a block.
-use Rattle.std.proofs.Common.{◌≡◌, ◌<◌, ◌+◌, ◌⊎◌, inl, inr, ℕ, suc, List, [], ◌∷◌, length, refl, sym, ◌∙◌, ap, subst, arith}
-use Rattle.std.specs.Prelude.{Contains, fold}
+use Rattle.std.proofs.Common.{◌≡◌, ◌⊎◌, inl, inr, ℕ, suc, List, [], ◌∷◌, length, refl, sym, ◌∙◌, ap, arith}
+use Rattle.std.specs.Prelude.{fold}
 use Rattle.clif_tables.specs.Entries.{TableEntry}
-use Rattle.clif_meaning.specs.Instruction.{Instruction}
 use Rattle.clif_meaning.specs.Ledger.{Ledger, ledger_with}
-use Rattle.clif_meaning.specs.Name.{Name, answer_of}
+use Rattle.clif_meaning.specs.Name.{Name}
 use Rattle.clif_meaning.specs.Program.{Item, Program, with_call}
 use Rattle.clif_meaning.specs.Request.{MakeEntry}
 use Rattle.clif_expansion.specs.Emission.{importing, ledger_importing, reading_generated, reading_importing}
-use Rattle.clif_expansion.specs.Expansion.{IsCutProgram}
-use Rattle.clif_expansion.specs.Joining.{IsJoined, IsUnread}
+use Rattle.clif_expansion.specs.Joining.{IsJoined}
 use Rattle.clif_expansion.specs.Reading.{Generated, Reading}
-use Rattle.clif_expansion.specs.ScriptCall.{emitted_item, with_imports}
+use Rattle.clif_expansion.specs.ScriptCall.{with_imports}
 use Rattle.clif_expansion.specs.Walk.{IsGenerated}
 use Rattle.clif_expansion.proofs.CalledPrograms
 use Rattle.clif_expansion.proofs.CalledPrograms.{GoesWith, IsOwnBlock}

@@ -1,6 +1,5 @@
 -- Imports keep ledgers joined: the plain calls make entries of tables, and the script's tables have them, too.
-use Rattle.std.proofs.Common.{◌≡◌, ◌<◌, ◌+◌, ◌⊎◌, inl, inr, ℕ, suc, List, [], ◌∷◌, length, sym, ◌∙◌, ap, subst, arith, Option}
-use Rattle.std.specs.Prelude.{fold, map}
+use Rattle.std.proofs.Common.{◌≡◌, ◌<◌, ◌+◌, ◌⊎◌, inl, inr, suc, List, [], ◌∷◌, length, sym, ◌∙◌, ap, subst, arith, Option}
 use Rattle.clif_tables.specs.Entries.{TableEntry, with_entry}
 use Rattle.clif_tables.specs.Lists.{TableLists}
 use Rattle.clif_meaning.specs.Ledger.{Answered, Ledger, answer_at, answers_to, ledger_with}
@@ -8,7 +7,7 @@ use Rattle.clif_meaning.specs.Name.{Name}
 use Rattle.clif_meaning.specs.Request.{MakeEntry}
 use Rattle.clif_expansion.specs.Emission.{ledger_importing, reading_generated, reading_importing}
 use Rattle.clif_expansion.specs.Joining.{IsJoined, IsReadAnswer}
-use Rattle.clif_expansion.specs.Reading.{Generated, IsReadAs, NotMade, Reading, ScriptName, StandsFor}
+use Rattle.clif_expansion.specs.Reading.{Generated, IsReadAs, Reading, ScriptName}
 use Rattle.clif_expansion.specs.ScriptCall.{with_imports}
 use Rattle.clif_expansion.proofs.EmittedPrograms.{one_longer}
 use Rattle.clif_expansion.proofs.Joins.{GoesOn, KeepsReading, answer_later, answers_before, read_before, read_either, states_later}

@@ -13,22 +13,22 @@ use Rattle.clif_tables.specs.Callees.{types_of}
 use Rattle.clif_meaning.specs.Acceptance.{is_open}
 use Rattle.clif_meaning.specs.ByteOperation.{CompareBytes, CompareShape, Copy, CopyShape}
 use Rattle.clif_meaning.specs.Instruction.{Bytes, Iconst, Instruction}
-use Rattle.clif_meaning.specs.Ledger.{AValue, AnInstruction, Ledger, answers_to, has_value, ledger_after, ledger_with, value_answer_type}
+use Rattle.clif_meaning.specs.Ledger.{AValue, AnInstruction, Ledger, answers_to, has_value, ledger_with, value_answer_type}
 use Rattle.clif_meaning.specs.Library.{library_parameters, library_returns, pointer_of}
 use Rattle.clif_meaning.specs.Name.{Name, answer_of}
 use Rattle.clif_meaning.specs.Program.{Item, Instruct, answers_from}
 use Rattle.clif_meaning.specs.Request.{Script}
 use Rattle.clif_expansion.specs.Code.{PerformsItem}
 use Rattle.clif_expansion.specs.Constants.{computing}
-use Rattle.clif_expansion.specs.Emission.{AreGenerated, AreGiven, building, reading_behind, reading_generated, results_as}
+use Rattle.clif_expansion.specs.Emission.{AreGenerated, AreGiven, building, reading_behind}
 use Rattle.clif_expansion.specs.JoinedPrograms.{built_items}
 use Rattle.clif_expansion.specs.Joining.{IsJoined}
 use Rattle.clif_expansion.specs.Laying.{IsLaid}
 use Rattle.clif_expansion.specs.PerformedCalls.{HaveTypes, IsPerformed}
 use Rattle.clif_expansion.specs.Reading.{Generated, IsReadAs, Reading}
-use Rattle.clif_expansion.specs.ScriptCall.{can_emit, can_emit_bytes, emitted_item, emitted_types, is_pointer, ledger_of}
+use Rattle.clif_expansion.specs.ScriptCall.{can_emit, can_emit_bytes, emitted_item, emitted_types, is_pointer}
 use Rattle.clif_expansion.proofs.EmittedPrograms.{emitted_before, emitted_inner, emitted_none, emitted_result, one_longer}
-use Rattle.clif_expansion.proofs.Joins.{answers_last, read_there}
+use Rattle.clif_expansion.proofs.Joins.{answers_last}
 use Rattle.clif_expansion.proofs.LedgerTypes.{types_before}
 use Rattle.clif_helper_calls.specs.KnownStanding.{KnownCallsStand, compare_emission, compare_first, compare_last, compare_line, copy_emission, copy_first, copy_last, copy_line}
 use Rattle.clif_helper_calls.specs.LibraryCodes.{IsConstant, calling, compare_call_code, copy_call_code, copying_function, i32}

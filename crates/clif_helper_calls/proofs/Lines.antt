@@ -1,5 +1,5 @@
 -- Lines that call the C library stand for their emissions, if what they build is performed.
-use Rattle.std.proofs.Common.{◌≡◌, List, [], ◌∷◌, ◌++◌, ◌∙◌, length, map}
+use Rattle.std.proofs.Common.{List, [], ◌∷◌, ◌++◌, ◌∙◌, length, map}
 use Rattle.std.specs.Prelude.{IsTrue}
 use Rattle.std.specs.List.{AllByRecursion, AllZip}
 use Rattle.clif_types.specs.Types.{bits_of}
@@ -10,10 +10,10 @@ use Rattle.clif_meaning.specs.Ledger.{Ledger, ledger_after}
 use Rattle.clif_meaning.specs.Name.{Name}
 use Rattle.clif_meaning.specs.Request.{GivenEntry, Script}
 use Rattle.clif_expansion.specs.Emission.{AreAnswered, StaysInLine, building, building_with, given_to, importing, ledger_importing, line_calls, line_calls_with, reading_importing, reading_line}
-use Rattle.clif_expansion.specs.JoinedCalls.{AreJoinedCalls, Emitting, Giving, IsBuiltWith, IsGiven, IsImported, IsSame}
+use Rattle.clif_expansion.specs.JoinedCalls.{Emitting, Giving, IsBuiltWith, IsGiven, IsImported, IsSame}
 use Rattle.clif_expansion.specs.Joining.{IsJoined}
 use Rattle.clif_expansion.specs.PerformedCalls.{IsPerformed}
-use Rattle.clif_expansion.specs.Reading.{IsReadAs, Reading}
+use Rattle.clif_expansion.specs.Reading.{Reading}
 use Rattle.clif_expansion.specs.ScriptCall.{Emit, call_allowed, ledger_of, with_imports}
 use Rattle.clif_expansion.proofs.Imports.{importing_before, imports_joined}
 use Rattle.clif_expansion.proofs.JoinedCalls.{emission_placed, joined_calls}

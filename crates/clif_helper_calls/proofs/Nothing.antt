@@ -1,15 +1,13 @@
 -- A constant stands for a comparison of no bytes.
-use Rattle.std.proofs.Common.{◌≡◌, ◌∙◌, ◌+◌, ◌&&◌, ℕ, ℤ, Bool, true, false, if◌then◌else◌, [], ◌∷◌, length, refl, sym, ap, arith}
+use Rattle.std.proofs.Common.{◌≡◌, ◌∙◌, ℕ, ℤ, Bool, true, false, if◌then◌else◌, [], ◌∷◌, length, refl, sym, ap, arith}
 use Rattle.std.specs.Prelude.{pos}
-use Rattle.std.specs.List.{list_all}
 use Rattle.std.specs.declared.cmp.Ordering.TheVariants.{Equal as SameBytes}
-use Rattle.std.proofs.lemmas.Bool.{and_parts}
 use Rattle.clif_types.specs.Types.{bits_of}
 use Rattle.clif_types.specs.declared.types.«Type».{«Type»}
 use Rattle.clif_meaning.specs.Access.{promised_claims}
 use Rattle.clif_meaning.specs.Bits.{Bits, wrapped}
 use Rattle.clif_meaning.specs.ByteOperation.{CompareBytes, CompareShape, order_meets}
-use Rattle.clif_meaning.specs.Instruction.{Bytes, Iconst, Instruction}
+use Rattle.clif_meaning.specs.Instruction.{Iconst, Instruction}
 use Rattle.clif_meaning.specs.Ledger.{Ledger}
 use Rattle.clif_meaning.specs.Library.{bytes_at}
 use Rattle.clif_meaning.specs.Memory.{Memory, byte_order, bytes_in}
@@ -20,7 +18,6 @@ use Rattle.clif_meaning.specs.Store.{assigned}
 use Rattle.clif_meaning.proofs.LibraryCalls.{claimed_accessible}
 use Rattle.clif_expansion.specs.Constants.{computing}
 use Rattle.clif_expansion.specs.Emission.{AreGiven, reading_behind}
-use Rattle.clif_expansion.specs.Joining.{IsJoined}
 use Rattle.clif_expansion.specs.Laying.{Ending, Laying}
 use Rattle.clif_expansion.specs.PerformedCalls.{IsPerformed}
 use Rattle.clif_expansion.specs.Reading.{IsReadAs, Reading}

@@ -1,5 +1,5 @@
 -- Calls of `Memset` stand for the fill that is emitted, and two loads, or of no bytes a constant, for a comparison. Own.
-use Rattle.std.specs.Prelude.{◌≡◌, if◌then◌else◌, ℕ, suc, ℤ, pos, List, [], ◌∷◌, ◌++◌, IsTrue, map}
+use Rattle.std.specs.Prelude.{◌≡◌, if◌then◌else◌, ℕ, suc, ℤ, pos, List, [], ◌∷◌, IsTrue}
 use Rattle.clif_opcodes.specs.declared.opcodes.ConvertOpcode.TheVariants.{Uextend}
 use Rattle.std.specs.declared.cmp.Ordering.TheVariants.{Equal as SameBytes}
 use Rattle.clif_types.specs.Signature.{SignatureShape}
@@ -10,17 +10,12 @@ use Rattle.clif_types.specs.declared.types.«Type».{«Type»}
 use Rattle.clif_access_plans.specs.Plans.{is_aligned_load}
 use Rattle.clif_meaning.specs.ByteOperation.{CompareShape, Fill, FillShape, order_meets}
 use Rattle.clif_meaning.specs.Instruction.{Bytes, Compare, Convert, Iconst, Instruction, Load}
-use Rattle.clif_meaning.specs.Ledger.{ledger_after}
 use Rattle.clif_meaning.specs.Name.{Name, answer_of}
-use Rattle.clif_meaning.specs.Request.{Script}
 use Rattle.clif_expansion.specs.Constants.{computing}
-use Rattle.clif_expansion.specs.Emission.{AreGenerated, AreGiven, building, reading_behind}
-use Rattle.clif_expansion.specs.JoinedCalls.{AreJoinedCalls}
-use Rattle.clif_expansion.specs.PerformedCalls.{ArePerformed}
-use Rattle.clif_expansion.specs.Reading.{IsReadAs, Reading}
-use Rattle.clif_expansion.specs.ScriptCall.{Emit, ScriptCall, call_allowed, ledger_of}
+use Rattle.clif_expansion.specs.Emission.{AreGenerated, AreGiven}
+use Rattle.clif_expansion.specs.Reading.{IsReadAs}
 use Rattle.clif_helper_calls.specs.Codes.{doing, flags_where}
-use Rattle.clif_helper_calls.specs.KnownStanding.{compare_emission, next_place}
+use Rattle.clif_helper_calls.specs.KnownStanding.{compare_emission}
 use Rattle.clif_helper_calls.specs.LibraryCodes.{IsConstant, calling, i32, i8}
 use Rattle.clif_helper_calls.specs.Lines.{Line, LineStands}
 use Rattle.clif_helper_calls.specs.Performing.{HasLoads}

@@ -1,6 +1,6 @@
 -- Tables of which each serves one instruction, which takes what the table holds: jump tables and exception tables. Source: own,
 -- after the crate's documentation of them.
-use Rattle.std.specs.Prelude.{◌≡◌, ℕ, List, [], ◌∷◌, ◌++◌, All, Option, Some, slice_get}
+use Rattle.std.specs.Prelude.{◌≡◌, ℕ, List, All, Option, Some, slice_get}
 use Rattle.clif_instructions.specs.declared.block_call.BlockCall.{BlockCall}
 use Rattle.clif_instructions.specs.ExceptionTables.{ExceptionShape, contexts_of}
 use Rattle.clif_instructions.specs.Instruction.{ASignatureRef, EntryRef}

@@ -36,14 +36,13 @@ use Rattle.clif_meaning.specs.Instruction.{Instruction}
 use Rattle.clif_meaning.specs.Library.{library_parameters, library_returns, pointer_of}
 use Rattle.clif_meaning.specs.Name.{Name}
 use Rattle.clif_meaning.specs.Request.{GivenEntry, Script}
-use Rattle.clif_expansion.specs.Constants.{computing}
 use Rattle.clif_expansion.specs.Emission.{AreGenerated, AreGiven, building, line_calls_with}
 use Rattle.clif_expansion.specs.Reading.{IsReadAs, Reading}
-use Rattle.clif_helper_calls.specs.FillStanding.{constant_line, fill_line, loads_first, loads_last, loads_line, set_line, told_of_none}
-use Rattle.clif_helper_calls.specs.KnownStanding.{compare_first, compare_last, compare_line, copy_first, copy_last, copy_line}
+use Rattle.clif_helper_calls.specs.FillStanding.{constant_line, fill_line, loads_line, set_line, told_of_none}
+use Rattle.clif_helper_calls.specs.KnownStanding.{compare_line, copy_line}
 use Rattle.clif_helper_calls.specs.LibraryCodes.{IsConstant, copying_function, i8}
 use Rattle.clif_helper_calls.specs.Lines.{Line, LineStands, all_but_last, last_of}
-use Rattle.clif_helper_calls.specs.Performing.{HasAccesses, HasLoads}
+use Rattle.clif_helper_calls.specs.Performing.{HasAccesses}
 use Rattle.clif_helper_calls.specs.PerformingCalls.{HasSignature, ReadsThree, ReadsTwo}
 use Rattle.clif_helper_calls.specs.PieceStanding.{copied_line, copy_instructions, fill_instructions, filled_line, none_of_it}
 use Rattle.clif_helper_calls.specs.Standing.{single_line}
@@ -51,8 +50,8 @@ use Rattle.clif_helper_calls.proofs.FillStanding.{fill_calls_stand}
 use Rattle.clif_helper_calls.proofs.KnownStanding.{known_calls_stand}
 use Rattle.clif_helper_calls.proofs.PieceStanding.{pieces_stand}
 use Rattle.clif_helper_calls.proofs.Standing.{single_calls_stand}
-use Rattle.clif_memory_helpers.specs.HelperLines.{HelpersAreLines, IsLineOf, has_64, how_of, if_compared_by_call, if_moved_by_call, imports_for}
-use Rattle.clif_memory_helpers.specs.Helpers.{FillsWith, by_call, compare_calls, compared_by, copy_calls, fill_calls, imported, library_entries, library_signature, may_make, moved_by, size_constant}
+use Rattle.clif_memory_helpers.specs.HelperLines.{HelpersAreLines, IsLineOf, has_64, if_compared_by_call, if_moved_by_call}
+use Rattle.clif_memory_helpers.specs.Helpers.{FillsWith, compared_by, imported, library_entries, library_signature, may_make, moved_by, size_constant}
 
 -- THE C LIBRARY -----------------------------------------------------------------------------------------------------------
 

@@ -1,6 +1,6 @@
 -- One step of a replay: a call of the list is made, and the builder that stood for the plain calls of the script's calls stands for
 -- those of one call more.
-use Rattle.std.proofs.Common.{◌≡◌, ◌<◌, ◌⊎◌, inl, ℕ, suc, ◌+◌, List, [], ◌∷◌, ◌++◌, length, ap, arith, refl, sym, ◌∙◌, subst}
+use Rattle.std.proofs.Common.{◌≡◌, ◌<◌, inl, ℕ, suc, ◌+◌, List, [], ◌∷◌, ◌++◌, length, ap, arith, refl, sym, ◌∙◌, subst}
 use Rattle.std.specs.Prelude.{◌&&◌, ◌||◌, if◌then◌else◌, Bool, true, false, Option, Some, None, is_some, option_map, map, slice_get, Result, Ok, Err, OnOk, IfOk}
 use Rattle.std.specs.List.{list_any}
 use Rattle.std.specs.Global.{Vec}

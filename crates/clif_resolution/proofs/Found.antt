@@ -1,5 +1,5 @@
 -- What names lead to is there.
-use Rattle.std.proofs.Common.{◌≡◌, ℕ, List, [], ◌∷◌, refl, ap, ◌∙◌, ◌-◌}
+use Rattle.std.proofs.Common.{◌≡◌, ℕ, List, [], ◌∷◌, refl, ap, ◌∙◌}
 use Rattle.std.specs.Prelude.{map, Some, is_some, Bool, true, false, Result, Ok, Err}
 use Rattle.std.proofs.lemmas.Bool.{and_from}
 use Rattle.clif_instructions.specs.declared.block_call.BlockArg.{BlockArg}

@@ -1,5 +1,5 @@
 -- The instructions that call functions, with what their names lead to. Own.
-use Rattle.std.specs.Prelude.{◌≡◌, ◌-◌, ℕ, ◌&&◌, length, nat_lt, List, [], map, Bool, true, Some}
+use Rattle.std.specs.Prelude.{◌≡◌, ℕ, ◌&&◌, length, nat_lt, List, [], map, Bool, true, Some}
 use Rattle.std.specs.List.{list_all}
 use Rattle.clif_ir.specs.Body.{Body}
 use Rattle.clif_instructions.specs.Instruction.{entries_of}

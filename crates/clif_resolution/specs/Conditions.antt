@@ -1,5 +1,5 @@
 -- What a call asks of the builder and of what its names lead to. Own.
-use Rattle.std.specs.Prelude.{◌≡◌, ℕ, List, length, map, is_some, not, ◌&&◌, ◌-◌, nat_lt, Bool, true, false, Option, Some, None}
+use Rattle.std.specs.Prelude.{◌≡◌, ℕ, List, length, map, is_some, not, ◌&&◌, nat_lt, Bool, true, false, Option, Some, None}
 use Rattle.std.specs.List.{list_all}
 use Rattle.clif_instructions.specs.declared.block_call.BlockCall.{BlockCall}
 use Rattle.clif_instructions.specs.ExceptionTables.{ExceptionShape}

@@ -1,5 +1,5 @@
 -- The instruction that a plan asks for, with what its names lead to. Own.
-use Rattle.std.specs.Prelude.{◌≡◌, ℕ, List, [], ◌∷◌, length, map, drop, Option, Some, None, Bool, Result, ◌<◌, ◌-◌, ◌&&◌}
+use Rattle.std.specs.Prelude.{◌≡◌, ℕ, List, [], ◌∷◌, length, map, drop, Option, Some, None, Bool, Result, ◌<◌, ◌&&◌}
 use Rattle.clif_ir.specs.Body.{Body, value_at}
 use Rattle.clif_meaning.specs.Instruction.{Binary, Brif, Compare, Compute, Concat, CondTrap, Convert, FloatConst, Iconst, Jump, Load, Operation, Return, Select, Split, Stack, StackStore, Store, Trap, Unary, operation_entries}
 use Rattle.clif_meaning.specs.Acceptance.{can_operate, has_entry}

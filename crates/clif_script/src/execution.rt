@@ -4,12 +4,12 @@ ghost use Rattle.std.specs.Prelude.{◌<◌, IfOk};
 
 use crate::command::Run;
 use crate::program::{tell_call, tell_no_text, tell_unbuilt, tell_unread};
+use clif_builder::FunctionBuilderContext;
 use clif_interpreter::{Place, RunError, Told};
 use clif_replay::{ReplayError, replay};
 use clif_runs::{ArgumentError, Comparison, Given, Report, Verdict, arguments_of, compare};
 use clif_text::{ReadError, Script, read};
 use clif_types::AbiParam;
-use cranelift_frontend::FunctionBuilderContext;
 use std::alloc::{AllocError, Global};
 use std::{io, str};
 

@@ -2,10 +2,10 @@
 ghost use Rattle.std.specs.Prelude.{◌≡◌, ◌<◌, IfOk};
 ghost use Rattle.clif_script.specs.Program.{IsAccepted, MakesFunction};
 
+use clif_builder::FunctionBuilderContext;
 use clif_conditions::{Condition, broken_condition};
 use clif_replay::{ReplayError, replay};
 use clif_text::{Expected, Fault, ReadError, Script, read};
-use cranelift_frontend::FunctionBuilderContext;
 use std::alloc::Global;
 use std::{io, str};
 

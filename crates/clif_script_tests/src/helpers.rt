@@ -5,9 +5,10 @@
 use crate::helper_texts::{LINES, RECORDS, RECORDS_RUNS, RECORDS_TEXT, UPSTREAM};
 use crate::runs;
 use crate::support::{faults, gives, rewritten, row_of, script_of};
+use clif_builder::FunctionBuilderContext;
+use clif_check::{CheckErrorKind, check};
 use clif_script::replay;
 use clif_types::EntityRef;
-use cranelift_frontend::{CheckErrorKind, FunctionBuilderContext, check};
 use std::test::Fail;
 
 /// The texts of the tests of the crate whose behaviour the builder has; that of an odd size is a row.

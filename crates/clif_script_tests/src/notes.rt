@@ -2,10 +2,10 @@
 #![tactic(auto)]
 
 use crate::support::{faults, gives, rewritten, script_of};
+use clif_builder::FunctionBuilderContext;
 use clif_ir::Function;
 use clif_script::replay;
 use clif_types::{EntityRef, Inst, SourceLoc, Value};
-use cranelift_frontend::FunctionBuilderContext;
 use std::alloc::Global;
 use std::process::Abort;
 use std::test::Fail;

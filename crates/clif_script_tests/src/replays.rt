@@ -5,8 +5,8 @@ use crate::steps::Step::{
     Create, Declare, Def, Iadd, Iconst, Return, ReturnNone, Seal, Switch, TryDef, TryUse, Use,
 };
 use crate::steps::{I32, I64, builds, call_of, calls_of, replayed};
+use clif_builder::FunctionBuilderContext;
 use clif_script::ReplayError;
-use cranelift_frontend::FunctionBuilderContext;
 use std::test::Fail;
 
 // A block in which nothing was made isn't printed.

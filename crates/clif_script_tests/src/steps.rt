@@ -4,6 +4,7 @@
 ghost use Rattle.std.specs.Prelude.{◌≡◌};
 ghost use Rattle.clif_builder.specs.Context.{empty_context};
 
+use clif_builder::FunctionBuilderContext;
 use clif_ir::Function;
 use clif_records::Variable;
 use clif_script::{
@@ -13,7 +14,6 @@ use clif_types::{
     AbiParam, CallConv, EntityRef, JumpTable, LaneType, PointerWidth, Signature,
     TargetFrontendConfig, Type, UserFuncName,
 };
-use cranelift_frontend::FunctionBuilderContext;
 use std::alloc::{AllocError, Global};
 use std::process::Abort;
 use std::test::Fail;

@@ -2,7 +2,6 @@
 use Rattle.std.specs.Prelude.{◌≡◌, ℕ, Bool, List}
 use Rattle.clif_words.specs.declared.error.LineError.{LineError}
 use Rattle.clif_words.specs.declared.error.LineError.TheVariants as error
-use Rattle.clif_arguments.specs.declared.header.Header.{Header}
 use Rattle.clif_text.specs.declared.reader.Reader.{Reader}
 use Rattle.clif_arguments.specs.Header.{header_said}
 use Rattle.clif_arguments.specs.Given.{no_totals, numbered_from, totals_from, first_answer, GiveNames}

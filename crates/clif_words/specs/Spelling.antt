@@ -1,6 +1,5 @@
 -- How numbers, bytes, types, widths of pointers, reasons for traps, offsets and flags are spelled. Source: own; docs/SCRIPTS.md describes the same format.
-use Rattle.std.specs.Prelude.{FitsSigned, ℤ, ◌+◌, ◌%◌, ◌/◌, ◌^◌, ◌<◌, ◌≤◌, ◌==◌, not, filter, ◌≡◌, ℕ, ◌⊎◌, ◌++◌, Bool, List, [], ◌∷◌, None, codes, flat_map, length, reverse, if◌then◌else◌}
-use Rattle.std.specs.Char.{digit_char}
+use Rattle.std.specs.Prelude.{FitsSigned, ℤ, ◌+◌, ◌%◌, ◌^◌, ◌<◌, ◌≤◌, ◌==◌, not, filter, ◌≡◌, ℕ, ◌⊎◌, ◌++◌, Bool, List, [], ◌∷◌, None, codes, length, if◌then◌else◌}
 use Rattle.std.specs.Int.{cast_signed, w32, w64}
 use Rattle.std.specs.Str.Parse.{IsNumeral, digits_value, signed_digits_value, without_leading_sign}
 use Rattle.clif_types.specs.Types.{IsType}

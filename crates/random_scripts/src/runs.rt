@@ -3,12 +3,12 @@ ghost use Rattle.std.specs.Prelude.{◌≡◌};
 
 use crate::generator::{random_script, signature};
 use crate::worlds::{Answering, SIZE, START};
+use clif_builder::FunctionBuilderContext;
 use clif_calls::Call;
 use clif_interpreter::{End, Ending, Memory, RunError, World, function, script};
 use clif_ir::Function;
 use clif_replay::{ReplayError, replay};
 use clif_types::{CallConv, PointerWidth, Signature, TargetFrontendConfig, UserFuncName};
-use cranelift_frontend::FunctionBuilderContext;
 use std::alloc::{AllocError, Global};
 use std::fmt;
 

@@ -1,5 +1,5 @@
 -- What the premises ask of code of switches: it goes from the switch that was emitted to what decides for it.
-use Rattle.std.proofs.Common.{◌≡◌, ◌≤◌, ◌⊎◌, inl, inr, ℕ, suc, Bool, true, false, cond, List, [], ◌∷◌, ◌++◌, length, map, refl, sym, ◌∙◌, subst, Option, Some, None}
+use Rattle.std.proofs.Common.{◌≡◌, ◌≤◌, ◌⊎◌, inl, inr, ℕ, suc, Bool, true, false, cond, List, [], ◌∷◌, ◌++◌, length, refl, sym, ◌∙◌, subst, Option, Some, None}
 use Rattle.std.specs.Prelude.{Contains, IsTrue, find, fold, is_some}
 use Rattle.std.specs.List.{AllByRecursion, list_any}
 use Rattle.clif_opcodes.specs.Typing.{FitOperands}

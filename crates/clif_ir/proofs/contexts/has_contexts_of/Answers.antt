@@ -1,4 +1,4 @@
-use Rattle.std.proofs.Common.{◌≡◌, All, IsTrue, arith, length, subst, sym, take}
+use Rattle.std.proofs.Common.{◌≡◌, All, IsTrue, arith, subst, sym, take}
 use Rattle.std.proofs.lemmas.Grind.{common_steps}
 use Rattle.clif_instructions.specs.declared.exception_table.ExceptionItem.{ExceptionItem}
 use Rattle.clif_instructions.specs.ExceptionTables.{item_context}

@@ -2,7 +2,6 @@ use Rattle.std.proofs.Common.{◌≡◌, ◌∙◌, ap, subst, sym}
 use Rattle.std.specs.Prelude.{Err, Result, false, slice_index_or}
 use Rattle.std.proofs.lemmas.Result.{err_from_is_err_and}
 use Rattle.clif_types.specs.declared.error.BuildError.{BuildError}
-use Rattle.clif_types.specs.declared.error.BuildError.TheVariants as build
 use Rattle.clif_ir.specs.Body.{Body}
 use Rattle.clif_resolution.specs.Answers.{AnswerExists, all_values}
 use Rattle.clif_resolution.specs.declared.answers.Answer.{Answer}

@@ -1,5 +1,5 @@
 -- The words are the name, what is called, and what is passed.
-use Rattle.std.proofs.Common.{List, ℕ, ◌∷◌, [], ap, subst, ◌∙◌}
+use Rattle.std.proofs.Common.{List, ℕ, ◌∷◌, ap, subst, ◌∙◌}
 use Rattle.clif_arguments.specs.Arguments.{AreLast, IsAnswer}
 use Rattle.clif_arguments.specs.Scope.{names_of}
 use Rattle.clif_text.proofs.outside.read_outside_call.Goals as goal

@@ -1,4 +1,4 @@
-use Rattle.std.proofs.Common.{sym, subst, ◌∙◌}
+use Rattle.std.proofs.Common.{sym, subst}
 use Rattle.clif_arguments.specs.Arguments.{ArePassed}
 use Rattle.clif_arguments.proofs.TakingTables.{TakesMany, passed_more}
 use Rattle.clif_arguments.proofs.args.Args.passed_to_end.Goals as goal
