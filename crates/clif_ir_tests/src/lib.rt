@@ -1,12 +1,10 @@
 //! Tests of `clif_ir`, of what no clause says: printed texts, as the printer's rules give them, and that calls succeed.
+//!
+//! Most tests are tables of functions that are made by the crate's calls alone (`steps.rt`).
 #![tactic(auto)]
 
 #[cfg(test)]
-mod aliases;
-#[cfg(test)]
 mod call_changes;
-#[cfg(test)]
-mod callees;
 #[cfg(test)]
 mod calls;
 #[cfg(test)]
@@ -18,17 +16,23 @@ mod forms;
 #[cfg(test)]
 mod instructions;
 #[cfg(test)]
-mod lists;
-#[cfg(test)]
 mod numbers;
 #[cfg(test)]
 mod rewrites;
+#[cfg(test)]
+mod rows;
+#[cfg(test)]
+mod shapes;
+#[cfg(test)]
+mod side_tables;
 #[cfg(test)]
 mod steps;
 #[cfg(test)]
 mod support;
 #[cfg(test)]
 mod texts;
+#[cfg(test)]
+mod transfers;
 #[cfg(test)]
 mod walks;
 #[cfg(test)]

@@ -1,18 +1,13 @@
 //! Numbers at their borders and at each width.
 #![tactic(auto)]
 
-use crate::steps::Step::{Create, Iconst, LayOut, ReturnTwo};
-use crate::steps::makes;
 use clif_instructions::immediates::{FloatBits, Imm64, Offset32, signed_at};
-use clif_instructions::insert_at::InsertAt::Back;
 use clif_opcodes::FloatConstOpcode;
 use clif_types::{Type, types};
-use std::alloc::Global;
-use std::process::Abort;
 use std::test::Fail;
 
 /// A type, a number given to `iconst` of it, and the text of the number.
-const ROWS: [(Type, i64, &str); 31] = [
+static ROWS: [(Type, i64, &str); 31] = [
     (types::I8, 9999, "15"),
     (types::I8, -9999, "-15"),
     (types::I8, 10000, "16"),
@@ -46,38 +41,18 @@ const ROWS: [(Type, i64, &str); 31] = [
     (types::I128, -10000, "0xffff_ffff_ffff_d8f0"),
 ];
 
-fn shows(rt: &impl Abort, alloc: Global, ty: Type, number: i64, text: &str) -> Result<(), Fail> {
-    let shown = Imm64(signed_at(number, ty));
-    let found = format!(in alloc; "{shown}")?;
-    assert!(rt; found.as_str() == text);
-    Ok(())
-}
-
 #[test]
 fn widths(rt: HostRuntime) -> Result<(), Fail> {
     for (ty, number, text) in ROWS.iter() {
-        shows(&rt, rt.alloc(), *ty, *number, text)?;
+        let shown = Imm64(signed_at(*number, *ty));
+        let found = format!(in rt.alloc(); "{shown}")?;
+        assert!(rt; found.as_str() == *text);
     }
     Ok(())
 }
 
-// In an instruction, and in the comment that repeats it.
-#[test]
-fn in_instructions(rt: HostRuntime) -> Result<(), Fail> {
-    let steps = [
-        Create,
-        LayOut(0),
-        Iconst(0, Back, types::I16, -10000),
-        Iconst(0, Back, types::I8, 10000),
-        ReturnTwo(0, 0, 1),
-    ];
-    let text =
-        "function %sample() system_v {\nblock0:\n    v0 = iconst.i16 0xffff_ffff_ffff_d8f0\n    v1 = iconst.i8 16\n    return v0, v1  ; v0 = 0xffff_ffff_ffff_d8f0, v1 = 16\n}\n";
-    makes(&rt, rt.alloc(), &steps, text)
-}
-
 /// An offset, and its text behind an address.
-const OFFSETS: [(i32, &str); 9] = [
+static OFFSETS: [(i32, &str); 9] = [
     (0, ""),
     (1, "+1"),
     (-1, "-1"),
@@ -100,7 +75,7 @@ fn offsets(rt: HostRuntime) -> Result<(), Fail> {
 }
 
 /// A float constant, its bits, and the text of them.
-const FLOATS: [(FloatConstOpcode, u64, &str); 7] = [
+static FLOATS: [(FloatConstOpcode, u64, &str); 7] = [
     (FloatConstOpcode::F16const, 0, "0.0"),
     (FloatConstOpcode::F16const, 0x8000, "0x8000"),
     (FloatConstOpcode::F32const, 0, "0.0"),

@@ -1,0 +1,182 @@
+//! Returns, branches and calls as plain data, where functions, signatures, blocks and values are told by their numbers.
+#![tactic(auto)]
+
+use crate::support::{b, below_1000, v};
+use clif_instructions::block_call::{BlockArg, BlockCall};
+use clif_instructions::exception_table::{
+    ExceptionTableData, ExceptionTableItem, ExceptionTargets,
+};
+use clif_instructions::instructions::InstructionData;
+use clif_instructions::jump_table::JumpTableData;
+use clif_instructions::value_list::ValueList;
+use clif_ir::function::Function;
+use clif_types::{EntityRef, FuncRef, SigRef};
+use std::alloc::Global;
+use std::process::Abort;
+use std::test::Fail;
+
+/// A return, a branch or a call.
+#[derive(Clone, Copy)]
+pub enum Transfer {
+    /// A return of values.
+    Return(&'static [u32]),
+    /// A jump.
+    Jump(To),
+    /// A branch by a value: the block that it goes to where the value isn't zero, and the other one.
+    Brif(u32, u32, u32),
+    /// A branch by a table: the value, the default block, and those of the entries.
+    BranchTable(u32, u32, &'static [u32]),
+    /// A call of a function.
+    Call(u32, &'static [u32]),
+    /// A call by a signature. The first operand is the address.
+    CallIndirect(u32, &'static [u32]),
+    /// A call of a function that may throw.
+    TryCall(u32, &'static [u32], Throws),
+    /// A call that may throw. The first operand is the address.
+    TryCallIndirect(&'static [u32], Throws),
+}
+
+/// An edge: its target, and what it passes.
+#[derive(Clone, Copy)]
+pub struct To(pub u32, pub &'static [Arg]);
+
+/// What an edge passes: a value, what a call returned, or what it threw.
+#[derive(Clone, Copy)]
+pub enum Arg {
+    Known(u32),
+    Ret(u32),
+    Exn(u32),
+}
+
+/// Where a call goes: its signature, the edge where it returns, and the items.
+#[derive(Clone, Copy)]
+pub struct Throws {
+    pub sig: u32,
+    pub normal: To,
+    pub items: &'static [Item],
+}
+
+/// An item of an exception table.
+#[derive(Clone, Copy)]
+pub enum Item {
+    Tag(u32, To),
+    Default(To),
+    Context(u32),
+}
+
+fn values(rt: &impl Abort, alloc: Global, numbers: &[u32]) -> Result<ValueList, Fail> {
+    let mut list = ValueList::new(alloc);
+    for number in numbers {
+        list.push(v(rt, *number))?;
+    }
+    Ok(list)
+}
+
+fn arg_of(rt: &impl Abort, arg: Arg) -> BlockArg {
+    match arg {
+        Arg::Known(number) => BlockArg::Value(v(rt, number)),
+        Arg::Ret(place) => BlockArg::TryCallRet(place),
+        Arg::Exn(place) => BlockArg::TryCallExn(place),
+    }
+}
+
+fn edge_of(rt: &impl Abort, alloc: Global, to: To) -> Result<BlockCall, Fail> {
+    let mut call = BlockCall::new(alloc, b(rt, to.0), &[])?;
+    for arg in to.1 {
+        call.args.push(arg_of(rt, *arg))?;
+    }
+    Ok(call)
+}
+
+// A jump table that a function made, and that an instruction takes.
+fn jump_table_of(
+    rt: &impl Abort,
+    func: &mut Function,
+    default: u32,
+    entries: &[u32],
+) -> Result<JumpTableData, Fail> {
+    let alloc = func.allocator();
+    let mut edges = Vec::new(alloc);
+    for entry in entries {
+        edges.push(edge_of(rt, alloc, To(*entry, &[]))?)?;
+    }
+    let default = edge_of(rt, alloc, To(default, &[]))?;
+    let number = func.create_jump_table(JumpTableData::new(default, edges)?)?;
+    let table = func.take_jump_table(number).expect(rt, "a table");
+    assert!(rt; func.take_jump_table(number).is_none());
+    Ok(table)
+}
+
+fn item_of(rt: &impl Abort, alloc: Global, item: Item) -> Result<ExceptionTableItem, Fail> {
+    Ok(match item {
+        Item::Tag(tag, to) => ExceptionTableItem::Tag(tag, edge_of(rt, alloc, to)?),
+        Item::Default(to) => ExceptionTableItem::Default(edge_of(rt, alloc, to)?),
+        Item::Context(value) => ExceptionTableItem::Context(v(rt, value)),
+    })
+}
+
+// An exception table that a function made, and that an instruction takes.
+fn exception_of(
+    rt: &impl Abort,
+    func: &mut Function,
+    throws: Throws,
+) -> Result<ExceptionTargets, Fail> {
+    let alloc = func.allocator();
+    let mut items = Vec::new(alloc);
+    for item in throws.items {
+        items.push(item_of(rt, alloc, *item)?)?;
+    }
+    let number = func.create_exception_table(ExceptionTableData {
+        sig: SigRef::from_u32(below_1000(rt, throws.sig)),
+        normal: edge_of(rt, alloc, throws.normal)?,
+        items,
+    })?;
+    let exception = func.take_exception_table(number).expect(rt, "a table");
+    assert!(rt; func.take_exception_table(number).is_none());
+    Ok(exception)
+}
+
+/// The shape of a return, a branch or a call.
+pub fn transfer_of(
+    rt: &impl Abort,
+    func: &mut Function,
+    transfer: Transfer,
+) -> Result<InstructionData, Fail> {
+    let alloc = func.allocator();
+    Ok(match transfer {
+        Transfer::Return(args) => InstructionData::MultiAry {
+            args: values(rt, alloc, args)?,
+        },
+        Transfer::Jump(to) => InstructionData::Jump {
+            destination: edge_of(rt, alloc, to)?,
+        },
+        Transfer::Brif(x, taken, other) => InstructionData::Brif {
+            arg: v(rt, x),
+            blocks: [
+                edge_of(rt, alloc, To(taken, &[]))?,
+                edge_of(rt, alloc, To(other, &[]))?,
+            ],
+        },
+        Transfer::BranchTable(x, default, entries) => InstructionData::BranchTable {
+            arg: v(rt, x),
+            table: jump_table_of(rt, func, default, entries)?,
+        },
+        Transfer::Call(number, args) => InstructionData::Call {
+            func_ref: FuncRef::from_u32(below_1000(rt, number)),
+            args: values(rt, alloc, args)?,
+        },
+        Transfer::CallIndirect(sig, args) => InstructionData::CallIndirect {
+            sig_ref: SigRef::from_u32(below_1000(rt, sig)),
+            args: values(rt, alloc, args)?,
+        },
+        Transfer::TryCall(number, args, throws) => InstructionData::TryCall {
+            func_ref: FuncRef::from_u32(below_1000(rt, number)),
+            args: values(rt, alloc, args)?,
+            exception: exception_of(rt, func, throws)?,
+        },
+        Transfer::TryCallIndirect(args, throws) => InstructionData::TryCallIndirect {
+            args: values(rt, alloc, args)?,
+            exception: exception_of(rt, func, throws)?,
+        },
+    })
+}
