@@ -1,9 +1,6 @@
 //! What is so once some steps are made.
 #![tactic(auto)]
 
-use super::support::Fixture;
-use std::process::Abort;
-
 /// A fact, where blocks, values, instructions and variables are told by their numbers.
 #[derive(Clone, Copy)]
 pub enum Fact {
@@ -31,22 +28,4 @@ pub enum Fact {
     IsNeeded(u32, bool),
     /// Stack maps need so many values.
     Needed(usize),
-}
-
-/// Whether a fact holds.
-pub fn holds(rt: &impl Abort, made: &Fixture, fact: Fact) -> bool {
-    match fact {
-        Fact::Lookups(block, variable, count) => made.lookups(rt, variable, block) == count,
-        Fact::Records(count) => made.records() == count,
-        Fact::Params(block, count) => made.param_count(rt, block) == count,
-        Fact::ParamAt(block, place, value) => made.param(rt, block, place) == value,
-        Fact::Resolves(value, original) => made.resolved(rt, value) == original,
-        Fact::HasAny(block, has_any) => made.has_any_predecessors(rt, block) == has_any,
-        Fact::IsLast(block, inst, is_last) => made.is_last_predecessor(rt, block, inst) == is_last,
-        Fact::IsSealed(block, is_sealed) => made.is_sealed(rt, block) == is_sealed,
-        Fact::Told(count) => made.told_count() == count,
-        Fact::ToldAt(place, block) => made.told(rt, place) == block,
-        Fact::IsNeeded(value, is_needed) => made.is_needed(rt, value) == is_needed,
-        Fact::Needed(count) => made.needed_count() == count,
-    }
 }

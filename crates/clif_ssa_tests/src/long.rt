@@ -2,9 +2,10 @@
 #![tactic(auto)]
 
 use super::facts::Fact::{Lookups, ParamAt, Params, Records, Resolves};
-use super::steps::Step::{Brif, Create, Define, Goes, Iconst, Is, Leads, Seal, SealAll, Use};
+use super::steps::Step::{Brif, Create, Define, Goes, Iconst, Leads, Seal};
 use super::steps::make_all;
 use super::support::Fixture;
+use clif_types::types::I32;
 use std::alloc::Global;
 use std::process::Abort;
 use std::test::Fail;
@@ -12,7 +13,7 @@ use std::test::Fail;
 // A chain of blocks, each sealed with the one before it as its only predecessor: the variable is assigned
 // in the first and used in the last. The walk goes along the chain, and all blocks know the value then.
 fn used_along(rt: &impl Abort, alloc: Global, count: u32) -> Result<Fixture, Fail> {
-    let mut made = Fixture::new(alloc);
+    let mut made = Fixture::new(alloc, "a chain");
     make_all(
         rt,
         &mut made,
@@ -22,7 +23,7 @@ fn used_along(rt: &impl Abort, alloc: Global, count: u32) -> Result<Fixture, Fai
         let next = last + 1;
         make_all(rt, &mut made, &[Create, Goes(last, next), Seal(next, 0)])?;
     }
-    make_all(rt, &mut made, &[Use(count, 0, 0)])?;
+    made.uses(rt, count, 0, I32, Some(0))?;
     Ok(made)
 }
 
@@ -31,8 +32,8 @@ fn used_along(rt: &impl Abort, alloc: Global, count: u32) -> Result<Fixture, Fai
 #[test]
 fn chains(rt: HostRuntime) -> Result<(), Fail> {
     for count in [50_000, 100_000] {
-        let mut made = used_along(&rt, rt.alloc(), count)?;
-        make_all(&rt, &mut made, &[Is(Lookups(count, 0, 0))])?;
+        let made = used_along(&rt, rt.alloc(), count)?;
+        made.holds(&rt, Lookups(count, 0, 0));
     }
     Ok(())
 }
@@ -42,10 +43,10 @@ fn chains(rt: HostRuntime) -> Result<(), Fail> {
 /// predecessors began.
 #[test]
 fn sparse_records(rt: HostRuntime) -> Result<(), Fail> {
-    let mut made = used_along(&rt, rt.alloc(), 999)?;
-    make_all(&rt, &mut made, &[Is(Records(1_000))])?;
+    let made = used_along(&rt, rt.alloc(), 999)?;
+    made.holds(&rt, Records(1_000));
     for block in 0..1_000 {
-        make_all(&rt, &mut made, &[Is(Lookups(block, 0, 0))])?;
+        made.holds(&rt, Lookups(block, 0, 0));
     }
     Ok(())
 }
@@ -72,45 +73,38 @@ fn diamond(rt: &impl Abort, made: &mut Fixture, number: u32) -> Result<(), Fail>
     make_all(rt, made, &steps)
 }
 
-// Uses the variable below all diamonds, and seals all blocks then: the parameter that the use made stands
-// for the value above them.
-fn uses_last(rt: &impl Abort, made: &mut Fixture, count: u32) -> Result<(), Fail> {
-    assert!(rt; count < 100_000);
-    let last = 3 * count;
-    // Behind the value above all diamonds, and the one of each diamond.
-    let used = count + 1;
-    let steps = [
-        Use(last, 0, used),
-        Is(Params(last, 1)),
-        Is(ParamAt(last, 0, used)),
-        SealAll(0),
-        Is(Resolves(used, 0)),
-    ];
-    make_all(rt, made, &steps)
+// Uses the variable in the last block, and seals all blocks then: the parameter that the use made, which has this number,
+// stands for the value above all diamonds.
+fn uses_last(rt: &impl Abort, made: &mut Fixture, last: u32, used: u32) -> Result<(), Fail> {
+    made.uses(rt, last, 0, I32, Some(used))?;
+    made.holds(rt, Params(last, 1));
+    made.holds(rt, ParamAt(last, 0, used));
+    made.seal_all(rt, 0)?;
+    made.holds(rt, Resolves(used, 0));
+    Ok(())
 }
 
 // In the block below a diamond one look-up began, and it has no parameter.
-fn looked_once(rt: &impl Abort, made: &mut Fixture, number: u32) -> Result<(), Fail> {
+fn looked_once(rt: &impl Abort, made: &Fixture, number: u32) {
     assert!(rt; number < 100_000);
     let bottom = 3 * number + 3;
-    make_all(
-        rt,
-        made,
-        &[Is(Lookups(bottom, 0, 1)), Is(Params(bottom, 0))],
-    )
+    made.holds(rt, Lookups(bottom, 0, 1));
+    made.holds(rt, Params(bottom, 0));
 }
 
 // Diamonds below each other, which are sealed when all are made: the variable is assigned above them and
 // used below. In each block where arms meet one look-up began.
 fn uses_below(rt: &impl Abort, alloc: Global, count: u32) -> Result<(), Fail> {
-    let mut made = Fixture::new(alloc);
+    assert!(rt; count < 100_000);
+    let mut made = Fixture::new(alloc, "diamonds");
     make_all(rt, &mut made, &[Create, Iconst(0, 5), Define(0, 0, 0)])?;
     for number in 0..count {
         diamond(rt, &mut made, number)?;
     }
-    uses_last(rt, &mut made, count)?;
+    // The value is behind the one above all diamonds, and the one of each diamond.
+    uses_last(rt, &mut made, 3 * count, count + 1)?;
     for number in 0..count {
-        looked_once(rt, &mut made, number)?;
+        looked_once(rt, &made, number);
     }
     Ok(())
 }

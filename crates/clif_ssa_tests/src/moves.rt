@@ -11,19 +11,20 @@ use std::alloc::Global;
 use std::process::Abort;
 use std::test::Fail;
 
-// The branch by a table whose default goes to the first block, and whose entries to the first, the second and the first.
-fn branch(
-    alloc: Global,
-    x: Value,
-    first: Block,
-    second: Block,
-) -> Result<InstructionData, BuildError> {
-    let mut entries = Vec::new(alloc);
-    for block in [first, second, first] {
-        entries.push(BlockCall::new(alloc, block, &[])?)?;
+// Edges to the blocks with these numbers, which pass nothing.
+fn edges(rt: &impl Abort, alloc: Global, blocks: &[u32]) -> Result<Vec<BlockCall>, BuildError> {
+    let mut edges = Vec::new(alloc);
+    for block in blocks {
+        edges.push(BlockCall::new(alloc, b(rt, *block), &[])?)?;
     }
-    let table = JumpTableData::new(BlockCall::new(alloc, first, &[])?, entries)?;
-    Ok(InstructionData::BranchTable { arg: x, table })
+    Ok(edges)
+}
+
+// The table `block1, [block1, block2, block1]`.
+fn table(rt: &impl Abort, alloc: Global) -> Result<JumpTableData, BuildError> {
+    let default = BlockCall::new(alloc, b(rt, 1), &[])?;
+    let entries = edges(rt, alloc, &[1, 2, 1])?;
+    JumpTableData::new(default, entries)
 }
 
 // Puts the branch at the end of a block.
@@ -73,22 +74,30 @@ fn edges_to(rt: &impl Abort, func: &Function, inst: Inst, block: Block) -> usize
     edges.iter().filter(|edge| edge.block == block).count()
 }
 
-/// With the table `block1, [block1, block2, block1]`, a change from block1 to block2 makes all four edges go to block2,
-/// which has the branch as its one predecessor then, and block1 has none.
-#[test]
-fn all_edges_move(rt: HostRuntime) -> Result<(), Fail> {
-    let alloc = rt.alloc();
-    let mut func = Function::new(alloc);
-    let mut ssa = SSABuilder::new(alloc);
+// Makes three blocks, puts the branch at the end of the first, and declares that it leads to block1.
+fn begins(rt: &impl Abort, func: &mut Function, ssa: &mut SSABuilder) -> Result<Inst, Fail> {
     for _ in 0..3 {
         let block = func.create_block()?;
         ssa.declare_block(block)?;
     }
-    let (entry, first, second) = (b(&rt, 0), b(&rt, 1), b(&rt, 2));
+    let entry = b(rt, 0);
     assert!(rt; entry.index() < func.block_count());
     let x = func.append_block_param(entry, I32)?;
-    let inst = insert(&rt, &mut func, entry, branch(alloc, x, first, second)?)?;
-    leads(&rt, &mut ssa, first, inst)?;
+    let table = table(rt, func.allocator())?;
+    let branch = InstructionData::BranchTable { arg: x, table };
+    let inst = insert(rt, func, entry, branch)?;
+    leads(rt, ssa, b(rt, 1), inst)?;
+    Ok(inst)
+}
+
+/// With the table `block1, [block1, block2, block1]`, a change from block1 to block2 makes all four edges go to block2,
+/// which has the branch as its one predecessor then, and block1 has none.
+#[test]
+fn all_edges_move(rt: HostRuntime) -> Result<(), Fail> {
+    let mut func = Function::new(rt.alloc());
+    let mut ssa = SSABuilder::new(rt.alloc());
+    let inst = begins(&rt, &mut func, &mut ssa)?;
+    let (first, second) = (b(&rt, 1), b(&rt, 2));
     leads(&rt, &mut ssa, second, inst)?;
     moves(&rt, &mut func, &mut ssa, inst, first, second)?;
     assert!(rt; edges_to(&rt, &func, inst, second) == 4);
@@ -104,18 +113,10 @@ fn all_edges_move(rt: HostRuntime) -> Result<(), Fail> {
 /// Where both are one block nothing changes.
 #[test]
 fn to_the_same(rt: HostRuntime) -> Result<(), Fail> {
-    let alloc = rt.alloc();
-    let mut func = Function::new(alloc);
-    let mut ssa = SSABuilder::new(alloc);
-    for _ in 0..3 {
-        let block = func.create_block()?;
-        ssa.declare_block(block)?;
-    }
-    let (entry, first, second) = (b(&rt, 0), b(&rt, 1), b(&rt, 2));
-    assert!(rt; entry.index() < func.block_count());
-    let x = func.append_block_param(entry, I32)?;
-    let inst = insert(&rt, &mut func, entry, branch(alloc, x, first, second)?)?;
-    leads(&rt, &mut ssa, first, inst)?;
+    let mut func = Function::new(rt.alloc());
+    let mut ssa = SSABuilder::new(rt.alloc());
+    let inst = begins(&rt, &mut func, &mut ssa)?;
+    let first = b(&rt, 1);
     moves(&rt, &mut func, &mut ssa, inst, first, first)?;
     assert!(rt; edges_to(&rt, &func, inst, first) == 3);
     assert!(rt; ssa.is_last_predecessor(first, inst));

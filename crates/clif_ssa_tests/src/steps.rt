@@ -1,7 +1,7 @@
 //! Functions and builders that are made by tables of steps.
 #![tactic(auto)]
 
-use super::facts::{Fact, holds};
+use super::facts::Fact;
 use super::support::{Fixture, b, i, v};
 use clif_ir::{BinaryOpcode, BlockCall, InstructionData, ValueList};
 use clif_types::{Type, Value, types};
@@ -52,6 +52,8 @@ pub enum Step {
     SealAll(usize),
     /// Finds that a fact holds.
     Is(Fact),
+    /// Finds that the function has this text.
+    Prints(&'static str),
 }
 
 fn declare(made: &mut Fixture) -> Result<(), Fail> {
@@ -117,30 +119,6 @@ fn ret(rt: &impl Abort, made: &mut Fixture, block: u32, values: &[Value]) -> Res
     Ok(())
 }
 
-fn finds(
-    rt: &impl Abort,
-    made: &mut Fixture,
-    block: u32,
-    variable: u8,
-    value: u32,
-) -> Result<(), Fail> {
-    let found = made.uses(rt, block, variable, types::I32)?;
-    assert!(rt; found == value);
-    Ok(())
-}
-
-fn seal(rt: &impl Abort, made: &mut Fixture, block: u32, zeros: usize) -> Result<(), Fail> {
-    made.seal(b(rt, block))?;
-    assert!(rt; made.told_count() == zeros);
-    Ok(())
-}
-
-fn seal_all(rt: &impl Abort, made: &mut Fixture, zeros: usize) -> Result<(), Fail> {
-    made.seal_all()?;
-    assert!(rt; made.told_count() == zeros);
-    Ok(())
-}
-
 fn make(rt: &impl Abort, made: &mut Fixture, step: Step) -> Result<(), Fail> {
     match step {
         Step::Declare => declare(made),
@@ -165,19 +143,19 @@ fn make(rt: &impl Abort, made: &mut Fixture, step: Step) -> Result<(), Fail> {
             made.leads_in_place(rt, b(rt, block), i(rt, removed), i(rt, other))
         }
         Step::Define(block, variable, value) => made.define(rt, block, variable, value),
-        Step::Use(block, variable, value) => finds(rt, made, block, variable, value),
-        Step::Ask(block, variable, ty) => {
-            made.uses(rt, block, variable, ty)?;
-            Ok(())
+        Step::Use(block, variable, value) => {
+            made.uses(rt, block, variable, types::I32, Some(value))
         }
+        Step::Ask(block, variable, ty) => made.uses(rt, block, variable, ty, None),
         Step::Mark(variable) => made.mark(variable),
         Step::NeedValue(value) => made.declare_value(rt, value),
-        Step::Seal(block, zeros) => seal(rt, made, block, zeros),
-        Step::SealAll(zeros) => seal_all(rt, made, zeros),
+        Step::Seal(block, zeros) => made.seal(rt, block, zeros),
+        Step::SealAll(zeros) => made.seal_all(rt, zeros),
         Step::Is(fact) => {
-            assert!(rt; holds(rt, made, fact));
+            made.holds(rt, fact);
             Ok(())
         }
+        Step::Prints(text) => made.prints(rt, text),
     }
 }
 
@@ -189,16 +167,19 @@ pub fn make_all(rt: &impl Abort, made: &mut Fixture, steps: &[Step]) -> Result<(
     Ok(())
 }
 
-/// Makes the steps in order, from nothing.
-pub fn runs(rt: &impl Abort, alloc: Global, steps: &[Step]) -> Result<(), Fail> {
-    let mut made = Fixture::new(alloc);
+/// What is tested, and the steps that test it.
+pub type Case = (&'static str, &'static [Step]);
+
+// Makes the steps of a case in order, from nothing.
+fn makes(rt: &impl Abort, alloc: Global, (case, steps): Case) -> Result<(), Fail> {
+    let mut made = Fixture::new(alloc, case);
     make_all(rt, &mut made, steps)
 }
 
-/// Makes the steps in order, from nothing, and asserts the text of the function then.
-pub fn makes(rt: &impl Abort, alloc: Global, steps: &[Step], text: &str) -> Result<(), Fail> {
-    let mut made = Fixture::new(alloc);
-    make_all(rt, &mut made, steps)?;
-    assert!(rt; made.prints(text)?);
+/// Makes the steps of each case in order, from nothing.
+pub fn makes_each(rt: &impl Abort, alloc: Global, cases: &[Case]) -> Result<(), Fail> {
+    for case in cases {
+        makes(rt, alloc, *case)?;
+    }
     Ok(())
 }

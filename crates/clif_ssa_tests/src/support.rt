@@ -6,6 +6,7 @@ ghost use Rattle.std.specs.Prelude.{◌≡◌, ◌<◌, length, IsTrue, EachInde
 ghost use Rattle.clif_ir.specs.Consistent.{EdgeExists};
 ghost use Rattle.clif_ssa.specs.Ssa.{Declares, NamesExist};
 
+use super::facts::Fact;
 use clif_instructions::insert_at::InsertAt;
 use clif_ir::{BlockCall, Function, InstructionData};
 use clif_ssa::{SSABuilder, SideEffects, Variable};
@@ -67,6 +68,8 @@ pub fn has_edges(func: &Function, edges: &[BlockCall]) -> bool
 /// calls ask for.
 #[derive(Drop)]
 pub struct Fixture {
+    // What is tested, which a failed assertion tells.
+    case: &'static str,
     func: Function,
     ssa: SSABuilder,
     // What the last use, or the last sealing, did beside its answer.
@@ -76,9 +79,10 @@ pub struct Fixture {
 
 impl Fixture {
     /// The empty function `u0:0` and a builder that knows nothing.
-    pub fn new(alloc: Global) -> Self {
+    pub fn new(alloc: Global, case: &'static str) -> Self {
         let func = Function::new(alloc);
         Fixture {
+            case,
             func,
             ssa: SSABuilder::new(alloc),
             told: SideEffects::new(alloc),
@@ -199,13 +203,50 @@ impl Fixture {
         Ok(())
     }
 
-    /// Whether stack maps need a value.
-    pub fn is_needed(&self, rt: &impl Abort, value: u32) -> bool {
-        self.ssa.stack_map_values().contains(v(rt, value))
+    /// Uses a variable of this type, and asserts the number of its value, if there is one to be found.
+    pub fn uses(
+        &mut self,
+        rt: &impl Abort,
+        block: u32,
+        variable: u8,
+        ty: Type,
+        expected: Option<u32>,
+    ) -> Result<(), Fail> {
+        let block = self.block(rt, block);
+        let (value, told) = self.ssa.use_var(&mut self.func, var(variable), ty, block)?;
+        self.told = told;
+        if let Some(number) = expected {
+            assert!(rt; value.as_u32() == number, "{}", self.case);
+        }
+        Ok(())
     }
 
-    /// How many values stack maps need.
-    pub fn needed_count(&self) -> usize {
+    /// Seals a block, and asserts how many zeros that puts.
+    pub fn seal(&mut self, rt: &impl Abort, block: u32, zeros: usize) -> Result<(), Fail> {
+        self.told = self.ssa.seal_block(b(rt, block), &mut self.func)?;
+        self.holds(rt, Fact::Told(zeros));
+        Ok(())
+    }
+
+    /// Seals all blocks, and asserts how many zeros that puts.
+    pub fn seal_all(&mut self, rt: &impl Abort, zeros: usize) -> Result<(), Fail> {
+        self.told = self.ssa.seal_all_blocks(&mut self.func)?;
+        self.holds(rt, Fact::Told(zeros));
+        Ok(())
+    }
+
+    // The parameters of a block.
+    fn params(&self, rt: &impl Abort, block: u32) -> &[Value] {
+        self.func.block_params(self.block(rt, block))
+    }
+
+    // The value that a value stands for.
+    fn resolved(&self, rt: &impl Abort, value: u32) -> Value {
+        self.func.resolve_aliases(self.value(rt, value))
+    }
+
+    // How many values stack maps need.
+    fn needed_count(&self) -> usize {
         let mut count: usize = 0;
         for _value in self.ssa.stack_map_values().iter() {
             count = count.saturating_add(1);
@@ -213,89 +254,43 @@ impl Fixture {
         count
     }
 
-    /// Uses a variable of this type, and answers the number of its value.
-    pub fn uses(
-        &mut self,
-        rt: &impl Abort,
-        block: u32,
-        variable: u8,
-        ty: Type,
-    ) -> Result<u32, Fail> {
-        let block = self.block(rt, block);
-        let (value, told) = self.ssa.use_var(&mut self.func, var(variable), ty, block)?;
-        self.told = told;
-        Ok(value.as_u32())
+    // Whether a fact holds.
+    fn is_so(&self, rt: &impl Abort, fact: Fact) -> bool {
+        let (ssa, told) = (&self.ssa, self.told.instructions_added_to_blocks.as_slice());
+        match fact {
+            Fact::Lookups(block, variable, count) => {
+                ssa.lookups(var(variable), b(rt, block)) == count
+            }
+            Fact::Records(count) => ssa.records() == count,
+            Fact::Params(block, count) => self.params(rt, block).len() == count,
+            Fact::ParamAt(block, place, value) => {
+                self.params(rt, block).get(place) == Some(&v(rt, value))
+            }
+            Fact::Resolves(value, original) => self.resolved(rt, value) == v(rt, original),
+            Fact::HasAny(block, has_any) => ssa.has_any_predecessors(b(rt, block)) == has_any,
+            Fact::IsLast(block, inst, is_last) => {
+                ssa.is_last_predecessor(b(rt, block), i(rt, inst)) == is_last
+            }
+            Fact::IsSealed(block, is_sealed) => ssa.is_sealed(b(rt, block)) == is_sealed,
+            Fact::Told(count) => told.len() == count,
+            Fact::ToldAt(place, block) => told.get(place) == Some(&b(rt, block)),
+            Fact::IsNeeded(value, is_needed) => {
+                ssa.stack_map_values().contains(v(rt, value)) == is_needed
+            }
+            Fact::Needed(count) => self.needed_count() == count,
+        }
     }
 
-    /// Seals a block.
-    pub fn seal(&mut self, block: Block) -> Result<(), Fail> {
-        self.told = self.ssa.seal_block(block, &mut self.func)?;
-        Ok(())
+    /// Asserts that a fact holds.
+    pub fn holds(&self, rt: &impl Abort, fact: Fact) {
+        assert!(rt; self.is_so(rt, fact), "{}", self.case);
     }
 
-    /// Seals all blocks.
-    pub fn seal_all(&mut self) -> Result<(), Fail> {
-        self.told = self.ssa.seal_all_blocks(&mut self.func)?;
-        Ok(())
-    }
-
-    /// How many zeros the last use, or the last sealing, put.
-    pub fn told_count(&self) -> usize {
-        self.told.instructions_added_to_blocks.len()
-    }
-
-    /// The block into which the zero at this place among them was put.
-    pub fn told(&self, rt: &impl Abort, place: usize) -> u32 {
-        assert!(rt; place < self.told.instructions_added_to_blocks.len());
-        self.told.instructions_added_to_blocks[place].as_u32()
-    }
-
-    /// Whether any branch leads to a block.
-    pub fn has_any_predecessors(&self, rt: &impl Abort, block: u32) -> bool {
-        self.ssa.has_any_predecessors(b(rt, block))
-    }
-
-    /// Whether a branch is the one that was declared last at a block.
-    pub fn is_last_predecessor(&self, rt: &impl Abort, block: u32, inst: u32) -> bool {
-        self.ssa.is_last_predecessor(b(rt, block), i(rt, inst))
-    }
-
-    /// Whether a block is sealed.
-    pub fn is_sealed(&self, rt: &impl Abort, block: u32) -> bool {
-        self.ssa.is_sealed(b(rt, block))
-    }
-
-    /// In how many pairs of a variable and a block something is recorded.
-    pub fn records(&self) -> usize {
-        self.ssa.records()
-    }
-
-    /// How many look-ups of a variable in the predecessors of a block began.
-    pub fn lookups(&self, rt: &impl Abort, variable: u8, block: u32) -> u32 {
-        self.ssa.lookups(var(variable), b(rt, block))
-    }
-
-    /// How many parameters a block has.
-    pub fn param_count(&self, rt: &impl Abort, block: u32) -> usize {
-        self.func.block_params(self.block(rt, block)).len()
-    }
-
-    /// The parameter of a block at this place.
-    pub fn param(&self, rt: &impl Abort, block: u32, place: usize) -> u32 {
-        let params = self.func.block_params(self.block(rt, block));
-        assert!(rt; place < params.len());
-        params[place].as_u32()
-    }
-
-    /// The value that a value stands for.
-    pub fn resolved(&self, rt: &impl Abort, value: u32) -> u32 {
-        self.func.resolve_aliases(self.value(rt, value)).as_u32()
-    }
-
-    /// Whether the function has this text.
-    pub fn prints(&self, text: &str) -> Result<bool, Fail> {
+    /// Asserts the text of the function.
+    pub fn prints(&self, rt: &impl Abort, text: &str) -> Result<(), Fail> {
         let shown = self.func.display();
         let found = format!(in self.func.allocator(); "{shown}")?;
-        Ok(found.as_str() == text)
+        assert!(rt; found.as_str() == text, "{}", self.case);
+        Ok(())
     }
 }
