@@ -272,11 +272,29 @@ pub fn push_types(list: &mut Vec<AbiParam>, types: &[Type]) -> Result<(), AllocE
     Ok(())
 }
 
+/// What is tested, the types that a function returns, the steps that make it, and what the check tells of it: the number
+/// of an instruction and a kind, or nothing.
+pub type Case = (
+    &'static str,
+    &'static [Type],
+    &'static [Step<'static>],
+    Option<(u32, CheckErrorKind)>,
+);
+
+/// Asserts what the check tells in each case.
+pub fn tells_each(rt: &impl Abort, alloc: Global, cases: &[Case]) -> Result<(), Fail> {
+    for (case, returns, steps, expected) in cases.iter() {
+        tells(rt, alloc, case, returns, steps, *expected)?;
+    }
+    Ok(())
+}
+
 /// Asserts what the check tells of the function that the steps make, which returns these types: the number of an
 /// instruction and a kind, or nothing.
 pub fn tells(
     rt: &impl Abort,
     alloc: Global,
+    case: &str,
     returns: &[Type],
     steps: &[Step<'_>],
     expected: Option<(u32, CheckErrorKind)>,
@@ -289,6 +307,6 @@ pub fn tells(
         Ok(()) => None,
         Err(error) => Some((error.inst.as_u32(), error.kind)),
     };
-    assert!(rt; told == expected);
+    assert!(rt; told == expected, "{case}");
     Ok(())
 }
