@@ -302,35 +302,46 @@ pub fn set_of(rt: &impl Abort, alloc: Global, numbers: &[u32]) -> Result<EntityS
 }
 
 // Asserts what is found for an instruction.
-fn tells(rt: &impl Abort, analysis: &LivenessAnalysis, number: u32, expected: &[u32]) {
+fn tells(rt: &impl Abort, case: &str, analysis: &LivenessAnalysis, number: u32, expected: &[u32]) {
     assert!(rt; number < 1000);
     let found = analysis.live_across(Inst::from_u32(number));
-    assert_eq!(rt; found.len(), expected.len());
+    assert_eq!(rt; found.len(), expected.len(), "{case}");
     for (value, number) in found.iter().zip(expected) {
-        assert_eq!(rt; value.as_u32(), *number);
+        assert_eq!(rt; value.as_u32(), *number, "{case}");
     }
 }
 
-/// Asserts what the analysis finds in the function that the steps make, for each of these instructions, and between which
-/// numbers that of the handled blocks lies.
-pub fn finds(
-    rt: &impl Abort,
-    alloc: Global,
-    steps: &[Step<'_>],
-    recorded: &[u32],
-    expected: &[(u32, &[u32])],
-    least: u128,
-    most: u128,
-) -> Result<(), Fail> {
-    let func = function(rt, alloc, steps)?;
-    let recorded = set_of(rt, alloc, recorded)?;
+/// A function, and what the analysis finds in it.
+pub struct Case {
+    pub name: &'static str,
+    pub steps: &'static [Step<'static>],
+    pub recorded: &'static [u32],
+    /// Instructions, and what is live across each.
+    pub expected: &'static [(u32, &'static [u32])],
+    /// Between which numbers that of the handled blocks lies.
+    pub handled: (u128, u128),
+}
+
+// Asserts what the analysis finds in a case.
+fn finds(rt: &impl Abort, alloc: Global, case: &Case) -> Result<(), Fail> {
+    let func = function(rt, alloc, case.steps)?;
+    let recorded = set_of(rt, alloc, case.recorded)?;
     let mut analysis = LivenessAnalysis::new(alloc);
     analysis.run(&func, &recorded)?;
-    for (number, values) in expected {
-        tells(rt, &analysis, *number, values);
+    for (number, values) in case.expected {
+        tells(rt, case.name, &analysis, *number, values);
     }
-    assert!(rt; least <= analysis.handled());
-    assert!(rt; analysis.handled() <= most);
+    let (least, most) = case.handled;
+    assert!(rt; least <= analysis.handled(), "{}", case.name);
+    assert!(rt; analysis.handled() <= most, "{}", case.name);
+    Ok(())
+}
+
+/// Asserts what the analysis finds in each case.
+pub fn finds_each(rt: &impl Abort, alloc: Global, cases: &[Case]) -> Result<(), Fail> {
+    for case in cases {
+        finds(rt, alloc, case)?;
+    }
     Ok(())
 }
 

@@ -45,40 +45,53 @@ fn are_types(rt: &impl Abort, found: &[AbiParam], expected: &[Type]) {
     }
 }
 
-// Asserts what a signature takes and returns.
-fn has_types(rt: &impl Abort, tables: &Tables, number: u32, params: &[Type], returns: &[Type]) {
-    let sig = sig(rt, number);
-    are_types(rt, tables.signature_params(sig), params);
-    are_types(rt, tables.signature_returns(sig), returns);
-}
+// Signatures, and what they take and return. One that isn't there takes and returns nothing.
+const SIGNATURES: [(u32, &[Type], &[Type]); 3] = [
+    (0, &[I32, I64], &[F32]),
+    (1, &[], &[I64, I8]),
+    (2, &[], &[]),
+];
 
-fn reads_signatures(rt: &impl Abort, tables: &Tables) {
-    has_types(rt, tables, 0, &[I32, I64], &[F32]);
-    has_types(rt, tables, 1, &[], &[I64, I8]);
-    has_types(rt, tables, 2, &[], &[]);
-    assert!(rt; tables.function_signature(function(rt, 0)) == sig(rt, 1));
-    assert!(rt; tables.function_signature(function(rt, 1)) == sig(rt, 0));
-    assert!(rt; tables.function_signature(function(rt, 2)) == sig(rt, 0));
-}
+// Functions, and their signatures. One that isn't there has the first.
+const FUNCTIONS: [(u32, u32); 3] = [(0, 1), (1, 0), (2, 0)];
 
 #[test]
 fn signatures(rt: HostRuntime) -> Result<(), Fail> {
     let tables = tables(&rt, rt.alloc())?;
-    reads_signatures(&rt, &tables);
+    for (number, params, returns) in SIGNATURES.iter() {
+        let sig = sig(&rt, *number);
+        are_types(&rt, tables.signature_params(sig), params);
+        are_types(&rt, tables.signature_returns(sig), returns);
+    }
+    for (number, expected) in FUNCTIONS.iter() {
+        assert!(rt; tables.function_signature(function(&rt, *number)) == sig(&rt, *expected));
+    }
     Ok(())
 }
 
-// Asserts what an instruction takes and gives.
-fn calls(
-    rt: &impl Abort,
-    tables: &Tables,
-    shape: &InstructionData,
-    params: &[Type],
-    given: &[Type],
-) {
-    are_types(rt, tables.callee_params(shape), params);
-    are_types(rt, tables.given_by_call(shape), given);
+// An instruction, where functions and signatures are told by their numbers.
+enum Call {
+    Function(u32),
+    Indirect(u32),
+    // With the signature of its table.
+    TryFunction(u32, u32),
+    TryIndirect(u32),
+    Trap,
 }
+
+// Instructions, and what they take and give.
+const CALLED: [(Call, &[Type], &[Type]); 7] = [
+    // A call of a function takes and gives what the function's signature says, and so does one of an address by its own.
+    (Call::Function(0), &[], &[I64, I8]),
+    (Call::Function(1), &[I32, I64], &[F32]),
+    (Call::Indirect(1), &[], &[I64, I8]),
+    // A call that may throw takes what the signature of its table says, whatever its function's is, and gives nothing
+    // itself.
+    (Call::TryFunction(0, 0), &[I32, I64], &[]),
+    (Call::TryIndirect(0), &[I32, I64], &[]),
+    (Call::TryIndirect(1), &[], &[]),
+    (Call::Trap, &[], &[]),
+];
 
 // An exception table of a signature, without items.
 fn exception(rt: &impl Abort, alloc: Global, number: u32) -> Result<ExceptionTargets, Fail> {
@@ -88,52 +101,39 @@ fn exception(rt: &impl Abort, alloc: Global, number: u32) -> Result<ExceptionTar
     Ok(ExceptionTargets::new(alloc, ExceptionTableData { sig, normal, items })?)
 }
 
-// A call of a function takes and gives what the function's signature says, and so does one of an address by its own.
-fn reads_calls(rt: &impl Abort, alloc: Global, tables: &Tables) {
-    let first = InstructionData::Call {
-        func_ref: function(rt, 0),
-        args: ValueList::new(alloc),
-    };
-    calls(rt, tables, &first, &[], &[I64, I8]);
-    let second = InstructionData::Call {
-        func_ref: function(rt, 1),
-        args: ValueList::new(alloc),
-    };
-    calls(rt, tables, &second, &[I32, I64], &[F32]);
-    let indirect = InstructionData::CallIndirect {
-        sig_ref: sig(rt, 1),
-        args: ValueList::new(alloc),
-    };
-    calls(rt, tables, &indirect, &[], &[I64, I8]);
-}
-
-// A call that may throw takes what the signature of its table says, whatever its function's is, and gives nothing itself.
-fn reads_try_calls(rt: &impl Abort, alloc: Global, tables: &Tables) -> Result<(), Fail> {
-    let direct = InstructionData::TryCall {
-        func_ref: function(rt, 0),
-        args: ValueList::new(alloc),
-        exception: exception(rt, alloc, 0)?,
-    };
-    calls(rt, tables, &direct, &[I32, I64], &[]);
-    let indirect = InstructionData::TryCallIndirect {
-        args: ValueList::new(alloc),
-        exception: exception(rt, alloc, 0)?,
-    };
-    calls(rt, tables, &indirect, &[I32, I64], &[]);
-    let empty = InstructionData::TryCallIndirect {
-        args: ValueList::new(alloc),
-        exception: exception(rt, alloc, 1)?,
-    };
-    calls(rt, tables, &empty, &[], &[]);
-    Ok(())
+// What an instruction does, with no arguments.
+fn shape_of(rt: &impl Abort, alloc: Global, call: &Call) -> Result<InstructionData, Fail> {
+    Ok(match call {
+        Call::Function(number) => InstructionData::Call {
+            func_ref: function(rt, *number),
+            args: ValueList::new(alloc),
+        },
+        Call::Indirect(number) => InstructionData::CallIndirect {
+            sig_ref: sig(rt, *number),
+            args: ValueList::new(alloc),
+        },
+        Call::TryFunction(number, signature) => InstructionData::TryCall {
+            exception: exception(rt, alloc, *signature)?,
+            func_ref: function(rt, *number),
+            args: ValueList::new(alloc),
+        },
+        Call::TryIndirect(signature) => InstructionData::TryCallIndirect {
+            exception: exception(rt, alloc, *signature)?,
+            args: ValueList::new(alloc),
+        },
+        Call::Trap => InstructionData::Trap {
+            code: TrapCode::HeapOutOfBounds,
+        },
+    })
 }
 
 #[test]
 fn called(rt: HostRuntime) -> Result<(), Fail> {
     let tables = tables(&rt, rt.alloc())?;
-    reads_calls(&rt, rt.alloc(), &tables);
-    reads_try_calls(&rt, rt.alloc(), &tables)?;
-    let code = TrapCode::HeapOutOfBounds;
-    calls(&rt, &tables, &InstructionData::Trap { code }, &[], &[]);
+    for (call, params, given) in CALLED.iter() {
+        let shape = shape_of(&rt, rt.alloc(), call)?;
+        are_types(&rt, tables.callee_params(&shape), params);
+        are_types(&rt, tables.given_by_call(&shape), given);
+    }
     Ok(())
 }

@@ -24,19 +24,23 @@ fn value(rt: &impl Abort, number: u32) -> Value {
     Value::from_u32(number)
 }
 
-// An edge to a block that passes nothing.
-fn plain(rt: &impl Abort, alloc: Global, number: u32) -> Result<BlockCall, BuildError> {
-    BlockCall::new(alloc, block(rt, number), &[])
-}
-
 // An edge to a block that passes this.
-fn passing(
+fn edge(
     rt: &impl Abort,
     alloc: Global,
     number: u32,
-    arg: BlockArg,
+    args: &[BlockArg],
 ) -> Result<BlockCall, BuildError> {
-    BlockCall::new(alloc, block(rt, number), &[arg])
+    BlockCall::new(alloc, block(rt, number), args)
+}
+
+// Edges to these blocks that pass nothing.
+fn plain(rt: &impl Abort, alloc: Global, numbers: &[u32]) -> Result<Vec<BlockCall>, BuildError> {
+    let mut edges = Vec::new(alloc);
+    for number in numbers {
+        edges.push(edge(rt, alloc, *number, &[])?)?;
+    }
+    Ok(edges)
 }
 
 // Puts the target of an edge and what it passes at the end of a text.
@@ -67,11 +71,8 @@ fn are_edges(
 
 // A jump table with default block3(v1) and the entries block1, block3 and block2.
 fn jump_table(rt: &impl Abort, alloc: Global, tables: &mut Tables) -> Result<JumpTable, Fail> {
-    let mut entries = Vec::new(alloc);
-    entries.push(plain(rt, alloc, 1)?)?;
-    entries.push(plain(rt, alloc, 3)?)?;
-    entries.push(plain(rt, alloc, 2)?)?;
-    let default = passing(rt, alloc, 3, BlockArg::Value(value(rt, 1)))?;
+    let default = edge(rt, alloc, 3, &[BlockArg::Value(value(rt, 1))])?;
+    let entries = plain(rt, alloc, &[1, 3, 2])?;
     Ok(tables.create_jump_table(JumpTableData::new(default, entries)?)?)
 }
 
@@ -136,12 +137,12 @@ fn exception_table(
     alloc: Global,
     tables: &mut Tables,
 ) -> Result<ExceptionTable, Fail> {
-    let tagged = passing(rt, alloc, 2, BlockArg::TryCallExn(0))?;
+    let tagged = edge(rt, alloc, 2, &[BlockArg::TryCallExn(0)])?;
     let mut items = Vec::new(alloc);
     items.push(ExceptionTableItem::Tag(1, tagged))?;
-    items.push(ExceptionTableItem::Default(plain(rt, alloc, 4)?))?;
+    items.push(ExceptionTableItem::Default(edge(rt, alloc, 4, &[])?))?;
     items.push(ExceptionTableItem::Context(value(rt, 5)))?;
-    let normal = passing(rt, alloc, 3, BlockArg::TryCallRet(0))?;
+    let normal = edge(rt, alloc, 3, &[BlockArg::TryCallRet(0)])?;
     let sig = SigRef::from_u32(0);
     Ok(tables.create_exception_table(ExceptionTableData { sig, normal, items })?)
 }

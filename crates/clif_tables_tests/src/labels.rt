@@ -1,6 +1,7 @@
 //! The labels of values, which are kept once they are collected.
 #![tactic(auto)]
 
+use Step::{Collect, Has, Set};
 use clif_tables::{Tables, ValueLabelStart};
 use clif_types::{SourceLoc, Value, ValueLabel};
 use std::process::Abort;
@@ -20,64 +21,64 @@ fn start(rt: &impl Abort, from: u32, label: u32) -> ValueLabelStart {
     }
 }
 
-// Gives a value a label from a place on.
-fn set(
-    rt: &impl Abort,
-    tables: &mut Tables,
-    number: u32,
-    from: u32,
-    label: u32,
-) -> Result<(), Fail> {
-    tables.set_val_label(value(rt, number), start(rt, from, label))?;
-    Ok(())
+// A step, where values, places and labels are told by their numbers.
+enum Step {
+    // Collects labels from here on.
+    Collect,
+    // Gives a value a label from a place on.
+    Set(u32, u32, u32),
+    // Finds the labels of a value, each with the place where it begins.
+    Has(u32, &'static [(u32, u32)]),
 }
+
+const STEPS: [Step; 21] = [
+    // A label that is set before labels are collected isn't kept, nor is it afterwards.
+    Set(1, 10, 0),
+    Has(1, &[]),
+    Collect,
+    Has(1, &[]),
+    // The labels of v4, in the order of the calls; between them v1 gets one.
+    Set(4, 12, 1),
+    Set(1, 11, 2),
+    Set(4, 10, 3),
+    Set(4, 12, 1),
+    Has(1, &[(11, 2)]),
+    Has(4, &[(12, 1), (10, 3), (12, 1)]),
+    Has(0, &[]),
+    Has(3, &[]),
+    Has(5, &[]),
+    // Labels go on being kept where they are collected once more.
+    Collect,
+    Has(1, &[(11, 2)]),
+    Has(4, &[(12, 1), (10, 3), (12, 1)]),
+    Has(0, &[]),
+    Has(3, &[]),
+    Has(5, &[]),
+    Set(1, 9, 5),
+    Has(1, &[(11, 2), (9, 5)]),
+];
 
 // Asserts the labels of a value.
-fn has_labels(rt: &impl Abort, tables: &Tables, number: u32, expected: &[ValueLabelStart]) {
-    assert!(rt; tables.value_labels(value(rt, number)) == expected);
-}
-
-// A label that is set before labels are collected isn't kept, nor is it afterwards.
-fn keeps_none(rt: &impl Abort, tables: &mut Tables) -> Result<(), Fail> {
-    set(rt, tables, 1, 10, 0)?;
-    has_labels(rt, tables, 1, &[]);
-    tables.collect_debug_info();
-    has_labels(rt, tables, 1, &[]);
-    Ok(())
-}
-
-// The labels of v4, in the order of the calls; between them v1 gets one.
-fn keeps_order(rt: &impl Abort, tables: &mut Tables) -> Result<(), Fail> {
-    set(rt, tables, 4, 12, 1)?;
-    set(rt, tables, 1, 11, 2)?;
-    set(rt, tables, 4, 10, 3)?;
-    set(rt, tables, 4, 12, 1)?;
-    Ok(())
-}
-
-fn reads(rt: &impl Abort, tables: &Tables) {
-    has_labels(rt, tables, 1, &[start(rt, 11, 2)]);
-    let expected = [start(rt, 12, 1), start(rt, 10, 3), start(rt, 12, 1)];
-    has_labels(rt, tables, 4, &expected);
-    has_labels(rt, tables, 0, &[]);
-    has_labels(rt, tables, 3, &[]);
-    has_labels(rt, tables, 5, &[]);
-}
-
-// Labels go on being kept where they are collected once more.
-fn collects_again(rt: &impl Abort, tables: &mut Tables) -> Result<(), Fail> {
-    tables.collect_debug_info();
-    reads(rt, tables);
-    set(rt, tables, 1, 9, 5)?;
-    has_labels(rt, tables, 1, &[start(rt, 11, 2), start(rt, 9, 5)]);
-    Ok(())
+fn has_labels(rt: &impl Abort, found: &[ValueLabelStart], expected: &[(u32, u32)]) {
+    assert!(rt; found.len() == expected.len());
+    for (found, (from, label)) in found.iter().zip(expected) {
+        assert!(rt; *found == start(rt, *from, *label));
+    }
 }
 
 #[test]
 fn labels(rt: HostRuntime) -> Result<(), Fail> {
     let mut tables = Tables::new(rt.alloc());
-    keeps_none(&rt, &mut tables)?;
-    keeps_order(&rt, &mut tables)?;
-    reads(&rt, &tables);
-    collects_again(&rt, &mut tables)
+    for step in STEPS.iter() {
+        match step {
+            Collect => tables.collect_debug_info(),
+            Set(number, from, label) => {
+                tables.set_val_label(value(&rt, *number), start(&rt, *from, *label))?;
+            }
+            Has(number, expected) => {
+                has_labels(&rt, tables.value_labels(value(&rt, *number)), expected);
+            }
+        }
+    }
+    Ok(())
 }

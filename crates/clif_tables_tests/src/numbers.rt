@@ -12,30 +12,26 @@ use clif_types::{
 use std::process::Abort;
 use std::test::Fail;
 
-// Asserts the number of bytes, which are pooled if they weren't.
-fn pools(rt: &impl Abort, tables: &mut Tables, bytes: &[u8], number: u32) -> Result<(), Fail> {
-    let constant = tables.pool_constant(bytes)?;
-    assert!(rt; constant.as_u32() == number);
-    Ok(())
-}
-
-// Equal bytes get one number, other bytes the next one, no bytes as well.
-fn pools_each(rt: &impl Abort, tables: &mut Tables) -> Result<(), Fail> {
-    pools(rt, tables, &[1, 2], 0)?;
-    pools(rt, tables, &[2, 1], 1)?;
-    pools(rt, tables, &[1, 2], 0)?;
-    pools(rt, tables, &[], 2)?;
-    pools(rt, tables, &[1], 3)?;
-    pools(rt, tables, &[2, 1], 1)?;
-    pools(rt, tables, &[], 2)?;
-    assert!(rt; tables.constant_count() == 4);
-    Ok(())
-}
+// Bytes that are pooled, and their numbers: equal bytes get one number, other bytes the next one, no bytes as well.
+const POOLED: [(&[u8], u32); 7] = [
+    (&[1, 2], 0),
+    (&[2, 1], 1),
+    (&[1, 2], 0),
+    (&[], 2),
+    (&[1], 3),
+    (&[2, 1], 1),
+    (&[], 2),
+];
 
 #[test]
 fn pooling(rt: HostRuntime) -> Result<(), Fail> {
     let mut tables = Tables::new(rt.alloc());
-    pools_each(&rt, &mut tables)
+    for (bytes, number) in POOLED.iter() {
+        let constant = tables.pool_constant(bytes)?;
+        assert!(rt; constant.as_u32() == *number);
+    }
+    assert!(rt; tables.constant_count() == 4);
+    Ok(())
 }
 
 // Asserts how many entries there are: of stack slots of both kinds, global values, signatures, functions and constants.

@@ -1,6 +1,7 @@
 //! The stack maps of instructions.
 #![tactic(auto)]
 
+use Step::{Has, Set};
 use clif_tables::Tables;
 use clif_types::types::{I32, I64};
 use clif_types::{Inst, StackSlot, Type, UserStackMapEntry};
@@ -13,7 +14,10 @@ fn inst(rt: &impl Abort, number: u32) -> Inst {
     Inst::from_u32(number)
 }
 
-fn entry(rt: &impl Abort, ty: Type, slot: u32, offset: u32) -> UserStackMapEntry {
+// An entry: its type, the number of its slot and its offset.
+type Entry = (Type, u32, u32);
+
+fn entry(rt: &impl Abort, (ty, slot, offset): Entry) -> UserStackMapEntry {
     assert!(rt; slot < 1000);
     UserStackMapEntry {
         ty,
@@ -22,55 +26,66 @@ fn entry(rt: &impl Abort, ty: Type, slot: u32, offset: u32) -> UserStackMapEntry
     }
 }
 
-// Gives an instruction a stack map.
-fn set(
+// A step, where instructions are told by their numbers.
+enum Step {
+    // Gives an instruction a stack map.
+    Set(u32, &'static [Entry]),
+    // Finds the stack map of an instruction.
+    Has(u32, &'static [Entry]),
+}
+
+const ONE: &[Entry] = &[(I64, 0, 0)];
+
+const TWO: &[Entry] = &[(I32, 1, 4), (I64, 0, 8)];
+
+const OTHER: &[Entry] = &[(I32, 2, 16), (I32, 2, 20)];
+
+const STEPS: [Step; 14] = [
+    // Two instructions get stack maps, the later one first. Others, on each side of them, have none.
+    Has(7, &[]),
+    Set(7, ONE),
+    Set(3, TWO),
+    Has(3, TWO),
+    Has(7, ONE),
+    Has(0, &[]),
+    Has(5, &[]),
+    Has(8, &[]),
+    // A stack map takes the place of the one that was there, and of no other.
+    Set(7, OTHER),
+    Has(7, OTHER),
+    Has(3, TWO),
+    Set(3, &[]),
+    Has(3, &[]),
+    Has(7, OTHER),
+];
+
+// A stack map of these entries.
+fn stack_map(
     rt: &impl Abort,
     alloc: Global,
-    tables: &mut Tables,
-    number: u32,
-    entries: &[UserStackMapEntry],
-) -> Result<(), Fail> {
-    let map = Vec::from_slice(alloc, entries)?;
-    tables.set_stack_map(inst(rt, number), map)?;
-    Ok(())
-}
-
-// Asserts the stack map of an instruction.
-fn has_map(rt: &impl Abort, tables: &Tables, number: u32, expected: &[UserStackMapEntry]) {
-    assert!(rt; tables.stack_map(inst(rt, number)) == expected);
-}
-
-// Two instructions get stack maps, the later one first. Others, on each side of them, have none.
-fn sets(rt: &impl Abort, alloc: Global, tables: &mut Tables) -> Result<(), Fail> {
-    has_map(rt, tables, 7, &[]);
-    let one = [entry(rt, I64, 0, 0)];
-    let two = [entry(rt, I32, 1, 4), entry(rt, I64, 0, 8)];
-    set(rt, alloc, tables, 7, &one)?;
-    set(rt, alloc, tables, 3, &two)?;
-    has_map(rt, tables, 3, &two);
-    has_map(rt, tables, 7, &one);
-    has_map(rt, tables, 0, &[]);
-    has_map(rt, tables, 5, &[]);
-    has_map(rt, tables, 8, &[]);
-    Ok(())
-}
-
-// A stack map takes the place of the one that was there, and of no other.
-fn replaces(rt: &impl Abort, alloc: Global, tables: &mut Tables) -> Result<(), Fail> {
-    let two = [entry(rt, I32, 1, 4), entry(rt, I64, 0, 8)];
-    let other = [entry(rt, I32, 2, 16), entry(rt, I32, 2, 20)];
-    set(rt, alloc, tables, 7, &other)?;
-    has_map(rt, tables, 7, &other);
-    has_map(rt, tables, 3, &two);
-    set(rt, alloc, tables, 3, &[])?;
-    has_map(rt, tables, 3, &[]);
-    has_map(rt, tables, 7, &other);
-    Ok(())
+    entries: &[Entry],
+) -> Result<Vec<UserStackMapEntry>, Fail> {
+    let mut map = Vec::new(alloc);
+    for of_map in entries {
+        map.push(entry(rt, *of_map))?;
+    }
+    Ok(map)
 }
 
 #[test]
 fn stack_maps(rt: HostRuntime) -> Result<(), Fail> {
     let mut tables = Tables::new(rt.alloc());
-    sets(&rt, rt.alloc(), &mut tables)?;
-    replaces(&rt, rt.alloc(), &mut tables)
+    for step in STEPS.iter() {
+        match step {
+            Set(number, entries) => {
+                let map = stack_map(&rt, rt.alloc(), entries)?;
+                tables.set_stack_map(inst(&rt, *number), map)?;
+            }
+            Has(number, entries) => {
+                let expected = stack_map(&rt, rt.alloc(), entries)?;
+                assert!(rt; tables.stack_map(inst(&rt, *number)) == expected.as_slice());
+            }
+        }
+    }
+    Ok(())
 }

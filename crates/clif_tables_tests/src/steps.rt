@@ -61,6 +61,10 @@ fn signature(alloc: Global, params: &[Type], returns: &[Type]) -> Result<Signatu
     Ok(made)
 }
 
+fn testcase(alloc: Global, name: &str) -> Result<ExternalName, AllocError> {
+    Ok(ExternalName::testcase(String::from_str(alloc, name)?))
+}
+
 // Imports a function, where the signature may not exist.
 fn import_function(
     rt: &impl Abort,
@@ -81,27 +85,6 @@ fn import_function(
         patchable,
     })?;
     Ok(())
-}
-
-fn import_named(
-    rt: &impl Abort,
-    alloc: Global,
-    tables: &mut Tables,
-    name: &str,
-    signature: u32,
-    marks: Marks,
-) -> Result<(), BuildError> {
-    let name = ExternalName::testcase(String::from_str(alloc, name)?);
-    import_function(rt, tables, name, signature, marks)
-}
-
-fn import_library(
-    rt: &impl Abort,
-    tables: &mut Tables,
-    call: LibCall,
-    signature: u32,
-) -> Result<(), BuildError> {
-    import_function(rt, tables, ExternalName::LibCall(call), signature, UNMARKED)
 }
 
 fn import_signature(
@@ -130,14 +113,8 @@ fn create_dynamic_slot(tables: &mut Tables, dyn_ty: u32) -> Result<(), BuildErro
     Ok(())
 }
 
-fn create_context(tables: &mut Tables) -> Result<(), BuildError> {
-    tables.create_global_value(GlobalValueData::VMContext)?;
-    Ok(())
-}
-
-fn create_symbol(alloc: Global, tables: &mut Tables, name: &str) -> Result<(), BuildError> {
-    let name = ExternalName::testcase(String::from_str(alloc, name)?);
-    tables.create_global_value(GlobalValueData::Symbol(name))?;
+fn create_global(tables: &mut Tables, data: GlobalValueData) -> Result<(), BuildError> {
+    tables.create_global_value(data)?;
     Ok(())
 }
 
@@ -161,12 +138,18 @@ fn make(
     match step {
         Step::Slot(size, align_shift) => create_slot(rt, tables, size, align_shift),
         Step::DynamicSlot(dyn_ty) => create_dynamic_slot(tables, dyn_ty),
-        Step::Context => create_context(tables),
-        Step::Symbol(name) => create_symbol(alloc, tables, name),
+        Step::Context => create_global(tables, GlobalValueData::VMContext),
+        Step::Symbol(name) => {
+            create_global(tables, GlobalValueData::Symbol(testcase(alloc, name)?))
+        }
         Step::Region(user_id) => add_region(tables, user_id),
         Step::Import(params, returns) => import_signature(alloc, tables, params, returns),
-        Step::Function(name, sig, marks) => import_named(rt, alloc, tables, name, sig, marks),
-        Step::Library(call, sig) => import_library(rt, tables, call, sig),
+        Step::Function(name, sig, marks) => {
+            import_function(rt, tables, testcase(alloc, name)?, sig, marks)
+        }
+        Step::Library(call, sig) => {
+            import_function(rt, tables, ExternalName::LibCall(call), sig, UNMARKED)
+        }
         Step::Bytes(bytes) => pool(tables, bytes),
     }
 }
