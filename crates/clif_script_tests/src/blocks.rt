@@ -1,31 +1,10 @@
 //! Scripts whose functions have several blocks, and their texts: layout, parameters, changed branches and try calls.
 #![tactic(auto)]
 
-use crate::support::gives;
-use std::test::Fail;
-
-const SCRIPTS: [(&str, &str); 9] = [
-    (BOTH_ARMS, BOTH_ARMS_TEXT),
-    (DIFFERENCE, DIFFERENCE_TEXT),
-    (BEHIND, BEHIND_TEXT),
-    (SAME, SAME_TEXT),
-    (PASSED, PASSED_TEXT),
-    (RETURNED, RETURNED_TEXT),
-    (ENTRY, ENTRY_TEXT),
-    (MEET, MEET_TEXT),
-    (FORMS, FORMS_TEXT),
-];
-
-#[test]
-fn blocks(rt: HostRuntime) -> Result<(), Fail> {
-    for (script, text) in SCRIPTS.iter() {
-        gives(&rt, rt.alloc(), script.as_bytes(), 0, text, "")?;
-    }
-    Ok(())
-}
-
-// The row of this name, with its last block cold: the header of a cold block says so.
-const BOTH_ARMS: &str = "\
+/// Scripts, and the texts of their functions.
+pub const FUNCTIONS: &[&str] = &[
+    // The row of this name, with its last block cold: the header of a cold block says so.
+    "\
 function %both_arms () -> i32 system_v
 x = declare_var i32
 block0 = create_block
@@ -53,9 +32,7 @@ seal_block block3
 value = use_var x
 return value
 seal_block block0
-";
-
-const BOTH_ARMS_TEXT: &str = "\
+ => \
 function %both_arms() -> i32 system_v {
 block0:
     v0 = iconst.i32 5
@@ -72,10 +49,9 @@ block2:
 block3 cold:
     return v1
 }
-";
-
-// A difference keeps the order of its operands. Its block is put into the layout before anything is in it.
-const DIFFERENCE: &str = "\
+",
+    // A difference keeps the order of its operands. Its block is put into the layout before anything is in it.
+    "\
 function %difference () -> i32 system_v
 b = create_block
 switch_to_block b
@@ -85,9 +61,7 @@ v1 = iconst.i32 1
 v2 = isub v0 v1
 return v2
 seal_block b
-";
-
-const DIFFERENCE_TEXT: &str = "\
+ => \
 function %difference() -> i32 system_v {
 block0:
     v0 = iconst.i32 3
@@ -95,10 +69,9 @@ block0:
     v2 = isub v0, v1  ; v0 = 3, v1 = 1
     return v2
 }
-";
-
-// A block that was put behind the entry stays there, whichever is filled first.
-const BEHIND: &str = "\
+",
+    // A block that was put behind the entry stays there, whichever is filled first.
+    "\
 function %behind () -> i32 system_v
 block0 = create_block
 block1 = create_block
@@ -115,9 +88,7 @@ seal_block block2
 v1 = iconst.i32 2
 return v1
 seal_block block0
-";
-
-const BEHIND_TEXT: &str = "\
+ => \
 function %behind() -> i32 system_v {
 block0:
     jump block1
@@ -130,27 +101,23 @@ block1:
     v0 = iconst.i32 1
     return v0  ; v0 = 1
 }
-";
-
-// The entry has the function's parameters.
-const SAME: &str = "\
+",
+    // The entry has the function's parameters.
+    "\
 function %same (i32) -> i32 system_v
 b = create_block
 x = append_block_params_for_function_params b
 switch_to_block b
 seal_block b
 return x
-";
-
-const SAME_TEXT: &str = "\
+ => \
 function %same(i32) -> i32 system_v {
 block0(v0: i32):
     return v0
 }
-";
-
-// A block has a parameter that a branch passes; it gets its number first.
-const PASSED: &str = "\
+",
+    // A block has a parameter that a branch passes; it gets its number first.
+    "\
 function %passed () -> i32 system_v
 entry = create_block
 last = create_block
@@ -162,9 +129,7 @@ jump last(one)
 switch_to_block last
 seal_block last
 return taken
-";
-
-const PASSED_TEXT: &str = "\
+ => \
 function %passed() -> i32 system_v {
 block0:
     v1 = iconst.i32 1
@@ -173,10 +138,9 @@ block0:
 block1(v0: i32):
     return v0
 }
-";
-
-// The same with the types that the function returns.
-const RETURNED: &str = "\
+",
+    // The same with the types that the function returns.
+    "\
 function %passed () -> i32 system_v
 entry = create_block
 last = create_block
@@ -188,13 +152,19 @@ jump last(one)
 switch_to_block last
 seal_block last
 return taken
-";
+ => \
+function %passed() -> i32 system_v {
+block0:
+    v1 = iconst.i32 1
+    jump block1(v1)  ; v1 = 1
 
-const RETURNED_TEXT: &str = PASSED_TEXT;
-
-// A branch leads to the entry while it is unsealed, and is changed before that is sealed: the variable that was read in the
-// other block, by then sealed, is what the entry assigned.
-const ENTRY: &str = "\
+block1(v0: i32):
+    return v0
+}
+",
+    // A branch leads to the entry while it is unsealed, and is changed before that is sealed: the variable that was read in the
+    // other block, by then sealed, is what the entry assigned.
+    "\
 function %entry () -> i32 system_v
 entry = create_block
 reader = create_block
@@ -212,9 +182,7 @@ change_jump_destination @branch entry last
 switch_to_block last
 return x
 seal_all_blocks
-";
-
-const ENTRY_TEXT: &str = "\
+ => \
 function %entry() -> i32 system_v {
 block0:
     v0 = iconst.i32 1
@@ -227,11 +195,10 @@ block1:
 block2:
     return v0  ; v0 = 1
 }
-";
-
-// Both edges of a try call lead to a block that uses a variable, and so does a jump with another value of it: the call is one
-// of two predecessors, so the variable's parameter stays, and the call passes its value along both edges.
-const MEET: &str = "\
+",
+    // Both edges of a try call lead to a block that uses a variable, and so does a jump with another value of it: the call is one
+    // of two predecessors, so the variable's parameter stays, and the call passes its value along both edges.
+    "\
 function %meet (i64) -> i64 system_v
 s = import_signature (i64) -> i32 system_v
 f = import_function %f s
@@ -261,9 +228,7 @@ switch_to_block meeting
 seal_block meeting
 met = use_var variable
 return met
-";
-
-const MEET_TEXT: &str = "\
+ => \
 function %meet(i64) -> i64 system_v {
     sig0 = (i64) -> i32 system_v
     fn0 = %f sig0
@@ -282,11 +247,10 @@ block2:
 block3(v3: i32):
     return v3
 }
-";
-
-// The forms of a try call: a tag, a default and a context, in the order in which they were given; and a call of what is at an
-// address, with no items.
-const FORMS: &str = "\
+",
+    // The forms of a try call: a tag, a default and a context, in the order in which they were given; and a call of what is at an
+    // address, with no items.
+    "\
 function %forms (i64) -> i64 system_v
 s = import_signature (i64) -> i32 system_v
 f = import_function %f s
@@ -314,9 +278,7 @@ normal = block_call returned(ret0)
 u = create_exception_table s normal
 try_call_indirect address (x) u
 seal_all_blocks
-";
-
-const FORMS_TEXT: &str = "\
+ => \
 function %forms(i64) -> i64 system_v {
     sig0 = (i64) -> i32 system_v
     fn0 = %f sig0
@@ -327,4 +289,5 @@ block0(v0: i64, v1: i64, v2: i64, v3: i64, v4: i64, v5: i64, v6: i64, v7: i64):
 block1:
     try_call_indirect v1(v7), sig0, block3(ret0), []
 }
-";
+",
+];

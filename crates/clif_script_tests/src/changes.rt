@@ -2,10 +2,13 @@
 //! builder's call.
 #![tactic(auto)]
 
-use crate::support::{faults, gives, rewritten};
-use std::test::Fail;
+use crate::support::Row;
 
-const TABLE: &str = "\
+/// Scripts, and the texts of their functions.
+pub const FUNCTIONS: &[&str] = &[
+    // All edges of the table lead to block2, which the branch is one predecessor of: x is no parameter there. None leads to
+    // block1, so that it may have the function's parameters.
+    "\
 function %changed_table (i32) -> i32 system_v
 x = declare_var i32
 block0 = create_block
@@ -28,11 +31,7 @@ value = use_var x
 sum = iadd value index
 return sum
 seal_all_blocks
-";
-
-// All edges of the table lead to block2, which the branch is one predecessor of: x is no parameter there. None leads to
-// block1, so that it may have the function's parameters.
-const TABLE_TEXT: &str = "\
+ => \
 function %changed_table(i32) -> i32 system_v {
 block0(v0: i32):
     v1 = iconst.i32 7
@@ -42,9 +41,9 @@ block2:
     v3 = iadd.i32 v1, v0  ; v1 = 7
     return v3
 }
-";
-
-const PASSING: &str = "\
+",
+    // Each edge passes what it passed. A change to the same block changes nothing.
+    "\
 function %passing (i32, i32) -> i32 system_v
 block0 = create_block
 block1 = create_block
@@ -61,10 +60,7 @@ seal_block block2
 switch_to_block block2
 return b
 seal_all_blocks
-";
-
-// Each edge passes what it passed. A change to the same block changes nothing.
-const PASSING_TEXT: &str = "\
+ => \
 function %passing(i32, i32) -> i32 system_v {
 block0(v0: i32, v1: i32):
     brif v0, block2(v0), block2(v1)
@@ -72,9 +68,9 @@ block0(v0: i32, v1: i32):
 block2(v3: i32):
     return v3
 }
-";
-
-const ENTRY_LEFT: &str = "\
+",
+    // A branch led to the entry while that was unsealed. What was read then is what the entry assigned.
+    "\
 function %entry_left (i32) -> i32 system_v
 x = declare_var i32
 block0 = create_block
@@ -93,10 +89,7 @@ change_jump_destination @branch block0 block2
 switch_to_block block2
 return choice
 seal_all_blocks
-";
-
-// A branch led to the entry while that was unsealed. What was read then is what the entry assigned.
-const ENTRY_LEFT_TEXT: &str = "\
+ => \
 function %entry_left(i32) -> i32 system_v {
 block0(v0: i32):
     v1 = iconst.i32 7
@@ -109,100 +102,47 @@ block1:
 block2:
     return v0
 }
-";
+",
+];
 
-#[test]
-fn changed(rt: HostRuntime) -> Result<(), Fail> {
-    for (script, text) in [
-        (TABLE, TABLE_TEXT),
-        (PASSING, PASSING_TEXT),
-        (ENTRY_LEFT, ENTRY_LEFT_TEXT),
-    ] {
-        gives(&rt, rt.alloc(), script.as_bytes(), 0, text, "")?;
-    }
-    Ok(())
-}
+/// The calls before the last one of `MISUSES_BEHIND`, and its name.
+pub const HEAD: &str =
+    "a = create_block\nb = create_block\nc = create_block\nx = append_block_param a i32\nswitch_to_block a\n@j = jump b\nchange_jump_destination ";
 
-const JUMP: &str =
-    "a = create_block\nb = create_block\nc = create_block\nx = append_block_param a i32\nswitch_to_block a\n@j = jump b";
-
-// What is told of the line behind these, which is the seventh.
-const MISUSES: [(&str, &str); 9] = [
+/// What else the last line says, and what is told of it.
+pub const MISUSES_BEHIND: &[&str] = &[
     // a call that answers nothing, a result that an instruction hasn't, a block and a value
-    ("$4.0 b c", "$4.0 is no instruction"),
-    ("$5.1 b c", "$5.1 is no instruction"),
-    ("a b c", "$0.0 is no instruction"),
-    ("x b c", "$3.0 is no instruction"),
-    ("@j x c", "$3.0 is no block"),
-    ("@j b x", "$3.0 is no block"),
-    ("@j b $7.0", "$7.0 is no block"),
-    ("@j c b", "$5.0 doesn't lead to block2"),
-    ("@j a b", "$5.0 doesn't lead to block0"),
+    "$4.0 b c\n => $4.0 is no instruction",
+    "$5.1 b c\n => $5.1 is no instruction",
+    "a b c\n => $0.0 is no instruction",
+    "x b c\n => $3.0 is no instruction",
+    "@j x c\n => $3.0 is no block",
+    "@j b x\n => $3.0 is no block",
+    "@j b $7.0\n => $7.0 is no block",
+    "@j c b\n => $5.0 doesn't lead to block2",
+    "@j a b\n => $5.0 doesn't lead to block0",
 ];
 
-#[test]
-fn misuses(rt: HostRuntime) -> Result<(), Fail> {
-    let alloc = rt.alloc();
-    for (words, told) in MISUSES.iter() {
-        let script = format!(in alloc; "{JUMP}\nchange_jump_destination {words}\n")?;
-        let err = format!(in alloc;
-            "misuse at call 6\nline 7: change_jump_destination {words}: {told}\n"
-        )?;
-        gives(&rt, alloc, script.as_bytes(), 1, "", err.as_str())?;
-    }
-    Ok(())
-}
-
-const LATER_MISUSES: [(&str, &str); 8] = [
+/// Scripts, and what is told of the last line of each.
+pub const MISUSES: &[&str] = &[
     // a block that is sealed
-    (
-        "a = create_block\nb = create_block\nc = create_block\nseal_block c\nswitch_to_block a\n@j = jump b\nchange_jump_destination @j b c",
-        "misuse at call 6\nline 7: change_jump_destination @j b c: block2 is sealed\n",
-    ),
-    (
-        "a = create_block\nb = create_block\nc = create_block\nswitch_to_block a\n@j = jump b\nseal_block b\nchange_jump_destination @j b c",
-        "misuse at call 6\nline 7: change_jump_destination @j b c: block1 is sealed\n",
-    ),
-    (
-        "a = create_block\nb = create_block\nswitch_to_block a\n@j = jump b\nseal_block b\nchange_jump_destination @j b b",
-        "misuse at call 5\nline 6: change_jump_destination @j b b: block1 is sealed\n",
-    ),
+    "a = create_block\nb = create_block\nc = create_block\nseal_block c\nswitch_to_block a\n@j = jump b\nchange_jump_destination @j b c => block2 is sealed",
+    "a = create_block\nb = create_block\nc = create_block\nswitch_to_block a\n@j = jump b\nseal_block b\nchange_jump_destination @j b c => block1 is sealed",
+    "a = create_block\nb = create_block\nswitch_to_block a\n@j = jump b\nseal_block b\nchange_jump_destination @j b b => block1 is sealed",
     // an instruction that is no branch
-    (
-        "a = create_block\nb = create_block\nswitch_to_block a\n@i = iconst.i32 1\nchange_jump_destination @i b a",
-        "misuse at call 4\nline 5: change_jump_destination @i b a: $3.0 doesn't lead to block1\n",
-    ),
+    "a = create_block\nb = create_block\nswitch_to_block a\n@i = iconst.i32 1\nchange_jump_destination @i b a => $3.0 doesn't lead to block1",
     // an outside call
-    (
-        "s = import_signature () fast\nf = import_function %f s\na = create_block\nb = create_block\nswitch_to_block a\n@c = call f\nchange_jump_destination @c b a",
-        "misuse at call 6\nline 7: change_jump_destination @c b a: $5.0 doesn't lead to block1\n",
-    ),
+    "s = import_signature () fast\nf = import_function %f s\na = create_block\nb = create_block\nswitch_to_block a\n@c = call f\nchange_jump_destination @c b a => $5.0 doesn't lead to block1",
     // a branch that leads there no longer
-    (
-        "a = create_block\nb = create_block\nc = create_block\nswitch_to_block a\n@j = jump b\nchange_jump_destination @j b c\nchange_jump_destination @j b c",
-        "misuse at call 6\nline 7: change_jump_destination @j b c: $4.0 doesn't lead to block1\n",
-    ),
+    "a = create_block\nb = create_block\nc = create_block\nswitch_to_block a\n@j = jump b\nchange_jump_destination @j b c\nchange_jump_destination @j b c => $4.0 doesn't lead to block1",
     // a block to which a branch leads from then on
-    (
-        "a = create_block\nb = create_block\nc = create_block\nswitch_to_block a\n@j = jump b\nchange_jump_destination @j b c\nappend_block_params_for_function_params c",
-        "misuse at call 6\nline 7: append_block_params_for_function_params c: block2 has a predecessor\n",
-    ),
+    "a = create_block\nb = create_block\nc = create_block\nswitch_to_block a\n@j = jump b\nchange_jump_destination @j b c\nappend_block_params_for_function_params c => block2 has a predecessor",
     // one that is unreachable from then on may be left, and not before
-    (
-        "a = create_block\nb = create_block\nc = create_block\nswitch_to_block a\n@j = jump b\nswitch_to_block b\niconst.i32 1\nswitch_to_block c",
-        "misuse at call 7\nline 8: switch_to_block c: block1 isn't filled yet\n",
-    ),
+    "a = create_block\nb = create_block\nc = create_block\nswitch_to_block a\n@j = jump b\nswitch_to_block b\niconst.i32 1\nswitch_to_block c => block1 isn't filled yet",
 ];
 
-#[test]
-fn later_misuses(rt: HostRuntime) -> Result<(), Fail> {
-    for (script, err) in LATER_MISUSES.iter() {
-        gives(&rt, rt.alloc(), script.as_bytes(), 1, "", err)?;
-    }
-    Ok(())
-}
-
-const LEFT: &str = "\
+/// The block that isn't filled is left, and told by `finalize`.
+pub const LEFT: &str = "\
 a = create_block
 b = create_block
 c = create_block
@@ -214,43 +154,28 @@ change_jump_destination @j b c
 seal_block b
 switch_to_block c
 return
+ => refused at call 11
+at the end
 ";
 
-// The block that isn't filled is left, and told by `finalize`.
-#[test]
-fn left(rt: HostRuntime) -> Result<(), Fail> {
-    gives(
-        &rt,
-        rt.alloc(),
-        LEFT.as_bytes(),
-        1,
-        "",
-        "refused at call 11\nat the end\n",
-    )
-}
-
-const FAULTS: [(&str, &str); 10] = [
-    ("change_jump_destination", "expected an instruction"),
-    ("change_jump_destination ( b b", "expected an instruction"),
-    ("change_jump_destination @ b b", "expected an instruction"),
-    ("change_jump_destination @i b b", "unknown name: i"),
-    ("change_jump_destination i b b", "unknown name: i"),
-    ("change_jump_destination @@b b b", "expected an instruction"),
-    ("change_jump_destination $0.0", "expected a block"),
-    ("change_jump_destination $0.0 b", "expected a block"),
-    (
-        "change_jump_destination @b b b b",
-        "expected the end of the line",
-    ),
-    ("a = change_jump_destination b b b", "expected no names"),
+/// Lines that are no calls, and what is told of each.
+pub const FAULTS: &[&str] = &[
+    "change_jump_destination => expected an instruction",
+    "change_jump_destination ( b b => expected an instruction",
+    "change_jump_destination @ b b => expected an instruction",
+    "change_jump_destination @i b b => unknown name: i",
+    "change_jump_destination i b b => unknown name: i",
+    "change_jump_destination @@b b b => expected an instruction",
+    "change_jump_destination $0.0 => expected a block",
+    "change_jump_destination $0.0 b => expected a block",
+    "change_jump_destination @b b b b => expected the end of the line",
+    "a = change_jump_destination b b b => expected no names",
 ];
 
-#[test]
-fn lines(rt: HostRuntime) -> Result<(), Fail> {
-    faults(&rt, rt.alloc(), &FAULTS)
-}
-
-const WRITTEN: &str = "\
+/// A script, and what its calls are written as.
+pub const WRITTEN: Row = (
+    "a = create_block\nb = create_block\nc = create_block\nswitch_to_block a\n@j = jump b\nchange_jump_destination @j b c\nchange_jump_destination j c b\n",
+    "\
 function u0:0 () fast
 pointer 64
 conv system_v
@@ -261,15 +186,5 @@ switch_to_block $0.0
 jump $1.0()
 change_jump_destination $4.0 $1.0 $2.0
 change_jump_destination $4.0 $2.0 $1.0
-";
-
-#[test]
-fn written(rt: HostRuntime) -> Result<(), Fail> {
-    let names =
-        "a = create_block\nb = create_block\nc = create_block\nswitch_to_block a\n@j = jump b\nchange_jump_destination @j b c\nchange_jump_destination j c b\n";
-    for script in [names, WRITTEN] {
-        let text = rewritten(rt.alloc(), script)?;
-        assert!(rt; text.as_str() == WRITTEN);
-    }
-    Ok(())
-}
+",
+);

@@ -2,10 +2,8 @@
 //! `iconst` at the type of the operand, and at 128 bits a `sextend` of one of 64.
 #![tactic(auto)]
 
-use crate::support::{faults, gives, rewritten};
-use std::test::Fail;
-
-const CONSTANTS: &str = "\
+/// Sums and comparisons.
+pub const SCRIPT: &str = "\
 function %constants (i32, i128) -> i32, i8, i128, i8 system_v
 entry = create_block
 x, w = append_block_params_for_function_params entry
@@ -18,8 +16,8 @@ d = icmp_imm_s uge c, 0x1_0
 return a b c d
 seal_block entry";
 
-// Each makes its constant anew, and answers its value alone.
-const CONSTANTS_TEXT: &str = "\
+/// Each makes its constant anew, and answers its value alone.
+pub const TEXT: &str = "\
 function %constants(i32, i128) -> i32, i8, i128, i8 system_v {
 block0(v0: i32, v1: i128):
     v2 = iconst.i32 -5
@@ -39,12 +37,8 @@ block0(v0: i32, v1: i128):
 }
 ";
 
-#[test]
-fn with_constants(rt: HostRuntime) -> Result<(), Fail> {
-    gives(&rt, rt.alloc(), CONSTANTS.as_bytes(), 0, CONSTANTS_TEXT, "")
-}
-
-const WRITTEN: &str = "\
+/// What its calls are written as.
+pub const WRITTEN: &str = "\
 function %constants (i32, i128) -> i32, i8, i128, i8 system_v
 pointer 64
 conv system_v
@@ -60,92 +54,39 @@ return $3.0 $4.0 $5.0 $7.0
 seal_block $0.0
 ";
 
-#[test]
-fn with_constants_written(rt: HostRuntime) -> Result<(), Fail> {
-    for script in [CONSTANTS, WRITTEN] {
-        let text = rewritten(rt.alloc(), script)?;
-        assert!(rt; text.as_str() == WRITTEN);
-    }
-    Ok(())
-}
-
-const MISUSES: [(&str, &str); 8] = [
+/// Scripts, and what is told of the last line of each.
+pub const MISUSES: &[&str] = &[
     // no open block
-    (
-        "iadd_imm_s $0.0 1",
-        "misuse at call 0\nline 1: iadd_imm_s $0.0 1: no block is current\n",
-    ),
-    (
-        "b = create_block\nx = append_block_param b i8\nswitch_to_block b\nreturn\nicmp_imm_s eq x 1",
-        "misuse at call 4\nline 5: icmp_imm_s eq x 1: block0 is filled\n",
-    ),
+    "iadd_imm_s $0.0 1 => no block is current",
+    "b = create_block\nx = append_block_param b i8\nswitch_to_block b\nreturn\nicmp_imm_s eq x 1 => block0 is filled",
     // names that lead to no value
-    (
-        "b = create_block\nswitch_to_block b\niadd_imm_s b 1",
-        "misuse at call 2\nline 3: iadd_imm_s b 1: $0.0 is no value\n",
-    ),
-    (
-        "b = create_block\nswitch_to_block b\nicmp_imm_s eq $2.0 1",
-        "misuse at call 2\nline 3: icmp_imm_s eq $2.0 1: $2.0 is no value\n",
-    ),
+    "b = create_block\nswitch_to_block b\niadd_imm_s b 1 => $0.0 is no value",
+    "b = create_block\nswitch_to_block b\nicmp_imm_s eq $2.0 1 => $2.0 is no value",
     // it answers its value as answer 0, and no instruction
-    (
-        "b = create_block\nx = append_block_param b i8\nswitch_to_block b\niadd_imm_s x 1\nreturn $3.1",
-        "misuse at call 4\nline 5: return $3.1: $3.1 is no value\n",
-    ),
+    "b = create_block\nx = append_block_param b i8\nswitch_to_block b\niadd_imm_s x 1\nreturn $3.1 => $3.1 is no value",
     // operands that are no integers
-    (
-        "b = create_block\nx = append_block_param b f32\nswitch_to_block b\niadd_imm_s x 1",
-        "misuse at call 3\nline 4: iadd_imm_s x 1: $1.0 is no integer\n",
-    ),
-    (
-        "b = create_block\nx = append_block_param b i32x4\nswitch_to_block b\nicmp_imm_s eq x 1",
-        "misuse at call 3\nline 4: icmp_imm_s eq x 1: $1.0 is no integer\n",
-    ),
+    "b = create_block\nx = append_block_param b f32\nswitch_to_block b\niadd_imm_s x 1 => $1.0 is no integer",
+    "b = create_block\nx = append_block_param b i32x4\nswitch_to_block b\nicmp_imm_s eq x 1 => $1.0 is no integer",
     // a comparison answers an I8
-    (
-        "b = create_block\nx = append_block_param b i64\nV = declare_var i64\nswitch_to_block b\ny = icmp_imm_s eq x 1\ndef_var V y",
-        "misuse at call 5\nline 6: def_var V y: the variable has type i64, and the value i8\n",
-    ),
+    "b = create_block\nx = append_block_param b i64\nV = declare_var i64\nswitch_to_block b\ny = icmp_imm_s eq x 1\ndef_var V y => the variable has type i64, and the value i8",
 ];
 
-#[test]
-fn with_constants_misuses(rt: HostRuntime) -> Result<(), Fail> {
-    for (script, err) in MISUSES.iter() {
-        gives(&rt, rt.alloc(), script.as_bytes(), 1, "", err)?;
-    }
-    Ok(())
-}
-
-const FAULTS: [(&str, &str); 16] = [
-    ("iadd_imm_s", "expected a value"),
-    ("iadd_imm_s x 1", "unknown name: x"),
-    ("iadd_imm_s $0.0", "expected a number of 64 bits"),
-    ("iadd_imm_s $0.0 $0.0", "expected a number of 64 bits"),
-    (
-        "iadd_imm_s $0.0 18446744073709551616",
-        "expected a number of 64 bits",
-    ),
-    (
-        "iadd_imm_s $0.0 -9223372036854775809",
-        "expected a number of 64 bits",
-    ),
-    ("iadd_imm_s $0.0 1 2", "expected the end of the line"),
-    ("iadd_imm_s.i32 $0.0 1", "unknown call: iadd_imm_s.i32"),
-    ("icmp_imm_s", "expected a condition"),
-    ("icmp_imm_s lt $0.0 1", "expected a condition"),
-    ("icmp_imm_s $0.0 1", "expected a condition"),
-    ("icmp_imm_s eq", "expected a value"),
-    ("icmp_imm_s eq $0.0", "expected a number of 64 bits"),
-    ("@i = iadd_imm_s $0.0 1", "expected a name"),
-    ("x, y = icmp_imm_s eq $0.0 1", "expected at most 1 name"),
-    (
-        "cursor iadd_imm_s $0.0 1",
-        "no instruction for cursor: iadd_imm_s",
-    ),
+/// Lines that are no calls, and what is told of each.
+pub const FAULTS: &[&str] = &[
+    "iadd_imm_s => expected a value",
+    "iadd_imm_s x 1 => unknown name: x",
+    "iadd_imm_s $0.0 => expected a number of 64 bits",
+    "iadd_imm_s $0.0 $0.0 => expected a number of 64 bits",
+    "iadd_imm_s $0.0 18446744073709551616 => expected a number of 64 bits",
+    "iadd_imm_s $0.0 -9223372036854775809 => expected a number of 64 bits",
+    "iadd_imm_s $0.0 1 2 => expected the end of the line",
+    "iadd_imm_s.i32 $0.0 1 => unknown call: iadd_imm_s.i32",
+    "icmp_imm_s => expected a condition",
+    "icmp_imm_s lt $0.0 1 => expected a condition",
+    "icmp_imm_s $0.0 1 => expected a condition",
+    "icmp_imm_s eq => expected a value",
+    "icmp_imm_s eq $0.0 => expected a number of 64 bits",
+    "@i = iadd_imm_s $0.0 1 => expected a name",
+    "x, y = icmp_imm_s eq $0.0 1 => expected at most 1 name",
+    "cursor iadd_imm_s $0.0 1 => no instruction for cursor: iadd_imm_s",
 ];
-
-#[test]
-fn with_constants_unread(rt: HostRuntime) -> Result<(), Fail> {
-    faults(&rt, rt.alloc(), &FAULTS)
-}

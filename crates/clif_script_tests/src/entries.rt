@@ -1,10 +1,8 @@
 //! Scripts that make entries of the function's tables.
 #![tactic(auto)]
 
-use crate::support::{faults, gives, rewritten};
-use std::test::Fail;
-
-const ENTRIES: &str = "\
+/// An entry of each kind.
+pub const SCRIPT: &str = "\
 s = import_signature (i64, i64, i64) -> i64 system_v
 copy = import_function libcall Memcpy s
 create_sized_stack_slot 4 2
@@ -21,8 +19,8 @@ switch_to_block b
 return
 seal_block b";
 
-// The tables stand before the blocks, each in its order. The function of the C library prints as one of that name.
-const ENTRIES_TEXT: &str = "\
+/// The tables stand before the blocks, each in its order. The function of the C library prints as one of that name.
+pub const TEXT: &str = "\
 function u0:0() fast {
     ss0 = explicit_slot 4, align = 4
     dss0 = explicit_dynamic_slot dt16
@@ -41,12 +39,8 @@ block0:
 }
 ";
 
-#[test]
-fn entries(rt: HostRuntime) -> Result<(), Fail> {
-    gives(&rt, rt.alloc(), ENTRIES.as_bytes(), 0, ENTRIES_TEXT, "")
-}
-
-const WRITTEN: &str = "\
+/// What its calls are written as.
+pub const WRITTEN: &str = "\
 function u0:0 () fast
 pointer 64
 conv system_v
@@ -67,90 +61,34 @@ return
 seal_block $11.0
 ";
 
-#[test]
-fn written(rt: HostRuntime) -> Result<(), Fail> {
-    for script in [ENTRIES, WRITTEN] {
-        let text = rewritten(rt.alloc(), script)?;
-        assert!(rt; text.as_str() == WRITTEN);
-    }
-    Ok(())
-}
-
-const MISUSES: [(&str, &str); 4] = [
+/// Scripts, and what is told of the last line of each.
+pub const MISUSES: &[&str] = &[
     // a signature that isn't there, and answers that are none
-    (
-        "import_function %f sig0",
-        "misuse at call 0\nline 1: import_function %f sig0: sig0 isn't there\n",
-    ),
-    (
-        "s = import_signature () fast\nf = import_function %f s\nimport_function %g f",
-        "misuse at call 2\nline 3: import_function %g f: sig1 isn't there\n",
-    ),
-    (
-        "s = create_sized_stack_slot 4 0\nimport_function %f s",
-        "misuse at call 1\nline 2: import_function %f s: sig0 isn't there\n",
-    ),
+    "import_function %f sig0 => sig0 isn't there",
+    "s = import_signature () fast\nf = import_function %f s\nimport_function %g f => sig1 isn't there",
+    "s = create_sized_stack_slot 4 0\nimport_function %f s => sig0 isn't there",
     // a signature is no value
-    (
-        "s = import_signature () fast\nb = create_block\nswitch_to_block b\nreturn s",
-        "misuse at call 3\nline 4: return s: $0.0 is no value\n",
-    ),
+    "s = import_signature () fast\nb = create_block\nswitch_to_block b\nreturn s => $0.0 is no value",
 ];
 
-#[test]
-fn misuses(rt: HostRuntime) -> Result<(), Fail> {
-    for (script, err) in MISUSES.iter() {
-        gives(&rt, rt.alloc(), script.as_bytes(), 1, "", err)?;
-    }
-    Ok(())
-}
-
-const FAULTS: [(&str, &str); 18] = [
-    ("import_signature", "expected ("),
-    ("import_signature (i32", "expected a type or )"),
-    ("import_signature ()", "expected -> or a convention"),
-    ("import_signature (i33) fast", "unknown type: i33"),
-    ("import_signature () -> fast", "expected a type"),
-    (
-        "import_signature () -> i32",
-        "expected a type or a convention",
-    ),
-    (
-        "import_signature () fast fast",
-        "expected the end of the line",
-    ),
-    ("import_function", "expected the name of a function"),
-    ("import_function % sig0", "expected the name of a function"),
-    (
-        "import_function patchable colocated %f sig0",
-        "expected the name of a function",
-    ),
-    (
-        "import_function libcall memcpy sig0",
-        "expected Memcpy, Memmove, Memset or Memcmp",
-    ),
-    ("import_function %f", "expected a signature"),
-    ("import_function %f s", "unknown name: s"),
-    (
-        "import_function %f sig0 sig0",
-        "expected the end of the line",
-    ),
-    (
-        "create_dynamic_stack_slot",
-        "expected a dynamic type of 32 bits",
-    ),
-    ("create_global_value", "expected vmctx or symbol"),
-    (
-        "create_global_value symbol",
-        "expected the name of a symbol",
-    ),
-    (
-        "x, y = create_global_value vmctx",
-        "expected at most 1 name",
-    ),
+/// Lines that are no calls, and what is told of each.
+pub const FAULTS: &[&str] = &[
+    "import_signature => expected (",
+    "import_signature (i32 => expected a type or )",
+    "import_signature () => expected -> or a convention",
+    "import_signature (i33) fast => unknown type: i33",
+    "import_signature () -> fast => expected a type",
+    "import_signature () -> i32 => expected a type or a convention",
+    "import_signature () fast fast => expected the end of the line",
+    "import_function => expected the name of a function",
+    "import_function % sig0 => expected the name of a function",
+    "import_function patchable colocated %f sig0 => expected the name of a function",
+    "import_function libcall memcpy sig0 => expected Memcpy, Memmove, Memset or Memcmp",
+    "import_function %f => expected a signature",
+    "import_function %f s => unknown name: s",
+    "import_function %f sig0 sig0 => expected the end of the line",
+    "create_dynamic_stack_slot => expected a dynamic type of 32 bits",
+    "create_global_value => expected vmctx or symbol",
+    "create_global_value symbol => expected the name of a symbol",
+    "x, y = create_global_value vmctx => expected at most 1 name",
 ];
-
-#[test]
-fn unread(rt: HostRuntime) -> Result<(), Fail> {
-    faults(&rt, rt.alloc(), &FAULTS)
-}

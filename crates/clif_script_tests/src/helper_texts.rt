@@ -387,54 +387,22 @@ block2:
 }
 ";
 
-/// Its runs: the arguments, the status, and what is printed and told.
-pub const RECORDS_RUNS: [(&str, (u8, &str, &str)); 6] = [
+/// Its runs by their statuses: the arguments, and what is printed or told.
+pub const RECORDS_RUNS: &[(u8, &[&str])] = &[
     (
-        "0x1000 0x1100",
-        (
-            0,
-            "script: returned 1, 1663540288323457296, 0\nfunction: returned 1, 1663540288323457296, 0\n",
-            "",
-        ),
+        0,
+        &[
+            "0x1000 0x1100 => script: returned 1, 1663540288323457296, 0\nfunction: returned 1, 1663540288323457296, 0\n",
+            "0x1000 0x1040 => script: returned 0, 1663540288323457296, 4294967295 (-1)\nfunction: returned 0, 1663540288323457296, 4294967295 (-1)\n",
+            "0x1040 0x1040 => script: returned 1, 6293311349960364368, 0\nfunction: returned 1, 6293311349960364368, 0\n",
+        ],
     ),
     (
-        "0x1000 0x1040",
-        (
-            0,
-            "script: returned 0, 1663540288323457296, 4294967295 (-1)\nfunction: returned 0, 1663540288323457296, 4294967295 (-1)\n",
-            "",
-        ),
-    ),
-    (
-        "0x1040 0x1040",
-        (
-            0,
-            "script: returned 1, 6293311349960364368, 0\nfunction: returned 1, 6293311349960364368, 0\n",
-            "",
-        ),
-    ),
-    (
-        "0x1000 0x1010",
-        (
-            4,
-            "",
-            "the promise doesn't cover this: bytes overlap, and a memory helper says that they don't\nline 17: emit_small_memory_copy second first 24 8 8 nonoverlap\n",
-        ),
-    ),
-    (
-        "0x1004 0x1104",
-        (
-            4,
-            "",
-            "the promise doesn't cover this: an address doesn't have the alignment that a memory helper says\nline 12: same = emit_small_memory_compare eq first second 16 8 8\n",
-        ),
-    ),
-    (
-        "0xffe8 0x1000",
-        (
-            4,
-            "",
-            "the promise doesn't cover this: a function of the C library touches a byte that isn't accessible\nline 29: order = call_memcmp behind rest size\n",
-        ),
+        4,
+        &[
+            "0x1000 0x1010 => the promise doesn't cover this: bytes overlap, and a memory helper says that they don't\nline 17: emit_small_memory_copy second first 24 8 8 nonoverlap\n",
+            "0x1004 0x1104 => the promise doesn't cover this: an address doesn't have the alignment that a memory helper says\nline 12: same = emit_small_memory_compare eq first second 16 8 8\n",
+            "0xffe8 0x1000 => the promise doesn't cover this: a function of the C library touches a byte that isn't accessible\nline 29: order = call_memcmp behind rest size\n",
+        ],
     ),
 ];

@@ -1,32 +1,10 @@
 //! Instructions in scripts, and the lines that functions have for them. A value that is assigned to a variable has its type.
 #![tactic(auto)]
 
-use crate::support::gives;
-use std::test::Fail;
-
-const SCRIPTS: [(&str, &str); 10] = [
-    (OPERATIONS, OPERATIONS_TEXT),
-    (CHOSEN, CHOSEN_TEXT),
-    (FLOATS, FLOATS_TEXT),
-    (COMPARED, COMPARED_TEXT),
-    (MEMORY, MEMORY_TEXT),
-    (TRAPS, TRAPS_TEXT),
-    (CURSOR, CURSOR_TEXT),
-    (CALLS, CALLS_TEXT),
-    (SLOT, SLOT_TEXT),
-    (TABLE, TABLE_TEXT),
-];
-
-#[test]
-fn instructions(rt: HostRuntime) -> Result<(), Fail> {
-    for (script, text) in SCRIPTS.iter() {
-        gives(&rt, rt.alloc(), script.as_bytes(), 0, text, "")?;
-    }
-    Ok(())
-}
-
-// Each operation on one or two numbers.
-const OPERATIONS: &str = "\
+/// Scripts, and the texts of their functions.
+pub const FUNCTIONS: &[&str] = &[
+    // Each operation on one or two numbers.
+    "\
 function %operations () -> i32 system_v
 b = create_block
 v0 = append_block_param b i32
@@ -49,9 +27,7 @@ v15 = urem v14 v1
 v16 = srem v15 v1
 return v16
 seal_block b
-";
-
-const OPERATIONS_TEXT: &str = "\
+ => \
 function %operations() -> i32 system_v {
 block0(v0: i32, v1: i32):
     v2 = ineg v0
@@ -71,10 +47,9 @@ block0(v0: i32, v1: i32):
     v16 = srem v15, v1
     return v16
 }
-";
-
-// Conversions and a choice.
-const CHOSEN: &str = "\
+",
+    // Conversions and a choice.
+    "\
 function %chosen () -> i32 system_v
 b = create_block
 v0 = append_block_param b i32
@@ -86,9 +61,7 @@ v4 = splat.i32x4 v0
 v5 = select v3 v0 v1
 return v5
 seal_block b
-";
-
-const CHOSEN_TEXT: &str = "\
+ => \
 function %chosen() -> i32 system_v {
 block0(v0: i32):
     v1 = iconst.i32 5
@@ -98,9 +71,8 @@ block0(v0: i32):
     v5 = select v3, v0, v1  ; v1 = 5
     return v5
 }
-";
-
-const FLOATS: &str = "\
+",
+    "\
 function %floats () -> i32 system_v
 half = declare_var f16
 single = declare_var f32
@@ -115,9 +87,7 @@ def_var single v1
 def_var double v2
 return v1
 seal_block b
-";
-
-const FLOATS_TEXT: &str = "\
+ => \
 function %floats() -> i32 system_v {
 block0:
     v0 = f16const 0x3c00
@@ -125,10 +95,9 @@ block0:
     v2 = f64const 0x8000000000000000
     return v1  ; v1 = 0.0
 }
-";
-
-// A wider number, a comparison and two halves.
-const COMPARED: &str = "\
+",
+    // A wider number, a comparison and two halves.
+    "\
 function %compared () -> i32 system_v
 truth = declare_var i8
 number = declare_var i32
@@ -148,9 +117,7 @@ def_var number v5
 def_var number v6
 return v3
 seal_block b
-";
-
-const COMPARED_TEXT: &str = "\
+ => \
 function %compared() -> i32 system_v {
 block0(v0: i32, v1: i32):
     v2 = sextend.i64 v0
@@ -159,10 +126,9 @@ block0(v0: i32, v1: i32):
     v5, v6 = isplit v4
     return v3
 }
-";
-
-// A block goes on behind a store.
-const MEMORY: &str = "\
+",
+    // A block goes on behind a store.
+    "\
 function %memory () -> i32 system_v
 number = declare_var i32
 b = create_block
@@ -173,19 +139,16 @@ store v1 v0 -8
 def_var number v1
 return v1
 seal_block b
-";
-
-const MEMORY_TEXT: &str = "\
+ => \
 function %memory() -> i32 system_v {
 block0(v0: i32):
     v1 = load.i32 notrap aligned v0+4
     store v1, v0-8
     return v1
 }
-";
-
-// A block goes on behind a trap under a condition, and ends with any other one.
-const TRAPS: &str = "\
+",
+    // A block goes on behind a trap under a condition, and ends with any other one.
+    "\
 function %traps () -> i32 system_v
 b = create_block
 v0 = append_block_param b i32
@@ -194,19 +157,16 @@ trapz v0 int_divz
 trapnz v0 user7
 trap heap_oob
 seal_block b
-";
-
-const TRAPS_TEXT: &str = "\
+ => \
 function %traps() -> i32 system_v {
 block0(v0: i32):
     trapz v0, int_divz
     trapnz v0, user7
     trap heap_oob
 }
-";
-
-// The cursor appends to the current block.
-const CURSOR: &str = "\
+",
+    // The cursor appends to the current block.
+    "\
 function %cursor () -> i32 system_v
 b = create_block
 switch_to_block b
@@ -214,19 +174,16 @@ seal_block b
 v0 = cursor iconst.i32 5
 v1 = cursor iadd v0 v0
 return v1
-";
-
-const CURSOR_TEXT: &str = "\
+ => \
 function %cursor() -> i32 system_v {
 block0:
     v0 = iconst.i32 5
     v1 = iadd v0, v0  ; v0 = 5, v0 = 5
     return v1
 }
-";
-
-// The results of a call are what the signature returns, and print before its name.
-const CALLS: &str = "\
+",
+    // The results of a call are what the signature returns, and print before its name.
+    "\
 function %calls () -> i32 system_v
 s = import_signature (i32) -> i32 system_v
 f = import_function %g s
@@ -238,9 +195,7 @@ v1 = call f (v0)
 v2 = iconst.i64 64
 v3 = call_indirect s v2 (v1)
 return v3
-";
-
-const CALLS_TEXT: &str = "\
+ => \
 function %calls() -> i32 system_v {
     sig0 = (i32) -> i32 system_v
     fn0 = %g sig0
@@ -252,10 +207,9 @@ block0:
     v3 = call_indirect sig0, v2(v1)  ; v2 = 64
     return v3
 }
-";
-
-// A stack slot is stored into, read, and its address taken.
-const SLOT: &str = "\
+",
+    // A stack slot is stored into, read, and its address taken.
+    "\
 function %slot () -> i32 system_v
 b = create_block
 switch_to_block b
@@ -266,9 +220,7 @@ stack_store v0 slot
 v1 = stack_load.i32 slot 4
 v2 = stack_addr.i64 slot -4
 return v1
-";
-
-const SLOT_TEXT: &str = "\
+ => \
 function %slot() -> i32 system_v {
     ss0 = explicit_slot 8, align = 8
 
@@ -279,10 +231,9 @@ block0:
     v2 = stack_addr.i64 ss0-4
     return v1
 }
-";
-
-// A branch by the function's parameter: the default stands before the entries.
-const TABLE: &str = "\
+",
+    // A branch by the function's parameter: the default stands before the entries.
+    "\
 function %table (i32) -> i32 system_v
 entry = create_block
 other = create_block
@@ -303,9 +254,7 @@ return index
 switch_to_block second
 return passed
 seal_all_blocks
-";
-
-const TABLE_TEXT: &str = "\
+ => \
 function %table(i32) -> i32 system_v {
 block0(v0: i32):
     br_table v0, block1, [block2, block3(v0)]
@@ -319,4 +268,5 @@ block2:
 block3(v1: i32):
     return v1
 }
-";
+",
+];

@@ -37,8 +37,6 @@ mod rows;
 #[cfg(test)]
 mod runs;
 #[cfg(test)]
-mod steps;
-#[cfg(test)]
 mod support;
 #[cfg(test)]
 mod switches;

@@ -1,16 +1,14 @@
 //! Scripts that set source places and labels, and that make instructions through the cursor.
 #![tactic(auto)]
 
-use crate::support::{faults, gives, rewritten, script_of};
-use clif_builder::FunctionBuilderContext;
+use crate::support::function_of;
 use clif_ir::Function;
-use clif_script::replay;
 use clif_types::{EntityRef, Inst, SourceLoc, Value};
-use std::alloc::Global;
 use std::process::Abort;
 use std::test::Fail;
 
-const NOTES: &str = "\
+/// Labels before and after they are collected, and source places.
+pub const SCRIPT: &str = "\
 function %notes () -> i32 system_v
 b = create_block
 switch_to_block b
@@ -29,8 +27,8 @@ set_val_label x 6
 return z
 ";
 
-// Neither is printed.
-const NOTES_TEXT: &str = "\
+/// Neither is printed.
+pub const TEXT: &str = "\
 function %notes() -> i32 system_v {
 block0:
     v0 = iconst.i32 1
@@ -40,12 +38,8 @@ block0:
 }
 ";
 
-#[test]
-fn notes(rt: HostRuntime) -> Result<(), Fail> {
-    gives(&rt, rt.alloc(), NOTES.as_bytes(), 0, NOTES_TEXT, "")
-}
-
-const WRITTEN: &str = "\
+/// What its calls are written as.
+pub const WRITTEN: &str = "\
 function %notes () -> i32 system_v
 pointer 64
 conv system_v
@@ -66,25 +60,6 @@ set_val_label $3.1 6
 return $11.1
 ";
 
-#[test]
-fn written(rt: HostRuntime) -> Result<(), Fail> {
-    for script in [NOTES, WRITTEN] {
-        let text = rewritten(rt.alloc(), script)?;
-        assert!(rt; text.as_str() == WRITTEN);
-    }
-    Ok(())
-}
-
-// The function that a script makes.
-fn built(alloc: Global, text: &str) -> Result<Function, Fail> {
-    let script = script_of(alloc, text)?;
-    let mut ctx = FunctionBuilderContext::new(alloc);
-    let name = script.name.clone()?;
-    let signature = script.signature.clone()?;
-    let calls = script.calls.as_slice();
-    Ok(replay(alloc, calls, name, signature, &mut ctx, script.config)?)
-}
-
 // Asserts the labels of a value: the source place of each, and its number.
 fn has_labels(rt: &impl Abort, func: &Function, number: usize, labels: &[(u32, u32)]) {
     assert!(rt; number < func.value_count());
@@ -95,19 +70,13 @@ fn has_labels(rt: &impl Abort, func: &Function, number: usize, labels: &[(u32, u
     }
 }
 
-// Labels are kept from `collect_debug_info` on, in the order of the calls, each with the source place that was set last.
+/// Labels are kept from `collect_debug_info` on, in the order of the calls, each with the source place that was set last. An
+/// instruction has that place, also one that is made through the cursor.
 #[test]
-fn labels(rt: HostRuntime) -> Result<(), Fail> {
-    let func = built(rt.alloc(), NOTES)?;
+fn labels_and_places(rt: HostRuntime) -> Result<(), Fail> {
+    let func = function_of(rt.alloc(), SCRIPT)?;
     has_labels(&rt, &func, 0, &[(0xffff_ffff, 6), (7, 4), (0xffff_ffff, 6)]);
     has_labels(&rt, &func, 1, &[]);
-    Ok(())
-}
-
-// An instruction has the source place that was set last, also one that is made through the cursor.
-#[test]
-fn places(rt: HostRuntime) -> Result<(), Fail> {
-    let func = built(rt.alloc(), NOTES)?;
     let places = [0xffff_ffff, 7, 0xffff_ffff, 0xffff_ffff];
     assert!(rt; func.inst_count() == places.len());
     for (number, place) in places.iter().enumerate() {
@@ -117,74 +86,36 @@ fn places(rt: HostRuntime) -> Result<(), Fail> {
     Ok(())
 }
 
-const MISUSES: [(&str, &str); 5] = [
+/// Scripts, and what is told of the last line of each.
+pub const MISUSES: &[&str] = &[
     // a label of what is no value
-    (
-        "b = create_block\nset_val_label b 1",
-        "misuse at call 1\nline 2: set_val_label b 1: $0.0 is no value\n",
-    ),
-    (
-        "set_val_label $0.0 1",
-        "misuse at call 0\nline 1: set_val_label $0.0 1: $0.0 is no value\n",
-    ),
+    "b = create_block\nset_val_label b 1 => $0.0 is no value",
+    "set_val_label $0.0 1 => $0.0 is no value",
     // the conditions of an instruction hold through the cursor, too
-    (
-        "cursor iconst.i32 1",
-        "misuse at call 0\nline 1: cursor iconst.i32 1: no block is current\n",
-    ),
-    (
-        "b = create_block\nswitch_to_block b\ncursor ineg b",
-        "misuse at call 2\nline 3: cursor ineg b: $0.0 is no value\n",
-    ),
-    (
-        "b = create_block\nswitch_to_block b\nreturn\ncursor iconst.i32 1",
-        "misuse at call 3\nline 4: cursor iconst.i32 1: block0 is filled\n",
-    ),
+    "cursor iconst.i32 1 => no block is current",
+    "b = create_block\nswitch_to_block b\ncursor ineg b => $0.0 is no value",
+    "b = create_block\nswitch_to_block b\nreturn\ncursor iconst.i32 1 => block0 is filled",
 ];
 
-#[test]
-fn misuses(rt: HostRuntime) -> Result<(), Fail> {
-    for (script, err) in MISUSES.iter() {
-        gives(&rt, rt.alloc(), script.as_bytes(), 1, "", err)?;
-    }
-    Ok(())
-}
-
-const FAULTS: [(&str, &str); 19] = [
-    ("set_srcloc", "expected a source place of 32 bits"),
-    ("set_srcloc -1", "expected a source place of 32 bits"),
-    (
-        "set_srcloc 4294967296",
-        "expected a source place of 32 bits",
-    ),
-    ("set_srcloc 1 1", "expected the end of the line"),
-    ("a = set_srcloc 1", "expected no names"),
-    ("collect_debug_info 1", "expected the end of the line"),
-    ("set_val_label", "expected a value"),
-    ("set_val_label b", "expected a label"),
-    ("set_val_label b 4294967295", "expected a label"),
-    ("a = set_val_label b 1", "expected no names"),
-    ("cursor", "expected a call"),
-    (
-        "cursor frobnicate b",
-        "no instruction for cursor: frobnicate",
-    ),
-    (
-        "cursor create_block",
-        "no instruction for cursor: create_block",
-    ),
-    ("cursor jump b", "no instruction for cursor: jump"),
-    ("cursor call b", "no instruction for cursor: call"),
-    ("cursor try_call b", "no instruction for cursor: try_call"),
-    (
-        "cursor f128const 0x00000000000000000000000000000000",
-        "no instruction for cursor: f128const",
-    ),
-    ("cursor cursor ineg b", "no instruction for cursor: cursor"),
-    ("@a, c, d = cursor ineg b", "expected at most 1 name"),
+/// Lines that are no calls, and what is told of each.
+pub const FAULTS: &[&str] = &[
+    "set_srcloc => expected a source place of 32 bits",
+    "set_srcloc -1 => expected a source place of 32 bits",
+    "set_srcloc 4294967296 => expected a source place of 32 bits",
+    "set_srcloc 1 1 => expected the end of the line",
+    "a = set_srcloc 1 => expected no names",
+    "collect_debug_info 1 => expected the end of the line",
+    "set_val_label => expected a value",
+    "set_val_label b => expected a label",
+    "set_val_label b 4294967295 => expected a label",
+    "a = set_val_label b 1 => expected no names",
+    "cursor => expected a call",
+    "cursor frobnicate b => no instruction for cursor: frobnicate",
+    "cursor create_block => no instruction for cursor: create_block",
+    "cursor jump b => no instruction for cursor: jump",
+    "cursor call b => no instruction for cursor: call",
+    "cursor try_call b => no instruction for cursor: try_call",
+    "cursor f128const 0x00000000000000000000000000000000 => no instruction for cursor: f128const",
+    "cursor cursor ineg b => no instruction for cursor: cursor",
+    "@a, c, d = cursor ineg b => expected at most 1 name",
 ];
-
-#[test]
-fn lines(rt: HostRuntime) -> Result<(), Fail> {
-    faults(&rt, rt.alloc(), &FAULTS)
-}

@@ -1,10 +1,8 @@
 //! Scripts that make outside calls.
 #![tactic(auto)]
 
-use crate::support::{faults, gives, rewritten};
-use std::test::Fail;
-
-const CALLS: &str = "\
+/// Calls of a function and of what is at an address.
+pub const SCRIPT: &str = "\
 function %calls (i64, i32) -> i32, i64 system_v
 s = import_signature (i32) -> i32, i64 system_v
 t = import_signature (i64) fast
@@ -18,8 +16,8 @@ c = call fn0 a
 return c, b
 seal_block entry";
 
-// A call has as many results as its signature returns, and isn't a terminator.
-const CALLS_TEXT: &str = "\
+/// A call has as many results as its signature returns, and isn't a terminator.
+pub const TEXT: &str = "\
 function %calls(i64, i32) -> i32, i64 system_v {
     sig0 = (i32) -> i32, i64 system_v
     sig1 = (i64) fast
@@ -33,12 +31,8 @@ block0(v0: i64, v1: i32):
 }
 ";
 
-#[test]
-fn outside_calls(rt: HostRuntime) -> Result<(), Fail> {
-    gives(&rt, rt.alloc(), CALLS.as_bytes(), 0, CALLS_TEXT, "")
-}
-
-const WRITTEN: &str = "\
+/// What its calls are written as.
+pub const WRITTEN: &str = "\
 function %calls (i64, i32) -> i32, i64 system_v
 pointer 64
 conv system_v
@@ -55,72 +49,28 @@ return $8.1 $6.2
 seal_block $3.0
 ";
 
-#[test]
-fn outside_calls_written(rt: HostRuntime) -> Result<(), Fail> {
-    for script in [CALLS, WRITTEN] {
-        let text = rewritten(rt.alloc(), script)?;
-        assert!(rt; text.as_str() == WRITTEN);
-    }
-    Ok(())
-}
-
-const MISUSES: [(&str, &str); 8] = [
+/// Scripts, and what is told of the last line of each.
+pub const MISUSES: &[&str] = &[
     // a function or a signature that isn't there
-    (
-        "b = create_block\nswitch_to_block b\ncall fn0",
-        "misuse at call 2\nline 3: call fn0: fn0 isn't there\n",
-    ),
-    (
-        "s = import_signature () fast\nb = create_block\nswitch_to_block b\ncall s",
-        "misuse at call 3\nline 4: call s: fn0 isn't there\n",
-    ),
-    (
-        "b = create_block\np = append_block_param b i64\nswitch_to_block b\ncall_indirect sig0 p",
-        "misuse at call 3\nline 4: call_indirect sig0 p: sig0 isn't there\n",
-    ),
+    "b = create_block\nswitch_to_block b\ncall fn0 => fn0 isn't there",
+    "s = import_signature () fast\nb = create_block\nswitch_to_block b\ncall s => fn0 isn't there",
+    "b = create_block\np = append_block_param b i64\nswitch_to_block b\ncall_indirect sig0 p => sig0 isn't there",
     // no open block
-    (
-        "s = import_signature () fast\nf = import_function %f s\ncall f",
-        "misuse at call 2\nline 3: call f: no block is current\n",
-    ),
-    (
-        "s = import_signature () fast\nb = create_block\nswitch_to_block b\nreturn\ncall_indirect s b",
-        "misuse at call 4\nline 5: call_indirect s b: block0 is filled\n",
-    ),
+    "s = import_signature () fast\nf = import_function %f s\ncall f => no block is current",
+    "s = import_signature () fast\nb = create_block\nswitch_to_block b\nreturn\ncall_indirect s b => block0 is filled",
     // names that lead to no value
-    (
-        "s = import_signature () fast\nb = create_block\nswitch_to_block b\ncall_indirect s b",
-        "misuse at call 3\nline 4: call_indirect s b: $1.0 is no value\n",
-    ),
-    (
-        "s = import_signature () fast\nf = import_function %f s\nb = create_block\nswitch_to_block b\ncall f (s)",
-        "misuse at call 4\nline 5: call f (s): $0.0 is no value\n",
-    ),
+    "s = import_signature () fast\nb = create_block\nswitch_to_block b\ncall_indirect s b => $1.0 is no value",
+    "s = import_signature () fast\nf = import_function %f s\nb = create_block\nswitch_to_block b\ncall f (s) => $0.0 is no value",
     // a result that the signature doesn't return
-    (
-        "s = import_signature () fast\nf = import_function %f s\nb = create_block\nswitch_to_block b\nx = call f\nreturn x",
-        "misuse at call 5\nline 6: return x: $4.1 is no value\n",
-    ),
+    "s = import_signature () fast\nf = import_function %f s\nb = create_block\nswitch_to_block b\nx = call f\nreturn x => $4.1 is no value",
 ];
 
-#[test]
-fn outside_misuses(rt: HostRuntime) -> Result<(), Fail> {
-    for (script, err) in MISUSES.iter() {
-        gives(&rt, rt.alloc(), script.as_bytes(), 1, "", err)?;
-    }
-    Ok(())
-}
-
-const FAULTS: [(&str, &str); 6] = [
-    ("call", "expected a function"),
-    ("call f", "unknown name: f"),
-    ("call fn0 (b", "expected a value or )"),
-    ("call fn0 (b) b", "expected the end of the line"),
-    ("call_indirect", "expected a signature"),
-    ("call_indirect sig0", "expected a value"),
+/// Lines that are no calls, and what is told of each.
+pub const FAULTS: &[&str] = &[
+    "call => expected a function",
+    "call f => unknown name: f",
+    "call fn0 (b => expected a value or )",
+    "call fn0 (b) b => expected the end of the line",
+    "call_indirect => expected a signature",
+    "call_indirect sig0 => expected a value",
 ];
-
-#[test]
-fn outside_unread(rt: HostRuntime) -> Result<(), Fail> {
-    faults(&rt, rt.alloc(), &FAULTS)
-}

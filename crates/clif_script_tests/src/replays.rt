@@ -1,67 +1,184 @@
-//! Scripts that become functions, and the texts of errors.
+//! Replays of scripts: what their calls give, by themselves and with a context that served before, and which conditions don't
+//! hold. Names are places of calls and answers.
 #![tactic(auto)]
 
-use crate::steps::Step::{
-    Create, Declare, Def, Iadd, Iconst, Return, ReturnNone, Seal, Switch, TryDef, TryUse, Use,
-};
-use crate::steps::{I32, I64, builds, call_of, calls_of, replayed};
+ghost use Rattle.std.specs.Prelude.{◌≡◌};
+ghost use Rattle.clif_builder.specs.Context.{empty_context};
+
+use crate::data::EMPTY_TEXT;
+use crate::support::{function_of, parts, script_of};
+use crate::{parameters, placements, refusals, tables};
 use clif_builder::FunctionBuilderContext;
-use clif_script::ReplayError;
+use clif_ir::Function;
+use clif_script::{Call, ReplayError, broken_condition, replay};
+use clif_text::Script;
+use clif_types::Type;
+use std::alloc::{AllocError, Global};
+use std::process::Abort;
 use std::test::Fail;
 
-// A block in which nothing was made isn't printed.
+/// Scripts, and what their replays give: the text of the function, or that of the error.
+const OWN_REPLAYS: &[&str] = &[
+    // a block in which nothing was made isn't printed
+    " => function u0:0() fast {\n}\n",
+    "create_block\nswitch_to_block $0.0\nseal_block $0.0 => function u0:0() fast {\n}\n",
+    "create_block\ncreate_block\nswitch_to_block $0.0\nswitch_to_block $1.0\nreturn\nseal_block $1.0 => \
+function u0:0() fast {
+block1:
+    return
+}
+",
+    // a variable that is assigned is used as it is, in a sealed block, too
+    "declare_var i64\ncreate_block\nseal_block $1.0\nswitch_to_block $1.0\niconst.i64 1\ndef_var var0 $4.1\nuse_var var0\nreturn $6.0 => \
+function u0:0() fast {
+block0:
+    v0 = iconst.i64 1
+    return v0  ; v0 = 1
+}
+",
+    // the same, where the calls are only tried
+    "declare_var i64\ncreate_block\nseal_block $1.0\nswitch_to_block $1.0\niconst.i64 1\ntry_def_var var0 $4.1\ntry_use_var var0\nreturn $6.0 => \
+function u0:0() fast {
+block0:
+    v0 = iconst.i64 1
+    return v0  ; v0 = 1
+}
+",
+];
+
+const REPLAYS: &[&[&str]] = &[
+    OWN_REPLAYS,
+    parameters::REPLAYS,
+    placements::REPLAYS,
+    refusals::REPLAYS,
+    tables::REPLAYS,
+];
+
+// By what the calls alone tell, a condition of the call at this place doesn't hold, and all conditions of the calls before
+// it do; where there is no place, all conditions hold.
+fn tells_misuse(
+    rt: &impl Abort,
+    alloc: Global,
+    script: &Script,
+    misuse: Option<usize>,
+) -> Result<(), Fail> {
+    let calls = script.calls.as_slice();
+    let last = misuse.unwrap_or(calls.len());
+    for place in 0..calls.len().min(last.saturating_add(1)) {
+        let broken = broken_condition(alloc, calls, &script.signature, script.config, place)?;
+        assert!(rt; broken.is_some() == (place == last), "at {place}");
+    }
+    Ok(())
+}
+
+// What the calls give, after which the context is as before.
+fn replayed(
+    alloc: Global,
+    script: &Script,
+    ctx: &mut FunctionBuilderContext,
+) -> Result<Result<Function, ReplayError>, AllocError>
+    requires { ctx.old ≡ empty_context }
+    ensures { ctx.new ≡ empty_context }
+{
+    let name = script.name.clone()?;
+    let signature = script.signature.clone()?;
+    let calls = script.calls.as_slice();
+    Ok(replay(alloc, calls, name, signature, ctx, script.config))
+}
+
+// A function or an error has this text; where memory was refused the test itself fails.
+fn has_text(
+    rt: &impl Abort,
+    alloc: Global,
+    answer: Result<Function, ReplayError>,
+    expected: &str,
+) -> Result<(), Fail> {
+    let text = match answer {
+        Ok(func) => format!(in alloc; "{}", func.display())?,
+        Err(ReplayError::Memory) => Err(ReplayError::Memory)?,
+        Err(error) => format!(in alloc; "{error}")?,
+    };
+    assert_eq!(rt; text.as_str(), expected);
+    Ok(())
+}
+
+// The calls give a function or an error of this text, after which the context is empty.
+fn gives(
+    rt: &impl Abort,
+    alloc: Global,
+    script: &Script,
+    ctx: &mut FunctionBuilderContext,
+    expected: &str,
+) -> Result<(), Fail>
+    requires { ctx.old ≡ empty_context }
+    ensures { ctx.new ≡ empty_context }
+{
+    let answer = replayed(alloc, script, ctx)?;
+    assert!(rt; ctx.is_empty());
+    has_text(rt, alloc, answer, expected)
+}
+
+// The calls of two scripts give these, one after the other with the same context.
+fn both_give(
+    rt: &impl Abort,
+    alloc: Global,
+    first: (&Script, &str),
+    second: (&Script, &str),
+) -> Result<(), Fail> {
+    let mut ctx = FunctionBuilderContext::new(alloc);
+    gives(rt, alloc, first.0, &mut ctx, first.1)?;
+    gives(rt, alloc, second.0, &mut ctx, second.1)
+}
+
+// The place of the call that is misused, if one is.
+fn misused(alloc: Global, script: &Script) -> Result<Option<usize>, Fail> {
+    let mut ctx = FunctionBuilderContext::new(alloc);
+    let error = replayed(alloc, script, &mut ctx)?.err();
+    Ok(match error {
+        Some(ReplayError::Misuse(place)) => Some(place),
+        _ => None,
+    })
+}
+
+// The calls give this, and again with the same context, with which a script without calls gives its function, too.
+fn replays(
+    rt: &impl Abort,
+    alloc: Global,
+    script: &Script,
+    empty: &Script,
+    expected: &str,
+) -> Result<(), Fail> {
+    both_give(rt, alloc, (script, expected), (script, expected))?;
+    both_give(rt, alloc, (script, expected), (empty, EMPTY_TEXT))?;
+    tells_misuse(rt, alloc, script, misused(alloc, script)?)
+}
+
+// The same of the script before `=>`.
+fn row_replays(rt: &impl Abort, alloc: Global, row: &str, empty: &Script) -> Result<(), Fail> {
+    let (script, expected) = parts(row)?;
+    replays(rt, alloc, &script_of(alloc, script)?, empty, expected)
+}
+
 #[test]
-fn blocks(rt: HostRuntime) -> Result<(), Fail> {
+fn all_replays(rt: HostRuntime) -> Result<(), Fail> {
     let alloc = rt.alloc();
-    let none = "function u0:0() fast {\n}\n";
-    builds(&rt, alloc, &[], none)?;
-    builds(&rt, alloc, &[Create, Switch(0, 0), Seal(0, 0)], none)?;
-    let second = "function u0:0() fast {\nblock1:\n    return\n}\n";
-    let steps = [
-        Create,
-        Create,
-        Switch(0, 0),
-        Switch(1, 0),
-        ReturnNone,
-        Seal(1, 0),
-    ];
-    builds(&rt, alloc, &steps, second)
+    let empty = script_of(alloc, "")?;
+    for rows in REPLAYS {
+        for row in rows.iter() {
+            row_replays(&rt, alloc, row, &empty)?;
+        }
+    }
+    Ok(())
 }
 
-// A variable that is assigned is used as it is, in a sealed block, too.
+/// No script can say a variable of no type.
 #[test]
-fn variables(rt: HostRuntime) -> Result<(), Fail> {
-    let steps = [
-        Declare(I64),
-        Create,
-        Seal(1, 0),
-        Switch(1, 0),
-        Iconst(I64),
-        Def(0, 4, 1),
-        Use(0),
-        Return(6, 0),
-    ];
-    let text =
-        "function u0:0() fast {\nblock0:\n    v0 = iconst.i64 1\n    return v0  ; v0 = 1\n}\n";
-    builds(&rt, rt.alloc(), &steps, text)
-}
-
-// The same, where the calls are only tried.
-#[test]
-fn tried_variables(rt: HostRuntime) -> Result<(), Fail> {
-    let steps = [
-        Declare(I64),
-        Create,
-        Seal(1, 0),
-        Switch(1, 0),
-        Iconst(I64),
-        TryDef(0, 4, 1),
-        TryUse(0),
-        Return(6, 0),
-    ];
-    let text =
-        "function u0:0() fast {\nblock0:\n    v0 = iconst.i64 1\n    return v0  ; v0 = 1\n}\n";
-    builds(&rt, rt.alloc(), &steps, text)
+fn no_type(rt: HostRuntime) -> Result<(), Fail> {
+    let alloc = rt.alloc();
+    let empty = script_of(alloc, "")?;
+    let mut script = script_of(alloc, "")?;
+    script.calls.push(Call::DeclareVar { ty: Type::Invalid })?;
+    replays(&rt, alloc, &script, &empty, "misuse at call 0")
 }
 
 #[test]
@@ -78,18 +195,16 @@ fn errors(rt: HostRuntime) -> Result<(), Fail> {
     Ok(())
 }
 
-// Each of 2,000 sums is of the constant and the sum before it.
+/// Each of 2,000 sums is of the constant and the sum before it.
 #[test]
 fn long_script(rt: HostRuntime) -> Result<(), Fail> {
     let alloc = rt.alloc();
-    let mut calls = calls_of(alloc, &[Create, Switch(0, 0), Iconst(I32)])?;
-    for place in 2..2_002 {
-        calls.push(call_of(alloc, Iadd((2, 1), (place, 1)))?)?;
+    let mut script = String::from_str(alloc, "create_block\nswitch_to_block $0.0\niconst.i32 1\n")?;
+    for place in 2..2_002u32 {
+        script.push_str(format!(in alloc; "iadd $2.1 ${place}.1\n")?.as_str())?;
     }
-    calls.push(call_of(alloc, Return(2_002, 1))?)?;
-    calls.push(call_of(alloc, Seal(0, 0))?)?;
-    let mut ctx = FunctionBuilderContext::new(alloc);
-    let func = replayed(alloc, calls.as_slice(), &mut ctx)?;
+    script.push_str("return $2002.1\nseal_block $0.0\n")?;
+    let func = function_of(alloc, script.as_str())?;
     let text = format!(in alloc; "{}", func.display())?;
     assert_eq!(rt; text.lines().count(), 2_005);
     assert!(rt; text.ends_with("\n    v2000 = iadd v0, v1999  ; v0 = 1\n    return v2000\n}\n"));

@@ -1,7 +1,9 @@
-//! Runs of the programs over writers in memory.
+//! Runs of the programs over writers in memory, and what tables of scripts say.
 #![tactic(auto)]
 
-use clif_script::{build, row_text};
+use clif_builder::FunctionBuilderContext;
+use clif_ir::Function;
+use clif_script::{Run, build, execute, replay, row_text, run};
 use clif_text::{Script, read, write};
 use std::alloc::{AllocError, Global};
 use std::io;
@@ -9,16 +11,19 @@ use std::io::Write;
 use std::process::Abort;
 use std::test::Fail;
 
+/// A script, or a line of one, and what is expected of it.
+pub type Row = (&'static str, &'static str);
+
 /// Takes so many writes, and refuses each later one.
 #[derive(Drop)]
-pub struct Limited {
+struct Limited {
     bytes: Vec<u8>,
     left: usize,
 }
 
 impl Limited {
-    /// The room is there from the start, so that no write is refused for want of memory.
-    pub fn new(alloc: Global, writes: usize) -> Result<Limited, AllocError> {
+    // The room is there from the start, so that no write is refused for want of memory.
+    fn new(alloc: Global, writes: usize) -> Result<Limited, AllocError> {
         Ok(Limited {
             bytes: Vec::with_capacity(alloc, 65_536)?,
             left: writes,
@@ -41,7 +46,18 @@ impl Write for Limited {
     }
 }
 
-/// What a run answered and wrote.
+/// A program, and what it is given.
+#[derive(Clone, Copy)]
+pub enum Program<'a> {
+    /// `clif_build`, with the bytes of a script.
+    Build(&'a [u8]),
+    /// `clif_build --run`, with the bytes of a script, its arguments and a bound on steps.
+    Execute(&'a [u8], &'a str, u64),
+    /// `rows`, with its arguments.
+    Rows(&'a [&'a str]),
+}
+
+/// What a run answered, and what it wrote to standard output and to standard error.
 #[derive(Drop)]
 pub struct Outcome {
     pub status: u8,
@@ -52,45 +68,100 @@ pub struct Outcome {
 /// More writes than a run makes.
 pub const MANY: usize = 1_000;
 
-/// What a run answered, and what it wrote to its two writers; where memory was refused the test itself fails.
-pub fn ended(status: u8, out: Limited, err: Limited) -> Result<Outcome, Fail> {
-    if err.bytes.as_slice() == b"no memory\n".as_slice() && status == 1 {
-        Err("no memory")?;
+/// The words of a text, with blanks between them.
+pub fn words_of(alloc: Global, text: &str) -> Result<Vec<String>, AllocError> {
+    let mut words = Vec::new(alloc);
+    for word in text.split_whitespace() {
+        words.push(String::from_str(alloc, word)?)?;
     }
-    Ok(Outcome {
-        status,
-        out: out.bytes,
-        err: err.bytes,
-    })
+    Ok(words)
 }
 
-/// Builds the function of a script over writers that take so many writes.
-pub fn built(
-    alloc: Global,
-    bytes: &[u8],
-    out_writes: usize,
-    err_writes: usize,
-) -> Result<Outcome, Fail> {
-    let mut out = Limited::new(alloc, out_writes)?;
-    let mut err = Limited::new(alloc, err_writes)?;
-    let status = build(alloc, bytes, &mut out, &mut err);
-    ended(status, out, err)
+impl Program<'_> {
+    // Runs it over these writers, and answers its status.
+    fn status(self, alloc: Global, out: &mut Limited, err: &mut Limited) -> Result<u8, AllocError> {
+        let mut arguments = Vec::new(alloc);
+        match self {
+            Program::Build(_) => {}
+            Program::Execute(_, text, _) => arguments = words_of(alloc, text)?,
+            Program::Rows(words) => {
+                for word in words {
+                    arguments.push(String::from_str(alloc, word)?)?;
+                }
+            }
+        }
+        let arguments = arguments.as_slice();
+        Ok(match self {
+            Program::Build(script) => build(alloc, script, out, err),
+            Program::Execute(script, _, steps) => {
+                let run = Run { arguments, steps };
+                execute(alloc, script, &run, out, err)
+            }
+            Program::Rows(_) => run(alloc, arguments, out, err),
+        })
+    }
+
+    /// Runs it over writers that take so many writes; where memory was refused the test itself fails.
+    pub fn run(self, alloc: Global, out_writes: usize, err_writes: usize) -> Result<Outcome, Fail> {
+        let mut out = Limited::new(alloc, out_writes)?;
+        let mut err = Limited::new(alloc, err_writes)?;
+        let status = self.status(alloc, &mut out, &mut err)?;
+        if err.bytes.as_slice() == b"no memory\n".as_slice() && status == 1 {
+            Err("no memory")?;
+        }
+        Ok(Outcome {
+            status,
+            out: out.bytes,
+            err: err.bytes,
+        })
+    }
+
+    /// It gives this status and these texts.
+    pub fn gives(
+        self,
+        rt: &impl Abort,
+        alloc: Global,
+        status: u8,
+        out: &str,
+        err: &str,
+    ) -> Result<(), Fail> {
+        let ran = self.run(alloc, MANY, MANY)?;
+        assert!(rt;
+            ran.err.as_slice() == err.as_bytes(),
+            "where {err}{out} was expected"
+        );
+        assert!(rt;
+            ran.out.as_slice() == out.as_bytes(),
+            "where {out}{err} was expected"
+        );
+        assert!(rt; ran.status == status, "where {status} was expected");
+        Ok(())
+    }
+
+    /// It gives this status: with 0 it prints the text, and else it tells it.
+    pub fn shows(self, rt: &impl Abort, alloc: Global, status: u8, text: &str) -> Result<(), Fail> {
+        let (out, err) = if status == 0 { (text, "") } else { ("", text) };
+        self.gives(rt, alloc, status, out, err)
+    }
 }
 
-/// A script gives this status and these texts.
+/// A script gives this status: with 0 the text of its function, and else what is told of it.
 pub fn gives(
     rt: &impl Abort,
     alloc: Global,
-    script: &[u8],
+    script: &str,
     status: u8,
-    out: &str,
-    err: &str,
+    text: &str,
 ) -> Result<(), Fail> {
-    let ran = built(alloc, script, MANY, MANY)?;
-    assert!(rt; ran.err.as_slice() == err.as_bytes());
-    assert!(rt; ran.out.as_slice() == out.as_bytes());
-    assert!(rt; ran.status == status);
-    Ok(())
+    Program::Build(script.as_bytes()).shows(rt, alloc, status, text)
+}
+
+/// What stands before `=>` in a row, a script or a line of one, and what is expected of it.
+pub fn parts(row: &str) -> Result<(&str, &str), Fail> {
+    match row.split_once(" => ") {
+        Some(parts) => Ok(parts),
+        None => Err("no row")?,
+    }
 }
 
 /// A text that is a script.
@@ -101,21 +172,25 @@ pub fn script_of(alloc: Global, text: &str) -> Result<Script, Fail> {
     }
 }
 
+/// The function that a script makes.
+pub fn function_of(alloc: Global, text: &str) -> Result<Function, Fail> {
+    let Script {
+        name,
+        signature,
+        config,
+        answers: _,
+        calls,
+        lines: _,
+    } = script_of(alloc, text)?;
+    let mut ctx = FunctionBuilderContext::new(alloc);
+    Ok(replay(alloc, calls.as_slice(), name, signature, &mut ctx, config)?)
+}
+
 /// The script that the calls of a script are written as.
 pub fn rewritten(alloc: Global, script: &str) -> Result<String, Fail> {
     let read = script_of(alloc, script)?;
     let calls = read.calls.as_slice();
     Ok(write(alloc, &read.name, &read.signature, read.config, calls)?)
-}
-
-/// The fault of each line, by itself.
-pub fn faults(rt: &impl Abort, alloc: Global, rows: &[(&str, &str)]) -> Result<(), Fail> {
-    for (line, fault) in rows {
-        let script = format!(in alloc; "b = create_block\n{line}\nseal_block b\n")?;
-        let err = format!(in alloc; "script error at line 2: {fault}\n")?;
-        gives(rt, alloc, script.as_bytes(), 2, "", err.as_str())?;
-    }
-    Ok(())
 }
 
 /// The script of the row of this name.

@@ -1,12 +1,13 @@
 //! Scripts that make try calls.
 #![tactic(auto)]
 
-use crate::support::{faults, gives, rewritten};
-use std::test::Fail;
+use crate::support::Row;
 
-// The worked function `%try`: the normal edge passes the caller's value and what the call returns, the other one the first
-// part of the exception.
-const TRY: &str = "\
+/// Scripts, and the texts of their functions.
+pub const FUNCTIONS: &[&str] = &[
+    // The worked function `%try`: the normal edge passes the caller's value and what the call returns, the other one the first
+    // part of the exception.
+    "\
 function %try (i64) -> i64 system_v
 s = import_signature (i64) -> i32 system_v
 f = import_function %f s
@@ -28,9 +29,7 @@ switch_to_block returned
 return kept
 seal_block thrown
 switch_to_block thrown
-return part";
-
-const TRY_TEXT: &str = "\
+return part => \
 function %try(i64) -> i64 system_v {
     sig0 = (i64) -> i32 system_v
     fn0 = %f sig0
@@ -44,10 +43,9 @@ block1(v1: i64, v2: i32):
 block2(v3: i64):
     return v3
 }
-";
-
-// Upstream's test of try calls: a variable that has another value at each of two calls.
-const VARIABLES: &str = "\
+",
+    // Upstream's test of try calls: a variable that has another value at each of two calls.
+    "\
 function %sample (i8) -> i32 system_v
 s = import_signature () system_v
 f = import_function u0:0 s
@@ -74,9 +72,7 @@ try_call f () try_two
 switch_to_block block3
 ret_val = use_var my_var
 return ret_val
-seal_all_blocks";
-
-const VARIABLES_TEXT: &str = "\
+seal_all_blocks => \
 function %sample(i8) -> i32 system_v {
     sig0 = () system_v
     fn0 = u0:0 sig0
@@ -95,28 +91,20 @@ block2:
 block3(v3: i32):
     return v3
 }
-";
+",
+];
 
-#[test]
-fn tries(rt: HostRuntime) -> Result<(), Fail> {
-    gives(&rt, rt.alloc(), TRY.as_bytes(), 0, TRY_TEXT, "")
-}
-
-#[test]
-fn tries_with_a_variable(rt: HostRuntime) -> Result<(), Fail> {
-    gives(&rt, rt.alloc(), VARIABLES.as_bytes(), 0, VARIABLES_TEXT, "")
-}
-
-const ITEMS: &str = "\
+/// A script, and what its calls are written as.
+pub const WRITTEN: Row = (
+    "\
 s = import_signature () fast
 b = create_block
 p = append_block_param b i64
 e = block_call b(p, exn0, exn1)
 t = create_exception_table s e context p tag7 e default e
 switch_to_block b
-try_call_indirect p (p) t";
-
-const WRITTEN: &str = "\
+try_call_indirect p (p) t",
+    "\
 function u0:0 () fast
 pointer 64
 conv system_v
@@ -127,74 +115,31 @@ block_call $1.0( $2.0 exn0 exn1)
 create_exception_table sig0 $3.0 context $2.0 tag7 $3.0 default $3.0
 switch_to_block $1.0
 try_call_indirect $2.0( $2.0) extable0
-";
+",
+);
 
-#[test]
-fn tries_are_written(rt: HostRuntime) -> Result<(), Fail> {
-    for script in [ITEMS, WRITTEN] {
-        let text = rewritten(rt.alloc(), script)?;
-        assert!(rt; text.as_str() == WRITTEN);
-    }
-    Ok(())
-}
-
-const MISUSES: [(&str, &str); 7] = [
+/// Scripts, and what is told of the last line of each.
+pub const MISUSES: &[&str] = &[
     // an exception table that isn't there, and one that serves another call
-    (
-        "b = create_block\np = append_block_param b i64\nswitch_to_block b\ntry_call_indirect p () extable0",
-        "misuse at call 3\nline 4: try_call_indirect p () extable0: extable0 isn't there\n",
-    ),
-    (
-        "s = import_signature () fast\nb = create_block\nc = create_block\np = append_block_param b i64\ne = block_call c\nt = create_exception_table s e\nswitch_to_block b\ntry_call_indirect p () t\nswitch_to_block c\ntry_call_indirect p () t",
-        "misuse at call 9\nline 10: try_call_indirect p () t: extable0 serves another instruction\n",
-    ),
+    "b = create_block\np = append_block_param b i64\nswitch_to_block b\ntry_call_indirect p () extable0 => extable0 isn't there",
+    "s = import_signature () fast\nb = create_block\nc = create_block\np = append_block_param b i64\ne = block_call c\nt = create_exception_table s e\nswitch_to_block b\ntry_call_indirect p () t\nswitch_to_block c\ntry_call_indirect p () t => extable0 serves another instruction",
     // a signature that wasn't imported is asked for by the call
-    (
-        "b = create_block\np = append_block_param b i64\ne = block_call b\nt = create_exception_table sig0 e\nswitch_to_block b\ntry_call_indirect p () t",
-        "misuse at call 5\nline 6: try_call_indirect p () t: sig0 isn't there\n",
-    ),
+    "b = create_block\np = append_block_param b i64\ne = block_call b\nt = create_exception_table sig0 e\nswitch_to_block b\ntry_call_indirect p () t => sig0 isn't there",
     // an item without an edge
-    (
-        "s = import_signature () fast\nb = create_block\ne = block_call b\ncreate_exception_table s e default b",
-        "misuse at call 3\nline 4: create_exception_table s e default b: $1.0 is no block call\n",
-    ),
+    "s = import_signature () fast\nb = create_block\ne = block_call b\ncreate_exception_table s e default b => $1.0 is no block call",
     // a context that is no value
-    (
-        "s = import_signature () fast\nb = create_block\ne = block_call b\ncreate_exception_table s e context b",
-        "misuse at call 3\nline 4: create_exception_table s e context b: $1.0 is no value\n",
-    ),
+    "s = import_signature () fast\nb = create_block\ne = block_call b\ncreate_exception_table s e context b => $1.0 is no value",
     // a function that wasn't imported
-    (
-        "s = import_signature () fast\nb = create_block\nc = create_block\ne = block_call c\nt = create_exception_table s e\nswitch_to_block b\ntry_call fn0 () t",
-        "misuse at call 6\nline 7: try_call fn0 () t: fn0 isn't there\n",
-    ),
+    "s = import_signature () fast\nb = create_block\nc = create_block\ne = block_call c\nt = create_exception_table s e\nswitch_to_block b\ntry_call fn0 () t => fn0 isn't there",
     // a target that was sealed between
-    (
-        "s = import_signature () fast\nb = create_block\nc = create_block\np = append_block_param b i64\ne = block_call c\nt = create_exception_table s e\nseal_block c\nswitch_to_block b\ntry_call_indirect p () t",
-        "misuse at call 8\nline 9: try_call_indirect p () t: block1 is sealed\n",
-    ),
+    "s = import_signature () fast\nb = create_block\nc = create_block\np = append_block_param b i64\ne = block_call c\nt = create_exception_table s e\nseal_block c\nswitch_to_block b\ntry_call_indirect p () t => block1 is sealed",
 ];
 
-#[test]
-fn try_misuses(rt: HostRuntime) -> Result<(), Fail> {
-    for (script, err) in MISUSES.iter() {
-        gives(&rt, rt.alloc(), script.as_bytes(), 1, "", err)?;
-    }
-    Ok(())
-}
-
-const FAULTS: [(&str, &str); 5] = [
-    ("create_exception_table", "expected a signature"),
-    ("create_exception_table sig0", "expected a block call"),
-    (
-        "create_exception_table sig0 $0.0 other $0.0",
-        "expected tag7, default or context",
-    ),
-    ("try_call fn0 $0.0", "expected ("),
-    ("try_call fn0 ()", "expected an exception table"),
+/// Lines that are no calls, and what is told of each.
+pub const FAULTS: &[&str] = &[
+    "create_exception_table => expected a signature",
+    "create_exception_table sig0 => expected a block call",
+    "create_exception_table sig0 $0.0 other $0.0 => expected tag7, default or context",
+    "try_call fn0 $0.0 => expected (",
+    "try_call fn0 () => expected an exception table",
 ];
-
-#[test]
-fn tries_unread(rt: HostRuntime) -> Result<(), Fail> {
-    faults(&rt, rt.alloc(), &FAULTS)
-}

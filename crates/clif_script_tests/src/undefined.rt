@@ -2,26 +2,10 @@
 //! is read may be assigned to the variable, since it has its type.
 #![tactic(auto)]
 
-use crate::support::gives;
-use std::test::Fail;
-
-const SCRIPTS: [(&str, &str); 4] = [
-    (FLOATS, FLOATS_TEXT),
-    (IN_TWO_STEPS, IN_TWO_STEPS_TEXT),
-    (POOLED, POOLED_TEXT),
-    (AT_ONCE, AT_ONCE_TEXT),
-];
-
-#[test]
-fn undefined(rt: HostRuntime) -> Result<(), Fail> {
-    for (script, text) in SCRIPTS.iter() {
-        gives(&rt, rt.alloc(), script.as_bytes(), 0, text, "")?;
-    }
-    Ok(())
-}
-
-// Read before the block is sealed: the parameters get their numbers first.
-const FLOATS: &str = "\
+/// Scripts, and the texts of their functions.
+pub const FUNCTIONS: &[&str] = &[
+    // Read before the block is sealed: the parameters get their numbers first.
+    "\
 function %undefined () -> i32 system_v
 b = create_block
 switch_to_block b
@@ -39,9 +23,7 @@ read = use_var z
 def_var z read
 seal_block b
 return
-";
-
-const FLOATS_TEXT: &str = "\
+ => \
 function %undefined() -> i32 system_v {
 block0:
     v7 = f16const 0.0
@@ -54,10 +36,9 @@ block0:
     v0 -> v4
     return
 }
-";
-
-// Zeros of two instructions.
-const IN_TWO_STEPS: &str = "\
+",
+    // Zeros of two instructions.
+    "\
 function %undefined () -> i32 system_v
 b = create_block
 switch_to_block b
@@ -72,9 +53,7 @@ read = use_var z
 def_var z read
 seal_block b
 return
-";
-
-const IN_TWO_STEPS_TEXT: &str = "\
+ => \
 function %undefined() -> i32 system_v {
 block0:
     v7 = f64const 0.0
@@ -88,10 +67,9 @@ block0:
     v0 -> v4
     return
 }
-";
-
-// Zeros of constants: equal bytes are one constant.
-const POOLED: &str = "\
+",
+    // Zeros of constants: equal bytes are one constant.
+    "\
 function %undefined () -> i32 system_v
 b = create_block
 switch_to_block b
@@ -106,9 +84,7 @@ read = use_var z
 def_var z read
 seal_block b
 return
-";
-
-const POOLED_TEXT: &str = "\
+ => \
 function %undefined() -> i32 system_v {
     const0 = 0x00000000000000000000000000000000
 
@@ -121,10 +97,9 @@ block0:
     v0 -> v3
     return
 }
-";
-
-// Read in a sealed block: each zero is put at once.
-const AT_ONCE: &str = "\
+",
+    // Read in a sealed block: each zero is put at once.
+    "\
 function %undefined () -> i32 system_v
 b = create_block
 switch_to_block b
@@ -142,9 +117,7 @@ z = declare_var f32x4
 read = use_var z
 def_var z read
 return
-";
-
-const AT_ONCE_TEXT: &str = "\
+ => \
 function %undefined() -> i32 system_v {
 block0:
     v8 = f32const 0.0
@@ -159,4 +132,5 @@ block0:
     v0 -> v2
     return
 }
-";
+",
+];
