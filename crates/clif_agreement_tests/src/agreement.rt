@@ -1,48 +1,38 @@
-//! Scripts with branches and variables, and the functions that are built of them, answer the same.
+//! Scripts and the functions that are built of them answer the same: the tables of answers of all modules are tested here.
 #![tactic(auto)]
 
-use crate::support::{answers, script_of, text_answers};
-use clif_script::{Call, Name, row_text};
+use crate::support::{
+    Answers, STEPS, answers, both_end, built, returned, row_of, script_of, text_ends, world_of,
+    zeros,
+};
+use crate::{changes, instructions, notes, switches, tables};
+use clif_interpreter::outside::Zeros;
+use clif_interpreter::{End, Ending};
+use clif_script::{Call, Name};
 use clif_text::Script;
-use std::alloc::Global;
+use clif_types::TrapCode;
+use std::alloc::{AllocError, Global};
 use std::process::Abort;
 use std::test::Fail;
 
-// The script of the row of this name.
-fn row_of(name: &str) -> Result<&'static str, Fail> {
-    match row_text(name) {
-        Some(text) => Ok(text),
-        None => Err("no row")?,
-    }
-}
-
-/// A loop whose branch goes back by both of its arms.
-#[test]
-fn both_arms(rt: HostRuntime) -> Result<(), Fail> {
-    text_answers(&rt, rt.alloc(), row_of("both_arms")?, &[&[]], 0)
-}
-
-/// The argument of the documented example, in each of its runs.
-const SAMPLE_ARGUMENTS: [&[u128]; 3] = [&[1], &[2], &[0x8000_0001]];
-
-/// The documented example of the builder, whose blocks are sealed as soon as may be: the loop goes on until 2 less some
-/// arguments is 0 modulo 2^32.
-#[test]
-fn sample(rt: HostRuntime) -> Result<(), Fail> {
-    text_answers(&rt, rt.alloc(), row_of("sample")?, &SAMPLE_ARGUMENTS, 0)
-}
-
-/// The same, with all blocks sealed at the end.
-#[test]
-fn sample_late(rt: HostRuntime) -> Result<(), Fail> {
-    text_answers(
-        &rt,
-        rt.alloc(),
-        row_of("sample_late")?,
-        &SAMPLE_ARGUMENTS,
-        0,
-    )
-}
+/// Rows by their names, and what they return.
+const ROWS: &[Answers] = &[
+    // a loop whose branch goes back by both of its arms
+    ("both_arms", &[(&[], &[0])]),
+    // the documented example of the builder, whose blocks are sealed as soon as may be, or all at the end: the loop goes on until
+    // 2 less some arguments is 0 modulo 2^32
+    (
+        "sample",
+        &[(&[1], &[0]), (&[2], &[0]), (&[0x8000_0001], &[0])],
+    ),
+    (
+        "sample_late",
+        &[(&[1], &[0]), (&[2], &[0]), (&[0x8000_0001], &[0])],
+    ),
+    // branches that are changed
+    ("change_both", &[(&[], &[1])]),
+    ("change_one", &[(&[], &[1])]),
+];
 
 /// What block1 reads is named in block3: x counts down from the argument.
 const NAMED_LATER: &str = "\
@@ -73,12 +63,38 @@ seal_block block3
 return reading
 ";
 
-const NAMED_LATER_ARGUMENTS: [&[u128]; 4] = [&[0], &[1], &[3], &[40]];
-
 /// A reading that is named in a later block.
+const OWN_ANSWERS: &[Answers] = &[(
+    NAMED_LATER,
+    &[(&[0], &[0]), (&[1], &[0]), (&[3], &[0]), (&[40], &[0])],
+)];
+
+const ANSWERS: &[&[Answers]] = &[
+    changes::ANSWERS,
+    instructions::ANSWERS,
+    notes::ANSWERS,
+    switches::ANSWERS,
+    tables::ANSWERS,
+    OWN_ANSWERS,
+];
+
+/// Scripts with branches and variables.
 #[test]
-fn named_later(rt: HostRuntime) -> Result<(), Fail> {
-    text_answers(&rt, rt.alloc(), NAMED_LATER, &NAMED_LATER_ARGUMENTS, 0)
+fn all_answers(rt: HostRuntime) -> Result<(), Fail> {
+    for (name, rows) in ROWS {
+        answers(&rt, rt.alloc(), row_of(name)?, rows)?;
+    }
+    // the value of a switch is its first key, or its second one
+    for (name, code) in [("switch_high", 1), ("switch_border", 2)] {
+        let end = End::Trapped(TrapCode::User(code));
+        text_ends(&rt, rt.alloc(), row_of(name)?, &[], end)?;
+    }
+    for scripts in ANSWERS {
+        for (text, rows) in scripts.iter() {
+            answers(&rt, rt.alloc(), text, rows)?;
+        }
+    }
+    Ok(())
 }
 
 /// Two loops, one in the other: the inner one counts y down from x, the outer one x from 3, and `total` counts the turns
@@ -130,47 +146,45 @@ return result
 /// The place of the call that makes block0; those of the other blocks follow.
 const FIRST_BLOCK: usize = 3;
 
-// The numbers below `count`, in the order that has this number among all orders.
-fn order(alloc: Global, count: usize, number: usize) -> Result<Vec<usize>, Fail> {
-    let mut left = Vec::new(alloc);
-    for block in 0..count {
-        left.push(block)?;
-    }
-    let mut chosen = Vec::new(alloc);
-    let mut rest = number;
-    for _ in 0..count {
-        let choices = left.len().max(1);
-        let place = rest % choices;
-        rest = rest / choices;
-        if place < left.len() {
-            chosen.push(left.remove(place))?;
-        }
-    }
-    Ok(chosen)
+// The block that a number of six digits in base 6 has at the digit of this weight.
+fn block_at(number: usize, weight: usize) -> usize {
+    number / weight.max(1) % 6
 }
 
-// Puts the sealing of these blocks, in this order, at the end of a script.
-fn seal_in(text: &mut Script, blocks: &[usize]) -> Result<(), Fail> {
-    for block in blocks {
-        let place = FIRST_BLOCK.saturating_add(*block);
+const WEIGHTS: [usize; 6] = [1, 6, 36, 216, 1296, 7776];
+
+// A number has each of the six blocks: it is an order of them.
+fn is_order(number: usize) -> bool {
+    let mut found = [false; 6];
+    for weight in WEIGHTS {
+        if let Some(is_found) = found.get_mut(block_at(number, weight)) {
+            *is_found = true;
+        }
+    }
+    found == [true; 6]
+}
+
+// Puts the sealing of the blocks, in this order, at the end of a script.
+fn seal_in(text: &mut Script, order: usize) -> Result<(), AllocError> {
+    for weight in WEIGHTS {
+        let place = FIRST_BLOCK.saturating_add(block_at(order, weight));
         let block = Name { place, answer: 0 };
         text.calls.push(Call::SealBlock { block })?;
     }
     Ok(())
 }
 
-// The nest of two loops, with the blocks sealed in this order: 3 + 2 + 1 turns. The calls are left as they were.
-fn nest_answers(
-    rt: &impl Abort,
-    alloc: Global,
-    text: &mut Script,
-    blocks: &[usize],
-) -> Result<(), Fail> {
-    let made = text.calls.len();
-    seal_in(text, blocks)?;
-    answers(rt, alloc, text, &[&[]], 6)?;
-    text.calls.truncate(made);
-    Ok(())
+// The nest of two loops, with the blocks sealed at its end: 3 + 2 + 1 turns.
+fn nest_answers(rt: &impl Abort, alloc: Global, text: &Script) -> Result<(), Fail> {
+    let func = built(alloc, text)?;
+    let memory = zeros(alloc)?;
+    let ending = Ending {
+        events: Vec::new(alloc),
+        end: returned(alloc, &[6])?,
+        memory: zeros(alloc)?,
+    };
+    let world = world_of(text, &[], &memory, &Zeros);
+    both_end(rt, alloc, text, &func, &world, STEPS, &ending)
 }
 
 /// The nest of two loops, whose blocks are sealed at the end, in each of the 720 orders.
@@ -178,10 +192,16 @@ fn nest_answers(
 fn nest_sealed_in_every_order(rt: HostRuntime) -> Result<(), Fail> {
     let alloc = rt.alloc();
     let mut text = script_of(alloc, NEST)?;
-    for number in 0..720 {
-        let blocks = order(alloc, 6, number)?;
-        assert!(rt; blocks.len() == 6);
-        nest_answers(&rt, alloc, &mut text, blocks.as_slice())?;
+    let made = text.calls.len();
+    let mut orders = 0u32;
+    for order in 0..46_656usize {
+        if is_order(order) {
+            seal_in(&mut text, order)?;
+            nest_answers(&rt, alloc, &text)?;
+            text.calls.truncate(made);
+            orders = orders.wrapping_add(1);
+        }
     }
+    assert!(rt; orders == 720);
     Ok(())
 }

@@ -1,21 +1,7 @@
 //! Branches that are changed by scripts, in the scripts and in the functions that are built of them.
 #![tactic(auto)]
 
-use crate::support::text_answers;
-use clif_script::row_text;
-use std::test::Fail;
-
-/// Both rows answer 1.
-#[test]
-fn rows(rt: HostRuntime) -> Result<(), Fail> {
-    for name in ["change_both", "change_one"] {
-        match row_text(name) {
-            Some(text) => text_answers(&rt, rt.alloc(), text, &[&[]], 1)?,
-            None => Err("no row")?,
-        }
-    }
-    Ok(())
-}
+use crate::support::Answers;
 
 /// A branch leads to the unsealed entry at first, while the variable is read behind its other arm.
 const ENTRY_LEFT: &str = "\
@@ -38,13 +24,6 @@ switch_to_block block2
 return choice
 seal_all_blocks
 ";
-
-/// The argument, or 7 in its place if it is zero.
-#[test]
-fn entry_left(rt: HostRuntime) -> Result<(), Fail> {
-    text_answers(&rt, rt.alloc(), ENTRY_LEFT, &[&[0], &[7]], 7)?;
-    text_answers(&rt, rt.alloc(), ENTRY_LEFT, &[&[5]], 5)
-}
 
 /// The table `block1, [block1, block2, block1]`, of which all edges lead to block2 then.
 const TABLE: &str = "\
@@ -71,16 +50,6 @@ return sum
 seal_all_blocks
 ";
 
-/// Seven more than the argument, whichever edge is taken.
-#[test]
-fn table(rt: HostRuntime) -> Result<(), Fail> {
-    text_answers(&rt, rt.alloc(), TABLE, &[&[0]], 7)?;
-    text_answers(&rt, rt.alloc(), TABLE, &[&[1]], 8)?;
-    text_answers(&rt, rt.alloc(), TABLE, &[&[2]], 9)?;
-    text_answers(&rt, rt.alloc(), TABLE, &[&[3]], 10)?;
-    text_answers(&rt, rt.alloc(), TABLE, &[&[0xffff_ffff]], 6)
-}
-
 /// Each edge passes what it passed to another block.
 const PASSING: &str = "\
 function %passing (i32, i32) -> i32 system_v
@@ -99,12 +68,6 @@ switch_to_block block2
 return b
 seal_all_blocks
 ";
-
-/// The first argument, or the second one in its place if that is zero.
-#[test]
-fn passing(rt: HostRuntime) -> Result<(), Fail> {
-    text_answers(&rt, rt.alloc(), PASSING, &[&[5, 9], &[5, 0], &[0, 5]], 5)
-}
 
 /// A loop whose block is another one at last: the jump into it and the one back are both changed.
 const LOOP: &str = "\
@@ -139,10 +102,26 @@ return result
 seal_block old
 ";
 
-/// As many turns as the argument says.
-#[test]
-fn turns(rt: HostRuntime) -> Result<(), Fail> {
-    text_answers(&rt, rt.alloc(), LOOP, &[&[1]], 1)?;
-    text_answers(&rt, rt.alloc(), LOOP, &[&[2]], 2)?;
-    text_answers(&rt, rt.alloc(), LOOP, &[&[40]], 40)
-}
+/// Scripts, and what they return.
+pub const ANSWERS: &[Answers] = &[
+    // the argument, or 7 in its place if it is zero
+    (ENTRY_LEFT, &[(&[0], &[7]), (&[7], &[7]), (&[5], &[5])]),
+    // seven more than the argument, whichever edge is taken
+    (
+        TABLE,
+        &[
+            (&[0], &[7]),
+            (&[1], &[8]),
+            (&[2], &[9]),
+            (&[3], &[10]),
+            (&[0xffff_ffff], &[6]),
+        ],
+    ),
+    // the first argument, or the second one in its place if that is zero
+    (
+        PASSING,
+        &[(&[5, 9], &[5]), (&[5, 0], &[5]), (&[0, 5], &[5])],
+    ),
+    // as many turns as the argument says
+    (LOOP, &[(&[1], &[1]), (&[2], &[2]), (&[40], &[40])]),
+];

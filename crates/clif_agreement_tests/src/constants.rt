@@ -2,9 +2,9 @@
 //! function several instructions.
 #![tactic(auto)]
 
-use crate::support::{script_of, text_answers, zeros};
+use crate::support::{answers, returned, script_of, world_of, zeros};
 use clif_interpreter::outside::Zeros;
-use clif_interpreter::{End, World, script};
+use clif_interpreter::{End, script};
 use std::alloc::Global;
 use std::process::Abort;
 use std::test::Fail;
@@ -15,15 +15,15 @@ fn gives(
     rt: &impl Abort,
     alloc: Global,
     types: (&str, &str),
-    call: &str,
+    call: (&str, &str),
     x: u128,
     number: u128,
 ) -> Result<(), Fail> {
-    let (ty, answered) = types;
+    let ((ty, answered), (name, words)) = (types, call);
     let text = format!(in alloc;
-        "function %constant ({ty}) -> {answered} system_v\nb = create_block\nx = append_block_params_for_function_params b\nswitch_to_block b\ny = {call}\nreturn y\nseal_block b\n"
+        "function %constant ({ty}) -> {answered} system_v\nb = create_block\nx = append_block_params_for_function_params b\nswitch_to_block b\ny = {name} {words}\nreturn y\nseal_block b\n"
     )?;
-    text_answers(rt, alloc, text.as_str(), &[&[x]], number)
+    answers(rt, alloc, text.as_str(), &[(&[x], &[number])])
 }
 
 // The type, the constant, the parameter and the sum.
@@ -48,17 +48,6 @@ const SUMS: [(&str, &str, u128, u128); 17] = [
     ("i128", "-1", 0, u128::MAX),
     ("i128", "-0x8000_0000_0000_0000", 0x8000_0000_0000_0000, 0),
 ];
-
-/// Sums at each width, modulo two to that.
-#[test]
-fn sums(rt: HostRuntime) -> Result<(), Fail> {
-    let alloc = rt.alloc();
-    for (ty, imm, x, number) in SUMS.iter() {
-        let call = format!(in alloc; "iadd_imm_s x {imm}")?;
-        gives(&rt, alloc, (ty, ty), call.as_str(), *x, *number)?;
-    }
-    Ok(())
-}
 
 // The type, the condition and the constant, the parameter, and whether the condition holds. In eight bits 200 is -56.
 const COMPARISONS: [(&str, &str, u128, u128); 36] = [
@@ -100,13 +89,15 @@ const COMPARISONS: [(&str, &str, u128, u128); 36] = [
     ("i128", "uge x -1", 0x1_0000_0000_0000_0000, 0),
 ];
 
-/// Each condition, signed and not, and comparisons at each width.
+/// Sums at each width, modulo two to that; each condition, signed and not, and comparisons at each width.
 #[test]
-fn comparisons(rt: HostRuntime) -> Result<(), Fail> {
+fn sums_and_comparisons(rt: HostRuntime) -> Result<(), Fail> {
     let alloc = rt.alloc();
+    for (ty, imm, x, number) in SUMS.iter() {
+        gives(&rt, alloc, (ty, ty), ("iadd_imm_s x", imm), *x, *number)?;
+    }
     for (ty, words, x, number) in COMPARISONS.iter() {
-        let call = format!(in alloc; "icmp_imm_s {words}")?;
-        gives(&rt, alloc, (ty, "i8"), call.as_str(), *x, *number)?;
+        gives(&rt, alloc, (ty, "i8"), ("icmp_imm_s", words), *x, *number)?;
     }
     Ok(())
 }
@@ -122,27 +113,16 @@ return z
 seal_block b
 ";
 
-// A script that gets 7 ends so within so many steps.
-fn ends_within(rt: &impl Abort, alloc: Global, steps: u64, end: &End) -> Result<(), Fail> {
-    let text = script_of(alloc, TWO)?;
-    let memory = zeros(alloc)?;
-    let world = World {
-        arguments: &[7],
-        memory: &memory,
-        pointer_width: text.config.pointer_width,
-        slots: memory.start(),
-        outside: &Zeros,
-    };
-    let calls = text.calls.as_slice();
-    let ending = script::run(alloc, calls, &text.signature, &world, steps)?;
-    assert!(rt; ending.end == *end);
-    Ok(())
-}
-
-/// A sum, a comparison and the return are three steps of a script.
+/// A sum, a comparison and the return are three steps of a script, which gets 7.
 #[test]
 fn one_step_each(rt: HostRuntime) -> Result<(), Fail> {
     let alloc = rt.alloc();
-    ends_within(&rt, alloc, 2, &End::OutOfSteps)?;
-    ends_within(&rt, alloc, 3, &End::Returned(vec![in alloc; 1]?))
+    let text = script_of(alloc, TWO)?;
+    let memory = zeros(alloc)?;
+    let world = world_of(&text, &[7], &memory, &Zeros);
+    for (steps, end) in [(2, End::OutOfSteps), (3, returned(alloc, &[1])?)] {
+        let ending = script::run(alloc, text.calls.as_slice(), &text.signature, &world, steps)?;
+        assert!(rt; ending.end == end);
+    }
+    Ok(())
 }

@@ -1,11 +1,8 @@
 //! Memory helpers, in scripts and in the functions that are built of them: what they do is what plain loops over bytes do.
 #![tactic(auto)]
 
-use crate::support::{both_end, built, script_of};
-use clif_builder::FunctionBuilderContext;
-use clif_interpreter::{End, Ending, Memory};
-use clif_ir::Function;
-use clif_text::Script;
+use crate::support::{Pair, memory_of, returned};
+use clif_interpreter::Memory;
 use std::alloc::Global;
 use std::cmp::Ordering;
 use std::process::Abort;
@@ -24,15 +21,6 @@ fn mixed(alloc: Global) -> Result<Vec<u8>, Fail> {
         bytes.push((place.wrapping_mul(37).wrapping_add(11) % 256) as u8)?;
     }
     Ok(bytes)
-}
-
-// Memory of these bytes from an address on.
-fn memory_of(alloc: Global, start: u64, bytes: &[u8]) -> Result<Memory, Fail> {
-    let mut memory = Memory::zeros(alloc, start, bytes.len())?;
-    for (place, byte) in bytes.iter().enumerate() {
-        memory.put(place, *byte);
-    }
-    Ok(memory)
 }
 
 // The byte at a place, if there are so many.
@@ -54,12 +42,6 @@ fn copied(before: &[u8], after: &mut [u8], target: usize, source: usize, size: u
     }
 }
 
-fn filled(after: &mut [u8], target: usize, size: usize, byte: u8) {
-    for place in 0..size {
-        put_at(after, target.wrapping_add(place), byte);
-    }
-}
-
 // The order of the first two bytes that differ, of so many.
 fn order_of(bytes: &[u8], left: usize, right: usize, size: usize) -> Ordering {
     for place in 0..size {
@@ -75,56 +57,33 @@ fn order_of(bytes: &[u8], left: usize, right: usize, size: usize) -> Ordering {
     Ordering::Equal
 }
 
-/// A script of one helper, and its function.
-#[derive(Drop)]
-struct Helper {
-    script: Script,
-    func: Function,
+// A script of these lines, in a block with these parameters, in a function that returns `r` if it returns a value of a type.
+fn helper(alloc: Global, params: &str, returns: &str, lines: &str) -> Result<Pair, Fail> {
+    let (arrow, returned) = if returns.is_empty() {
+        ("", "")
+    } else {
+        ("->", "r")
+    };
+    let text = format!(in alloc;
+        "function %helper ({params}) {arrow} {returns} system_v\nb = create_block\np q n = append_block_params_for_function_params b\nswitch_to_block b\n{lines}\nreturn {returned}\nseal_all_blocks\n"
+    )?;
+    Pair::new(alloc, text.as_str())
 }
 
-impl Helper {
-    // These lines, in a block with these parameters, in a function that returns `r` if it returns a value of a type.
-    fn new(alloc: Global, params: &str, returns: &str, lines: &str) -> Result<Helper, Fail> {
-        let (arrow, returned) = if returns.is_empty() {
-            ("", "")
-        } else {
-            ("->", "r")
-        };
-        let text = format!(in alloc;
-            "function %helper ({params}) {arrow} {returns} system_v\nb = create_block\np q n = append_block_params_for_function_params b\nswitch_to_block b\n{lines}\nreturn {returned}\nseal_all_blocks\n"
-        )?;
-        let script = script_of(alloc, text.as_str())?;
-        let mut ctx = FunctionBuilderContext::new(alloc);
-        let func = built(alloc, &script, &mut ctx)?;
-        Ok(Helper { script, func })
-    }
-
-    // Both end with these bytes, and return these numbers.
-    fn ends(
-        &self,
-        rt: &impl Abort,
-        alloc: Global,
-        arguments: &[u128],
-        bytes: (&[u8], &[u8]),
-        returned: Vec<u128>,
-    ) -> Result<(), Fail> {
-        let (before, after) = bytes;
-        let memory = memory_of(alloc, START, before)?;
-        let ending = Ending {
-            events: Vec::new(alloc),
-            end: End::Returned(returned),
-            memory: memory_of(alloc, START, after)?,
-        };
-        both_end(
-            rt,
-            alloc,
-            &self.script,
-            &self.func,
-            arguments,
-            &memory,
-            &ending,
-        )
-    }
+// Both end with these bytes, and return these numbers.
+fn ends(
+    rt: &impl Abort,
+    alloc: Global,
+    helper: &Pair,
+    arguments: &[u128],
+    bytes: (&[u8], &[u8]),
+    numbers: &[u128],
+) -> Result<(), Fail> {
+    let (before, after) = bytes;
+    let end = returned(alloc, numbers)?;
+    let before = memory_of(alloc, START, before.len(), before)?;
+    let after = memory_of(alloc, START, after.len(), after)?;
+    helper.ends(rt, alloc, arguments, &before, end, after)
 }
 
 // The address of the byte at a place.
@@ -133,7 +92,7 @@ fn address(place: usize) -> u128 {
 }
 
 /// Where bytes are copied to, and from where: apart, beside one another, and over one another in both directions.
-const PLACES: [(usize, usize); 10] = [
+const PLACES: &[(usize, usize)] = &[
     (0, 64),
     (64, 0),
     (44, 31),
@@ -150,54 +109,44 @@ const PLACES: [(usize, usize); 10] = [
 fn copies(
     rt: &impl Abort,
     alloc: Global,
-    helper: &Helper,
+    helper: &Pair,
     size: usize,
     places: (usize, usize),
 ) -> Result<(), Fail> {
     let (target, source) = places;
     let before = mixed(alloc)?;
     let mut after = mixed(alloc)?;
-    copied(
-        before.as_slice(),
-        after.as_mut_slice(),
-        target,
-        source,
-        size,
-    );
+    let (bytes, changed) = (before.as_slice(), after.as_mut_slice());
+    copied(bytes, changed, target, source, size);
     let arguments = [address(target), address(source), size as u128];
-    let bytes = (before.as_slice(), after.as_slice());
-    helper.ends(rt, alloc, &arguments, bytes, Vec::new(alloc))
+    ends(rt, alloc, helper, &arguments, (bytes, changed), &[])
 }
 
-/// Copies of each size to 40, which may overlap.
-#[test]
-fn overlapping_copies(rt: HostRuntime) -> Result<(), Fail> {
-    let alloc = rt.alloc();
-    let moved = Helper::new(alloc, "i64 i64 i64", "", "call_memmove p q n")?;
-    for size in 0..41usize {
-        let line = format!(in alloc; "emit_small_memory_copy p q {size} 1 1 overlap")?;
-        let copy = Helper::new(alloc, "i64 i64 i64", "", line.as_str())?;
-        for places in PLACES.iter() {
-            copies(&rt, alloc, &copy, size, *places)?;
-            copies(&rt, alloc, &moved, size, *places)?;
-        }
-    }
-    Ok(())
-}
+/// Copies: by a call, and by a helper with these words behind the size, with the places of bytes.
+const COPIES: &[(&str, &str, &[(usize, usize)])] = &[
+    // they may overlap
+    ("call_memmove p q n", "1 1 overlap", PLACES),
+    // they are said not to overlap, between aligned addresses
+    (
+        "call_memcpy p q n",
+        "1 8 nonoverlap aligned notrap",
+        &[(0, 64), (64, 0), (48, 8)],
+    ),
+];
 
-/// Copies that are said not to overlap, between aligned addresses.
+/// Copies of each size to 40.
 #[test]
-fn copies_apart(rt: HostRuntime) -> Result<(), Fail> {
+fn each_copy(rt: HostRuntime) -> Result<(), Fail> {
     let alloc = rt.alloc();
-    let called = Helper::new(alloc, "i64 i64 i64", "", "call_memcpy p q n")?;
-    for size in 0..41usize {
-        let line = format!(in alloc;
-            "emit_small_memory_copy p q {size} 1 8 nonoverlap aligned notrap"
-        )?;
-        let copy = Helper::new(alloc, "i64 i64 i64", "", line.as_str())?;
-        for places in [(0, 64), (64, 0), (48, 8)] {
-            copies(&rt, alloc, &copy, size, places)?;
-            copies(&rt, alloc, &called, size, places)?;
+    for (call, words, all_places) in COPIES {
+        let called = helper(alloc, "i64 i64 i64", "", call)?;
+        for size in 0..41usize {
+            let line = format!(in alloc; "emit_small_memory_copy p q {size} {words}")?;
+            let copy = helper(alloc, "i64 i64 i64", "", line.as_str())?;
+            for places in all_places.iter() {
+                copies(&rt, alloc, &copy, size, *places)?;
+                copies(&rt, alloc, &called, size, *places)?;
+            }
         }
     }
     Ok(())
@@ -208,28 +157,24 @@ fn copies_apart(rt: HostRuntime) -> Result<(), Fail> {
 fn four_places_on(rt: HostRuntime) -> Result<(), Fail> {
     let alloc = rt.alloc();
     let line = "emit_small_memory_copy p q 12 1 1 overlap";
-    let copy = Helper::new(alloc, "i64 i64 i64", "", line)?;
+    let copy = helper(alloc, "i64 i64 i64", "", line)?;
     let before = [1, 2, 3, 4, 5, 6, 7, 8, 9, 10, 11, 12, 13, 14, 15, 16];
     let after = [1, 2, 3, 4, 1, 2, 3, 4, 5, 6, 7, 8, 9, 10, 11, 12];
     let arguments = [address(4), address(0), 0];
-    copy.ends(&rt, alloc, &arguments, (&before, &after), Vec::new(alloc))
+    ends(&rt, alloc, &copy, &arguments, (&before, &after), &[])
 }
 
 // A helper fills so many bytes as a loop does.
-fn fills(
-    rt: &impl Abort,
-    alloc: Global,
-    helper: &Helper,
-    byte: u8,
-    size: usize,
-) -> Result<(), Fail> {
-    for target in [0, 8, 80] {
+fn fills(rt: &impl Abort, alloc: Global, helper: &Pair, byte: u8, size: usize) -> Result<(), Fail> {
+    for target in [0usize, 8, 80] {
         let before = mixed(alloc)?;
         let mut after = mixed(alloc)?;
-        filled(after.as_mut_slice(), target, size, byte);
+        for place in 0..size {
+            put_at(after.as_mut_slice(), target.wrapping_add(place), byte);
+        }
         let arguments = [address(target), u128::from(byte), size as u128];
         let bytes = (before.as_slice(), after.as_slice());
-        helper.ends(rt, alloc, &arguments, bytes, Vec::new(alloc))?;
+        ends(rt, alloc, helper, &arguments, bytes, &[])?;
     }
     Ok(())
 }
@@ -238,11 +183,11 @@ fn fills(
 #[test]
 fn each_fill(rt: HostRuntime) -> Result<(), Fail> {
     let alloc = rt.alloc();
-    let set = Helper::new(alloc, "i64 i8 i64", "", "call_memset p q n")?;
+    let set = helper(alloc, "i64 i8 i64", "", "call_memset p q n")?;
     for byte in [0, 0x7f, 0x80, 0xab, 0xff] {
         for size in 0..41usize {
             let line = format!(in alloc; "emit_small_memset p {byte} {size} 1")?;
-            let fill = Helper::new(alloc, "i64 i8 i64", "", line.as_str())?;
+            let fill = helper(alloc, "i64 i8 i64", "", line.as_str())?;
             fills(&rt, alloc, &fill, byte, size)?;
             fills(&rt, alloc, &set, byte, size)?;
         }
@@ -288,14 +233,13 @@ const DIFFERENCES: [(u8, u8); 4] = [(1, 2), (2, 1), (0x7f, 0x80), (0xff, 0)];
 fn compares(
     rt: &impl Abort,
     alloc: Global,
-    helper: &Helper,
+    helper: &Pair,
     size: usize,
     bytes: &[u8],
     number: u128,
 ) -> Result<(), Fail> {
     let arguments = [address(0), address(64), size as u128];
-    let returned = vec![in alloc; number]?;
-    helper.ends(rt, alloc, &arguments, (bytes, bytes), returned)
+    ends(rt, alloc, helper, &arguments, (bytes, bytes), &[number])
 }
 
 /// Comparisons of each size to 20, by each condition, of bytes that are the same and of bytes that differ.
@@ -307,7 +251,7 @@ fn comparisons(rt: HostRuntime) -> Result<(), Fail> {
             let line = format!(in alloc;
                 "r = emit_small_memory_compare {condition} p q {size} 1 1"
             )?;
-            let compare = Helper::new(alloc, "i64 i64 i64", "i8", line.as_str())?;
+            let compare = helper(alloc, "i64 i64 i64", "i8", line.as_str())?;
             for at in [0, 1, size.saturating_sub(1), size] {
                 for difference in DIFFERENCES.iter() {
                     let bytes = differing(alloc, at, *difference)?;
@@ -334,20 +278,20 @@ fn world_number(order: Ordering) -> u128 {
 #[test]
 fn numbers(rt: HostRuntime) -> Result<(), Fail> {
     let alloc = rt.alloc();
-    let helper = Helper::new(alloc, "i64 i64 i64", "i32", "r = call_memcmp p q n")?;
+    let answered = helper(alloc, "i64 i64 i64", "i32", "r = call_memcmp p q n")?;
     let lines =
         "s = import_signature (i64 i64 i64) -> i32 system_v\nf = import_function libcall Memcmp s\n@c, r = call f (p q n)";
-    let called = Helper::new(alloc, "i64 i64 i64", "i32", lines)?;
+    let called = helper(alloc, "i64 i64 i64", "i32", lines)?;
     // the function that a helper imported may be called, too
     let lines = "a = call_memcmp p q n\n@c, r = call fn0 (p q n)";
-    let again = Helper::new(alloc, "i64 i64 i64", "i32", lines)?;
+    let again = helper(alloc, "i64 i64 i64", "i32", lines)?;
     for size in 0..21usize {
         for at in [0, 1, size.saturating_sub(1), size] {
             for difference in DIFFERENCES.iter() {
                 let bytes = differing(alloc, at, *difference)?;
                 let bytes = bytes.as_slice();
                 let number = world_number(order_of(bytes, 0, 64, size));
-                compares(&rt, alloc, &helper, size, bytes, number)?;
+                compares(&rt, alloc, &answered, size, bytes, number)?;
                 compares(&rt, alloc, &called, size, bytes, number)?;
                 compares(&rt, alloc, &again, size, bytes, number)?;
             }
@@ -356,38 +300,27 @@ fn numbers(rt: HostRuntime) -> Result<(), Fail> {
     Ok(())
 }
 
+// So many accessible bytes from address 0 on, with these from address 65531 on; behind the last one they go on at the first one.
+fn around_the_end(alloc: Global, size: usize, bytes: &[u8]) -> Result<Memory, Fail> {
+    let mut memory = Memory::zeros(alloc, 0, size)?;
+    for (place, byte) in bytes.iter().enumerate() {
+        memory.put(65531usize.wrapping_add(place) % size.max(1), *byte);
+    }
+    Ok(memory)
+}
+
 /// Addresses of 16 bits count modulo 2^16: bytes lie before the border and behind it.
 #[test]
 fn wrap_around(rt: HostRuntime) -> Result<(), Fail> {
     let alloc = rt.alloc();
     let text =
         "pointer 16\nfunction %wrap (i16 i16) -> i8 system_v\nb = create_block\np q = append_block_params_for_function_params b\nswitch_to_block b\nemit_small_memory_copy p q 12 1 1 overlap\nemit_small_memory_copy q p 5 1 1 overlap\nemit_small_memset p 7 2 1\nr = emit_small_memory_compare ult p q 3 1 1\nreturn r\nseal_all_blocks\n";
-    let script = script_of(alloc, text)?;
-    let mut ctx = FunctionBuilderContext::new(alloc);
-    let func = built(alloc, &script, &mut ctx)?;
-    let mut before = Memory::zeros(alloc, 0, 65536)?;
-    let mut after = Memory::zeros(alloc, 0, 65536)?;
-    for place in 0..12usize {
-        let from = 65531usize.wrapping_add(place) % 65536;
-        before.put(from, (place as u8).wrapping_add(1));
-    }
+    let pair = Pair::new(alloc, text)?;
     // 1 to 12 from 65531 on are copied to 65535, five of them back, and then the first two become 7
-    let bytes = [1, 2, 3, 4, 7, 7, 3, 4, 5, 6, 7, 8, 9, 10, 11, 12];
-    for (place, byte) in bytes.iter().enumerate() {
-        after.put(65531usize.wrapping_add(place) % 65536, *byte);
-    }
-    let ending = Ending {
-        events: Vec::new(alloc),
-        end: End::Returned(vec![in alloc; 0]?),
-        memory: after,
-    };
-    both_end(
-        &rt,
-        alloc,
-        &script,
-        &func,
-        &[65535, 65531],
-        &before,
-        &ending,
-    )
+    let before = [1, 2, 3, 4, 5, 6, 7, 8, 9, 10, 11, 12];
+    let after = [1, 2, 3, 4, 7, 7, 3, 4, 5, 6, 7, 8, 9, 10, 11, 12];
+    let before = around_the_end(alloc, 65536, &before)?;
+    let after = around_the_end(alloc, 65536, &after)?;
+    let end = returned(alloc, &[0])?;
+    pair.ends(&rt, alloc, &[65535, 65531], &before, end, after)
 }

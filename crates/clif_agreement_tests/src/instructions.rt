@@ -1,7 +1,7 @@
 //! What each instruction without memory answers, on both interpreters.
 #![tactic(auto)]
 
-use crate::support::{text_answers, text_ends_in_zeros};
+use crate::support::{Answers, returned, text_ends};
 use clif_interpreter::End;
 use clif_types::TrapCode;
 use std::alloc::Global;
@@ -29,78 +29,6 @@ return s5
 seal_block block0
 ";
 
-/// Each operation on both interpreters, in one script.
-#[test]
-fn operations(rt: HostRuntime) -> Result<(), Fail> {
-    text_answers(&rt, rt.alloc(), OPERATIONS, &[&[12, 10]], 123)
-}
-
-/// The script that makes one operation of two bytes.
-const OPERATION: &str = "\
-function %operation (i8, i8) -> i8 system_v
-block0 = create_block
-a, b = append_block_params_for_function_params block0
-switch_to_block block0
-";
-
-// A script that makes this operation of two bytes ends so, and so does its function.
-fn operation_ends(
-    rt: &impl Abort,
-    alloc: Global,
-    name: &str,
-    args: &[u128],
-    end: End,
-) -> Result<(), Fail> {
-    let text = format!(in alloc; "{OPERATION}c = {name} a b\nreturn c\nseal_block block0\n")?;
-    text_ends_in_zeros(rt, alloc, text.as_str(), args, end)
-}
-
-/// Shifts, by amounts modulo eight, and quotients and remainders, of which signed ones are rounded toward zero.
-#[test]
-fn shifts_and_quotients(rt: HostRuntime) -> Result<(), Fail> {
-    let rows: [(&str, u128, u128, u128); 16] = [
-        ("ishl", 3, 2, 12),
-        ("ishl", 1, 9, 2),
-        ("ishl", 200, 1, 144),
-        ("ushr", 200, 3, 25),
-        ("ushr", 200, 11, 25),
-        ("sshr", 200, 3, 249),
-        ("sshr", 100, 3, 12),
-        ("udiv", 200, 7, 28),
-        ("urem", 200, 7, 4),
-        ("sdiv", 249, 2, 253),
-        ("sdiv", 249, 254, 3),
-        ("sdiv", 128, 2, 192),
-        ("srem", 249, 2, 255),
-        ("srem", 7, 254, 1),
-        ("srem", 128, 255, 0),
-        ("urem", 128, 255, 128),
-    ];
-    let alloc = rt.alloc();
-    for (name, x, y, number) in rows {
-        let end = End::Returned(vec![in alloc; number]?);
-        operation_ends(&rt, alloc, name, &[x, y], end)?;
-    }
-    Ok(())
-}
-
-/// Division and remainder by zero, and `sdiv` of the least number by -1.
-#[test]
-fn traps(rt: HostRuntime) -> Result<(), Fail> {
-    let rows = [
-        ("udiv", 7, 0, TrapCode::DivisionByZero),
-        ("sdiv", 7, 0, TrapCode::DivisionByZero),
-        ("sdiv", 128, 0, TrapCode::DivisionByZero),
-        ("urem", 7, 0, TrapCode::DivisionByZero),
-        ("srem", 7, 0, TrapCode::DivisionByZero),
-        ("sdiv", 128, 255, TrapCode::IntegerOverflow),
-    ];
-    for (name, x, y, code) in rows {
-        operation_ends(&rt, rt.alloc(), name, &[x, y], End::Trapped(code))?;
-    }
-    Ok(())
-}
-
 /// A choice between the parameters, by the low byte of a wider number: 256 chooses `b`, and any other number up to 511
 /// chooses `a`.
 const CHOICE: &str = "\
@@ -115,53 +43,6 @@ return wide
 seal_block block0
 ";
 
-/// Conversions and a choice.
-#[test]
-fn conversions_and_choices(rt: HostRuntime) -> Result<(), Fail> {
-    text_answers(
-        &rt,
-        rt.alloc(),
-        CHOICE,
-        &[&[256, 1, 200], &[0, 1, 200]],
-        200,
-    )?;
-    text_answers(
-        &rt,
-        rt.alloc(),
-        CHOICE,
-        &[&[257, 200, 1], &[1, 200, 1]],
-        200,
-    )
-}
-
-/// The conditions, and what they answer of 200 and 5, of 5 and 200, and of 200 and 200 in eight bits. As a signed number
-/// 200 is -56.
-const CONDITIONS: [(&str, u128, u128, u128); 10] = [
-    ("icmp eq", 0, 0, 1),
-    ("icmp ne", 1, 1, 0),
-    ("icmp slt", 1, 0, 0),
-    ("icmp sge", 0, 1, 1),
-    ("icmp sgt", 0, 1, 0),
-    ("icmp sle", 1, 0, 1),
-    ("icmp ult", 0, 1, 0),
-    ("icmp uge", 1, 0, 1),
-    ("icmp ugt", 1, 0, 0),
-    ("icmp ule", 0, 1, 1),
-];
-
-/// Each condition.
-#[test]
-fn comparisons(rt: HostRuntime) -> Result<(), Fail> {
-    let alloc = rt.alloc();
-    for (name, greater, less, equal) in CONDITIONS.iter() {
-        for (x, y, number) in [(200, 5, *greater), (5, 200, *less), (200, 200, *equal)] {
-            let end = End::Returned(vec![in alloc; number]?);
-            operation_ends(&rt, alloc, name, &[x, y], end)?;
-        }
-    }
-    Ok(())
-}
-
 /// Shifts of bytes by a number of 32 bits.
 const WIDE_AMOUNTS: &str = "\
 function %amounts (i8, i8, i32) -> i8, i8, i8 system_v
@@ -174,15 +55,6 @@ small = iconst.i8 300
 return left right small
 seal_block block0
 ";
-
-/// An amount of another type, and a constant that its type is too narrow for: 1 by 9 gives 2, -128 by 9 gives -64, and
-/// 300 is 44.
-#[test]
-fn wide_numbers(rt: HostRuntime) -> Result<(), Fail> {
-    let alloc = rt.alloc();
-    let end = End::Returned(vec![in alloc; 2, 192, 44]?);
-    text_ends_in_zeros(&rt, alloc, WIDE_AMOUNTS, &[1, 128, 9], end)
-}
 
 const HALVES: &str = "\
 function %halves (i8, i8) -> i16 system_v
@@ -203,14 +75,6 @@ both = iconcat low high
 return both
 seal_block block0
 ";
-
-/// A number of two halves: 52 and 18 give 4660.
-#[test]
-fn halves(rt: HostRuntime) -> Result<(), Fail> {
-    let alloc = rt.alloc();
-    text_answers(&rt, alloc, HALVES, &[&[52, 18]], 4660)?;
-    text_answers(&rt, alloc, WIDE_HALVES, &[&[1, 1]], 0x1_0000_0000_0000_0001)
-}
 
 const SPLIT: &str = "\
 function %split (i16) -> i8, i8 system_v
@@ -234,17 +98,6 @@ return low high first second
 seal_block block0
 ";
 
-/// The halves of a number, the low one first: 4660 has 52 and 18, and of 128 bits each half has 64.
-#[test]
-fn parts(rt: HostRuntime) -> Result<(), Fail> {
-    let alloc = rt.alloc();
-    let end = End::Returned(vec![in alloc; 52, 18]?);
-    text_ends_in_zeros(&rt, alloc, SPLIT, &[4660], end)?;
-    let args = [1, 0x0000_0002_0000_0003];
-    let end = End::Returned(vec![in alloc; 1, 0x0000_0002_0000_0003, 3, 2]?);
-    text_ends_in_zeros(&rt, alloc, WIDE_SPLIT, &args, end)
-}
-
 const SIGNED: &str = "\
 function %signed (i8) -> i128 system_v
 block0 = create_block
@@ -258,44 +111,6 @@ less = iconcat low zeros
 return less
 seal_block block0
 ";
-
-/// Copies of the sign: 200 is -56 in eight bits, and so 2^64 - 56 in 64.
-#[test]
-fn signs(rt: HostRuntime) -> Result<(), Fail> {
-    let alloc = rt.alloc();
-    text_answers(&rt, alloc, SIGNED, &[&[100]], 100)?;
-    text_answers(&rt, alloc, SIGNED, &[&[200]], 0xffff_ffff_ffff_ffc8)
-}
-
-// A function of an I32, which traps or returns it.
-fn guard_ends(
-    rt: &impl Abort,
-    alloc: Global,
-    line: &str,
-    number: u128,
-    end: End,
-) -> Result<(), Fail> {
-    let head =
-        "function %guard (i32) -> i32 system_v\nb = create_block\nn = append_block_param b i32\nswitch_to_block b\n";
-    let text = format!(in alloc; "{head}{line}\nseal_block b\n")?;
-    text_ends_in_zeros(rt, alloc, text.as_str(), &[number], end)
-}
-
-/// A trap under a condition comes or doesn't, and any other one comes.
-#[test]
-fn guards(rt: HostRuntime) -> Result<(), Fail> {
-    let alloc = rt.alloc();
-    let user = End::Trapped(TrapCode::User(1));
-    guard_ends(&rt, alloc, "trapz n user1\nreturn n", 0, user)?;
-    let seven = End::Returned(vec![in alloc; 7]?);
-    guard_ends(&rt, alloc, "trapz n user1\nreturn n", 7, seven)?;
-    let user = End::Trapped(TrapCode::User(255));
-    guard_ends(&rt, alloc, "trapnz n user255\nreturn n", 7, user)?;
-    let zero = End::Returned(vec![in alloc; 0]?);
-    guard_ends(&rt, alloc, "trapnz n user255\nreturn n", 0, zero)?;
-    let out_of_bounds = End::Trapped(TrapCode::HeapOutOfBounds);
-    guard_ends(&rt, alloc, "trap heap_oob", 0, out_of_bounds)
-}
 
 /// A branch by a table of three entries, of which two go to one block with different arguments.
 const BY_TABLE: &str = "\
@@ -325,11 +140,168 @@ return many
 seal_all_blocks
 ";
 
-/// Each entry of the table, and the default for 3 and for -1.
+/// Scripts, and what they return.
+pub const ANSWERS: &[Answers] = &[
+    // each operation
+    (OPERATIONS, &[(&[12, 10], &[123])]),
+    // conversions and a choice
+    (
+        CHOICE,
+        &[
+            (&[256, 1, 200], &[200]),
+            (&[0, 1, 200], &[200]),
+            (&[257, 200, 1], &[200]),
+            (&[1, 200, 1], &[200]),
+        ],
+    ),
+    // an amount of another type, and a constant that its type is too narrow for: 1 by 9 gives 2, -128 by 9 gives -64, and 300
+    // is 44
+    (WIDE_AMOUNTS, &[(&[1, 128, 9], &[2, 192, 44])]),
+    // a number of two halves: 52 and 18 give 4660
+    (HALVES, &[(&[52, 18], &[4660])]),
+    (WIDE_HALVES, &[(&[1, 1], &[0x1_0000_0000_0000_0001])]),
+    // the halves of a number, the low one first: 4660 has 52 and 18, and of 128 bits each half has 64
+    (SPLIT, &[(&[4660], &[52, 18])]),
+    (
+        WIDE_SPLIT,
+        &[(
+            &[1, 0x0000_0002_0000_0003],
+            &[1, 0x0000_0002_0000_0003, 3, 2],
+        )],
+    ),
+    // copies of the sign: 200 is -56 in eight bits, and so 2^64 - 56 in 64
+    (
+        SIGNED,
+        &[(&[100], &[100]), (&[200], &[0xffff_ffff_ffff_ffc8])],
+    ),
+    // each entry of the table, and the default for 3 and for -1
+    (
+        BY_TABLE,
+        &[
+            (&[0], &[7]),
+            (&[1], &[10]),
+            (&[2], &[2]),
+            (&[3], &[99]),
+            (&[0xffff_ffff], &[99]),
+        ],
+    ),
+    // a trap under a condition that doesn't hold
+    (
+        "function %guard (i32) -> i32 system_v\nb = create_block\nn = append_block_param b i32\nswitch_to_block b\ntrapz n user1\nreturn n\nseal_block b\n",
+        &[(&[7], &[7])],
+    ),
+    (
+        "function %guard (i32) -> i32 system_v\nb = create_block\nn = append_block_param b i32\nswitch_to_block b\ntrapnz n user255\nreturn n\nseal_block b\n",
+        &[(&[0], &[0])],
+    ),
+];
+
+/// A trap under a condition comes, and any other one.
+const GUARDS: &[(&str, u128, TrapCode)] = &[
+    (
+        "function %guard (i32) -> i32 system_v\nb = create_block\nn = append_block_param b i32\nswitch_to_block b\ntrapz n user1\nreturn n\nseal_block b\n",
+        0,
+        TrapCode::User(1),
+    ),
+    (
+        "function %guard (i32) -> i32 system_v\nb = create_block\nn = append_block_param b i32\nswitch_to_block b\ntrapnz n user255\nreturn n\nseal_block b\n",
+        7,
+        TrapCode::User(255),
+    ),
+    (
+        "function %guard (i32) -> i32 system_v\nb = create_block\nn = append_block_param b i32\nswitch_to_block b\ntrap heap_oob\nseal_block b\n",
+        0,
+        TrapCode::HeapOutOfBounds,
+    ),
+];
+
+/// The script that makes one operation of two bytes.
+const OPERATION: &str = "\
+function %operation (i8, i8) -> i8 system_v
+block0 = create_block
+a, b = append_block_params_for_function_params block0
+switch_to_block block0
+";
+
+/// Shifts, by amounts modulo eight, and quotients and remainders, of which signed ones are rounded toward zero.
+const SHIFTS_AND_QUOTIENTS: &[(&str, u128, u128, u128)] = &[
+    ("ishl", 3, 2, 12),
+    ("ishl", 1, 9, 2),
+    ("ishl", 200, 1, 144),
+    ("ushr", 200, 3, 25),
+    ("ushr", 200, 11, 25),
+    ("sshr", 200, 3, 249),
+    ("sshr", 100, 3, 12),
+    ("udiv", 200, 7, 28),
+    ("urem", 200, 7, 4),
+    ("sdiv", 249, 2, 253),
+    ("sdiv", 249, 254, 3),
+    ("sdiv", 128, 2, 192),
+    ("srem", 249, 2, 255),
+    ("srem", 7, 254, 1),
+    ("srem", 128, 255, 0),
+    ("urem", 128, 255, 128),
+];
+
+/// Division and remainder by zero, and `sdiv` of the least number by -1.
+const TRAPS: &[(&str, u128, u128, TrapCode)] = &[
+    ("udiv", 7, 0, TrapCode::DivisionByZero),
+    ("sdiv", 7, 0, TrapCode::DivisionByZero),
+    ("sdiv", 128, 0, TrapCode::DivisionByZero),
+    ("urem", 7, 0, TrapCode::DivisionByZero),
+    ("srem", 7, 0, TrapCode::DivisionByZero),
+    ("sdiv", 128, 255, TrapCode::IntegerOverflow),
+];
+
+/// The conditions, and what they answer of 200 and 5, of 5 and 200, and of 200 and 200 in eight bits. As a signed number
+/// 200 is -56.
+const CONDITIONS: [(&str, u128, u128, u128); 10] = [
+    ("icmp eq", 0, 0, 1),
+    ("icmp ne", 1, 1, 0),
+    ("icmp slt", 1, 0, 0),
+    ("icmp sge", 0, 1, 1),
+    ("icmp sgt", 0, 1, 0),
+    ("icmp sle", 1, 0, 1),
+    ("icmp ult", 0, 1, 0),
+    ("icmp uge", 1, 0, 1),
+    ("icmp ugt", 1, 0, 0),
+    ("icmp ule", 0, 1, 1),
+];
+
+// A script that makes this operation of two bytes ends so, and so does its function.
+fn operation_ends(
+    rt: &impl Abort,
+    alloc: Global,
+    name: &str,
+    args: &[u128],
+    end: End,
+) -> Result<(), Fail> {
+    let text = format!(in alloc; "{OPERATION}c = {name} a b\nreturn c\nseal_block block0\n")?;
+    text_ends(rt, alloc, text.as_str(), args, end)
+}
+
+/// Each operation of two bytes that answers a number.
 #[test]
-fn by_table(rt: HostRuntime) -> Result<(), Fail> {
-    text_answers(&rt, rt.alloc(), BY_TABLE, &[&[0]], 7)?;
-    text_answers(&rt, rt.alloc(), BY_TABLE, &[&[1]], 10)?;
-    text_answers(&rt, rt.alloc(), BY_TABLE, &[&[2]], 2)?;
-    text_answers(&rt, rt.alloc(), BY_TABLE, &[&[3], &[0xffff_ffff]], 99)
+fn numbers(rt: HostRuntime) -> Result<(), Fail> {
+    let alloc = rt.alloc();
+    for (name, x, y, number) in SHIFTS_AND_QUOTIENTS {
+        operation_ends(&rt, alloc, name, &[*x, *y], returned(alloc, &[*number])?)?;
+    }
+    for (name, greater, less, equal) in CONDITIONS.iter() {
+        for (x, y, number) in [(200, 5, *greater), (5, 200, *less), (200, 200, *equal)] {
+            operation_ends(&rt, alloc, name, &[x, y], returned(alloc, &[number])?)?;
+        }
+    }
+    Ok(())
+}
+
+#[test]
+fn traps(rt: HostRuntime) -> Result<(), Fail> {
+    for (name, x, y, code) in TRAPS {
+        operation_ends(&rt, rt.alloc(), name, &[*x, *y], End::Trapped(*code))?;
+    }
+    for (text, argument, code) in GUARDS {
+        text_ends(&rt, rt.alloc(), text, &[*argument], End::Trapped(*code))?;
+    }
+    Ok(())
 }

@@ -1,12 +1,9 @@
 //! Tests of what scripts and the functions that are built of them answer when they run, on the two interpreters of
-//! `clif_interpreter`. The
-//! expected answers are those of the documented meanings of instructions.
+//! `clif_interpreter`. The expected answers are those of the documented meanings of instructions.
 #![tactic(auto)]
 
 #[cfg(test)]
 mod agreement;
-#[cfg(test)]
-mod calls;
 #[cfg(test)]
 mod changes;
 #[cfg(test)]
@@ -31,5 +28,3 @@ mod support;
 mod switches;
 #[cfg(test)]
 mod tables;
-#[cfg(test)]
-mod tries;

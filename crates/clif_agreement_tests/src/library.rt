@@ -2,12 +2,8 @@
 //! that of the C standard's <string.h>.
 #![tactic(auto)]
 
-use crate::refusals::told;
-use crate::support::{STEPS, built, script_of, text_ends};
-use clif_builder::FunctionBuilderContext;
-use clif_interpreter::outside::Zeros;
-use clif_interpreter::{End, Memory, World, function};
-use clif_ir::Function;
+use crate::refusals::function_tells;
+use crate::support::{Pair, memory_of, returned, script_of};
 use std::alloc::Global;
 use std::process::Abort;
 use std::test::Fail;
@@ -71,73 +67,16 @@ fn script_text(alloc: Global, called: Called) -> Result<String, Fail> {
     )?)
 }
 
-// Memory that has these eight bytes.
-fn memory(alloc: Global, bytes: &[u8]) -> Result<Memory, Fail> {
-    let mut memory = Memory::zeros(alloc, 64, BYTES.len())?;
-    for (place, byte) in bytes.iter().enumerate() {
-        memory.put(place, *byte);
-    }
-    Ok(memory)
-}
-
 // A call does what the row tells, in a script and in its function, and calls nothing outside.
 fn does(rt: &impl Abort, alloc: Global, row: &Row) -> Result<(), Fail> {
-    let text = script_text(alloc, row.called)?;
-    let before = memory(alloc, &BYTES)?;
-    let after = memory(alloc, &row.bytes)?;
-    let end = End::Returned(vec![in alloc; row.given]?);
-    text_ends(
-        rt,
-        alloc,
-        text.as_str(),
-        &row.arguments,
-        &before,
-        end,
-        &after,
-    )
+    let pair = Pair::new(alloc, script_text(alloc, row.called)?.as_str())?;
+    let before = memory_of(alloc, 64, BYTES.len(), &BYTES)?;
+    let after = memory_of(alloc, 64, BYTES.len(), &row.bytes)?;
+    let end = returned(alloc, &[row.given])?;
+    pair.ends(rt, alloc, &row.arguments, &before, end, after)
 }
 
-// So it is told of the run of a function in a world.
-fn function_tells(
-    rt: &impl Abort,
-    alloc: Global,
-    func: &Function,
-    world: &World<'_, Zeros>,
-    text: &str,
-) -> Result<(), Fail> {
-    let told = told(alloc, function::run(alloc, func, world, STEPS))?;
-    assert!(rt; told.as_str() == text);
-    Ok(())
-}
-
-// A call with these arguments has no meaning in a function, for this reason.
-fn refuses(
-    rt: &impl Abort,
-    alloc: Global,
-    called: Called,
-    arguments: [u128; 3],
-    text: &str,
-) -> Result<(), Fail> {
-    let script = script_of(alloc, script_text(alloc, called)?.as_str())?;
-    let mut ctx = FunctionBuilderContext::new(alloc);
-    let func = built(alloc, &script, &mut ctx)?;
-    let before = memory(alloc, &BYTES)?;
-    let world = World {
-        arguments: &arguments,
-        memory: &before,
-        pointer_width: script.config.pointer_width,
-        slots: 64,
-        outside: &Zeros,
-    };
-    function_tells(rt, alloc, &func, &world, text)
-}
-
-// The calls. A test asks for them by a call, since a proof about a loop over the table itself has all of it in sight.
-fn rows() -> &'static [Row] {
-    &ROWS
-}
-
-static ROWS: [Row; 9] = [
+const ROWS: &[Row] = &[
     Row {
         called: COPY,
         arguments: [64, 68, 3],
@@ -198,28 +137,45 @@ static ROWS: [Row; 9] = [
 /// Bytes are copied, also where they overlap, filled and compared; the first three give the first address.
 #[test]
 fn library_functions(rt: HostRuntime) -> Result<(), Fail> {
-    for row in rows() {
+    for row in ROWS {
         does(&rt, rt.alloc(), row)?;
     }
     Ok(())
 }
 
-/// A call by another signature has no meaning, nor has one that touches what isn't accessible, or copies by `Memcpy` what
-/// overlaps.
+const NARROW: Called = Called {
+    callee: "Memset",
+    second: "i8",
+    given: "i64",
+};
+
+/// Calls that have no meaning in a function, and for which reason: one by another signature, one that copies by `Memcpy` what
+/// overlaps, and some that touch what isn't accessible.
+const FAULTS: &[(Called, [u128; 3], &str)] = &[
+    (
+        NARROW,
+        [64, 7, 2],
+        "a function of the C library is called by another signature than its own at inst0",
+    ),
+    (
+        COPY,
+        [64, 66, 3],
+        "Memcpy copies between bytes that overlap at inst0",
+    ),
+    (COPY, [64, 70, 3], OUTSIDE),
+    (FILL, [63, 7, 2], OUTSIDE),
+    (COMPARE, [64, 0xffff_ffff_ffff_ffff, 3], OUTSIDE),
+];
+
+const OUTSIDE: &str = "a function of the C library touches a byte that isn't accessible at inst0";
+
 #[test]
 fn library_faults(rt: HostRuntime) -> Result<(), Fail> {
     let alloc = rt.alloc();
-    let narrow = Called {
-        callee: "Memset",
-        second: "i8",
-        given: "i64",
-    };
-    let other = "a function of the C library is called by another signature than its own at inst0";
-    refuses(&rt, alloc, narrow, [64, 7, 2], other)?;
-    let overlap = "Memcpy copies between bytes that overlap at inst0";
-    refuses(&rt, alloc, COPY, [64, 66, 3], overlap)?;
-    let outside = "a function of the C library touches a byte that isn't accessible at inst0";
-    refuses(&rt, alloc, COPY, [64, 70, 3], outside)?;
-    refuses(&rt, alloc, FILL, [63, 7, 2], outside)?;
-    refuses(&rt, alloc, COMPARE, [64, u128::from(u64::MAX), 3], outside)
+    let before = memory_of(alloc, 64, BYTES.len(), &BYTES)?;
+    for (called, arguments, expected) in FAULTS {
+        let script = script_of(alloc, script_text(alloc, *called)?.as_str())?;
+        function_tells(&rt, alloc, &script, arguments, &before, expected)?;
+    }
+    Ok(())
 }

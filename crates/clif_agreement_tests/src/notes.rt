@@ -1,8 +1,7 @@
 //! Scripts with source places, labels and instructions made through the cursor, and the functions that are built of them.
 #![tactic(auto)]
 
-use crate::support::text_answers;
-use std::test::Fail;
+use crate::support::Answers;
 
 /// A loop in which x counts down from the argument, and `total` up by two.
 const NOTED_LOOP: &str = "\
@@ -48,10 +47,8 @@ result = use_var total
 return result
 ";
 
-/// Twice the argument.
-#[test]
-fn noted_loop(rt: HostRuntime) -> Result<(), Fail> {
-    text_answers(&rt, rt.alloc(), NOTED_LOOP, &[&[0]], 0)?;
-    text_answers(&rt, rt.alloc(), NOTED_LOOP, &[&[3]], 6)?;
-    text_answers(&rt, rt.alloc(), NOTED_LOOP, &[&[20]], 40)
-}
+/// Scripts, and what they return.
+pub const ANSWERS: &[Answers] = &[
+    // twice the argument
+    (NOTED_LOOP, &[(&[0], &[0]), (&[3], &[6]), (&[20], &[40])]),
+];

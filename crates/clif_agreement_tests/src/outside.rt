@@ -1,38 +1,91 @@
-//! Scripts that make outside calls, and the functions that are built of them, in a world that answers.
+//! Scripts that make outside calls, also along the edges of try calls, and the functions that are built of them, in worlds that
+//! answer.
 #![tactic(auto)]
 
-use crate::support::{built, script_of, zeros};
-use clif_builder::FunctionBuilderContext;
-use clif_interpreter::{Callee, End, Ending, Event, Memory, Outside, World, function, script};
-use clif_ir::Function;
-use clif_text::Script;
+use crate::support::{Pair, SIZE, both_end, memory_of, returned, world_of, zeros};
+use Answering::{Same, TenTimes, Throwing};
+use Called::{AtAddress, Named};
+use clif_interpreter::{Callee, Ending, Event, Memory, Outside};
 use clif_types::{EntityRef, ExternalName, SigRef};
 use std::alloc::{AllocError, Global};
 use std::process::Abort;
 use std::test::Fail;
 
-// Answers at each place ten times what the call was passed first, and the place; and counts calls in the first byte of
-// memory.
+// What a world answers, and whether it changes memory.
 #[derive(Clone, Copy)]
-struct TenTimes;
+enum Answering {
+    // this at each place
+    Same(u128),
+    // at each place ten times what the call was passed first, and the place; calls are counted in the first byte of memory
+    TenTimes,
+    // 7, or 5 and 9, which are thrown along the item with an edge of this number
+    Throwing(Option<usize>),
+}
 
-impl Outside for TenTimes {
+impl Outside for Answering {
     fn thrown(&self, _events: &[Event], _items: usize) -> Option<usize> {
-        None
+        match self {
+            Same(_) | TenTimes => None,
+            Throwing(item) => *item,
+        }
     }
 
     fn value(&self, events: &[Event], place: usize) -> u128 {
-        let passed = match events.last() {
-            Some(event) => event.arguments.first().copied().unwrap_or(0),
-            None => 0,
-        };
-        passed.wrapping_mul(10).wrapping_add(place as u128)
+        match (self, place) {
+            (Same(bits), _) => *bits,
+            (TenTimes, _) => {
+                let passed = match events.last() {
+                    Some(event) => event.arguments.first().copied().unwrap_or(0),
+                    None => 0,
+                };
+                passed.wrapping_mul(10).wrapping_add(place as u128)
+            }
+            (Throwing(None), _) => 7,
+            (Throwing(Some(_)), 0) => 5,
+            (Throwing(Some(_)), _) => 9,
+        }
     }
 
     fn change(&self, events: &[Event], memory: &mut Memory) {
-        memory.put(0, (events.len() % 256) as u8);
+        if let TenTimes = self {
+            memory.put(0, (events.len() % 256) as u8);
+        }
     }
 }
+
+// What is called, and with which arguments.
+#[derive(Clone, Copy)]
+enum Called {
+    // the function of this name
+    Named(&'static str, &'static [u128]),
+    // what is at address 64, by the signature of this number
+    AtAddress(u8, &'static [u128]),
+}
+
+// A script, its arguments, its outside calls, and what it returns in each of these worlds.
+#[derive(Clone, Copy)]
+struct Case {
+    script: &'static str,
+    arguments: &'static [u128],
+    calls: &'static [Called],
+    runs: &'static [(Answering, &'static [u128])],
+}
+
+// A script that calls a function, and then what is at an address. A run shows the calls and gets their answers, of which each is
+// cut to its type: the function gets 7, and what is at the address gets what the function gave, of which 32 bits are left.
+const CALLS: &str = "\
+function %calls () -> i32 system_v
+s = import_signature (i32) -> i32 system_v
+f = import_function %g s
+b = create_block
+switch_to_block b
+seal_block b
+seven = iconst.i32 7
+given = call f (seven)
+address = iconst.i64 64
+returned = call_indirect s address (given)
+return returned
+";
 
 // A loop that calls as often as the argument says: `count` goes down, and `last` is what the calls gave.
 const CALLING_LOOP: &str = "\
@@ -87,116 +140,237 @@ r = call f (x x none)
 return r
 ";
 
-// A call of `%f` with this argument.
-fn named(alloc: Global, argument: u128) -> Result<Event, AllocError> {
-    Ok(Event {
-        callee: Callee::Named(ExternalName::testcase(String::from_str(alloc, "f")?)),
-        arguments: vec![in alloc; argument]?,
+// The worked function `%try`: it returns its argument where the call returns, and else the first part of the exception.
+const TRY: &str = "\
+function %try (i64) -> i64 system_v
+s = import_signature (i64) -> i32 system_v
+f = import_function %f s
+entry = create_block
+returned = create_block
+thrown = create_block
+x = append_block_params_for_function_params entry
+kept = append_block_param returned i64
+append_block_param returned i32
+part = append_block_param thrown i64
+switch_to_block entry
+seal_block entry
+normal = block_call returned(x, ret0)
+caught = block_call thrown(exn0)
+t = create_exception_table s normal default caught
+try_call f (x) t
+seal_block returned
+switch_to_block returned
+return kept
+seal_block thrown
+switch_to_block thrown
+return part
+";
+
+// Two items with edges, behind a context: the first one's takes the first part of the exception, the other one's the second.
+const ITEMS: &str = "\
+function %items (i64) -> i64 system_v
+s = import_signature (i64) -> i64 system_v
+f = import_function %f s
+entry = create_block
+returned = create_block
+tagged = create_block
+other = create_block
+x = append_block_params_for_function_params entry
+r = append_block_param returned i64
+a = append_block_param tagged i64
+b = append_block_param other i64
+switch_to_block entry
+seal_block entry
+normal = block_call returned(ret0)
+first = block_call tagged(exn0)
+second = block_call other(exn1)
+t = create_exception_table s normal context x tag1 first default second
+try_call f (x) t
+seal_all_blocks
+switch_to_block returned
+return r
+switch_to_block tagged
+return a
+switch_to_block other
+return b
+";
+
+// The same call at an address, whose edges were changed from one block to another before it was sealed.
+const CHANGED: &str = "\
+function %changed (i64) -> i64 system_v
+s = import_signature (i64) -> i64 system_v
+entry = create_block
+returned = create_block
+old = create_block
+new = create_block
+x = append_block_params_for_function_params entry
+r = append_block_param returned i64
+append_block_param old i64
+part = append_block_param new i64
+switch_to_block entry
+seal_block entry
+normal = block_call returned(ret0)
+caught = block_call old(exn1)
+t = create_exception_table s normal tag7 caught default caught
+@c = try_call_indirect x (x) t
+change_jump_destination @c old new
+seal_all_blocks
+switch_to_block returned
+return r
+switch_to_block new
+return part
+switch_to_block old
+trap user1
+";
+
+// A function of the C library goes along the normal edge with what it gives, and is no outside call.
+const TRIED_LIBRARY: &str = "\
+function %library (i64) -> i64 system_v
+s = import_signature (i64, i64, i64) -> i64 system_v
+f = import_function libcall Memcpy s
+entry = create_block
+returned = create_block
+thrown = create_block
+x = append_block_params_for_function_params entry
+r = append_block_param returned i64
+switch_to_block entry
+seal_block entry
+none = iconst.i64 0
+normal = block_call returned(ret0)
+caught = block_call thrown
+t = create_exception_table s normal default caught
+try_call f (x x none) t
+seal_all_blocks
+switch_to_block returned
+return r
+switch_to_block thrown
+trap user1
+";
+
+const CASES: &[Case] = &[
+    // each answer is cut to its type: the function gets 7, and what is at the address gets what the function gave, of which 32
+    // bits are left
+    Case {
+        script: CALLS,
+        arguments: &[],
+        calls: &[Named("g", &[7]), AtAddress(0, &[9])],
+        runs: &[(Same(0x1_0000_0009), &[9])],
+    },
+    // two rounds: `%f` gets 2 and gives 20 and 21, and then gets 1 and gives 10 and 11
+    Case {
+        script: CALLING_LOOP,
+        arguments: &[64, 2],
+        calls: &[
+            Named("f", &[2]),
+            AtAddress(1, &[21, 20]),
+            Named("f", &[1]),
+            AtAddress(1, &[11, 10]),
+        ],
+        runs: &[(TenTimes, &[0, 11])],
+    },
+    // no event is shown, so the world neither answers nor changes memory
+    Case {
+        script: LIBRARY,
+        arguments: &[64],
+        calls: &[],
+        runs: &[(TenTimes, &[64])],
+    },
+    Case {
+        script: TRY,
+        arguments: &[64],
+        calls: &[Named("f", &[64])],
+        runs: &[(Throwing(None), &[64]), (Throwing(Some(0)), &[5])],
+    },
+    // a context has no edge, so the second item with one is the default
+    Case {
+        script: ITEMS,
+        arguments: &[64],
+        calls: &[Named("f", &[64])],
+        runs: &[
+            (Throwing(None), &[7]),
+            (Throwing(Some(0)), &[5]),
+            (Throwing(Some(1)), &[9]),
+        ],
+    },
+    Case {
+        script: CHANGED,
+        arguments: &[64],
+        calls: &[AtAddress(0, &[64])],
+        runs: &[
+            (Throwing(None), &[7]),
+            (Throwing(Some(0)), &[9]),
+            (Throwing(Some(1)), &[9]),
+        ],
+    },
+    // whatever the world answers: the destination, which is the function's argument
+    Case {
+        script: TRIED_LIBRARY,
+        arguments: &[64],
+        calls: &[],
+        runs: &[(Throwing(None), &[64]), (Throwing(Some(0)), &[64])],
+    },
+];
+
+fn callee_of(alloc: Global, called: &Called) -> Result<Callee, AllocError> {
+    Ok(match called {
+        Named(name, _) => { Callee::Named(ExternalName::testcase(String::from_str(alloc, name)?)) }
+        AtAddress(number, _) => Callee::AtAddress(64, SigRef::new(usize::from(*number))),
     })
 }
 
-// A call of what lies at address 64, by the second signature.
-fn at_address(alloc: Global, first: u128, second: u128) -> Result<Event, AllocError> {
-    Ok(Event {
-        callee: Callee::AtAddress(64, SigRef::new(1)),
-        arguments: vec![in alloc; first, second]?,
-    })
+fn event_of(alloc: Global, called: &Called) -> Result<Event, AllocError> {
+    let (Named(_, passed) | AtAddress(_, passed)) = called;
+    let mut arguments = Vec::new(alloc);
+    arguments.extend_from_slice(passed)?;
+    let callee = callee_of(alloc, called)?;
+    Ok(Event { callee, arguments })
 }
 
-// The calls of two rounds: `%f` gets 2 and gives 20 and 21, and then gets 1 and gives 10 and 11.
-fn rounds(alloc: Global) -> Result<Vec<Event>, AllocError> {
+// The events of these calls.
+fn events(alloc: Global, calls: &[Called]) -> Result<Vec<Event>, AllocError> {
     let mut events = Vec::new(alloc);
-    for (count, first, second) in [(2, 21, 20), (1, 11, 10)] {
-        let call = named(alloc, count)?;
-        if events.push(call).is_err() {
-            return Err(AllocError);
-        }
-        let call = at_address(alloc, first, second)?;
-        if events.push(call).is_err() {
+    for called in calls {
+        let event = event_of(alloc, called)?;
+        if events.push(event).is_err() {
             return Err(AllocError);
         }
     }
     Ok(events)
 }
 
-// How both runs end after two rounds, of which each call is counted in memory.
-fn ended(alloc: Global) -> Result<Ending, Fail> {
-    let mut memory = zeros(alloc)?;
-    memory.put(0, 4);
-    let events = rounds(alloc)?;
-    let values = vec![in alloc; 0, 11]?;
-    Ok(Ending {
-        events,
-        end: End::Returned(values),
-        memory,
-    })
-}
-
-// The script, run in a world, ends so.
-fn script_ends(
+// A script and its function run so within 100 steps, in memory of zeros, of which the first byte is the number of calls then,
+// if the world counts them.
+fn runs_so(
     rt: &impl Abort,
     alloc: Global,
-    text: &Script,
-    world: &World<'_, TenTimes>,
-    ending: &Ending,
+    pair: &Pair,
+    case: &Case,
+    answering: &Answering,
+    values: &[u128],
 ) -> Result<(), Fail> {
-    let shown = script::run(alloc, text.calls.as_slice(), &text.signature, world, 100)?;
-    assert!(rt; shown == *ending);
-    Ok(())
-}
-
-// The function, run in a world, ends so.
-fn function_ends(
-    rt: &impl Abort,
-    alloc: Global,
-    func: &Function,
-    world: &World<'_, TenTimes>,
-    ending: &Ending,
-) -> Result<(), Fail> {
-    let shown = function::run(alloc, func, world, 100)?;
-    assert!(rt; shown == *ending);
-    Ok(())
-}
-
-#[test]
-fn calling_loop(rt: HostRuntime) -> Result<(), Fail> {
-    let alloc = rt.alloc();
-    let text = script_of(alloc, CALLING_LOOP)?;
-    let mut ctx = FunctionBuilderContext::new(alloc);
-    let func = built(alloc, &text, &mut ctx)?;
-    let before = zeros(alloc)?;
-    let world = World {
-        arguments: &[64, 2],
-        memory: &before,
-        pointer_width: text.config.pointer_width,
-        slots: before.start(),
-        outside: &TenTimes,
-    };
-    let ending = ended(alloc)?;
-    script_ends(&rt, alloc, &text, &world, &ending)?;
-    function_ends(&rt, alloc, &func, &world, &ending)
-}
-
-// No event is shown, so the world neither answers nor changes memory.
-#[test]
-fn calls_of_the_library(rt: HostRuntime) -> Result<(), Fail> {
-    let alloc = rt.alloc();
-    let text = script_of(alloc, LIBRARY)?;
-    let mut ctx = FunctionBuilderContext::new(alloc);
-    let func = built(alloc, &text, &mut ctx)?;
-    let before = zeros(alloc)?;
-    let world = World {
-        arguments: &[64],
-        memory: &before,
-        pointer_width: text.config.pointer_width,
-        slots: before.start(),
-        outside: &TenTimes,
+    let counted = match answering {
+        TenTimes => (case.calls.len() % 256) as u8,
+        Same(_) | Throwing(_) => 0,
     };
     let ending = Ending {
-        events: Vec::new(alloc),
-        end: End::Returned(vec![in alloc; 64]?),
-        memory: zeros(alloc)?,
+        events: events(alloc, case.calls)?,
+        end: returned(alloc, values)?,
+        memory: memory_of(alloc, 4096, SIZE, &[counted])?,
     };
-    script_ends(&rt, alloc, &text, &world, &ending)?;
-    function_ends(&rt, alloc, &func, &world, &ending)
+    let before = zeros(alloc)?;
+    let world = world_of(&pair.script, case.arguments, &before, answering);
+    both_end(rt, alloc, &pair.script, &pair.func, &world, 100, &ending)
+}
+
+/// Outside calls are shown, and answered by the world.
+#[test]
+fn outside_calls(rt: HostRuntime) -> Result<(), Fail> {
+    let alloc = rt.alloc();
+    for case in CASES {
+        let pair = Pair::new(alloc, case.script)?;
+        for (answering, values) in case.runs {
+            runs_so(&rt, alloc, &pair, case, answering, values)?;
+        }
+    }
+    Ok(())
 }

@@ -1,14 +1,11 @@
 //! Runs of scripts and of the functions that are built of them.
 #![tactic(auto)]
 
-ghost use Rattle.std.specs.Prelude.{◌≡◌};
-ghost use Rattle.clif_builder.specs.Context.{empty_context};
-
 use clif_builder::FunctionBuilderContext;
 use clif_interpreter::outside::Zeros;
-use clif_interpreter::{End, Ending, Memory, World, function, script};
+use clif_interpreter::{End, Ending, Memory, Outside, World, function, script};
 use clif_ir::Function;
-use clif_script::replay;
+use clif_script::{replay, row_text};
 use clif_text::{Script, read};
 use std::alloc::Global;
 use std::process::Abort;
@@ -19,6 +16,18 @@ pub const SIZE: usize = 32;
 
 /// How many steps a run has at most.
 pub const STEPS: u64 = 1000;
+
+/// A script, and what it returns for each of these lists of arguments.
+pub type Answers = (&'static str, &'static [(&'static [u128], &'static [u128])]);
+
+/// So many accessible bytes from an address on, which begin with these, and are zero behind them.
+pub fn memory_of(alloc: Global, start: u64, size: usize, bytes: &[u8]) -> Result<Memory, Fail> {
+    let mut memory = Memory::zeros(alloc, start, size)?;
+    for (place, byte) in bytes.iter().enumerate() {
+        memory.put(place, *byte);
+    }
+    Ok(memory)
+}
 
 /// Memory whose accessible bytes are all zero.
 pub fn zeros(alloc: Global) -> Result<Memory, Fail> {
@@ -33,120 +42,131 @@ pub fn script_of(alloc: Global, text: &str) -> Result<Script, Fail> {
     }
 }
 
-/// The function that a script builds.
-pub fn built(
-    alloc: Global,
-    text: &Script,
-    ctx: &mut FunctionBuilderContext,
-) -> Result<Function, Fail>
-    requires { ctx.old ≡ empty_context }
-    ensures { ctx.new ≡ empty_context }
-{
-    let name = text.name.clone()?;
-    let signature = text.signature.clone()?;
-    let calls = text.calls.as_slice();
-    Ok(replay(alloc, calls, name, signature, ctx, text.config)?)
+/// The script of the row of this name.
+pub fn row_of(name: &str) -> Result<&'static str, Fail> {
+    match row_text(name) {
+        Some(text) => Ok(text),
+        None => Err("no row")?,
+    }
 }
 
-/// A script and its function end so where they get these arguments and this memory. Stack slots lie in memory, too.
-pub fn both_end(
-    rt: &impl Abort,
-    alloc: Global,
+/// The function that a script builds.
+pub fn built(alloc: Global, text: &Script) -> Result<Function, Fail> {
+    let (name, signature) = (text.name.clone()?, text.signature.clone()?);
+    let mut ctx = FunctionBuilderContext::new(alloc);
+    let calls = text.calls.as_slice();
+    Ok(replay(alloc, calls, name, signature, &mut ctx, text.config)?)
+}
+
+/// What a run of a script or of its function is given. Stack slots lie in memory, too.
+pub fn world_of<'a, O: Outside>(
     text: &Script,
-    func: &Function,
-    arguments: &[u128],
-    memory: &Memory,
-    ending: &Ending,
-) -> Result<(), Fail> {
-    let world = World {
+    arguments: &'a [u128],
+    memory: &'a Memory,
+    outside: &'a O,
+) -> World<'a, O> {
+    World {
         arguments,
         memory,
         pointer_width: text.config.pointer_width,
         slots: memory.start(),
-        outside: &Zeros,
-    };
-    let calls = text.calls.as_slice();
-    let shown = script::run(alloc, calls, &text.signature, &world, STEPS)?;
-    assert!(rt; shown == *ending);
-    let shown = function::run(alloc, func, &world, STEPS)?;
-    assert!(rt; shown == *ending);
-    Ok(())
+        outside,
+    }
 }
 
-/// A run returns this number, and leaves memory.
-pub fn returned(alloc: Global, number: u128) -> Result<Ending, Fail> {
-    Ok(Ending {
-        events: Vec::new(alloc),
-        end: End::Returned(vec![in alloc; number]?),
-        memory: zeros(alloc)?,
-    })
-}
-
-/// A script and its function return this number for each of these lists of arguments, and leave memory.
-pub fn answers(
+/// A script and its function, in a world, end so within so many steps.
+pub fn both_end<O: Outside>(
     rt: &impl Abort,
     alloc: Global,
     text: &Script,
-    rows: &[&[u128]],
-    number: u128,
+    func: &Function,
+    world: &World<'_, O>,
+    steps: u64,
+    ending: &Ending,
 ) -> Result<(), Fail> {
-    let mut ctx = FunctionBuilderContext::new(alloc);
-    let func = built(alloc, text, &mut ctx)?;
-    let ending = returned(alloc, number)?;
-    for arguments in rows {
-        both_end(rt, alloc, text, &func, arguments, &zeros(alloc)?, &ending)?;
-    }
+    let calls = text.calls.as_slice();
+    let shown = script::run(alloc, calls, &text.signature, world, steps)?;
+    assert!(rt; shown == *ending);
+    let shown = function::run(alloc, func, world, steps)?;
+    assert!(rt; shown == *ending);
     Ok(())
 }
 
-/// The same of a script's text.
-pub fn text_answers(
-    rt: &impl Abort,
-    alloc: Global,
-    text: &str,
-    rows: &[&[u128]],
-    number: u128,
-) -> Result<(), Fail> {
-    answers(rt, alloc, &script_of(alloc, text)?, rows, number)
+/// A script, and the function that is built of it.
+#[derive(Drop)]
+pub struct Pair {
+    pub script: Script,
+    pub func: Function,
 }
 
-/// A script's text and its function, which get these arguments and this memory, end so, with this in memory then.
+impl Pair {
+    /// The script of this text.
+    pub fn new(alloc: Global, text: &str) -> Result<Pair, Fail> {
+        let script = script_of(alloc, text)?;
+        let func = built(alloc, &script)?;
+        Ok(Pair { script, func })
+    }
+
+    /// Both end so, with this in memory then, where they get these arguments and this memory, and call nothing outside.
+    pub fn ends(
+        &self,
+        rt: &impl Abort,
+        alloc: Global,
+        arguments: &[u128],
+        before: &Memory,
+        end: End,
+        after: Memory,
+    ) -> Result<(), Fail> {
+        let ending = Ending {
+            events: Vec::new(alloc),
+            end,
+            memory: after,
+        };
+        let world = world_of(&self.script, arguments, before, &Zeros);
+        both_end(rt, alloc, &self.script, &self.func, &world, STEPS, &ending)
+    }
+
+    /// The same where memory is zero and stays so.
+    pub fn ends_in_zeros(
+        &self,
+        rt: &impl Abort,
+        alloc: Global,
+        arguments: &[u128],
+        end: End,
+    ) -> Result<(), Fail> {
+        let before = zeros(alloc)?;
+        self.ends(rt, alloc, arguments, &before, end, zeros(alloc)?)
+    }
+}
+
+/// These values are returned.
+pub fn returned(alloc: Global, values: &[u128]) -> Result<End, Fail> {
+    let mut returned = Vec::new(alloc);
+    returned.extend_from_slice(values)?;
+    Ok(End::Returned(returned))
+}
+
+/// A script's text and its function end so.
 pub fn text_ends(
     rt: &impl Abort,
     alloc: Global,
     text: &str,
     arguments: &[u128],
-    before: &Memory,
     end: End,
-    after: &Memory,
 ) -> Result<(), Fail> {
-    let text = script_of(alloc, text)?;
-    let mut ctx = FunctionBuilderContext::new(alloc);
-    let func = built(alloc, &text, &mut ctx)?;
-    let memory = after.clone()?;
-    both_end(
-        rt,
-        alloc,
-        &text,
-        &func,
-        arguments,
-        before,
-        &Ending {
-            events: Vec::new(alloc),
-            end,
-            memory,
-        },
-    )
+    Pair::new(alloc, text)?.ends_in_zeros(rt, alloc, arguments, end)
 }
 
-/// The same where memory is zero and stays so.
-pub fn text_ends_in_zeros(
+/// A script's text and its function return these values for each of these lists of arguments, and leave memory.
+pub fn answers(
     rt: &impl Abort,
     alloc: Global,
     text: &str,
-    arguments: &[u128],
-    end: End,
+    rows: &[(&[u128], &[u128])],
 ) -> Result<(), Fail> {
-    let memory = zeros(alloc)?;
-    text_ends(rt, alloc, text, arguments, &memory, end, &memory)
+    let pair = Pair::new(alloc, text)?;
+    for (arguments, values) in rows {
+        pair.ends_in_zeros(rt, alloc, arguments, returned(alloc, values)?)?;
+    }
+    Ok(())
 }

@@ -1,19 +1,10 @@
 //! Switches, in scripts and in the functions that are built of them: control goes to the block of the value's case.
 #![tactic(auto)]
 
-ghost use Rattle.std.specs.Prelude.{◌≡◌};
-
-use crate::support::{
-    STEPS, both_end, built, returned, script_of, text_answers, text_ends_in_zeros, zeros,
-};
-use clif_builder::FunctionBuilderContext;
+use crate::support::{Answers, Pair, STEPS, returned, world_of, zeros};
+use clif_interpreter::function;
 use clif_interpreter::outside::Zeros;
 use clif_interpreter::run::Choices;
-use clif_interpreter::{End, World, function};
-use clif_ir::Function;
-use clif_script::row_text;
-use clif_text::Script;
-use clif_types::TrapCode;
 use std::alloc::Global;
 use std::process::Abort;
 use std::test::Fail;
@@ -25,7 +16,7 @@ type Case = (u128, u128);
 const OTHER: u128 = 99;
 
 /// The keys of the row with four ranges.
-const FOUR_RANGES: [Case; 7] = [
+const FOUR_RANGES: &[Case] = &[
     (0, 100),
     (1, 101),
     (5, 105),
@@ -36,7 +27,7 @@ const FOUR_RANGES: [Case; 7] = [
 ];
 
 // A switch on its argument, which has this type.
-fn switch_of(alloc: Global, ty: &str, cases: &[Case]) -> Result<Script, Fail> {
+fn switch_of(alloc: Global, ty: &str, cases: &[Case]) -> Result<Pair, Fail> {
     let mut text = format!(in alloc;
         "function %switch ({ty}) -> i32 system_v\nentry = create_block\nother = create_block\nx = append_block_params_for_function_params entry\n"
     )?;
@@ -54,7 +45,7 @@ fn switch_of(alloc: Global, ty: &str, cases: &[Case]) -> Result<Script, Fail> {
         ends.push_str(end.as_str())?;
     }
     let whole = format!(in alloc; "{text}switch_to_block entry\n{line}\n{ends}seal_all_blocks\n")?;
-    script_of(alloc, whole.as_str())
+    Pair::new(alloc, whole.as_str())
 }
 
 // What a value leads to: the finite map, as a walk over its entries.
@@ -71,21 +62,16 @@ fn number_of(cases: &[Case], value: u128) -> u128 {
 fn choices(
     rt: &impl Abort,
     alloc: Global,
-    script: &Script,
-    func: &Function,
+    pair: &Pair,
     value: u128,
     number: u128,
 ) -> Result<Choices, Fail> {
     let memory = zeros(alloc)?;
-    let world = World {
-        arguments: &[value],
-        memory: &memory,
-        pointer_width: script.config.pointer_width,
-        slots: memory.start(),
-        outside: &Zeros,
-    };
-    let (ending, choices) = function::run_counted(alloc, func, &world, STEPS)?;
-    assert!(rt; ending == returned(alloc, number)?);
+    let arguments = [value];
+    let world = world_of(&pair.script, &arguments, &memory, &Zeros);
+    let (ending, choices) = function::run_counted(alloc, &pair.func, &world, STEPS)?;
+    assert!(rt; ending.events.is_empty() && ending.memory == memory);
+    assert!(rt; ending.end == returned(alloc, &[number])?);
     Ok(choices)
 }
 
@@ -98,53 +84,31 @@ fn agrees(
     values: &[u128],
     bound: u64,
 ) -> Result<(), Fail> {
-    let script = switch_of(alloc, ty, cases)?;
-    let mut ctx = FunctionBuilderContext::new(alloc);
-    let func = built(alloc, &script, &mut ctx)?;
-    let memory = zeros(alloc)?;
+    let pair = switch_of(alloc, ty, cases)?;
     for value in values {
         let number = number_of(cases, *value);
-        let ending = returned(alloc, number)?;
-        both_end(rt, alloc, &script, &func, &[*value], &memory, &ending)?;
-        let choices = choices(rt, alloc, &script, &func, *value, number)?;
+        pair.ends_in_zeros(rt, alloc, &[*value], returned(alloc, &[number])?)?;
+        let choices = choices(rt, alloc, &pair, *value, number)?;
         assert!(rt; choices.branches <= bound);
         assert!(rt; choices.tables <= 1);
     }
     Ok(())
 }
 
-// All values of 8 bits.
-fn bytes(alloc: Global) -> Result<Vec<u128>, Fail> {
-    let mut values = Vec::new(alloc);
-    for value in 0..256u32 {
-        values.push(u128::from(value))?;
-    }
-    Ok(values)
-}
-
-/// Four ranges, on all values of 8 bits: two branches more than 4 has binary digits are enough.
-#[test]
-fn all_bytes(rt: HostRuntime) -> Result<(), Fail> {
-    let values = bytes(rt.alloc())?;
-    agrees(&rt, rt.alloc(), "i8", &FOUR_RANGES, values.as_slice(), 5)
-}
-
 /// 12 is found by two branches and a table, and 9 comes to the block of all other values by three branches.
 #[test]
 fn counts(rt: HostRuntime) -> Result<(), Fail> {
     let alloc = rt.alloc();
-    let script = switch_of(alloc, "i8", &FOUR_RANGES)?;
-    let mut ctx = FunctionBuilderContext::new(alloc);
-    let func = built(alloc, &script, &mut ctx)?;
-    let found = choices(&rt, alloc, &script, &func, 12, 112)?;
+    let pair = switch_of(alloc, "i8", FOUR_RANGES)?;
+    let found = choices(&rt, alloc, &pair, 12, 112)?;
     assert!(rt; (found.branches, found.tables) == (2, 1));
-    let missed = choices(&rt, alloc, &script, &func, 9, OTHER)?;
+    let missed = choices(&rt, alloc, &pair, 9, OTHER)?;
     assert!(rt; (missed.branches, missed.tables) == (3, 0));
     Ok(())
 }
 
 /// Values that are keys in their low bits alone, and the greatest of each width.
-const WIDE_VALUES: [u128; 12] = [
+const WIDE_VALUES: &[u128] = &[
     0xffff,
     0xffff_ffff,
     1 << 32,
@@ -159,101 +123,84 @@ const WIDE_VALUES: [u128; 12] = [
     u128::MAX,
 ];
 
-// The four ranges on values of this type, of which 256 and some of the wide ones are tried.
-fn agrees_at(rt: &impl Abort, alloc: Global, ty: &str, greatest: u128) -> Result<(), Fail> {
-    let mut values = bytes(alloc)?;
-    for value in WIDE_VALUES.iter() {
-        if *value <= greatest {
-            values.push(*value)?;
+/// Types, the greatest value of each, keys, and how many branches are enough.
+const SWITCHES: &[(&str, u128, &[Case], u64)] = &[
+    // four ranges: two branches more than 4 has binary digits
+    ("i8", 0xff, FOUR_RANGES, 5),
+    ("i16", 0xffff, FOUR_RANGES, 5),
+    ("i32", 0xffff_ffff, FOUR_RANGES, 5),
+    ("i64", 0xffff_ffff_ffff_ffff, FOUR_RANGES, 5),
+    ("i128", u128::MAX, FOUR_RANGES, 5),
+    // keys of 8 bits that are negative as signed numbers, and those beside them
+    (
+        "i8",
+        0xff,
+        &[(127, 1), (128, 2), (129, 3), (200, 4), (254, 5), (255, 6)],
+        4,
+    ),
+    // no key, and a key alone, which is 0 or isn't
+    ("i8", 0xff, &[], 0),
+    ("i8", 0xff, &[(0, 1)], 3),
+    ("i8", 0xff, &[(255, 1)], 3),
+];
+
+/// Switches on the values of 8 bits and on some of the wide ones.
+#[test]
+fn all_values(rt: HostRuntime) -> Result<(), Fail> {
+    let alloc = rt.alloc();
+    for (ty, greatest, cases, bound) in SWITCHES {
+        let mut values = Vec::new(alloc);
+        for value in 0..256u32 {
+            values.push(u128::from(value))?;
         }
-    }
-    agrees(rt, alloc, ty, &FOUR_RANGES, values.as_slice(), 5)
-}
-
-#[test]
-fn widths(rt: HostRuntime) -> Result<(), Fail> {
-    agrees_at(&rt, rt.alloc(), "i16", 0xffff)?;
-    agrees_at(&rt, rt.alloc(), "i32", 0xffff_ffff)?;
-    agrees_at(&rt, rt.alloc(), "i64", 0xffff_ffff_ffff_ffff)?;
-    agrees_at(&rt, rt.alloc(), "i128", u128::MAX)
-}
-
-/// Keys of 8 bits that are negative as signed numbers, and those beside them.
-const HIGH_BYTES: [Case; 6] = [(127, 1), (128, 2), (129, 3), (200, 4), (254, 5), (255, 6)];
-
-#[test]
-fn high_bytes(rt: HostRuntime) -> Result<(), Fail> {
-    let values = bytes(rt.alloc())?;
-    agrees(&rt, rt.alloc(), "i8", &HIGH_BYTES, values.as_slice(), 4)
-}
-
-/// A key alone, which is 0 or isn't, and no key.
-#[test]
-fn few_keys(rt: HostRuntime) -> Result<(), Fail> {
-    let values = bytes(rt.alloc())?;
-    let values = values.as_slice();
-    agrees(&rt, rt.alloc(), "i8", &[], values, 0)?;
-    agrees(&rt, rt.alloc(), "i8", &[(0, 1)], values, 3)?;
-    agrees(&rt, rt.alloc(), "i8", &[(255, 1)], values, 3)
-}
-
-// Two keys from this one on, of 128 bits, on values beside them, and on some that differ from them in a high bit.
-fn agrees_from(rt: &impl Abort, alloc: Global, first: u128) -> Result<(), Fail> {
-    let cases = [(first, 1), (first.wrapping_add(1), 2)];
-    let values = [
-        first.wrapping_sub(1),
-        first,
-        first.wrapping_add(1),
-        first.wrapping_add(2),
-        first.wrapping_add(1 << 32),
-        first.wrapping_add(1 << 64),
-        first.wrapping_sub(1 << 63),
-        first.wrapping_sub(1 << 64),
-        first ^ 1 << 127,
-        0,
-        1,
-        u128::MAX,
-    ];
-    agrees(rt, alloc, "i128", &cases, &values, 3)
-}
-
-/// Ranges that start beside 2^63, beside 2^64, and with the greatest keys but one.
-#[test]
-fn borders(rt: HostRuntime) -> Result<(), Fail> {
-    let firsts = [
-        (1 << 63) - 2,
-        (1 << 63) - 1,
-        1 << 63,
-        (1 << 63) + 1,
-        (1 << 64) - 2,
-        (1 << 64) - 1,
-        1 << 64,
-        (1 << 64) + 1,
-        (1 << 64) + (1 << 63),
-        (1 << 127) - 1,
-        u128::MAX - 1,
-    ];
-    for first in firsts.iter() {
-        agrees_from(&rt, rt.alloc(), *first)?;
+        for value in WIDE_VALUES {
+            if *value <= *greatest {
+                values.push(*value)?;
+            }
+        }
+        agrees(&rt, alloc, ty, cases, values.as_slice(), *bound)?;
     }
     Ok(())
 }
 
-// The script of the row of this name.
-fn row_of(name: &str) -> Result<&'static str, Fail> {
-    match row_text(name) {
-        Some(text) => Ok(text),
-        None => Err("no row")?,
-    }
-}
+/// Where two keys begin: beside 2^63, beside 2^64, and the greatest key but one.
+const FIRSTS: &[u128] = &[
+    (1 << 63) - 2,
+    (1 << 63) - 1,
+    1 << 63,
+    (1 << 63) + 1,
+    (1 << 64) - 2,
+    (1 << 64) - 1,
+    1 << 64,
+    (1 << 64) + 1,
+    (1 << 64) + (1 << 63),
+    (1 << 127) - 1,
+    u128::MAX - 1,
+];
 
-/// The value is the first key in the one row, and the second one in the other.
+/// Two keys of 128 bits, on values beside them, and on some that differ from them in a high bit.
 #[test]
-fn rows(rt: HostRuntime) -> Result<(), Fail> {
-    let end = End::Trapped(TrapCode::User(1));
-    text_ends_in_zeros(&rt, rt.alloc(), row_of("switch_high")?, &[], end)?;
-    let end = End::Trapped(TrapCode::User(2));
-    text_ends_in_zeros(&rt, rt.alloc(), row_of("switch_border")?, &[], end)
+fn borders(rt: HostRuntime) -> Result<(), Fail> {
+    for first in FIRSTS {
+        let first = *first;
+        let cases = [(first, 1), (first.wrapping_add(1), 2)];
+        let values = [
+            first.wrapping_sub(1),
+            first,
+            first.wrapping_add(1),
+            first.wrapping_add(2),
+            first.wrapping_add(1 << 32),
+            first.wrapping_add(1 << 64),
+            first.wrapping_sub(1 << 63),
+            first.wrapping_sub(1 << 64),
+            first ^ 1 << 127,
+            0,
+            1,
+            u128::MAX,
+        ];
+        agrees(&rt, rt.alloc(), "i128", &cases, &values, 3)?;
+    }
+    Ok(())
 }
 
 /// A variable that is assigned before a switch and read behind it, in blocks to which several ways lead.
@@ -286,26 +233,6 @@ sum = iadd n one
 return sum
 seal_block other
 ";
-
-/// Low keys are doubled, and all but the high ones get 1 more.
-#[test]
-fn variable(rt: HostRuntime) -> Result<(), Fail> {
-    let rows: [(u128, u128); 9] = [
-        (0, 1),
-        (1, 3),
-        (2, 5),
-        (3, 4),
-        (7, 7),
-        (8, 8),
-        (40, 81),
-        (50, 51),
-        (255, 0),
-    ];
-    for (argument, number) in rows.iter() {
-        text_answers(&rt, rt.alloc(), VARIABLE, &[&[*argument]], *number)?;
-    }
-    Ok(())
-}
 
 /// A loop with a switch in it: a number falls by its last case, and `turns` counts.
 const LOOP: &str = "\
@@ -348,11 +275,26 @@ result = use_var turns
 return result
 ";
 
-/// 9, 8, 4, 2, 1, 0 are six turns.
-#[test]
-fn turns(rt: HostRuntime) -> Result<(), Fail> {
-    text_answers(&rt, rt.alloc(), LOOP, &[&[0]], 1)?;
-    text_answers(&rt, rt.alloc(), LOOP, &[&[2]], 3)?;
-    text_answers(&rt, rt.alloc(), LOOP, &[&[9]], 6)?;
-    text_answers(&rt, rt.alloc(), LOOP, &[&[11]], 8)
-}
+/// Scripts, and what they return.
+pub const ANSWERS: &[Answers] = &[
+    // low keys are doubled, and all but the high ones get 1 more
+    (
+        VARIABLE,
+        &[
+            (&[0], &[1]),
+            (&[1], &[3]),
+            (&[2], &[5]),
+            (&[3], &[4]),
+            (&[7], &[7]),
+            (&[8], &[8]),
+            (&[40], &[81]),
+            (&[50], &[51]),
+            (&[255], &[0]),
+        ],
+    ),
+    // 9, 8, 4, 2, 1, 0 are six turns
+    (
+        LOOP,
+        &[(&[0], &[1]), (&[2], &[3]), (&[9], &[6]), (&[11], &[8])],
+    ),
+];

@@ -1,8 +1,7 @@
 //! Branches by jump tables, in scripts and in the functions that are built of them.
 #![tactic(auto)]
 
-use crate::support::text_answers;
-use std::test::Fail;
+use crate::support::Answers;
 
 /// One edge is in two tables, and twice in the second one, which has no other.
 const SHARED_EDGE: &str = "\
@@ -27,13 +26,6 @@ switch_to_block done
 return passed
 ";
 
-/// Every way ends with the first argument.
-#[test]
-fn shared_edge(rt: HostRuntime) -> Result<(), Fail> {
-    text_answers(&rt, rt.alloc(), SHARED_EDGE, &[&[0, 0], &[0, 7]], 0)?;
-    text_answers(&rt, rt.alloc(), SHARED_EDGE, &[&[5, 0], &[5, 1]], 5)
-}
-
 /// A table that has its default alone.
 const NO_ENTRIES: &str = "\
 function %no_entries (i32) -> i32 system_v
@@ -50,18 +42,6 @@ switch_to_block other
 many = iconst.i32 99
 return many
 ";
-
-/// Every index takes it.
-#[test]
-fn no_entries(rt: HostRuntime) -> Result<(), Fail> {
-    text_answers(
-        &rt,
-        rt.alloc(),
-        NO_ENTRIES,
-        &[&[0], &[1], &[0xffff_ffff]],
-        99,
-    )
-}
 
 /// A variable that is read where several edges of one table and a jump meet, and whose block is sealed later.
 const MEETING: &str = "\
@@ -90,15 +70,6 @@ def_var v twenty
 jump meeting
 seal_block meeting
 ";
-
-/// Entry 0 assigns 20 on its way, the others leave 10.
-#[test]
-fn meeting(rt: HostRuntime) -> Result<(), Fail> {
-    text_answers(&rt, rt.alloc(), MEETING, &[&[0]], 20)?;
-    text_answers(&rt, rt.alloc(), MEETING, &[&[1]], 11)?;
-    text_answers(&rt, rt.alloc(), MEETING, &[&[2]], 12)?;
-    text_answers(&rt, rt.alloc(), MEETING, &[&[0xffff_ffff]], 9)
-}
 
 /// A loop that a table goes back to by its default: x counts down from the argument, entry 0 ends the loop, and `turns`
 /// counts its turns.
@@ -133,10 +104,33 @@ result = use_var turns
 return result
 ";
 
-/// As many turns as the argument says.
-#[test]
-fn turns(rt: HostRuntime) -> Result<(), Fail> {
-    text_answers(&rt, rt.alloc(), LOOP, &[&[1]], 1)?;
-    text_answers(&rt, rt.alloc(), LOOP, &[&[2]], 2)?;
-    text_answers(&rt, rt.alloc(), LOOP, &[&[40]], 40)
-}
+/// Scripts, and what they return.
+pub const ANSWERS: &[Answers] = &[
+    // every way ends with the first argument
+    (
+        SHARED_EDGE,
+        &[
+            (&[0, 0], &[0]),
+            (&[0, 7], &[0]),
+            (&[5, 0], &[5]),
+            (&[5, 1], &[5]),
+        ],
+    ),
+    // every index takes the default
+    (
+        NO_ENTRIES,
+        &[(&[0], &[99]), (&[1], &[99]), (&[0xffff_ffff], &[99])],
+    ),
+    // entry 0 assigns 20 on its way, the others leave 10
+    (
+        MEETING,
+        &[
+            (&[0], &[20]),
+            (&[1], &[11]),
+            (&[2], &[12]),
+            (&[0xffff_ffff], &[9]),
+        ],
+    ),
+    // as many turns as the argument says
+    (LOOP, &[(&[1], &[1]), (&[2], &[2]), (&[40], &[40])]),
+];
