@@ -10,7 +10,6 @@ use std::alloc::Global;
 use std::marker::Model;
 
 /// An item of an exception table, as it is given.
-#[derive(Drop)]
 pub enum ExceptionTableItem {
     /// Where an exception with this tag goes.
     Tag(u32, BlockCall),
@@ -20,8 +19,18 @@ pub enum ExceptionTableItem {
     Context(Value),
 }
 
+// By hand: a derived one is proved anew at each way out of a function that holds such a value.
+impl Drop for ExceptionTableItem {
+    fn drop(self) {
+        match self {
+            ExceptionTableItem::Tag(_, _) => {}
+            ExceptionTableItem::Default(_) => {}
+            ExceptionTableItem::Context(_) => {}
+        }
+    }
+}
+
 /// What a call that may throw goes to, as it is given.
-#[derive(Drop)]
 pub struct ExceptionTableData {
     /// The signature of the call.
     pub sig: SigRef,
@@ -29,6 +38,17 @@ pub struct ExceptionTableData {
     pub normal: BlockCall,
     /// Where it goes when it throws, in the order in which they are tried.
     pub items: Vec<ExceptionTableItem>,
+}
+
+// By hand: a derived one is proved anew at each way out of a function that holds such a value.
+impl Drop for ExceptionTableData {
+    fn drop(self) {
+        let ExceptionTableData {
+            sig: _,
+            normal: _,
+            items: _,
+        } = self;
+    }
 }
 
 /// An item of an exception table without its edge.
@@ -43,11 +63,21 @@ pub enum ExceptionItem {
 }
 
 // What a call that may throw goes to: all edges in one list.
-#[derive(Drop)]
 struct Targets {
     sig: SigRef,
     edges: Vec<BlockCall>,
     items: Vec<ExceptionItem>,
+}
+
+// By hand: a derived one is proved anew at each way out of a function that holds such a value.
+impl Drop for Targets {
+    fn drop(self) {
+        let Targets {
+            sig: _,
+            edges: _,
+            items: _,
+        } = self;
+    }
 }
 
 /// What a call that may throw goes to, as a table and an instruction keep it, in memory of its own.

@@ -23,7 +23,6 @@ enum Next {
 }
 
 /// A run of a function: the bits of the values that were given, memory, and the outside calls so far.
-#[derive(Drop)]
 struct State<'a, O> {
     alloc: Global,
     func: &'a Function,
@@ -35,6 +34,23 @@ struct State<'a, O> {
     // what the last function of the C library gave to a try call
     given: Option<Typed>,
     choices: Choices,
+}
+
+// By hand: a derived one is proved anew at each way out of a function that holds such a value.
+impl<O> Drop for State<'_, O> {
+    fn drop(self) {
+        let State {
+            alloc: _,
+            func: _,
+            values: _,
+            store: _,
+            pointer_width: _,
+            outside: _,
+            events: _,
+            given: _,
+            choices: _,
+        } = self;
+    }
 }
 
 /// A call by its parts.

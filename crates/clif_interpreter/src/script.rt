@@ -29,7 +29,6 @@ enum Next {
 }
 
 /// A run of a script: what variables and names hold, memory, and the outside calls so far.
-#[derive(Drop)]
 struct State<'s, 'p, 'o, O> {
     alloc: Global,
     signature: &'s Signature,
@@ -44,6 +43,25 @@ struct State<'s, 'p, 'o, O> {
     events: Vec<Event>,
     // what a function of the C library gave a try call, for its normal edge
     given: Option<Typed>,
+}
+
+// By hand: a derived one is proved anew at each way out of a function that holds such a value.
+impl<O> Drop for State<'_, '_, '_, O> {
+    fn drop(self) {
+        let State {
+            alloc: _,
+            signature: _,
+            program: _,
+            calls: _,
+            variables: _,
+            names: _,
+            store: _,
+            pointer_width: _,
+            outside: _,
+            events: _,
+            given: _,
+        } = self;
+    }
 }
 
 impl<O: Outside> State<'_, '_, '_, O> {

@@ -20,7 +20,6 @@ pub struct Typed {
 }
 
 /// What an instruction does.
-#[derive(Drop)]
 pub enum Operation {
     /// An integer constant.
     Iconst(i64),
@@ -77,6 +76,44 @@ pub enum Operation {
     CondTrap(CondTrapOpcode, TrapCode),
 }
 
+// By hand: a derived one is proved anew at each way out of a function that holds such a value.
+impl Drop for Operation {
+    fn drop(self) {
+        match self {
+            Operation::Iconst(_) => {}
+            Operation::FloatConst(_, _) => {}
+            Operation::PooledConst(_, _) => {}
+            Operation::Unary(_) => {}
+            Operation::Binary(_) => {}
+            Operation::Compare(_) => {}
+            Operation::Concat => {}
+            Operation::Split => {}
+            Operation::Convert(_) => {}
+            Operation::Select => {}
+            Operation::Load {
+                flags: _,
+                offset: _,
+            } => {}
+            Operation::Store {
+                flags: _,
+                offset: _,
+            } => {}
+            Operation::Stack {
+                opcode: _,
+                slot: _,
+                offset: _,
+            } => {}
+            Operation::StackStore { slot: _, offset: _ } => {}
+            Operation::Jump => {}
+            Operation::Brif => {}
+            Operation::BrTable(_) => {}
+            Operation::Return => {}
+            Operation::Trap(_) => {}
+            Operation::CondTrap(_, _) => {}
+        }
+    }
+}
+
 impl Operation {
     /// The opcode, by which the typing table tells of operands and results.
     pub fn opcode(&self) -> Opcode {
@@ -106,7 +143,6 @@ impl Operation {
 }
 
 /// What an instruction did.
-#[derive(Drop)]
 pub enum Outcome {
     /// It gave these bits to its results.
     Gave(Vec<u128>),
@@ -118,11 +154,32 @@ pub enum Outcome {
     Trapped(TrapCode),
 }
 
+// By hand: a derived one is proved anew at each way out of a function that holds such a value.
+impl Drop for Outcome {
+    fn drop(self) {
+        match self {
+            Outcome::Gave(_) => {}
+            Outcome::Went(_) => {}
+            Outcome::Returned => {}
+            Outcome::Trapped(_) => {}
+        }
+    }
+}
+
 /// Memory of a run, and where the stack slots lie in it.
-#[derive(Drop)]
 pub struct Store {
     pub memory: Memory,
     pub slots: Slots,
+}
+
+// By hand: a derived one is proved anew at each way out of a function that holds such a value.
+impl Drop for Store {
+    fn drop(self) {
+        let Store {
+            memory: _,
+            slots: _,
+        } = self;
+    }
 }
 
 /// What an instruction does to operands and memory, and its controlling type. `given` is the type that is given with

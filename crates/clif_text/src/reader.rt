@@ -16,7 +16,6 @@ use clif_words::words::words_of;
 use std::alloc::{AllocError, Global};
 
 /// What a text says.
-#[derive(Drop)]
 pub struct Script {
     /// The function's name.
     pub name: UserFuncName,
@@ -32,14 +31,40 @@ pub struct Script {
     pub lines: Vec<usize>,
 }
 
+// By hand: a derived one is proved anew at each way out of a function that holds such a value.
+impl Drop for Script {
+    fn drop(self) {
+        let Script {
+            name: _,
+            signature: _,
+            config: _,
+            answers: _,
+            calls: _,
+            lines: _,
+        } = self;
+    }
+}
+
 // What the lines so far say.
-#[derive(Drop)]
 struct Reader<'a> {
     alloc: Global,
     header: Header,
     scope: Scope<'a>,
     calls: Vec<Call>,
     lines: Vec<usize>,
+}
+
+// By hand: a derived one is proved anew at each way out of a function that holds such a value.
+impl Drop for Reader<'_> {
+    fn drop(self) {
+        let Reader {
+            alloc: _,
+            header: _,
+            scope: _,
+            calls: _,
+            lines: _,
+        } = self;
+    }
 }
 
 impl<'a> Reader<'a> {
