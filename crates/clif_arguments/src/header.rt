@@ -102,7 +102,12 @@ impl Header {
         ensures name { result.0 ≡ name_in (header_said self).function }
         ensures signature { result.1 ≡ signature_in (header_said self).function }
     {
-        let Header { function, .. } = self;
+        let Header {
+            function,
+            pointer_width: _,
+            call_conv: _,
+            answers: _,
+        } = self;
         match function {
             Some(function) => function,
             None => (

@@ -6,6 +6,7 @@ use std::alloc::AllocError;
 /// is numbered from 0 on, in the order of the calls.
 ///
 /// Each variant is the builder's method of its name.
+#[derive(Drop)]
 pub enum EntryCall {
     /// `create_sized_stack_slot(StackSlotData::new(size, align_shift))`. The alignment is at most 2^31.
     CreateSizedStackSlot { size: u32, align_shift: u8 },
@@ -17,22 +18,6 @@ pub enum EntryCall {
     ImportSignature(Signature),
     /// `import_function(function)`. The function's signature was imported.
     ImportFunction(ExtFuncData),
-}
-
-// By hand: a derived one is proved anew at each way out of a function that holds such a value.
-impl Drop for EntryCall {
-    fn drop(self) {
-        match self {
-            EntryCall::CreateSizedStackSlot {
-                size: _,
-                align_shift: _,
-            } => {}
-            EntryCall::CreateDynamicStackSlot(_) => {}
-            EntryCall::CreateGlobalValue(_) => {}
-            EntryCall::ImportSignature(_) => {}
-            EntryCall::ImportFunction(_) => {}
-        }
-    }
 }
 
 impl Clone for EntryCall {

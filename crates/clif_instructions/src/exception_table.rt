@@ -10,6 +10,7 @@ use std::alloc::Global;
 use std::marker::Model;
 
 /// An item of an exception table, as it is given.
+#[derive(Drop)]
 pub enum ExceptionTableItem {
     /// Where an exception with this tag goes.
     Tag(u32, BlockCall),
@@ -19,18 +20,8 @@ pub enum ExceptionTableItem {
     Context(Value),
 }
 
-// By hand: a derived one is proved anew at each way out of a function that holds such a value.
-impl Drop for ExceptionTableItem {
-    fn drop(self) {
-        match self {
-            ExceptionTableItem::Tag(_, _) => {}
-            ExceptionTableItem::Default(_) => {}
-            ExceptionTableItem::Context(_) => {}
-        }
-    }
-}
-
 /// What a call that may throw goes to, as it is given.
+#[derive(Drop)]
 pub struct ExceptionTableData {
     /// The signature of the call.
     pub sig: SigRef,
@@ -38,17 +29,6 @@ pub struct ExceptionTableData {
     pub normal: BlockCall,
     /// Where it goes when it throws, in the order in which they are tried.
     pub items: Vec<ExceptionTableItem>,
-}
-
-// By hand: a derived one is proved anew at each way out of a function that holds such a value.
-impl Drop for ExceptionTableData {
-    fn drop(self) {
-        let ExceptionTableData {
-            sig: _,
-            normal: _,
-            items: _,
-        } = self;
-    }
 }
 
 /// An item of an exception table without its edge.

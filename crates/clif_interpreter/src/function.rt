@@ -437,6 +437,28 @@ impl<'a, O: Outside> State<'a, O> {
         }
     }
 
+    // What the run shows where it ended so, and the choices that it made.
+    fn ended(self, end: End) -> (Ending, Choices) {
+        let State {
+            alloc: _,
+            func: _,
+            values: _,
+            store,
+            pointer_width: _,
+            outside: _,
+            events,
+            given: _,
+            choices,
+        } = self;
+        let memory = store.memory;
+        let ending = Ending {
+            events,
+            end,
+            memory,
+        };
+        (ending, choices)
+    }
+
     // Makes an instruction of this shape and with these results.
     fn make(&mut self, shape: &InstructionData, results: &[Value]) -> Result<Next, Cause> {
         let Some(operation) = operation_of(self.func, shape) else {
@@ -545,19 +567,7 @@ pub fn run_counted<'a, O: Outside>(
         };
     }
     let end = state.steps(first, bound)?;
-    let State {
-        store,
-        events,
-        choices,
-        ..
-    } = state;
-    let memory = store.memory;
-    let ending = Ending {
-        events,
-        end,
-        memory,
-    };
-    Ok((ending, choices))
+    Ok(state.ended(end))
 }
 
 // A run before its first step.

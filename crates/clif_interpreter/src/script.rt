@@ -266,6 +266,28 @@ impl<O: Outside> State<'_, '_, '_, O> {
         }
     }
 
+    // What the run shows where it ended so.
+    fn ended(self, end: End) -> Ending {
+        let State {
+            alloc: _,
+            signature: _,
+            program: _,
+            calls: _,
+            variables: _,
+            names: _,
+            store,
+            pointer_width: _,
+            outside: _,
+            events,
+            given: _,
+        } = self;
+        Ending {
+            events,
+            end,
+            memory: store.memory,
+        }
+    }
+
     // Makes an instruction with a constant as an operand at a place, which gives its one answer.
     fn with_constant(&mut self, place: usize, called: ImmediateCall) -> Result<Next, Cause> {
         let (operation, x) = with_constant_of(called);
@@ -663,12 +685,7 @@ pub fn run<O: Outside>(
         }
         end = state.steps(entry, bound)?;
     }
-    let State { store, events, .. } = state;
-    Ok(Ending {
-        events,
-        end,
-        memory: store.memory,
-    })
+    Ok(state.ended(end))
 }
 
 // A run before its first step.

@@ -143,6 +143,7 @@ impl Operation {
 }
 
 /// What an instruction did.
+#[derive(Drop)]
 pub enum Outcome {
     /// It gave these bits to its results.
     Gave(Vec<u128>),
@@ -154,32 +155,11 @@ pub enum Outcome {
     Trapped(TrapCode),
 }
 
-// By hand: a derived one is proved anew at each way out of a function that holds such a value.
-impl Drop for Outcome {
-    fn drop(self) {
-        match self {
-            Outcome::Gave(_) => {}
-            Outcome::Went(_) => {}
-            Outcome::Returned => {}
-            Outcome::Trapped(_) => {}
-        }
-    }
-}
-
 /// Memory of a run, and where the stack slots lie in it.
+#[derive(Drop)]
 pub struct Store {
     pub memory: Memory,
     pub slots: Slots,
-}
-
-// By hand: a derived one is proved anew at each way out of a function that holds such a value.
-impl Drop for Store {
-    fn drop(self) {
-        let Store {
-            memory: _,
-            slots: _,
-        } = self;
-    }
 }
 
 /// What an instruction does to operands and memory, and its controlling type. `given` is the type that is given with

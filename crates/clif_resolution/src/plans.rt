@@ -19,18 +19,12 @@ use clif_opcodes::{
 use clif_types::{IntCC, MemFlagsData, StackSlot, TrapCode, Type, Value};
 
 /// An instruction, before it is made: its shape and its controlling type.
+#[derive(Drop)]
 pub struct Planned {
     /// its shape
     pub shape: InstructionData,
     /// its controlling type
     pub ty: Type,
-}
-
-// By hand: a derived one is proved anew at each way out of a function that holds such a value.
-impl Drop for Planned {
-    fn drop(self) {
-        let Planned { shape: _, ty: _ } = self;
-    }
 }
 
 /// The instruction of this plan, where it may be made.

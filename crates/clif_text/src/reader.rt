@@ -16,6 +16,7 @@ use clif_words::words::words_of;
 use std::alloc::{AllocError, Global};
 
 /// What a text says.
+#[derive(Drop)]
 pub struct Script {
     /// The function's name.
     pub name: UserFuncName,
@@ -29,20 +30,6 @@ pub struct Script {
     pub calls: Vec<Call>,
     /// For each call the number of its line; lines are numbered from 1 on.
     pub lines: Vec<usize>,
-}
-
-// By hand: a derived one is proved anew at each way out of a function that holds such a value.
-impl Drop for Script {
-    fn drop(self) {
-        let Script {
-            name: _,
-            signature: _,
-            config: _,
-            answers: _,
-            calls: _,
-            lines: _,
-        } = self;
-    }
 }
 
 // What the lines so far say.

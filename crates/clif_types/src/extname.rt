@@ -105,20 +105,10 @@ impl fmt::Display for TestcaseName {
 }
 
 /// The name of a function that is being built.
-#[derive(PartialEq, Eq, Debug)]
+#[derive(PartialEq, Eq, Debug, Drop)]
 pub enum UserFuncName {
     User(UserExternalName),
     Testcase(TestcaseName),
-}
-
-// By hand: a derived one is proved anew at each way out of a function that holds such a value.
-impl Drop for UserFuncName {
-    fn drop(self) {
-        match self {
-            UserFuncName::User(_) => {}
-            UserFuncName::Testcase(_) => {}
-        }
-    }
 }
 
 impl UserFuncName {
