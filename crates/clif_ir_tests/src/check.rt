@@ -1,12 +1,11 @@
-//! Tests of `clif_check`: which instruction of a function is told, and with which kind, as the documentation of
-//! Cranelift's instructions types them.
+//! Tests of `clif_check`: which instruction of a function it refuses, and of which kind the error is, as the documentation
+//! of Cranelift's instructions types them.
 #![tactic(auto)]
 
-mod callees;
 mod calls;
+mod cases;
 mod edges;
 mod exceptions;
 mod operands;
 mod orders;
 mod returns;
-mod steps;

@@ -9,7 +9,13 @@ mod check;
 #[cfg(test)]
 mod cursor;
 #[cfg(test)]
+mod facts;
+#[cfg(test)]
 mod functions;
+#[cfg(test)]
+mod instructions;
+#[cfg(test)]
+mod steps;
 #[cfg(test)]
 mod support;
 #[cfg(test)]

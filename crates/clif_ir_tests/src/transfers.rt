@@ -17,28 +17,28 @@ use std::test::Fail;
 
 /// A return, a branch or a call.
 #[derive(Clone, Copy)]
-pub enum Transfer {
+pub enum Transfer<'a> {
     /// A return of values.
-    Return(&'static [u32]),
+    Return(&'a [u32]),
     /// A jump.
-    Jump(To),
-    /// A branch by a value: the block that it goes to where the value isn't zero, and the other one.
-    Brif(u32, u32, u32),
+    Jump(To<'a>),
+    /// A branch by a value: the edge along which it goes where the value isn't zero, and the other one.
+    Brif(u32, To<'a>, To<'a>),
     /// A branch by a table: the value, the default block, and those of the entries.
-    BranchTable(u32, u32, &'static [u32]),
+    BranchTable(u32, u32, &'a [u32]),
     /// A call of a function.
-    Call(u32, &'static [u32]),
+    Call(u32, &'a [u32]),
     /// A call by a signature. The first operand is the address.
-    CallIndirect(u32, &'static [u32]),
+    CallIndirect(u32, &'a [u32]),
     /// A call of a function that may throw.
-    TryCall(u32, &'static [u32], Throws),
+    TryCall(u32, &'a [u32], Throws<'a>),
     /// A call that may throw. The first operand is the address.
-    TryCallIndirect(&'static [u32], Throws),
+    TryCallIndirect(&'a [u32], Throws<'a>),
 }
 
 /// An edge: its target, and what it passes.
 #[derive(Clone, Copy)]
-pub struct To(pub u32, pub &'static [Arg]);
+pub struct To<'a>(pub u32, pub &'a [Arg]);
 
 /// What an edge passes: a value, what a call returned, or what it threw.
 #[derive(Clone, Copy)]
@@ -50,17 +50,17 @@ pub enum Arg {
 
 /// Where a call goes: its signature, the edge where it returns, and the items.
 #[derive(Clone, Copy)]
-pub struct Throws {
+pub struct Throws<'a> {
     pub sig: u32,
-    pub normal: To,
-    pub items: &'static [Item],
+    pub normal: To<'a>,
+    pub items: &'a [Item<'a>],
 }
 
 /// An item of an exception table.
 #[derive(Clone, Copy)]
-pub enum Item {
-    Tag(u32, To),
-    Default(To),
+pub enum Item<'a> {
+    Tag(u32, To<'a>),
+    Default(To<'a>),
     Context(u32),
 }
 
@@ -80,7 +80,7 @@ fn arg_of(rt: &impl Abort, arg: Arg) -> BlockArg {
     }
 }
 
-fn edge_of(rt: &impl Abort, alloc: Global, to: To) -> Result<BlockCall, Fail> {
+fn edge_of(rt: &impl Abort, alloc: Global, to: To<'_>) -> Result<BlockCall, Fail> {
     let mut call = BlockCall::new(alloc, b(rt, to.0), &[])?;
     for arg in to.1 {
         call.args.push(arg_of(rt, *arg))?;
@@ -107,7 +107,7 @@ fn jump_table_of(
     Ok(table)
 }
 
-fn item_of(rt: &impl Abort, alloc: Global, item: Item) -> Result<ExceptionTableItem, Fail> {
+fn item_of(rt: &impl Abort, alloc: Global, item: Item<'_>) -> Result<ExceptionTableItem, Fail> {
     Ok(match item {
         Item::Tag(tag, to) => ExceptionTableItem::Tag(tag, edge_of(rt, alloc, to)?),
         Item::Default(to) => ExceptionTableItem::Default(edge_of(rt, alloc, to)?),
@@ -119,7 +119,7 @@ fn item_of(rt: &impl Abort, alloc: Global, item: Item) -> Result<ExceptionTableI
 fn exception_of(
     rt: &impl Abort,
     func: &mut Function,
-    throws: Throws,
+    throws: Throws<'_>,
 ) -> Result<ExceptionTargets, Fail> {
     let alloc = func.allocator();
     let mut items = Vec::new(alloc);
@@ -140,7 +140,7 @@ fn exception_of(
 pub fn transfer_of(
     rt: &impl Abort,
     func: &mut Function,
-    transfer: Transfer,
+    transfer: Transfer<'_>,
 ) -> Result<InstructionData, Fail> {
     let alloc = func.allocator();
     Ok(match transfer {
@@ -152,10 +152,7 @@ pub fn transfer_of(
         },
         Transfer::Brif(x, taken, other) => InstructionData::Brif {
             arg: v(rt, x),
-            blocks: [
-                edge_of(rt, alloc, To(taken, &[]))?,
-                edge_of(rt, alloc, To(other, &[]))?,
-            ],
+            blocks: [edge_of(rt, alloc, taken)?, edge_of(rt, alloc, other)?],
         },
         Transfer::BranchTable(x, default, entries) => InstructionData::BranchTable {
             arg: v(rt, x),

@@ -1,12 +1,14 @@
 //! Arguments of edges.
 #![tactic(auto)]
 
-use crate::check::steps::Arg::{Exn, Known, Ret};
-use crate::check::steps::Plain::{Brif, Iconst, Jump, Return};
-use crate::check::steps::Step::{LaidOut, Param, Put};
-use crate::check::steps::{Case, tells_each};
+use crate::check::cases::{Case, finds_each};
+use crate::instructions::Plain::Iconst;
+use crate::steps::Step::{Go, LaidOut, Param, Put};
+use crate::transfers::Arg::{Exn, Known, Ret};
+use crate::transfers::To;
+use crate::transfers::Transfer::{Brif, Jump, Return};
 use clif_check::CheckErrorKind;
-use clif_types::types::{I8, I32, I64, INVALID};
+use clif_types::types::{I8, I32, I64};
 use std::test::Fail;
 
 const EDGES: [Case; 6] = [
@@ -14,12 +16,7 @@ const EDGES: [Case; 6] = [
     (
         "too few",
         &[I32],
-        &[
-            LaidOut,
-            LaidOut,
-            Param(1, I32),
-            Put(0, INVALID, Jump(1, &[])),
-        ],
+        &[LaidOut, LaidOut, Param(1, I32), Go(0, Jump(To(1, &[])))],
         Some((0, CheckErrorKind::Edge)),
     ),
     (
@@ -29,8 +26,8 @@ const EDGES: [Case; 6] = [
             LaidOut,
             LaidOut,
             Param(1, I32),
-            Put(0, I32, Iconst),
-            Put(0, INVALID, Jump(1, &[Known(1), Known(1)])),
+            Put(0, I32, Iconst(1)),
+            Go(0, Jump(To(1, &[Known(1), Known(1)]))),
         ],
         Some((1, CheckErrorKind::Edge)),
     ),
@@ -43,9 +40,9 @@ const EDGES: [Case; 6] = [
             LaidOut,
             Param(1, I32),
             Param(1, I64),
-            Put(0, I32, Iconst),
-            Put(0, I64, Iconst),
-            Put(0, INVALID, Jump(1, &[Known(3), Known(2)])),
+            Put(0, I32, Iconst(1)),
+            Put(0, I64, Iconst(1)),
+            Go(0, Jump(To(1, &[Known(3), Known(2)]))),
         ],
         Some((2, CheckErrorKind::Edge)),
     ),
@@ -57,7 +54,7 @@ const EDGES: [Case; 6] = [
             LaidOut,
             LaidOut,
             Param(1, I64),
-            Put(0, INVALID, Jump(1, &[Ret(0)])),
+            Go(0, Jump(To(1, &[Ret(0)]))),
         ],
         Some((0, CheckErrorKind::Edge)),
     ),
@@ -68,7 +65,7 @@ const EDGES: [Case; 6] = [
             LaidOut,
             LaidOut,
             Param(1, I64),
-            Put(0, INVALID, Jump(1, &[Exn(0)])),
+            Go(0, Jump(To(1, &[Exn(0)]))),
         ],
         Some((0, CheckErrorKind::Edge)),
     ),
@@ -80,11 +77,18 @@ const EDGES: [Case; 6] = [
             LaidOut,
             Param(1, I32),
             Param(1, I64),
-            Put(0, I32, Iconst),
-            Put(0, I64, Iconst),
-            Put(0, I8, Iconst),
-            Put(0, INVALID, Brif(4, 1, &[Known(2), Known(3)])),
-            Put(1, INVALID, Return(&[0])),
+            Put(0, I32, Iconst(1)),
+            Put(0, I64, Iconst(1)),
+            Put(0, I8, Iconst(1)),
+            Go(
+                0,
+                Brif(
+                    4,
+                    To(1, &[Known(2), Known(3)]),
+                    To(1, &[Known(2), Known(3)]),
+                ),
+            ),
+            Go(1, Return(&[0])),
         ],
         None,
     ),
@@ -92,5 +96,5 @@ const EDGES: [Case; 6] = [
 
 #[test]
 fn edges(rt: HostRuntime) -> Result<(), Fail> {
-    tells_each(&rt, rt.alloc(), &EDGES)
+    finds_each(&rt, rt.alloc(), &EDGES)
 }

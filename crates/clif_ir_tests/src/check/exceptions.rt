@@ -1,15 +1,14 @@
 //! What the edges of try calls pass.
 #![tactic(auto)]
 
-use crate::check::callees::Call::{TryFunction, TryIndirect};
-use crate::check::callees::Item::{Context, Default, Tag};
-use crate::check::callees::{Item, Throws, To};
-use crate::check::steps::Arg::{Exn, Known, Ret};
-use crate::check::steps::Plain::Calls;
-use crate::check::steps::Step::{Function, Import, LaidOut, Param, Put};
-use crate::check::steps::{Case, tells, tells_each};
+use crate::check::cases::{Case, finds, finds_each};
+use crate::steps::Step::{Go, Import, LaidOut, Param};
+use crate::transfers::Arg::{Exn, Known, Ret};
+use crate::transfers::Item::{Context, Default, Tag};
+use crate::transfers::Transfer::{TryCall, TryCallIndirect};
+use crate::transfers::{Item, Throws, To};
 use clif_check::CheckErrorKind;
-use clif_types::types::{F32, I32, I64, INVALID};
+use clif_types::types::{F32, I32, I64};
 use std::alloc::Global;
 use std::process::Abort;
 use std::test::Fail;
@@ -62,9 +61,9 @@ const WRONG_EDGE_OF_AN_ITEM: [To<'static>; 7] = [
     To(2, &[Exn(0), Known(1)]),
 ];
 
-// Tells of a try call of a function, and of one of an address, in a block with the parameters v0: i64 and v1: i32. sig0
+// Asserts what is found in a try call of a function, and in one of an address, in a block with the parameters v0: i64 and v1: i32. sig0
 // returns an f32 and an i32; block1 takes an f32 and an i32, block2 takes two i64, and block3 nothing.
-fn tells_of(
+fn finds_in(
     rt: &impl Abort,
     alloc: Global,
     case: &str,
@@ -74,10 +73,9 @@ fn tells_of(
 ) -> Result<(), Fail> {
     let sig = 0;
     let throws = Throws { sig, normal, items };
-    for call in [TryFunction(0, &[0], throws), TryIndirect(&[0, 0], throws)] {
+    for call in [TryCall(0, &[0], throws), TryCallIndirect(&[0, 0], throws)] {
         let steps = [
-            Import(&[I64], &[F32, I32]),
-            Function(0),
+            Import("g", &[I64], &[F32, I32]),
             LaidOut,
             LaidOut,
             LaidOut,
@@ -88,9 +86,9 @@ fn tells_of(
             Param(1, I32),
             Param(2, I64),
             Param(2, I64),
-            Put(0, INVALID, Calls(call)),
+            Go(0, call),
         ];
-        tells(rt, alloc, case, &[], &steps, expected)?;
+        finds(rt, alloc, case, &[], &steps, expected)?;
     }
     Ok(())
 }
@@ -99,20 +97,20 @@ fn tells_of(
 fn edges(rt: HostRuntime) -> Result<(), Fail> {
     let alloc = rt.alloc();
     for (normal, items) in RIGHT.iter() {
-        tells_of(&rt, alloc, "right", *normal, items, None)?;
+        finds_in(&rt, alloc, "right", *normal, items, None)?;
     }
     let expected = Some((0, CheckErrorKind::Edge));
     let case = "wrong normal edge";
     for wrong in WRONG_NORMAL_EDGE {
-        tells_of(&rt, alloc, case, wrong, &[], expected)?;
+        finds_in(&rt, alloc, case, wrong, &[], expected)?;
         let items = [Default(PAYLOAD)];
-        tells_of(&rt, alloc, case, wrong, &items, expected)?;
+        finds_in(&rt, alloc, case, wrong, &items, expected)?;
     }
     let case = "wrong edge of an item";
     for wrong in WRONG_EDGE_OF_AN_ITEM {
-        tells_of(&rt, alloc, case, RESULTS, &[Tag(0, wrong)], expected)?;
+        finds_in(&rt, alloc, case, RESULTS, &[Tag(0, wrong)], expected)?;
         let items = [Tag(0, PAYLOAD), Context(0), Default(wrong)];
-        tells_of(&rt, alloc, case, RESULTS, &items, expected)?;
+        finds_in(&rt, alloc, case, RESULTS, &items, expected)?;
     }
     Ok(())
 }
@@ -129,26 +127,24 @@ const WITHOUT_RESULTS: [Case; 2] = [
         "no result",
         &[],
         &[
-            Import(&[], &[]),
-            Function(0),
+            Import("g", &[], &[]),
             LaidOut,
             LaidOut,
             Param(1, I32),
-            Put(0, INVALID, Calls(TryFunction(0, &[], THROWS))),
+            Go(0, TryCall(0, &[], THROWS)),
         ],
         Some((0, CheckErrorKind::Edge)),
     ),
-    // The arguments are told rather than the edges.
+    // The error is that of the arguments rather than that of the edges.
     (
         "arguments before edges",
         &[],
         &[
-            Import(&[I32], &[]),
-            Function(0),
+            Import("g", &[I32], &[]),
             LaidOut,
             LaidOut,
             Param(1, I32),
-            Put(0, INVALID, Calls(TryFunction(0, &[], THROWS))),
+            Go(0, TryCall(0, &[], THROWS)),
         ],
         Some((0, CheckErrorKind::Arguments)),
     ),
@@ -156,5 +152,5 @@ const WITHOUT_RESULTS: [Case; 2] = [
 
 #[test]
 fn without_results(rt: HostRuntime) -> Result<(), Fail> {
-    tells_each(&rt, rt.alloc(), &WITHOUT_RESULTS)
+    finds_each(&rt, rt.alloc(), &WITHOUT_RESULTS)
 }

@@ -1,11 +1,13 @@
-//! Which of several errors is told.
+//! Which of several errors is returned.
 #![tactic(auto)]
 
-use crate::check::steps::Plain::{Brif, Iconst, Jump, Return};
-use crate::check::steps::Step::{Aside, LaidOut, LayOut, Param, Put};
-use crate::check::steps::{Case, tells_each};
+use crate::check::cases::{Case, finds_each};
+use crate::instructions::Plain::Iconst;
+use crate::steps::Step::{Create, Go, LaidOut, LayOut, Param, Put};
+use crate::transfers::To;
+use crate::transfers::Transfer::{Brif, Jump, Return};
 use clif_check::CheckErrorKind;
-use clif_types::types::{F32, I32, I64, INVALID};
+use clif_types::types::{F32, I32, I64};
 use std::test::Fail;
 
 const ORDERS: [Case; 5] = [
@@ -14,12 +16,12 @@ const ORDERS: [Case; 5] = [
         "by layout",
         &[I32],
         &[
-            Aside,
+            Create,
             LaidOut,
             LayOut(0),
-            Put(0, INVALID, Return(&[])),
-            Put(1, INVALID, Jump(1, &[])),
-            Put(1, F32, Iconst),
+            Go(0, Return(&[])),
+            Go(1, Jump(To(1, &[]))),
+            Put(1, F32, Iconst(1)),
         ],
         Some((2, CheckErrorKind::Operand)),
     ),
@@ -27,12 +29,7 @@ const ORDERS: [Case; 5] = [
     (
         "outside the layout",
         &[I32],
-        &[
-            LaidOut,
-            Aside,
-            Put(1, INVALID, Return(&[])),
-            Put(0, INVALID, Jump(1, &[])),
-        ],
+        &[LaidOut, Create, Go(1, Return(&[])), Go(0, Jump(To(1, &[])))],
         None,
     ),
     // The first of two instructions of a block.
@@ -41,9 +38,9 @@ const ORDERS: [Case; 5] = [
         &[I32],
         &[
             LaidOut,
-            Put(0, I64, Iconst),
-            Put(0, F32, Iconst),
-            Put(0, INVALID, Return(&[0])),
+            Put(0, I64, Iconst(1)),
+            Put(0, F32, Iconst(1)),
+            Go(0, Return(&[0])),
         ],
         Some((1, CheckErrorKind::Operand)),
     ),
@@ -56,7 +53,7 @@ const ORDERS: [Case; 5] = [
             LaidOut,
             Param(0, F32),
             Param(1, I32),
-            Put(0, INVALID, Brif(0, 1, &[])),
+            Go(0, Brif(0, To(1, &[]), To(1, &[]))),
         ],
         Some((0, CheckErrorKind::Operand)),
     ),
@@ -67,9 +64,9 @@ const ORDERS: [Case; 5] = [
         &[
             LaidOut,
             LaidOut,
-            Put(0, INVALID, Jump(1, &[])),
-            Put(1, I32, Iconst),
-            Put(1, INVALID, Return(&[])),
+            Go(0, Jump(To(1, &[]))),
+            Put(1, I32, Iconst(1)),
+            Go(1, Return(&[])),
         ],
         Some((2, CheckErrorKind::Return)),
     ),
@@ -77,5 +74,5 @@ const ORDERS: [Case; 5] = [
 
 #[test]
 fn orders(rt: HostRuntime) -> Result<(), Fail> {
-    tells_each(&rt, rt.alloc(), &ORDERS)
+    finds_each(&rt, rt.alloc(), &ORDERS)
 }

@@ -1,11 +1,12 @@
 //! Returned values.
 #![tactic(auto)]
 
-use crate::check::steps::Plain::{Iconst, Return};
-use crate::check::steps::Step::{LaidOut, Put};
-use crate::check::steps::{Case, tells_each};
+use crate::check::cases::{Case, finds_each};
+use crate::instructions::Plain::Iconst;
+use crate::steps::Step::{Go, LaidOut, Put};
+use crate::transfers::Transfer::Return;
 use clif_check::CheckErrorKind;
-use clif_types::types::{I32, I64, INVALID};
+use clif_types::types::{I32, I64};
 use std::test::Fail;
 
 const RETURNS: [Case; 5] = [
@@ -13,23 +14,19 @@ const RETURNS: [Case; 5] = [
     (
         "wrong type",
         &[I32],
-        &[LaidOut, Put(0, I64, Iconst), Put(0, INVALID, Return(&[0]))],
+        &[LaidOut, Put(0, I64, Iconst(1)), Go(0, Return(&[0]))],
         Some((1, CheckErrorKind::Return)),
     ),
     (
         "too few",
         &[I32],
-        &[LaidOut, Put(0, INVALID, Return(&[]))],
+        &[LaidOut, Go(0, Return(&[]))],
         Some((0, CheckErrorKind::Return)),
     ),
     (
         "too many",
         &[I32],
-        &[
-            LaidOut,
-            Put(0, I32, Iconst),
-            Put(0, INVALID, Return(&[0, 0])),
-        ],
+        &[LaidOut, Put(0, I32, Iconst(1)), Go(0, Return(&[0, 0]))],
         Some((1, CheckErrorKind::Return)),
     ),
     // The values are right, but not their order.
@@ -38,9 +35,9 @@ const RETURNS: [Case; 5] = [
         &[I32, I64],
         &[
             LaidOut,
-            Put(0, I32, Iconst),
-            Put(0, I64, Iconst),
-            Put(0, INVALID, Return(&[1, 0])),
+            Put(0, I32, Iconst(1)),
+            Put(0, I64, Iconst(1)),
+            Go(0, Return(&[1, 0])),
         ],
         Some((2, CheckErrorKind::Return)),
     ),
@@ -49,9 +46,9 @@ const RETURNS: [Case; 5] = [
         &[I32, I64],
         &[
             LaidOut,
-            Put(0, I32, Iconst),
-            Put(0, I64, Iconst),
-            Put(0, INVALID, Return(&[0, 1])),
+            Put(0, I32, Iconst(1)),
+            Put(0, I64, Iconst(1)),
+            Go(0, Return(&[0, 1])),
         ],
         None,
     ),
@@ -59,5 +56,5 @@ const RETURNS: [Case; 5] = [
 
 #[test]
 fn returns(rt: HostRuntime) -> Result<(), Fail> {
-    tells_each(&rt, rt.alloc(), &RETURNS)
+    finds_each(&rt, rt.alloc(), &RETURNS)
 }

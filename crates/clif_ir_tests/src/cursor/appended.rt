@@ -7,6 +7,7 @@ ghost use Rattle.clif_inst_builder.specs.Served.{exception_tables, unserved_in};
 ghost use Rattle.clif_cursor.specs.Cursor.{CanAppend};
 ghost use Rattle.clif_ir_tests.specs.Tables.{to_block};
 
+use crate::support::prints;
 use clif_cursor::{FuncCursor, InstBuilder};
 use clif_ir::{BlockArg, BlockCall, ExceptionTableData, Function};
 use clif_types::types::{I8, I64};
@@ -68,10 +69,7 @@ fn appended(rt: HostRuntime) -> Result<(), Fail> {
     assert!(rt; func.srcloc(last) == SourceLoc::new(18));
     let text =
         "function %sample() system_v {\nblock0(v0: i64):\n    v1 = iconst.i64 7\n    v2 = iadd v0, v1  ; v1 = 7\n    store v2, v0+8\n    v3 = iconcat v2, v0\n    v4, v5 = isplit v3\n    jump block1\n\nblock1:\n    return\n}\n";
-    let shown = func.display();
-    let found = format!(in rt.alloc(); "{shown}")?;
-    assert!(rt; found.as_str() == text);
-    Ok(())
+    prints(&rt, &func, text, "appended")
 }
 
 // Calls a function with `x`, and then what is at the address `x`.
@@ -126,10 +124,7 @@ fn calls(rt: HostRuntime) -> Result<(), Fail> {
     call_both(&mut cursor, sig, function, x)?;
     let text =
         "function %sample() system_v {\n    sig0 = () -> i64, i8 fast\n    fn0 = colocated %g sig0\n\nblock0(v0: i64):\n    v1, v2 = call fn0(v0)\n    v3, v4 = call_indirect sig0, v0()\n}\n";
-    let shown = func.display();
-    let found = format!(in rt.alloc(); "{shown}")?;
-    assert!(rt; found.as_str() == text);
-    Ok(())
+    prints(&rt, &func, text, "calls")
 }
 
 // Makes a table by which a call goes to `after` with what it gave, and nothing catches an exception.
@@ -186,8 +181,5 @@ fn try_calls(rt: HostRuntime) -> Result<(), Fail> {
     ends_with_try(&rt, rt.alloc(), &mut func, callee, x, [block, after])?;
     let text =
         "function %sample() system_v {\n    sig0 = () -> i64, i8 fast\n    fn0 = colocated %g sig0\n\nblock0(v0: i64):\n    try_call fn0(v0), sig0, block1(ret0), []\n\nblock1(v1: i64):\n}\n";
-    let shown = func.display();
-    let found = format!(in rt.alloc(); "{shown}")?;
-    assert!(rt; found.as_str() == text);
-    Ok(())
+    prints(&rt, &func, text, "try_calls")
 }

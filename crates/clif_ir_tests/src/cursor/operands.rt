@@ -1,23 +1,17 @@
 //! Instructions with a constant as an operand that a cursor appends. The lines are those of upstream's tests of switches and of stack maps,
 //! with other numbers, and with no type where the operand stands in the same block.
+#![tactic(auto)]
 
 ghost use Rattle.std.specs.Prelude.{OnOk};
 ghost use Rattle.clif_cursor.specs.Cursor.{CanAppend};
 
+use crate::cursor::appended::sample;
+use crate::support::prints;
 use clif_constant_operands::ConstantOperands;
 use clif_cursor::{FuncCursor, InstBuilder};
-use clif_ir::Function;
 use clif_types::types::{I8, I64, I128};
-use clif_types::{BuildError, CallConv, IntCC, Signature, UserFuncName};
-use std::alloc::{AllocError, Global};
+use clif_types::{BuildError, IntCC};
 use std::test::Fail;
-
-// The empty function `%sample`.
-fn sample(alloc: Global) -> Result<Function, AllocError> {
-    let name = UserFuncName::testcase(String::from_str(alloc, "sample")?);
-    let signature = Signature::new(alloc, CallConv::SystemV);
-    Ok(Function::with_name_signature(alloc, name, signature))
-}
 
 // Sums of zero and -10 in 8 bits, and of another constant and zero in 64.
 fn add(cursor: &mut FuncCursor<'_>) -> Result<(), BuildError>
@@ -54,10 +48,7 @@ fn sums(rt: HostRuntime) -> Result<(), Fail> {
     cursor.ins().return_(&[])?;
     let text =
         "function %sample() system_v {\nblock0:\n    v0 = iconst.i8 0\n    v1 = iconst.i8 -10\n    v2 = iadd v0, v1  ; v0 = 0, v1 = -10\n    v3 = iconst.i64 0x1234_5678\n    v4 = iconst.i64 0\n    v5 = iadd v3, v4  ; v3 = 0x1234_5678, v4 = 0\n    return\n}\n";
-    let shown = func.display();
-    let found = format!(in rt.alloc(); "{shown}")?;
-    assert!(rt; found.as_str() == text);
-    Ok(())
+    prints(&rt, &func, text, "sums")
 }
 
 #[test]
@@ -70,8 +61,5 @@ fn a_comparison_of_128_bits(rt: HostRuntime) -> Result<(), Fail> {
     cursor.ins().return_(&[])?;
     let text =
         "function %sample() system_v {\nblock0:\n    v0 = iconst.i64 0\n    v1 = uextend.i128 v0  ; v0 = 0\n    v2 = iconst.i64 0xffff_ffff\n    v3 = sextend.i128 v2  ; v2 = 0xffff_ffff\n    v4 = icmp ugt v1, v3\n    return\n}\n";
-    let shown = func.display();
-    let found = format!(in rt.alloc(); "{shown}")?;
-    assert!(rt; found.as_str() == text);
-    Ok(())
+    prints(&rt, &func, text, "a_comparison_of_128_bits")
 }

@@ -7,6 +7,7 @@ ghost use Rattle.clif_cursor.specs.Cursor.{CanAppend};
 ghost use Rattle.clif_ir_tests.specs.Tables.{two_edges};
 
 use crate::cursor::appended::sample;
+use crate::support::prints;
 use clif_cursor::{FuncCursor, InstBuilder};
 use clif_ir::{BlockCall, Function, JumpTableData};
 use clif_types::types::{I8X16, I32};
@@ -37,10 +38,7 @@ fn pooled(rt: HostRuntime) -> Result<(), Fail> {
     constants(&mut cursor)?;
     let text =
         "function %sample() system_v {\n    const0 = 0x100f0e0d0c0b0a090807060504030201\n\nblock0:\n    v0 = f128const const0\n    v1 = vconst.i8x16 const0\n}\n";
-    let shown = func.display();
-    let found = format!(in rt.alloc(); "{shown}")?;
-    assert!(rt; found.as_str() == text);
-    Ok(())
+    prints(&rt, &func, text, "pooled")
 }
 
 // Makes a table that goes to the first block, or to the second one.
@@ -95,8 +93,5 @@ fn branches(rt: HostRuntime) -> Result<(), Fail> {
     ends_with_table(&rt, rt.alloc(), &mut func, x, blocks)?;
     let text =
         "function %sample() system_v {\nblock0(v0: i32):\n    br_table v0, block1, [block2]\n\nblock1:\n\nblock2:\n}\n";
-    let shown = func.display();
-    let found = format!(in rt.alloc(); "{shown}")?;
-    assert!(rt; found.as_str() == text);
-    Ok(())
+    prints(&rt, &func, text, "branches")
 }

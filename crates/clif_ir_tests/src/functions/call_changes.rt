@@ -1,11 +1,11 @@
 //! Calls that are changed in their place: the text before and after, and where they lead.
 #![tactic(auto)]
 
-use crate::functions::facts::Fact::Leads;
-use crate::functions::steps::Step::{
+use crate::facts::Fact::Leads;
+use crate::steps::Step::{
     Append, Argument, Create, Go, Import, Is, LayOut, Operand, Param, Prints, Target,
 };
-use crate::functions::steps::{Case, SAMPLE, Step, make_all};
+use crate::steps::{Case, SAMPLE, Step, make_all};
 use crate::transfers::Arg::{Exn, Known, Ret};
 use crate::transfers::Item::{Context, Default, Tag};
 use crate::transfers::Transfer::{Call, CallIndirect, TryCall, TryCallIndirect};
@@ -15,7 +15,7 @@ use std::test::Fail;
 
 // Four blocks, of which the first has two parameters of 64 bits, a signature that takes nothing and returns an i32, and a
 // function of it.
-static FIRST: [Step; 11] = [
+static FIRST: [Step<'static>; 11] = [
     Import("g", &[], &[I32]),
     Create,
     Create,

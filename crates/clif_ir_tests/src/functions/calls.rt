@@ -1,10 +1,10 @@
 //! Calls: their texts, their results, and what they name.
 #![tactic(auto)]
 
-use crate::functions::facts::Fact::{HasType, IsResult, ResultAt};
-use crate::functions::instructions::Plain::Iconst;
-use crate::functions::steps::Step::{Create, Entries, Go, Import, Is, LayOut, Param, Prints, Put};
-use crate::functions::steps::{Case, SAMPLE, make_all};
+use crate::facts::Fact::{HasType, IsResult, ResultAt};
+use crate::instructions::Plain::Iconst;
+use crate::steps::Step::{Create, Entries, Go, Import, Is, LayOut, Param, Prints, Put};
+use crate::steps::{Case, SAMPLE, make_all};
 use crate::transfers::Arg::{Exn, Known, Ret};
 use crate::transfers::Item::{Context, Default, Tag};
 use crate::transfers::Transfer::{Call, CallIndirect, Jump, Return, TryCall, TryCallIndirect};
@@ -13,14 +13,14 @@ use clif_types::types::{F32, I32, I64};
 use std::test::Fail;
 
 // Where a call by sig0 goes: to block0, whatever it does.
-const ANYWHERE: Throws = Throws {
+const ANYWHERE: Throws<'static> = Throws {
     sig: 0,
     normal: To(0, &[]),
     items: &[],
 };
 
 // The same of a call by sig1.
-const ANYWHERE_ELSE: Throws = Throws {
+const ANYWHERE_ELSE: Throws<'static> = Throws {
     sig: 1,
     normal: To(0, &[]),
     items: &[],

@@ -1,11 +1,11 @@
 //! Branches: their edges, arguments that are appended to them, and their texts.
 #![tactic(auto)]
 
-use crate::functions::facts::Fact::Leads;
-use crate::functions::instructions::Plain::{Binary, Iconst, Trap};
-use crate::functions::steps::Head::Named;
-use crate::functions::steps::Step::{Alias, Append, Create, Go, Is, LayOut, Param, Prints, Put};
-use crate::functions::steps::{Case, SAMPLE, make_all};
+use crate::facts::Fact::Leads;
+use crate::instructions::Plain::{Binary, Iconst, Trap};
+use crate::steps::Head::Named;
+use crate::steps::Step::{Alias, Append, Create, Go, Is, LayOut, Param, Prints, Put};
+use crate::steps::{Case, SAMPLE, make_all};
 use crate::transfers::To;
 use crate::transfers::Transfer::{Brif, Jump, Return};
 use clif_opcodes::BinaryOpcode::{Iadd, Isub};
@@ -31,10 +31,10 @@ static CASES: [Case; 4] = [
             Put(0, I32, Iconst(5)),
             Go(0, Jump(To(1, &[]))),
             Param(1, I32),
-            Go(1, Brif(1, 2, 3)),
+            Go(1, Brif(1, To(2, &[]), To(3, &[]))),
             Put(2, I32, Iconst(-1)),
             Put(2, I32, Binary(Iadd, 1, 2)),
-            Go(2, Brif(3, 1, 1)),
+            Go(2, Brif(3, To(1, &[]), To(1, &[]))),
             Append(1, 1, 0),
             Append(5, 1, 3),
             Go(3, Return(&[1])),
@@ -65,7 +65,7 @@ static CASES: [Case; 4] = [
             Append(2, 1, 1),
             Append(2, 1, 2),
             Put(1, I32, Binary(Iadd, 3, 4)),
-            Go(1, Brif(3, 3, 2)),
+            Go(1, Brif(3, To(3, &[]), To(2, &[]))),
             Param(2, I32),
             Alias(6, 0),
             Put(2, I32, Binary(Isub, 5, 6)),
@@ -92,7 +92,7 @@ static CASES: [Case; 4] = [
             Put(0, I32, Iconst(5)),
             Put(0, I32, Iconst(6)),
             Go(0, Jump(To(1, &[]))),
-            Go(1, Brif(0, 0, 1)),
+            Go(1, Brif(0, To(0, &[]), To(1, &[]))),
             Append(3, 1, 1),
             Append(3, 1, 0),
             Append(2, 0, 1),
@@ -113,8 +113,8 @@ static CASES: [Case; 4] = [
             Create,
             Put(0, I32, Iconst(5)),
             Go(0, Jump(To(1, &[]))),
-            Go(1, Brif(0, 3, 2)),
-            Go(2, Brif(0, 1, 1)),
+            Go(1, Brif(0, To(3, &[]), To(2, &[]))),
+            Go(2, Brif(0, To(1, &[]), To(1, &[]))),
             Put(3, I32, Iconst(6)),
             Is(Leads(0, &[1])),
             Is(Leads(1, &[3, 2])),

@@ -1,15 +1,15 @@
 //! Float constants, comparisons, halves, loads, stores and traps.
 #![tactic(auto)]
 
-use crate::functions::facts::Fact::{HasType, ResultAt};
-use crate::functions::instructions::Flags::{Each, Trusted};
-use crate::functions::instructions::NO_FLAGS;
-use crate::functions::instructions::Plain::{
+use crate::facts::Fact::{HasType, ResultAt};
+use crate::instructions::Flags::{Each, Trusted};
+use crate::instructions::NO_FLAGS;
+use crate::instructions::Plain::{
     Binary, Concat, CondTrap, Constant, Convert, Float, Icmp, Iconst, Load, Split, Stack,
     StackStore, Store, Trap,
 };
-use crate::functions::steps::Step::{Append, Create, Go, Is, LayOut, Param, Pool, Prints, Put, Slot};
-use crate::functions::steps::{Case, SAMPLE, make_all};
+use crate::steps::Step::{Append, Create, Go, Is, LayOut, Param, Pool, Prints, Put, Slot};
+use crate::steps::{Case, SAMPLE, make_all};
 use crate::transfers::To;
 use crate::transfers::Transfer::{BranchTable, Jump, Return};
 use clif_opcodes::BinaryOpcode::Isub;

@@ -1,14 +1,14 @@
 //! Instructions that are rewritten in their place, or put beside another one: the text before and after.
 #![tactic(auto)]
 
-use crate::functions::instructions::NO_FLAGS;
-use crate::functions::instructions::Plain::{
+use crate::instructions::NO_FLAGS;
+use crate::instructions::Plain::{
     Binary, Concat, CondTrap, Convert, Icmp, Iconst, Load, Select, Split, StackStore, Store, Unary,
 };
-use crate::functions::steps::Step::{
+use crate::steps::Step::{
     After, Append, Argument, Before, Create, Go, LayOut, Operand, Param, Prints, Put, Slot, Target,
 };
-use crate::functions::steps::{Case, SAMPLE, make_all};
+use crate::steps::{Case, SAMPLE, make_all};
 use crate::transfers::To;
 use crate::transfers::Transfer::{BranchTable, Brif, Jump, Return};
 use clif_opcodes::BinaryOpcode::Iadd;
@@ -39,7 +39,7 @@ static CASES: [Case; 5] = [
             Param(3, I32),
             Go(0, BranchTable(0, 1, &[2, 1])),
             Append(0, 1, 0),
-            Go(1, Brif(1, 1, 2)),
+            Go(1, Brif(1, To(1, &[]), To(2, &[]))),
             Append(1, 1, 1),
             Go(2, Jump(To(1, &[]))),
             Append(2, 1, 0),
@@ -90,7 +90,7 @@ static CASES: [Case; 5] = [
             Go(0, BranchTable(2, 1, &[2, 3])),
             Put(1, I64, Convert(Uextend, 2)),
             Put(1, I64, Convert(Uextend, 3)),
-            Go(1, Brif(14, 2, 2)),
+            Go(1, Brif(14, To(2, &[]), To(2, &[]))),
             Go(2, Return(&[0, 0, 0, 0])),
             Go(3, Return(&[0, 0])),
             Prints(
@@ -137,7 +137,7 @@ static CASES: [Case; 5] = [
             Go(0, BranchTable(0, 1, &[2, 1])),
             Append(0, 1, 0),
             Append(0, 1, 0),
-            Go(1, Brif(2, 3, 3)),
+            Go(1, Brif(2, To(3, &[]), To(3, &[]))),
             Append(1, 3, 2),
             Go(2, Jump(To(3, &[]))),
             Append(2, 3, 0),

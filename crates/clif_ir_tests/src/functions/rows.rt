@@ -4,15 +4,15 @@
 //! stand without slots, and then rewritten from the last instruction to the first one.
 #![tactic(auto)]
 
-use crate::functions::instructions::Flags::Trusted;
-use crate::functions::instructions::Plain::{
+use crate::instructions::Flags::Trusted;
+use crate::instructions::Plain::{
     Binary, Concat, Constant, Convert, Float, Icmp, Iconst, Load, Stack, Store, Trap,
 };
-use crate::functions::steps::Head::{Named, Unnamed};
-use crate::functions::steps::Step::{
+use crate::steps::Head::{Named, Unnamed};
+use crate::steps::Step::{
     Alias, Before, Create, Ensure, Go, Import, Operand, Param, Pool, Prints, Put, Slot, StackMap,
 };
-use crate::functions::steps::{Case, SAMPLE, make_all};
+use crate::steps::{Case, SAMPLE, make_all};
 use crate::transfers::Arg::{Known, Ret};
 use crate::transfers::Item::Default;
 use crate::transfers::Transfer::{BranchTable, Brif, Call, Jump, Return, TryCall};
@@ -93,7 +93,7 @@ static CASES: [Case; 6] = [
             Go(1, Call(0, &[1])),
             Param(1, I32),
             Go(1, Call(0, &[2])),
-            Go(1, Brif(2, 1, 2)),
+            Go(1, Brif(2, To(1, &[]), To(2, &[]))),
             Alias(2, 0),
             Go(2, Return(&[])),
             Slot(4, 2),
@@ -199,20 +199,20 @@ static CASES: [Case; 6] = [
             Put(0, I8, Iconst(0)),
             Put(0, I8, Iconst(7)),
             Put(0, I8, Icmp(UnsignedGreaterThanOrEqual, 0, 1)),
-            Go(0, Brif(2, 9, 8)),
+            Go(0, Brif(2, To(9, &[]), To(8, &[]))),
             Put(9, I8, Iconst(10)),
             Put(9, I8, Icmp(UnsignedGreaterThanOrEqual, 0, 3)),
-            Go(9, Brif(4, 11, 10)),
+            Go(9, Brif(4, To(11, &[]), To(10, &[]))),
             Put(11, I8, Iconst(-10)),
             Put(11, I8, Binary(Iadd, 0, 5)),
             Put(11, I32, Convert(Uextend, 6)),
             Go(11, BranchTable(7, 0, &[5, 6, 7])),
             Put(10, I8, Iconst(7)),
             Put(10, I8, Icmp(Equal, 0, 8)),
-            Go(10, Brif(9, 4, 0)),
+            Go(10, Brif(9, To(4, &[]), To(0, &[]))),
             Put(8, I8, Iconst(5)),
             Put(8, I8, Icmp(Equal, 0, 10)),
-            Go(8, Brif(11, 3, 12)),
+            Go(8, Brif(11, To(3, &[]), To(12, &[]))),
             Put(12, I32, Convert(Uextend, 0)),
             Go(12, BranchTable(12, 0, &[1, 2])),
             Prints(
@@ -245,7 +245,7 @@ static CASES: [Case; 6] = [
             Put(0, I64, Iconst(0)),
             Put(0, I64, Concat(3, 4)),
             Put(0, I128, Icmp(UnsignedGreaterThanOrEqual, 2, 5)),
-            Go(0, Brif(6, 4, 3)),
+            Go(0, Brif(6, To(4, &[]), To(3, &[]))),
             Put(4, I64, Iconst(HALF)),
             Put(4, I64, Iconst(0)),
             Put(4, I64, Concat(7, 8)),
@@ -253,7 +253,7 @@ static CASES: [Case; 6] = [
             Put(4, I64, Iconst(0xffff_ffff)),
             Put(4, I128, Convert(Sextend, 11)),
             Put(4, I128, Icmp(UnsignedGreaterThan, 10, 12)),
-            Go(4, Brif(13, 3, 5)),
+            Go(4, Brif(13, To(3, &[]), To(5, &[]))),
             Put(5, I32, Convert(Ireduce, 10)),
             Go(5, BranchTable(14, 3, &[1, 2])),
             Put(1, INVALID, Trap(User(1))),

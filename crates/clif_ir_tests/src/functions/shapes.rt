@@ -1,11 +1,11 @@
 //! Shapes of instructions, and the lists in them.
 #![tactic(auto)]
 
-use crate::functions::instructions::Plain::{
+use crate::instructions::Plain::{
     self, Binary, Concat, CondTrap, Float, Icmp, Load, Split, Stack, StackStore, Store, Trap,
 };
-use crate::functions::instructions::{NO_FLAGS, shape_of};
-use crate::functions::steps::{SAMPLE, begun};
+use crate::instructions::{NO_FLAGS, shape_of};
+use crate::steps::{SAMPLE, begun};
 use crate::support::{b, v};
 use crate::transfers::Item::{Context, Default, Tag};
 use crate::transfers::Transfer::{self, Call, CallIndirect, Return, TryCall, TryCallIndirect};
@@ -161,14 +161,14 @@ fn plain_shapes(rt: HostRuntime) -> Result<(), Fail> {
 }
 
 // Where a call of sig4 goes that may throw.
-const THROWS: Throws = Throws {
+const THROWS: Throws<'static> = Throws {
     sig: 4,
     normal: To(3, &[]),
     items: &[Tag(9, To(2, &[])), Context(6), Default(To(5, &[]))],
 };
 
 // A return and calls, with their names, their operands, whether they end their blocks, and whether they have edges.
-static TRANSFERS: [(Transfer, &str, &[u32], bool, bool); 5] = [
+static TRANSFERS: [(Transfer<'static>, &str, &[u32], bool, bool); 5] = [
     (Return(&[1, 2]), "return", &[1, 2], true, false),
     (Call(0, &[2, 1]), "call", &[2, 1], false, false),
     (

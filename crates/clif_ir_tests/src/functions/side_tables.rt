@@ -1,12 +1,12 @@
 //! What a function keeps beside its instructions: stack maps, and labels of values.
 #![tactic(auto)]
 
-use crate::functions::facts::Fact::{HasLabels, HasMap};
-use crate::functions::instructions::Plain::Iconst;
-use crate::functions::steps::Step::{
+use crate::facts::Fact::{HasLabels, HasMap};
+use crate::instructions::Plain::Iconst;
+use crate::steps::Step::{
     Collect, Create, Ensure, Go, Import, Is, Label, Prints, Put, Slot, StackMap,
 };
-use crate::functions::steps::{Case, SAMPLE, Step, make_all};
+use crate::steps::{Case, SAMPLE, Step, make_all};
 use crate::transfers::Item::Default;
 use crate::transfers::Transfer::{Call, CallIndirect, Return, TryCallIndirect};
 use crate::transfers::{Throws, To};
@@ -18,7 +18,7 @@ const WITHOUT: &str =
     "function %sample() system_v {\n    ss0 = explicit_slot 4, align = 4\n    ss1 = explicit_slot 8, align = 8\n    sig0 = (i32) system_v\n    fn0 = %g sig0\n\nblock0:\n    v0 = iconst.i64 0\n    v1 = iconst.i32 7\n    call fn0(v1)  ; v1 = 7\n    call_indirect sig0, v0(v1)  ; v0 = 0, v1 = 7\n    try_call_indirect v0(v1), sig0, block1, [ default: block1 ]  ; v0 = 0, v1 = 7\n\nblock1:\n    return\n}\n";
 
 // Two slots, two constants, and then a call of a function, one by a signature, and one that may throw.
-static FIRST: [Step; 13] = [
+static FIRST: [Step<'static>; 13] = [
     Slot(4, 2),
     Slot(8, 3),
     Import("g", &[I32], &[]),

@@ -1,10 +1,10 @@
 //! Frames, headers, blocks, suffixes, comments and alias lines.
 #![tactic(auto)]
 
-use crate::functions::instructions::Plain::{Binary, Convert, Iconst, Select, Unary};
-use crate::functions::steps::Head::{Named, Unnamed};
-use crate::functions::steps::Step::{Alias, Cold, Create, Go, LayOut, Param, Prints, Put, PutBehind};
-use crate::functions::steps::{Case, SAMPLE, make_all};
+use crate::instructions::Plain::{Binary, Convert, Iconst, Select, Unary};
+use crate::steps::Head::{Named, Unnamed};
+use crate::steps::Step::{Alias, Cold, Create, Go, LayOut, Param, Prints, Put, PutBehind};
+use crate::steps::{Case, SAMPLE, make_all};
 use crate::transfers::Transfer::Return;
 use clif_opcodes::BinaryOpcode::{
     Band, Bor, Bxor, Iadd, Imul, Ishl, Isub, Sdiv, Srem, Sshr, Udiv, Urem, Ushr,

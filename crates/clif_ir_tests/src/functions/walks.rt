@@ -1,15 +1,15 @@
 //! The calls that read a function, once each.
 #![tactic(auto)]
 
-use crate::functions::facts::Fact::{
+use crate::facts::Fact::{
     ArgumentAt, BlockCount, Entry, FirstInst, HasType, Home, InstCount, IsCold, IsParam, IsResult,
     LaidOut, LastInst, NextBlock, NextInst, ParamAt, Place, ResultAt, StandsFor, StandsIn,
 };
-use crate::functions::instructions::Plain::{Binary, Iconst};
-use crate::functions::steps::Step::{
+use crate::instructions::Plain::{Binary, Iconst};
+use crate::steps::Step::{
     Alias, Cold, Create, Ensure, Go, Is, LayOut, LayOutAfter, Param, Prints, Put, PutBehind,
 };
-use crate::functions::steps::{Case, SAMPLE, begun, make_all};
+use crate::steps::{Case, SAMPLE, begun, make_all};
 use crate::support::PLACE;
 use crate::transfers::Transfer::Return;
 use clif_opcodes::BinaryOpcode::Iadd;

@@ -1,10 +1,10 @@
 //! Writers that refuse.
 #![tactic(auto)]
 
-use crate::functions::instructions::Flags::Trusted;
-use crate::functions::instructions::Plain::{Binary, CondTrap, Float, Icmp, Iconst, Load, Store};
-use crate::functions::steps::Step::{Alias, Create, Go, Import, LayOut, Param, Put};
-use crate::functions::steps::{Case, SAMPLE, made};
+use crate::instructions::Flags::Trusted;
+use crate::instructions::Plain::{Binary, CondTrap, Float, Icmp, Iconst, Load, Store};
+use crate::steps::Step::{Alias, Create, Go, Import, LayOut, Param, Put};
+use crate::steps::{Case, SAMPLE, made};
 use crate::transfers::Arg::{Exn, Known, Ret};
 use crate::transfers::Item::{Context, Default, Tag};
 use crate::transfers::Transfer::{Call, CallIndirect, Return, TryCall, TryCallIndirect};

@@ -1,6 +1,7 @@
 //! What calls take and give, by the signatures that they name.
 #![tactic(auto)]
 
+use crate::support::below_1000;
 use crate::tables::steps::Step::{Function, Import};
 use crate::tables::steps::{UNMARKED, make_all};
 use clif_instructions::block_call::BlockCall;
@@ -28,13 +29,11 @@ fn tables(rt: &impl Abort, alloc: Global) -> Result<Tables, Fail> {
 }
 
 fn sig(rt: &impl Abort, number: u32) -> SigRef {
-    assert!(rt; number < 1000);
-    SigRef::from_u32(number)
+    SigRef::from_u32(below_1000(rt, number))
 }
 
 fn function(rt: &impl Abort, number: u32) -> FuncRef {
-    assert!(rt; number < 1000);
-    FuncRef::from_u32(number)
+    FuncRef::from_u32(below_1000(rt, number))
 }
 
 // Asserts types.

@@ -1,6 +1,7 @@
 //! The edges of jump tables and exception tables, in the order in which they are printed.
 #![tactic(auto)]
 
+use crate::support::{b, v};
 use clif_instructions::block_call::{BlockArg, BlockCall};
 use clif_instructions::instructions::InstructionData;
 use clif_instructions::jump_table::JumpTableData;
@@ -8,21 +9,11 @@ use clif_instructions::value_list::ValueList;
 use clif_tables::{
     ExceptionItem, ExceptionTableData, ExceptionTableItem, ExceptionTargets, Tables,
 };
-use clif_types::{Block, BuildError, EntityRef, ExceptionTable, FuncRef, JumpTable, SigRef, Value};
+use clif_types::{BuildError, EntityRef, ExceptionTable, FuncRef, JumpTable, SigRef};
 use std::alloc::Global;
 use std::fmt::Write;
 use std::process::Abort;
 use std::test::Fail;
-
-fn block(rt: &impl Abort, number: u32) -> Block {
-    assert!(rt; number < 1000);
-    Block::from_u32(number)
-}
-
-fn value(rt: &impl Abort, number: u32) -> Value {
-    assert!(rt; number < 1000);
-    Value::from_u32(number)
-}
 
 // An edge to a block that passes this.
 fn edge(
@@ -31,7 +22,7 @@ fn edge(
     number: u32,
     args: &[BlockArg],
 ) -> Result<BlockCall, BuildError> {
-    BlockCall::new(alloc, block(rt, number), args)
+    BlockCall::new(alloc, b(rt, number), args)
 }
 
 // Edges to these blocks that pass nothing.
@@ -71,14 +62,14 @@ fn are_edges(
 
 // A jump table with default block3(v1) and the entries block1, block3 and block2.
 fn jump_table(rt: &impl Abort, alloc: Global, tables: &mut Tables) -> Result<JumpTable, Fail> {
-    let default = edge(rt, alloc, 3, &[BlockArg::Value(value(rt, 1))])?;
+    let default = edge(rt, alloc, 3, &[BlockArg::Value(v(rt, 1))])?;
     let entries = plain(rt, alloc, &[1, 3, 2])?;
     Ok(tables.create_jump_table(JumpTableData::new(default, entries)?)?)
 }
 
 // Asserts the parts of the jump table above.
 fn has_jump_parts(rt: &impl Abort, alloc: Global, table: &JumpTableData) -> Result<(), Fail> {
-    assert!(rt; table.default_block().block == block(rt, 3));
+    assert!(rt; table.default_block().block == b(rt, 3));
     are_edges(rt, alloc, table.as_slice(), "block1;block3;block2;")?;
     are_edges(
         rt,
@@ -94,16 +85,16 @@ fn changes_jump_table(rt: &impl Abort, alloc: Global, tables: &mut Tables) -> Re
     let number = jump_table(rt, alloc, tables)?;
     has_jump_parts(rt, alloc, tables.jump_table(number).expect(rt, "a table"))?;
     let mut table = tables.take_jump_table(number).expect(rt, "a table");
-    table.change_target(block(rt, 3), block(rt, 5));
+    table.change_target(b(rt, 3), b(rt, 5));
     are_edges(
         rt,
         alloc,
         table.all_branches(),
         "block5 v1;block1;block5;block2;",
     )?;
-    let arg = value(rt, 0);
+    let arg = v(rt, 0);
     let mut branch = InstructionData::BranchTable { arg, table };
-    branch.append_argument(block(rt, 5), value(rt, 9))?;
+    branch.append_argument(b(rt, 5), v(rt, 9))?;
     let edges = branch.branch_destination();
     are_edges(rt, alloc, edges, "block5 v1 v9;block1;block5 v9;block2;")
 }
@@ -141,7 +132,7 @@ fn exception_table(
     let mut items = Vec::new(alloc);
     items.push(ExceptionTableItem::Tag(1, tagged))?;
     items.push(ExceptionTableItem::Default(edge(rt, alloc, 4, &[])?))?;
-    items.push(ExceptionTableItem::Context(value(rt, 5)))?;
+    items.push(ExceptionTableItem::Context(v(rt, 5)))?;
     let normal = edge(rt, alloc, 3, &[BlockArg::TryCallRet(0)])?;
     let sig = SigRef::from_u32(0);
     Ok(tables.create_exception_table(ExceptionTableData { sig, normal, items })?)
@@ -150,14 +141,14 @@ fn exception_table(
 // Asserts the parts of the exception table above.
 fn has_exception_parts(rt: &impl Abort, table: &ExceptionTargets) {
     assert!(rt; table.signature() == SigRef::from_u32(0));
-    assert!(rt; table.normal_return().block == block(rt, 3));
+    assert!(rt; table.normal_return().block == b(rt, 3));
     match table.items() {
         [
             ExceptionItem::Tag(tag),
             ExceptionItem::Default,
             ExceptionItem::Context(context),
         ] => {
-            assert!(rt; *tag == 1 && *context == value(rt, 5));
+            assert!(rt; *tag == 1 && *context == v(rt, 5));
         }
         _ => assert!(rt; false),
     }
@@ -177,7 +168,7 @@ fn changes_exception_table(
     are_edges(rt, alloc, edges, "block3 ret0;block2 exn0;block4;")?;
     let mut exception = tables.take_exception_table(number).expect(rt, "a table");
     has_exception_parts(rt, &exception);
-    exception.change_target(block(rt, 2), block(rt, 4));
+    exception.change_target(b(rt, 2), b(rt, 4));
     let edges = exception.all_branches();
     are_edges(rt, alloc, edges, "block3 ret0;block4 exn0;block4;")?;
     let func_ref = FuncRef::from_u32(0);
@@ -187,7 +178,7 @@ fn changes_exception_table(
         args,
         exception,
     };
-    call.append_argument(block(rt, 4), value(rt, 7))?;
+    call.append_argument(b(rt, 4), v(rt, 7))?;
     let edges = call.branch_destination();
     are_edges(rt, alloc, edges, "block3 ret0;block4 exn0 v7;block4 v7;")
 }

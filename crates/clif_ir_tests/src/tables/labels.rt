@@ -1,23 +1,18 @@
 //! The labels of values, which are kept once they are collected.
 #![tactic(auto)]
 
+use crate::support::{below_1000, v};
 use Step::{Collect, Has, Set};
 use clif_tables::{Tables, ValueLabelStart};
-use clif_types::{SourceLoc, Value, ValueLabel};
+use clif_types::{EntityRef, SourceLoc, ValueLabel};
 use std::process::Abort;
 use std::test::Fail;
 
-fn value(rt: &impl Abort, number: u32) -> Value {
-    assert!(rt; number < 1000);
-    Value::from_u32(number)
-}
-
 // A label, and where it begins.
 fn start(rt: &impl Abort, from: u32, label: u32) -> ValueLabelStart {
-    assert!(rt; label < 1000);
     ValueLabelStart {
         from: SourceLoc::new(from),
-        label: ValueLabel::from_u32(label),
+        label: ValueLabel::from_u32(below_1000(rt, label)),
     }
 }
 
@@ -73,10 +68,10 @@ fn labels(rt: HostRuntime) -> Result<(), Fail> {
         match step {
             Collect => tables.collect_debug_info(),
             Set(number, from, label) => {
-                tables.set_val_label(value(&rt, *number), start(&rt, *from, *label))?;
+                tables.set_val_label(v(&rt, *number), start(&rt, *from, *label))?;
             }
             Has(number, expected) => {
-                has_labels(&rt, tables.value_labels(value(&rt, *number)), expected);
+                has_labels(&rt, tables.value_labels(v(&rt, *number)), expected);
             }
         }
     }

@@ -1,30 +1,15 @@
 //! The stack maps of instructions.
 #![tactic(auto)]
 
+use crate::support::{i, map_of};
 use Step::{Has, Set};
 use clif_tables::Tables;
+use clif_types::Type;
 use clif_types::types::{I32, I64};
-use clif_types::{Inst, StackSlot, Type, UserStackMapEntry};
-use std::alloc::Global;
-use std::process::Abort;
 use std::test::Fail;
-
-fn inst(rt: &impl Abort, number: u32) -> Inst {
-    assert!(rt; number < 1000);
-    Inst::from_u32(number)
-}
 
 // An entry: its type, the number of its slot and its offset.
 type Entry = (Type, u32, u32);
-
-fn entry(rt: &impl Abort, (ty, slot, offset): Entry) -> UserStackMapEntry {
-    assert!(rt; slot < 1000);
-    UserStackMapEntry {
-        ty,
-        slot: StackSlot::from_u32(slot),
-        offset,
-    }
-}
 
 // A step, where instructions are told by their numbers.
 enum Step {
@@ -59,31 +44,18 @@ const STEPS: [Step; 14] = [
     Has(7, OTHER),
 ];
 
-// A stack map of these entries.
-fn stack_map(
-    rt: &impl Abort,
-    alloc: Global,
-    entries: &[Entry],
-) -> Result<Vec<UserStackMapEntry>, Fail> {
-    let mut map = Vec::new(alloc);
-    for of_map in entries {
-        map.push(entry(rt, *of_map))?;
-    }
-    Ok(map)
-}
-
 #[test]
 fn stack_maps(rt: HostRuntime) -> Result<(), Fail> {
     let mut tables = Tables::new(rt.alloc());
     for step in STEPS.iter() {
         match step {
             Set(number, entries) => {
-                let map = stack_map(&rt, rt.alloc(), entries)?;
-                tables.set_stack_map(inst(&rt, *number), map)?;
+                let map = map_of(&rt, rt.alloc(), entries)?;
+                tables.set_stack_map(i(&rt, *number), map)?;
             }
             Has(number, entries) => {
-                let expected = stack_map(&rt, rt.alloc(), entries)?;
-                assert!(rt; tables.stack_map(inst(&rt, *number)) == expected.as_slice());
+                let expected = map_of(&rt, rt.alloc(), entries)?;
+                assert!(rt; tables.stack_map(i(&rt, *number)) == expected.as_slice());
             }
         }
     }

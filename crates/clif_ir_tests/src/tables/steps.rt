@@ -1,10 +1,11 @@
 //! Tables that are made by lists of steps.
 #![tactic(auto)]
 
+use crate::support::{below_1000, signature_of};
 use clif_tables::Tables;
 use clif_types::{
-    AbiParam, AliasRegionData, BuildError, CallConv, DynamicStackSlotData, ExtFuncData,
-    ExternalName, GlobalValueData, LibCall, SigRef, Signature, StackSlotData, Type,
+    AliasRegionData, BuildError, CallConv, DynamicStackSlotData, ExtFuncData, ExternalName,
+    GlobalValueData, LibCall, SigRef, StackSlotData, Type,
 };
 use std::alloc::{AllocError, Global};
 use std::process::Abort;
@@ -46,21 +47,6 @@ pub enum Step<'a> {
     Bytes(&'a [u8]),
 }
 
-fn push_types(list: &mut Vec<AbiParam>, types: &[Type]) -> Result<(), AllocError> {
-    for ty in types {
-        list.push(AbiParam::new(*ty))?;
-    }
-    Ok(())
-}
-
-// A signature of these types.
-fn signature(alloc: Global, params: &[Type], returns: &[Type]) -> Result<Signature, AllocError> {
-    let mut made = Signature::new(alloc, CallConv::SystemV);
-    push_types(&mut made.params, params)?;
-    push_types(&mut made.returns, returns)?;
-    Ok(made)
-}
-
 fn testcase(alloc: Global, name: &str) -> Result<ExternalName, AllocError> {
     Ok(ExternalName::testcase(String::from_str(alloc, name)?))
 }
@@ -73,14 +59,13 @@ fn import_function(
     signature: u32,
     marks: Marks,
 ) -> Result<(), BuildError> {
-    assert!(rt; signature < 1000);
     let Marks {
         colocated,
         patchable,
     } = marks;
     tables.import_function(ExtFuncData {
         name,
-        signature: SigRef::from_u32(signature),
+        signature: SigRef::from_u32(below_1000(rt, signature)),
         colocated,
         patchable,
     })?;
@@ -93,7 +78,7 @@ fn import_signature(
     params: &[Type],
     returns: &[Type],
 ) -> Result<(), BuildError> {
-    tables.import_signature(signature(alloc, params, returns)?)?;
+    tables.import_signature(signature_of(alloc, params, returns, CallConv::SystemV)?)?;
     Ok(())
 }
 

@@ -1,10 +1,10 @@
 //! Functions that are made by tables of steps, where the conditions of each call are asserted.
 #![tactic(auto)]
 
-use crate::functions::facts::{Fact, holds};
-use crate::functions::instructions::{Plain, shape_of};
+use crate::facts::{Fact, holds};
+use crate::instructions::{Plain, shape_of};
 use crate::support::{
-    PLACE, b, below_1000, block_of, has_slots, inst_of, is_param, is_place_of, map_entry,
+    PLACE, b, below_1000, block_of, has_slots, inst_of, is_param, is_place_of, map_of,
     names_what_exists, prints, signature_of, value_of,
 };
 use crate::transfers::{Transfer, transfer_of};
@@ -27,7 +27,7 @@ pub struct Case {
     /// The function without blocks.
     pub head: Head,
     /// How it is made.
-    pub steps: &'static [Step],
+    pub steps: &'static [Step<'static>],
 }
 
 /// The name and the signature of a function.
@@ -44,11 +44,13 @@ pub const SAMPLE: Head = Head::Named("sample", &[], &[], CallConv::SystemV);
 
 /// A step in the making of a function, where all is told by numbers.
 #[derive(Clone, Copy)]
-pub enum Step {
+pub enum Step<'a> {
     /// Makes a block.
     Create,
     /// Puts a block at the end of the layout.
     LayOut(u32),
+    /// Makes a block and puts it at the end of the layout.
+    LaidOut,
     /// Puts a block behind a block of the layout.
     LayOutAfter(u32, u32),
     /// Puts a block at the end of the layout, unless it is in the layout.
@@ -75,7 +77,7 @@ pub enum Step {
     /// Puts an instruction right behind another one, with its controlling type.
     After(u32, Type, Plain),
     /// Puts a return, a branch or a call at the end of a block.
-    Go(u32, Transfer),
+    Go(u32, Transfer<'a>),
     /// Puts a value at the end of what each edge of an instruction passes that goes to a block.
     Append(u32, u32, u32),
     /// Makes the edges of an instruction that go to a block go to another one.
@@ -93,7 +95,7 @@ pub enum Step {
     /// Finds that a fact holds.
     Is(Fact),
     /// Finds whether the functions and signatures exist that an instruction names.
-    Entries(Transfer, bool),
+    Entries(Transfer<'a>, bool),
     /// Finds that the function prints as this text.
     Prints(&'static str),
 }
@@ -114,6 +116,12 @@ fn lay_out(rt: &impl Abort, func: &mut Function, block: u32) -> Result<(), Fail>
     let block = block_of(rt, func, block);
     assert!(rt; !func.is_block_inserted(block));
     func.append_block(block)?;
+    Ok(())
+}
+
+fn laid_out(func: &mut Function) -> Result<(), Fail> {
+    let block = func.create_block()?;
+    func.ensure_block_inserted(block)?;
     Ok(())
 }
 
@@ -238,10 +246,7 @@ fn stack_map(
     inst: u32,
     entries: &[(Type, u32, u32)],
 ) -> Result<(), Fail> {
-    let mut map = Vec::new(func.allocator());
-    for entry in entries {
-        map.push(map_entry(rt, *entry))?;
-    }
+    let map = map_of(rt, func.allocator(), entries)?;
     let inst = inst_of(rt, func, inst);
     assert!(rt; has_slots(func, map.as_slice()));
     func.set_stack_map(inst, map)?;
@@ -262,12 +267,13 @@ fn label(
     Ok(())
 }
 
-fn make(rt: &impl Abort, func: &mut Function, step: Step, name: &str) -> Result<(), Fail> {
+fn make(rt: &impl Abort, func: &mut Function, step: Step<'_>, name: &str) -> Result<(), Fail> {
     match step {
         Step::Create => {
             func.create_block()?;
         }
         Step::LayOut(block) => lay_out(rt, func, block)?,
+        Step::LaidOut => laid_out(func)?,
         Step::LayOutAfter(block, after) => lay_out_after(rt, func, block, after),
         Step::Ensure(block) => {
             let block = block_of(rt, func, block);
@@ -322,12 +328,29 @@ fn make(rt: &impl Abort, func: &mut Function, step: Step, name: &str) -> Result<
     Ok(())
 }
 
-/// The function that the first steps make, and then those of a case.
-pub fn made(rt: &impl Abort, alloc: Global, first: &[Step], case: &Case) -> Result<Function, Fail> {
-    let mut func = begun(alloc, case.head)?;
-    for step in first {
-        make(rt, &mut func, *step, case.name)?;
+/// The function with this head that steps make. The name is that of the case.
+pub fn made_by(
+    rt: &impl Abort,
+    alloc: Global,
+    head: Head,
+    steps: &[Step<'_>],
+    name: &str,
+) -> Result<Function, Fail> {
+    let mut func = begun(alloc, head)?;
+    for step in steps {
+        make(rt, &mut func, *step, name)?;
     }
+    Ok(func)
+}
+
+/// The function that the first steps make, and then those of a case.
+pub fn made(
+    rt: &impl Abort,
+    alloc: Global,
+    first: &[Step<'_>],
+    case: &Case,
+) -> Result<Function, Fail> {
+    let mut func = made_by(rt, alloc, case.head, first, case.name)?;
     for step in case.steps {
         make(rt, &mut func, *step, case.name)?;
     }
@@ -338,7 +361,7 @@ pub fn made(rt: &impl Abort, alloc: Global, first: &[Step], case: &Case) -> Resu
 pub fn make_all(
     rt: &impl Abort,
     alloc: Global,
-    first: &[Step],
+    first: &[Step<'_>],
     cases: &[Case],
 ) -> Result<(), Fail> {
     for case in cases {
