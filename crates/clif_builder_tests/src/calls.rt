@@ -8,10 +8,8 @@
 //! jump table and the exception tables that some of them take.
 #![tactic(auto)]
 
-mod asserted;
 mod building;
 mod entries;
-mod fixture;
 mod front_end;
 mod generic;
 mod marks;

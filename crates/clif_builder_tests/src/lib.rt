@@ -2,6 +2,10 @@
 #![tactic(auto)]
 
 #[cfg(test)]
+mod asserted;
+#[cfg(test)]
 mod calls;
+#[cfg(test)]
+mod fixture;
 #[cfg(test)]
 mod instructions;

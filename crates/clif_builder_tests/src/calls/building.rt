@@ -5,7 +5,9 @@ use crate::calls::queries::Query::{
     Current, Failed, Filled, LaidOut, Leads, Params, Place as PlaceNow, Pristine, Reached, Sealed,
     Unreachable,
 };
-use crate::calls::steps::Deed::{Branch, Change, Create, End, Return, Seal, SealAll, Shaped, Switch};
+use crate::calls::steps::Deed::{
+    Branch, Change, Create, End, Return, Seal, SealAll, Shaped, Switch,
+};
 use crate::calls::steps::Entry::{DynamicSlot, Function, GlobalContext, Signature, Slot};
 use crate::calls::steps::Note::{CollectLabels, Label, Place};
 use crate::calls::steps::Operand::{AtCursor, ByDouble, Constant, DoubleAtCursor, Param, Read};

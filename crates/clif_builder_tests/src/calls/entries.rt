@@ -3,8 +3,8 @@
 
 ghost use Rattle.std.specs.Prelude.{◌≡◌, ◌<◌, length};
 
-use crate::calls::asserted::asserts_current;
-use crate::calls::fixture::signature;
+use crate::asserted::asserts_current;
+use crate::fixture::signature;
 use cranelift_frontend::{
     DynamicStackSlotData, EntityRef, ExtFuncData, ExternalName, FuncRef, FunctionBuilder,
     GlobalValueData, InstBuilder, SigRef, StackSlotData, Type,

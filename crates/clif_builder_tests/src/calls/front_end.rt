@@ -1,7 +1,9 @@
 //! Calls on a builder, one at a time. Each asserts what it asks for, and that it succeeds.
 #![tactic(auto)]
 
-use crate::calls::asserted::{asserts_block, asserts_current, asserts_unsealed, asserts_value, last_inst};
+use crate::asserted::{
+    asserts_block, asserts_current, asserts_target, asserts_unsealed, asserts_value, last_inst,
+};
 use crate::calls::generic::there_and_back;
 use clif_types::types::I32;
 use cranelift_frontend::{
@@ -37,15 +39,6 @@ pub fn seal(rt: &impl Abort, builder: &mut FunctionBuilder<'_>, block: Block) {
 /// Seals each block.
 pub fn seal_all(rt: &impl Abort, builder: &mut FunctionBuilder<'_>) {
     builder.seal_all_blocks().expect(rt, "seals");
-}
-
-/// A new parameter of a block.
-pub fn param(rt: &impl Abort, builder: &mut FunctionBuilder<'_>, block: Block, ty: Type) -> Value {
-    asserts_block(rt, builder, block);
-    assert!(rt; builder.is_pristine(block));
-    builder
-        .append_block_param(block, ty)
-        .expect(rt, "a parameter")
 }
 
 /// A new variable, which gets this number.
@@ -124,10 +117,8 @@ pub fn branch(
 ) {
     asserts_current(rt, builder);
     asserts_value(rt, builder, condition);
-    asserts_block(rt, builder, taken);
-    asserts_unsealed(rt, builder, taken);
-    asserts_block(rt, builder, other);
-    asserts_unsealed(rt, builder, other);
+    asserts_target(rt, builder, taken);
+    asserts_target(rt, builder, other);
     let made = builder.ins().brif(condition, taken, &[], other, &[]);
     made.expect(rt, "a branch");
 }

@@ -3,7 +3,7 @@
 
 ghost use Rattle.clif_builder.specs.Marks.{ValueFits};
 
-use crate::calls::asserted::asserts_value;
+use crate::asserted::asserts_value;
 use cranelift_frontend::{FunctionBuilder, SourceLoc, Value, ValueLabel};
 use std::process::Abort;
 

@@ -1,7 +1,7 @@
 //! What is asked of a builder.
 #![tactic(auto)]
 
-use crate::calls::asserted::{asserts_block, asserts_value, last_inst};
+use crate::asserted::{asserts_block, asserts_value, last_inst};
 use cranelift_frontend::{Block, EntityRef, FunctionBuilder, SourceLoc, Value, ValueDef};
 use std::process::Abort;
 

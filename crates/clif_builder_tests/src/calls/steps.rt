@@ -3,9 +3,10 @@
 //! A block and a variable are named by their numbers, and a value by its place among the answers of the steps `Make`.
 #![tactic(auto)]
 
-use crate::calls::fixture::{CONFIG, function, named, signature};
+use crate::asserted::param;
 use crate::calls::queries::{Query, shows};
 use crate::calls::{entries, front_end, marks, notes, queries, try_calls};
+use crate::fixture::{CONFIG, function, named, signature};
 use clif_types::types::I32;
 use cranelift_frontend::{
     Block, DefVariableError, FinalizeError, FunctionBuilder, FunctionBuilderContext, Type,
@@ -129,7 +130,7 @@ fn make(
     operand: &Operand,
 ) -> Value {
     match *operand {
-        Operand::Param(number, ty) => front_end::param(rt, builder, block(number), ty),
+        Operand::Param(number, ty) => param(rt, builder, block(number), ty),
         Operand::Read(number) => read(rt, builder, number),
         Operand::Constant(ty, imm) => front_end::constant(rt, builder, ty, imm),
         Operand::AtCursor(imm) => front_end::constant_at_cursor(rt, builder, imm),

@@ -2,16 +2,14 @@
 //! with the tag 1 goes to block3 with its first part, and any other one to block4.
 #![tactic(auto)]
 
-ghost use Rattle.std.specs.Prelude.{◌≡◌, ◌<◌, ◌∷◌, [], false, length, IfOk, Some};
+ghost use Rattle.std.specs.Prelude.{◌≡◌, ◌<◌, ◌∷◌, [], length, IfOk, Some};
 ghost use Rattle.clif_builder.specs.Entries.{table_held};
 ghost use Rattle.clif_inst_builder.specs.Served.{exception_tables};
 ghost use Rattle.clif_instructions.specs.ExceptionTables.{exception_shape};
 ghost use Rattle.clif_instructions.specs.declared.exception_table.ExceptionTableItem.TheVariants as item;
-ghost use Rattle.clif_records.specs.Tables.{is_yes};
-ghost use Rattle.clif_ssa.specs.Ssa.{sealed_of};
 ghost use Rattle.clif_builder_tests.specs.TryTables.{tagged_table};
 
-use crate::calls::asserted::{asserts_block, asserts_current, asserts_unsealed, asserts_value};
+use crate::asserted::{asserts_current, asserts_target, asserts_value, create_exception_table};
 use crate::calls::entries::{first_function, first_signature};
 use cranelift_frontend::{
     Block, BlockArg, BlockCall, BuildError, EntityRef, ExceptionTable, ExceptionTableData,
@@ -49,26 +47,6 @@ fn table(alloc: Global, sig: SigRef, context: Value) -> Result<ExceptionTableDat
     Ok(ExceptionTableData { sig, normal, items })
 }
 
-// Makes the table.
-fn create(
-    rt: &impl Abort,
-    builder: &mut FunctionBuilder<'_>,
-    table: ExceptionTableData,
-) -> ExceptionTable
-    ensures { table_held exception_tables builder.new result ≡ Some (exception_shape table) }
-{
-    builder.create_exception_table(table).expect(rt, "a table")
-}
-
-// Asserts that a block exists and isn't sealed.
-fn asserts_target(rt: &impl Abort, builder: &FunctionBuilder<'_>, block: Block)
-    ensures exists { block < length builder.now.func.now.blocks }
-    ensures unsealed { is_yes (sealed_of builder.now.ctx.now.ssa block) ≡ false }
-{
-    asserts_block(rt, builder, block);
-    asserts_unsealed(rt, builder, block);
-}
-
 // Calls the first function with `x`, by a table.
 fn call(
     rt: &impl Abort,
@@ -104,7 +82,7 @@ pub fn try_call(
 ) {
     let sig = first_signature(rt, builder);
     let data = table(alloc, sig, context).expect(rt, "a table");
-    let table = create(rt, builder, data);
+    let table = create_exception_table(rt, builder, data);
     let sig = first_signature(rt, builder);
     call(rt, builder, table, sig, x, context);
 }

@@ -4,11 +4,11 @@
 ghost use Rattle.std.specs.Prelude.{◌≡◌, IfOk, IsTrue};
 ghost use Rattle.clif_ir.specs.Body.{empty_body};
 
+use crate::fixture;
 use crate::instructions::rows::{Edge, Immediate, Passed, Row};
 use cranelift_frontend::{
-    AbiParam, BlockArg, BlockCall, CallConv, EntityRef, ExtFuncData, ExternalName, FuncRef,
-    Function, Inst, InstructionData, MemFlagsData, SigRef, Signature, StackSlot, Type,
-    UserFuncName, Value, types,
+    BlockArg, BlockCall, EntityRef, ExtFuncData, ExternalName, FuncRef, Function, Inst,
+    InstructionData, MemFlagsData, SigRef, Signature, StackSlot, Type, Value, types,
 };
 use std::alloc::{AllocError, Global};
 use std::process::Abort;
@@ -35,18 +35,12 @@ pub struct Given {
 pub fn function(alloc: Global) -> Result<Function, AllocError>
     ensures { IfOk result (λ func. func ≡ empty_body func.name func.signature) }
 {
-    let name = UserFuncName::testcase(String::from_str(alloc, "row")?);
-    let signature = Signature::new(alloc, CallConv::SystemV);
-    Ok(Function::with_name_signature(alloc, name, signature))
+    fixture::function(alloc, "row", fixture::signature(alloc, &[], &[])?)
 }
 
 /// A signature that takes and returns an I32.
 pub fn signature(alloc: Global) -> Result<Signature, AllocError> {
-    Ok(Signature {
-        params: vec![in alloc; AbiParam::new(types::I32)]?,
-        returns: vec![in alloc; AbiParam::new(types::I32)]?,
-        call_conv: CallConv::SystemV,
-    })
+    fixture::signature(alloc, &[types::I32], &[types::I32])
 }
 
 /// The function `g`, which has a signature.

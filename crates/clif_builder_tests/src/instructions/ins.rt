@@ -1,12 +1,10 @@
 //! Instructions by what `FunctionBuilder::ins` and `FunctionBuilder::cursor` lend.
 #![tactic(auto)]
 
-ghost use Rattle.std.specs.Prelude.{◌≡◌, ◌<◌, length, false};
+ghost use Rattle.std.specs.Prelude.{◌≡◌, ◌<◌, length};
 ghost use Rattle.clif_ir.specs.Body.{value_at};
-ghost use Rattle.clif_records.specs.Tables.{is_yes};
-ghost use Rattle.clif_ssa.specs.Ssa.{sealed_of};
-ghost use Rattle.clif_builder.specs.Builder.{HasCurrent};
 
+use crate::asserted::{asserts_current, asserts_target, asserts_value, param};
 use crate::instructions::fixture::{Given, callee, is_same_type, signature};
 use crate::instructions::formats::make_by_format;
 use crate::instructions::methods::{branch, make};
@@ -18,31 +16,6 @@ use cranelift_frontend::{
 use std::alloc::Global;
 use std::process::Abort;
 use std::test::Fail;
-
-/// Asserts that a block exists and isn't sealed.
-pub fn asserts_target(rt: &impl Abort, builder: &FunctionBuilder<'_>, block: Block)
-    ensures exists { block < length builder.now.func.now.blocks }
-    ensures unsealed { is_yes (sealed_of builder.now.ctx.now.ssa block) ≡ false }
-{
-    assert!(rt; block.index() < builder.func().block_count());
-    assert!(rt; !builder.is_sealed(block));
-}
-
-/// Asserts that there is a current block, which isn't filled.
-pub fn asserts_current(rt: &impl Abort, builder: &FunctionBuilder<'_>)
-    ensures { HasCurrent builder.now }
-{
-    let block = builder.current_block().expect(rt, "a current block");
-    assert!(rt; block.index() < builder.func().block_count());
-    assert!(rt; !builder.is_filled(block));
-}
-
-/// Asserts that a value exists.
-pub fn asserts_value(rt: &impl Abort, builder: &FunctionBuilder<'_>, value: Value)
-    ensures { value < length builder.now.func.now.values }
-{
-    assert!(rt; value.index() < builder.func().value_count());
-}
 
 // Asserts that a value exists and has a type.
 fn asserts_typed(rt: &impl Abort, builder: &FunctionBuilder<'_>, value: Value, ty: Type)
@@ -85,15 +58,6 @@ fn asserts_values(rt: &impl Abort, builder: &FunctionBuilder<'_>, given: &Given)
     asserts_typed(rt, builder, given.x, I32);
     asserts_value(rt, builder, given.y);
     asserts_typed(rt, builder, given.p, I64);
-}
-
-// A parameter of a block in which nothing was made.
-fn param(rt: &impl Abort, builder: &mut FunctionBuilder<'_>, block: Block, ty: Type) -> Value {
-    assert!(rt; block.index() < builder.func().block_count());
-    assert!(rt; builder.is_pristine(block));
-    builder
-        .append_block_param(block, ty)
-        .expect(rt, "a parameter")
 }
 
 // A new block.

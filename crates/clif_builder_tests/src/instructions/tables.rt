@@ -7,9 +7,8 @@ ghost use Rattle.clif_inst_builder.specs.Served.{exception_tables, jump_tables};
 ghost use Rattle.clif_instructions.specs.ExceptionTables.{exception_shape};
 ghost use Rattle.clif_builder_tests.specs.RowTables.{bare_table, catching_table, entries_passing};
 
-use crate::instructions::ins::{
-    asserts_current, asserts_function, asserts_signature, asserts_target, asserts_value,
-};
+use crate::asserted::{asserts_current, asserts_target, asserts_value, create_exception_table};
+use crate::instructions::ins::{asserts_function, asserts_signature};
 use cranelift_frontend::{
     Block, BlockArg, BlockCall, BuildError, EntityRef, ExceptionTable, ExceptionTableData,
     ExceptionTableItem, FuncRef, FunctionBuilder, InstBuilder, JumpTable, JumpTableData, SigRef,
@@ -62,17 +61,6 @@ fn create_jump_table(
     ensures { table_held jump_tables builder.new result ≡ Some table }
 {
     builder.create_jump_table(table).expect(rt, "a table")
-}
-
-// Makes an exception table.
-fn create_exception_table(
-    rt: &impl Abort,
-    builder: &mut FunctionBuilder<'_>,
-    table: ExceptionTableData,
-) -> ExceptionTable
-    ensures { table_held exception_tables builder.new result ≡ Some (exception_shape table) }
-{
-    builder.create_exception_table(table).expect(rt, "a table")
 }
 
 // Branches by a table that passes a value.

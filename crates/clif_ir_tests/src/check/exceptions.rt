@@ -61,7 +61,8 @@ const WRONG_EDGE_OF_AN_ITEM: [To<'static>; 7] = [
     To(2, &[Exn(0), Known(1)]),
 ];
 
-// Asserts what is found in a try call of a function, and in one of an address, in a block with the parameters v0: i64 and v1: i32. sig0
+// Asserts what is found in a try call of a function, and in one of an address, in a block with the parameters v0: i64 and
+// v1: i32. sig0
 // returns an f32 and an i32; block1 takes an f32 and an i32, block2 takes two i64, and block3 nothing.
 fn finds_in(
     rt: &impl Abort,
