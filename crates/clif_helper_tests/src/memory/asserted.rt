@@ -3,32 +3,14 @@
 
 ghost use Rattle.std.specs.Prelude.{IsTrue};
 ghost use Rattle.clif_types.specs.Target.{pointer_type_of};
-ghost use Rattle.clif_builder.specs.Builder.{HasCurrent};
 ghost use Rattle.clif_meaning.specs.ByteOperation.{is_unsigned};
 ghost use Rattle.clif_memory_helpers.specs.Lines.{HasType};
 
+use crate::asserted::asserts_current;
 use clif_builder::{FunctionBuilder, InstBuilder};
 use clif_types::types::I64;
-use clif_types::{
-    Block, CallConv, EntityRef, IntCC, PointerWidth, TargetFrontendConfig, Type, Value,
-};
+use clif_types::{Block, EntityRef, IntCC, PointerWidth, Type, Value};
 use std::process::Abort;
-
-/// The target of each function.
-pub(crate) const CONFIG: TargetFrontendConfig = TargetFrontendConfig {
-    default_call_conv: CallConv::SystemV,
-    pointer_width: PointerWidth::U64,
-    page_size_align_log2: 12,
-};
-
-// Asserts that there is a current block, which isn't filled.
-pub(crate) fn asserts_current(rt: &impl Abort, builder: &FunctionBuilder<'_>)
-    ensures { HasCurrent builder.now }
-{
-    let block = builder.current_block().expect(rt, "a current block");
-    assert!(rt; block.index() < builder.func().block_count());
-    assert!(rt; !builder.is_filled(block));
-}
 
 // Asserts that a value exists and has this type.
 pub(crate) fn asserts_typed(rt: &impl Abort, builder: &FunctionBuilder<'_>, value: Value, ty: Type)

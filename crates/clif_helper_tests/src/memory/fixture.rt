@@ -4,9 +4,9 @@
 ghost use Rattle.std.specs.Prelude.{◌≡◌};
 ghost use Rattle.clif_ir.specs.Body.{empty_body};
 
+use crate::asserted::{CONFIG, asserts_current};
 use crate::memory::asserted::{
-    CONFIG, asserts_current, asserts_pointer, asserts_typed, asserts_unsigned, enter, parameter,
-    return_values, undefined,
+    asserts_pointer, asserts_typed, asserts_unsigned, enter, parameter, return_values, undefined,
 };
 use clif_access_plans::{fits_pointer, may_move};
 use clif_builder::{FunctionBuilder, FunctionBuilderContext};

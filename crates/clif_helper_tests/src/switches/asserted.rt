@@ -1,33 +1,16 @@
 //! Calls of the builder whose conditions are asserted.
 #![tactic(auto)]
 
-ghost use Rattle.std.specs.Prelude.{◌<◌, length};
-ghost use Rattle.clif_builder.specs.Builder.{HasCurrent};
 ghost use Rattle.clif_switch.specs.Emission.{MayLead};
 ghost use Rattle.clif_helper_tests.specs.Cases.{AllLead, AllLeadAnywhere};
 
+use crate::asserted::{asserts_current, asserts_value};
 use cranelift_frontend::{
     Block, EntityRef, Function, FunctionBuilder, InstBuilder, Switch, SwitchError, Type, Value,
     types,
 };
 use std::alloc::Global;
 use std::process::Abort;
-
-// Asserts that there is a current block, which isn't filled.
-pub(crate) fn asserts_current(rt: &impl Abort, builder: &FunctionBuilder<'_>)
-    ensures { HasCurrent builder.now }
-{
-    let block = builder.current_block().expect(rt, "a current block");
-    assert!(rt; block.index() < builder.func().block_count());
-    assert!(rt; !builder.is_filled(block));
-}
-
-// Asserts that a value exists.
-fn asserts_value(rt: &impl Abort, builder: &FunctionBuilder<'_>, value: Value)
-    ensures { value < length builder.now.func.now.values }
-{
-    assert!(rt; value.index() < builder.func().value_count());
-}
 
 // Asserts that a branch may lead to a block: it exists and isn't sealed.
 fn asserts_target(rt: &impl Abort, builder: &FunctionBuilder<'_>, block: Block)

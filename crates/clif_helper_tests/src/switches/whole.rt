@@ -1,19 +1,13 @@
 //! Upstream's test that the blocks that a switch makes are sealed and filled, at each width.
 #![tactic(auto)]
 
-use crate::switches::asserted::{asserts_current, block, emit, enter, number, seal};
+use crate::asserted::{CONFIG, asserts_current};
+use crate::switches::asserted::{block, emit, enter, number, seal};
 use cranelift_frontend::{
-    CallConv, Function, FunctionBuilder, FunctionBuilderContext, InstBuilder, PointerWidth,
-    TargetFrontendConfig, Type, types,
+    Function, FunctionBuilder, FunctionBuilderContext, InstBuilder, Type, types,
 };
 use std::alloc::Global;
 use std::process::Abort;
-
-const CONFIG: TargetFrontendConfig = TargetFrontendConfig {
-    default_call_conv: CallConv::SystemV,
-    pointer_width: PointerWidth::U64,
-    page_size_align_log2: 12,
-};
 
 // A switch whose case blocks and default return.
 fn asserts_accepted(rt: &impl Abort, alloc: Global, keys: &[u128], ty: Type) {
