@@ -7,24 +7,19 @@ ghost use Rattle.clif_inst_builder.specs.Served.{exception_tables, unserved_in};
 ghost use Rattle.clif_cursor.specs.Cursor.{CanAppend};
 ghost use Rattle.clif_ir_tests.specs.Tables.{to_block};
 
-use crate::support::prints;
+use crate::steps::Step::{LaidOut, Param};
+use crate::steps::{SAMPLE, made_by};
+use crate::support::{block_of, prints, value_of};
 use clif_cursor::{FuncCursor, InstBuilder};
 use clif_ir::{BlockArg, BlockCall, ExceptionTableData, Function};
 use clif_types::types::{I8, I64};
 use clif_types::{
     AbiParam, Block, BuildError, CallConv, EntityRef, ExceptionTable, ExtFuncData, ExternalName,
-    FuncRef, Inst, MemFlagsData, SigRef, Signature, SourceLoc, Type, UserFuncName, Value,
+    FuncRef, Inst, MemFlagsData, SigRef, Signature, SourceLoc, Type, Value,
 };
-use std::alloc::{AllocError, Global};
+use std::alloc::Global;
 use std::process::Abort;
 use std::test::Fail;
-
-/// The empty function `%sample`.
-pub fn sample(alloc: Global) -> Result<Function, AllocError> {
-    let name = UserFuncName::testcase(String::from_str(alloc, "sample")?);
-    let signature = Signature::new(alloc, CallConv::SystemV);
-    Ok(Function::with_name_signature(alloc, name, signature))
-}
 
 // Appends a sum, a store of it, and both halves of it and `x` together.
 fn compute(cursor: &mut FuncCursor<'_>, x: Value) -> Result<(), BuildError>
@@ -44,11 +39,8 @@ fn compute(cursor: &mut FuncCursor<'_>, x: Value) -> Result<(), BuildError>
 // Each instruction at the end of its block, with the source place that the cursor had.
 #[test]
 fn appended(rt: HostRuntime) -> Result<(), Fail> {
-    let mut func = sample(rt.alloc())?;
-    let first = func.create_block()?;
-    let second = func.create_block()?;
-    func.ensure_block_inserted(first)?;
-    func.ensure_block_inserted(second)?;
+    let mut func = made_by(&rt, rt.alloc(), SAMPLE, &[LaidOut, LaidOut], "appended")?;
+    let (first, second) = (block_of(&rt, &func, 0), block_of(&rt, &func, 1));
     let x = func.append_block_param(first, I64)?;
     let mut cursor = FuncCursor::new(&mut func, first);
     cursor.set_srcloc(SourceLoc::new(17));
@@ -110,10 +102,9 @@ fn imports(rt: &impl Abort, alloc: Global, func: &mut Function) -> Result<(SigRe
 // A call's results get the next numbers, as many as its signature returns.
 #[test]
 fn calls(rt: HostRuntime) -> Result<(), Fail> {
-    let mut func = sample(rt.alloc())?;
+    let mut func = made_by(&rt, rt.alloc(), SAMPLE, &[LaidOut], "calls")?;
     let (sig, function) = imports(&rt, rt.alloc(), &mut func)?;
-    let block = func.create_block()?;
-    func.ensure_block_inserted(block)?;
+    let block = block_of(&rt, &func, 0);
     let x = func.append_block_param(block, I64)?;
     let mut cursor = FuncCursor::new(&mut func, block);
     assert!(rt; block.index() < cursor.func().block_count());
@@ -170,14 +161,11 @@ fn ends_with_try(
 // A try call takes its table, which serves nothing else.
 #[test]
 fn try_calls(rt: HostRuntime) -> Result<(), Fail> {
-    let mut func = sample(rt.alloc())?;
+    let steps = [LaidOut, LaidOut, Param(0, I64), Param(1, I64)];
+    let mut func = made_by(&rt, rt.alloc(), SAMPLE, &steps, "try_calls")?;
     let callee = imports(&rt, rt.alloc(), &mut func)?;
-    let block = func.create_block()?;
-    let after = func.create_block()?;
-    func.ensure_block_inserted(block)?;
-    func.ensure_block_inserted(after)?;
-    let x = func.append_block_param(block, I64)?;
-    func.append_block_param(after, I64)?;
+    let (block, after) = (block_of(&rt, &func, 0), block_of(&rt, &func, 1));
+    let x = value_of(&rt, &func, 0);
     ends_with_try(&rt, rt.alloc(), &mut func, callee, x, [block, after])?;
     let text =
         "function %sample() system_v {\n    sig0 = () -> i64, i8 fast\n    fn0 = colocated %g sig0\n\nblock0(v0: i64):\n    try_call fn0(v0), sig0, block1(ret0), []\n\nblock1(v1: i64):\n}\n";

@@ -5,12 +5,13 @@
 ghost use Rattle.std.specs.Prelude.{OnOk};
 ghost use Rattle.clif_cursor.specs.Cursor.{CanAppend};
 
-use crate::cursor::appended::sample;
-use crate::support::prints;
+use crate::steps::Step::LaidOut;
+use crate::steps::{SAMPLE, made_by};
+use crate::support::{block_of, prints};
 use clif_constant_operands::ConstantOperands;
 use clif_cursor::{FuncCursor, InstBuilder};
 use clif_types::types::{I8, I64, I128};
-use clif_types::{BuildError, IntCC};
+use clif_types::{BuildError, EntityRef, IntCC};
 use std::test::Fail;
 
 // Sums of zero and -10 in 8 bits, and of another constant and zero in 64.
@@ -40,10 +41,11 @@ fn compare(cursor: &mut FuncCursor<'_>) -> Result<(), BuildError>
 
 #[test]
 fn sums(rt: HostRuntime) -> Result<(), Fail> {
-    let mut func = sample(rt.alloc())?;
-    let block = func.create_block()?;
-    func.ensure_block_inserted(block)?;
+    let mut func = made_by(&rt, rt.alloc(), SAMPLE, &[LaidOut], "sums")?;
+    let block = block_of(&rt, &func, 0);
     let mut cursor = FuncCursor::new(&mut func, block);
+    assert!(rt; block.index() < cursor.func().block_count());
+    assert!(rt; !cursor.is_filled());
     add(&mut cursor)?;
     cursor.ins().return_(&[])?;
     let text =
@@ -53,10 +55,17 @@ fn sums(rt: HostRuntime) -> Result<(), Fail> {
 
 #[test]
 fn a_comparison_of_128_bits(rt: HostRuntime) -> Result<(), Fail> {
-    let mut func = sample(rt.alloc())?;
-    let block = func.create_block()?;
-    func.ensure_block_inserted(block)?;
+    let mut func = made_by(
+        &rt,
+        rt.alloc(),
+        SAMPLE,
+        &[LaidOut],
+        "a_comparison_of_128_bits",
+    )?;
+    let block = block_of(&rt, &func, 0);
     let mut cursor = FuncCursor::new(&mut func, block);
+    assert!(rt; block.index() < cursor.func().block_count());
+    assert!(rt; !cursor.is_filled());
     compare(&mut cursor)?;
     cursor.ins().return_(&[])?;
     let text =

@@ -6,8 +6,9 @@ ghost use Rattle.clif_inst_builder.specs.Served.{jump_tables, unserved_in};
 ghost use Rattle.clif_cursor.specs.Cursor.{CanAppend};
 ghost use Rattle.clif_ir_tests.specs.Tables.{two_edges};
 
-use crate::cursor::appended::sample;
-use crate::support::prints;
+use crate::steps::Step::{LaidOut, Param};
+use crate::steps::{SAMPLE, made_by};
+use crate::support::{block_of, prints, value_of};
 use clif_cursor::{FuncCursor, InstBuilder};
 use clif_ir::{BlockCall, Function, JumpTableData};
 use clif_types::types::{I8X16, I32};
@@ -29,9 +30,8 @@ fn constants(cursor: &mut FuncCursor<'_>) -> Result<(), BuildError>
 // Equal bytes are one constant of the function.
 #[test]
 fn pooled(rt: HostRuntime) -> Result<(), Fail> {
-    let mut func = sample(rt.alloc())?;
-    let block = func.create_block()?;
-    func.ensure_block_inserted(block)?;
+    let mut func = made_by(&rt, rt.alloc(), SAMPLE, &[LaidOut], "pooled")?;
+    let block = block_of(&rt, &func, 0);
     let mut cursor = FuncCursor::new(&mut func, block);
     assert!(rt; block.index() < cursor.func().block_count());
     assert!(rt; !cursor.is_filled());
@@ -81,15 +81,14 @@ fn ends_with_table(
 // A branch takes its table, which serves nothing else.
 #[test]
 fn branches(rt: HostRuntime) -> Result<(), Fail> {
-    let mut func = sample(rt.alloc())?;
-    let block = func.create_block()?;
-    let default = func.create_block()?;
-    let other = func.create_block()?;
-    func.ensure_block_inserted(block)?;
-    func.ensure_block_inserted(default)?;
-    func.ensure_block_inserted(other)?;
-    let x = func.append_block_param(block, I32)?;
-    let blocks = [block, default, other];
+    let steps = [LaidOut, LaidOut, LaidOut, Param(0, I32)];
+    let mut func = made_by(&rt, rt.alloc(), SAMPLE, &steps, "branches")?;
+    let blocks = [
+        block_of(&rt, &func, 0),
+        block_of(&rt, &func, 1),
+        block_of(&rt, &func, 2),
+    ];
+    let x = value_of(&rt, &func, 0);
     ends_with_table(&rt, rt.alloc(), &mut func, x, blocks)?;
     let text =
         "function %sample() system_v {\nblock0(v0: i32):\n    br_table v0, block1, [block2]\n\nblock1:\n\nblock2:\n}\n";
