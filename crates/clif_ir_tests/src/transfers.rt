@@ -136,6 +136,92 @@ fn exception_of(
     Ok(exception)
 }
 
+fn branch_of(
+    rt: &impl Abort,
+    alloc: Global,
+    x: u32,
+    taken: To<'_>,
+    other: To<'_>,
+) -> Result<InstructionData, Fail> {
+    let arg = v(rt, x);
+    let taken = edge_of(rt, alloc, taken)?;
+    let other = edge_of(rt, alloc, other)?;
+    let blocks = [taken, other];
+    Ok(InstructionData::Brif { arg, blocks })
+}
+
+fn table_branch_of(
+    rt: &impl Abort,
+    func: &mut Function,
+    x: u32,
+    default: u32,
+    entries: &[u32],
+) -> Result<InstructionData, Fail> {
+    let arg = v(rt, x);
+    let table = jump_table_of(rt, func, default, entries)?;
+    Ok(InstructionData::BranchTable { arg, table })
+}
+
+fn call_of(
+    rt: &impl Abort,
+    alloc: Global,
+    number: u32,
+    args: &[u32],
+) -> Result<InstructionData, Fail> {
+    let func_ref = FuncRef::from_u32(below_1000(rt, number));
+    let args = values(rt, alloc, args)?;
+    Ok(InstructionData::Call { func_ref, args })
+}
+
+fn indirect_call_of(
+    rt: &impl Abort,
+    alloc: Global,
+    sig: u32,
+    args: &[u32],
+) -> Result<InstructionData, Fail> {
+    let sig_ref = SigRef::from_u32(below_1000(rt, sig));
+    let args = values(rt, alloc, args)?;
+    Ok(InstructionData::CallIndirect { sig_ref, args })
+}
+
+fn try_call_of(
+    rt: &impl Abort,
+    func: &mut Function,
+    number: u32,
+    args: &[u32],
+    throws: Throws<'_>,
+) -> Result<InstructionData, Fail> {
+    let func_ref = FuncRef::from_u32(below_1000(rt, number));
+    let args = values(rt, func.allocator(), args)?;
+    let exception = exception_of(rt, func, throws)?;
+    Ok(InstructionData::TryCall {
+        func_ref,
+        args,
+        exception,
+    })
+}
+
+fn indirect_try_call_of(
+    rt: &impl Abort,
+    func: &mut Function,
+    args: &[u32],
+    throws: Throws<'_>,
+) -> Result<InstructionData, Fail> {
+    let args = values(rt, func.allocator(), args)?;
+    let exception = exception_of(rt, func, throws)?;
+    Ok(InstructionData::TryCallIndirect { args, exception })
+}
+
+fn return_of(rt: &impl Abort, alloc: Global, args: &[u32]) -> Result<InstructionData, Fail> {
+    let args = values(rt, alloc, args)?;
+    Ok(InstructionData::MultiAry { args })
+}
+
+fn jump_of(rt: &impl Abort, alloc: Global, to: To<'_>) -> Result<InstructionData, Fail> {
+    let destination = edge_of(rt, alloc, to)?;
+    Ok(InstructionData::Jump { destination })
+}
+
 /// The shape of a return, a branch or a call.
 pub fn transfer_of(
     rt: &impl Abort,
@@ -143,37 +229,16 @@ pub fn transfer_of(
     transfer: Transfer<'_>,
 ) -> Result<InstructionData, Fail> {
     let alloc = func.allocator();
-    Ok(match transfer {
-        Transfer::Return(args) => InstructionData::MultiAry {
-            args: values(rt, alloc, args)?,
-        },
-        Transfer::Jump(to) => InstructionData::Jump {
-            destination: edge_of(rt, alloc, to)?,
-        },
-        Transfer::Brif(x, taken, other) => InstructionData::Brif {
-            arg: v(rt, x),
-            blocks: [edge_of(rt, alloc, taken)?, edge_of(rt, alloc, other)?],
-        },
-        Transfer::BranchTable(x, default, entries) => InstructionData::BranchTable {
-            arg: v(rt, x),
-            table: jump_table_of(rt, func, default, entries)?,
-        },
-        Transfer::Call(number, args) => InstructionData::Call {
-            func_ref: FuncRef::from_u32(below_1000(rt, number)),
-            args: values(rt, alloc, args)?,
-        },
-        Transfer::CallIndirect(sig, args) => InstructionData::CallIndirect {
-            sig_ref: SigRef::from_u32(below_1000(rt, sig)),
-            args: values(rt, alloc, args)?,
-        },
-        Transfer::TryCall(number, args, throws) => InstructionData::TryCall {
-            func_ref: FuncRef::from_u32(below_1000(rt, number)),
-            args: values(rt, alloc, args)?,
-            exception: exception_of(rt, func, throws)?,
-        },
-        Transfer::TryCallIndirect(args, throws) => InstructionData::TryCallIndirect {
-            args: values(rt, alloc, args)?,
-            exception: exception_of(rt, func, throws)?,
-        },
-    })
+    match transfer {
+        Transfer::Return(args) => return_of(rt, alloc, args),
+        Transfer::Jump(to) => jump_of(rt, alloc, to),
+        Transfer::Brif(x, taken, other) => branch_of(rt, alloc, x, taken, other),
+        Transfer::BranchTable(x, default, entries) => {
+            table_branch_of(rt, func, x, default, entries)
+        }
+        Transfer::Call(number, args) => call_of(rt, alloc, number, args),
+        Transfer::CallIndirect(sig, args) => indirect_call_of(rt, alloc, sig, args),
+        Transfer::TryCall(number, args, throws) => try_call_of(rt, func, number, args, throws),
+        Transfer::TryCallIndirect(args, throws) => indirect_try_call_of(rt, func, args, throws),
+    }
 }
