@@ -22,7 +22,7 @@ use std::test::Fail;
 
 /// A function that is made by steps.
 pub struct Case {
-    /// What is told if a fact doesn't hold, or another text is printed.
+    /// What is said if a fact doesn't hold, or another text is printed.
     pub name: &'static str,
     /// The function without blocks.
     pub head: Head,
@@ -42,7 +42,7 @@ pub enum Head {
 /// The name `%sample`, with no parameters and no returned values.
 pub const SAMPLE: Head = Head::Named("sample", &[], &[], CallConv::SystemV);
 
-/// A step in the making of a function, where all is told by numbers.
+/// A step in the making of a function, where all is named by numbers.
 #[derive(Clone, Copy)]
 pub enum Step<'a> {
     /// Makes a block.

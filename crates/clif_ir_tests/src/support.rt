@@ -187,7 +187,7 @@ pub fn signature_of(
     Ok(signature)
 }
 
-/// Asserts the text of a function. The name is told where it has another one.
+/// Asserts the text of a function. The name is said where it has another one.
 pub fn prints(rt: &impl Abort, func: &Function, text: &str, name: &str) -> Result<(), Fail> {
     let shown = func.display();
     let found = format!(in func.allocator(); "{shown}")?;

@@ -1,4 +1,4 @@
-//! Returns, branches and calls as plain data, where functions, signatures, blocks and values are told by their numbers.
+//! Returns, branches and calls as plain data, where functions, signatures, blocks and values are named by their numbers.
 #![tactic(auto)]
 
 use crate::support::{b, below_1000, v};

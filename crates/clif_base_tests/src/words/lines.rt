@@ -84,7 +84,7 @@ fn flags(rt: HostRuntime) -> Result<(), Fail> {
     has_flags(&rt, alloc, "notrap region0 v0", (true, false), "region0")
 }
 
-/// A refused line is told with its number and with what should have stood there.
+/// The error of a line has its number and what was expected there.
 #[test]
 fn refusals(rt: HostRuntime) -> Result<(), Fail> {
     let error = LineError::wanted(Expected::Block).at(12);
@@ -93,7 +93,7 @@ fn refusals(rt: HostRuntime) -> Result<(), Fail> {
     Ok(())
 }
 
-/// A word that stands for nothing is told.
+/// The error of a word without a meaning has the word.
 #[test]
 fn unknown_words(rt: HostRuntime) -> Result<(), Fail> {
     let rows = [
@@ -112,7 +112,7 @@ fn unknown_words(rt: HostRuntime) -> Result<(), Fail> {
     Ok(())
 }
 
-/// What should stand somewhere, as it is told.
+/// The texts of what is expected.
 #[test]
 fn expectations(rt: HostRuntime) -> Result<(), Fail> {
     let rows = [

@@ -1,4 +1,4 @@
-//! The texts of errors, and what stands after a refusal.
+//! The texts of errors, and what holds after a refusal.
 #![tactic(auto)]
 
 use crate::calls::queries::Query::{Current, Entry, Pristine, Values};

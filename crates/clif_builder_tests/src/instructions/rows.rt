@@ -11,7 +11,7 @@ use cranelift_frontend::{
     PooledConstOpcode, StackOpcode, TrapCode, UnaryOpcode,
 };
 
-/// What the data of an instruction has beside its opcode, its operands and its edges. Entries of tables are told by their
+/// What the data of an instruction has beside its opcode, its operands and its edges. Entries of tables are named by their
 /// numbers.
 #[derive(Clone, Copy, PartialEq, Eq)]
 pub enum Immediate {

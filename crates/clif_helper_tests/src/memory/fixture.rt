@@ -20,7 +20,7 @@ use std::alloc::Global;
 use std::num::NonZeroU8;
 use std::process::Abort;
 
-/// A helper's call; operands are told by their places among the function's first values.
+/// A helper's call; operands are named by their places among the function's first values.
 #[derive(Clone, Copy)]
 pub(crate) enum Helper {
     Memcpy(usize, usize, usize),

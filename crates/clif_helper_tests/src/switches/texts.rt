@@ -177,7 +177,7 @@ fn switch_128bit_max_u64(rt: HostRuntime) {
     );
 }
 
-/// A key that the type hasn't is told, and nothing is emitted.
+/// A key that the type does not have is an error, and nothing is emitted.
 #[test]
 fn too_wide(rt: HostRuntime) -> Result<(), Fail> {
     let alloc = rt.alloc();

@@ -68,7 +68,7 @@ fn signatures(rt: HostRuntime) -> Result<(), Fail> {
     Ok(())
 }
 
-// An instruction, where functions and signatures are told by their numbers.
+// An instruction, where functions and signatures are named by their numbers.
 enum Call {
     Function(u32),
     Indirect(u32),

@@ -16,7 +16,7 @@ fn start(rt: &impl Abort, from: u32, label: u32) -> ValueLabelStart {
     }
 }
 
-// A step, where values, places and labels are told by their numbers.
+// A step, where values, places and labels are named by their numbers.
 enum Step {
     // Collects labels from here on.
     Collect,

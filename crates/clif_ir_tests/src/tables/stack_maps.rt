@@ -11,7 +11,7 @@ use std::test::Fail;
 // An entry: its type, the number of its slot and its offset.
 type Entry = (Type, u32, u32);
 
-// A step, where instructions are told by their numbers.
+// A step, where instructions are named by their numbers.
 enum Step {
     // Gives an instruction a stack map.
     Set(u32, &'static [Entry]),
