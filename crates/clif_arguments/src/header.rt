@@ -19,12 +19,23 @@ use std::alloc::Global;
 use std::mem;
 
 /// What the header lines so far say.
-#[derive(Drop)]
 pub struct Header {
     function: Option<(UserFuncName, Signature)>,
     pointer_width: Option<PointerWidth>,
     call_conv: Option<CallConv>,
     answers: Vec<OutsideAnswer>,
+}
+
+// By hand: a derived one is proved anew at each way out of a function that holds such a value.
+impl Drop for Header {
+    fn drop(self) {
+        let Header {
+            function: _,
+            pointer_width: _,
+            call_conv: _,
+            answers: _,
+        } = self;
+    }
 }
 
 /// Whether a line that begins with this word is a header line.
@@ -91,7 +102,12 @@ impl Header {
         ensures name { result.0 ≡ name_in (header_said self).function }
         ensures signature { result.1 ≡ signature_in (header_said self).function }
     {
-        let Header { function, .. } = self;
+        let Header {
+            function,
+            pointer_width: _,
+            call_conv: _,
+            answers: _,
+        } = self;
         match function {
             Some(function) => function,
             None => (

@@ -85,12 +85,24 @@ impl StatusTable {
 /// What is kept while a function is built, and used again for the next one.
 ///
 /// It is cleared by `finalize`, and keeps its memory.
-#[derive(Debug, Drop)]
+#[derive(Debug)]
 pub struct FunctionBuilderContext {
     pub(crate) alloc: Global,
     pub(crate) ssa: SSABuilder,
     pub(crate) status: StatusTable,
     pub(crate) variables: Vec<Type>,
+}
+
+// By hand: a derived one is proved anew at each way out of a function that holds such a value.
+impl Drop for FunctionBuilderContext {
+    fn drop(self) {
+        let FunctionBuilderContext {
+            alloc: _,
+            ssa: _,
+            status: _,
+            variables: _,
+        } = self;
+    }
 }
 
 impl Model for FunctionBuilderContext {
@@ -174,6 +186,7 @@ impl FunctionBuilderContext {
     }
 
     /// Says how far a block has come.
+    #[inline(always)]
     pub(crate) fn set_status(&mut self, block: Block, status: BlockStatus) -> Result<(), BuildError>
         ensures ok { OnOk result (SetsStatus self.old self.new block status) }
         ensures ssa { self.new.ssa ≡ self.old.ssa }
@@ -185,6 +198,7 @@ impl FunctionBuilderContext {
 
     #[tactic(auto, using(crate::proofs::Declaring::declare_rules))]
     /// Makes a block known.
+    #[inline(always)]
     pub(crate) fn declare_block(&mut self, block: Block) -> Result<(), BuildError>
         ensures records { self.new.ssa.records ≡ self.old.ssa.records }
         ensures blocks { SameBlocks self.old.ssa self.new.ssa }
@@ -253,6 +267,7 @@ impl FunctionBuilderContext {
     #[tactic(auto, using(crate::proofs::Named::names_rules))]
     /// Records that a variable has a value in a block from here on. Stack maps need the value, if the
     /// variable is marked.
+    #[inline(always)]
     pub(crate) fn def_var(
         &mut self,
         variable: Variable,
@@ -273,6 +288,7 @@ impl FunctionBuilderContext {
 
     #[tactic(auto, using(crate::proofs::Statuses::status_rules))]
     /// The value of a variable of type `ty` in a block. Blocks that get a zero are begun.
+    #[inline(always)]
     pub(crate) fn use_var(
         &mut self,
         func: &mut Function,
@@ -412,6 +428,7 @@ impl FunctionBuilderContext {
 
     #[tactic(auto, using(crate::proofs::Statuses::status_rules))]
     // Says of each of these blocks in which nothing was made that something was.
+    #[inline(always)]
     fn begin_all(&mut self, blocks: &[Block]) -> Result<(), BuildError>
         ensures status { OnOk result (Begins self.old self.new blocks.now) }
         ensures ssa { self.new.ssa ≡ self.old.ssa }

@@ -417,6 +417,7 @@ impl<'a> FunctionBuilder<'a> {
 
 #[tactic(auto, using(crate::proofs::Named::names_rules))]
 // Brings a block into the layout, where something is made in it.
+#[inline(always)]
 pub(crate) fn begin_block(
     func: &mut Function,
     ctx: &mut FunctionBuilderContext,

@@ -215,6 +215,7 @@ impl<'a> InstBuilderBase for FunctionBuilder<'a> {
 
 // Appends an instruction with a source place to a block, which is filled then if the instruction is a terminator; a branch becomes a
 // predecessor of its targets.
+#[inline(always)]
 fn append(
     func: &mut Function,
     ctx: &mut FunctionBuilderContext,

@@ -25,12 +25,18 @@ pub struct Name {
 }
 
 /// An edge of a branch: its target, and the values that are passed to the target's parameters, in order.
-#[derive(Drop)]
 pub struct Edge {
     /// The block, which isn't sealed.
     pub block: Name,
     /// Values.
     pub args: Vec<Name>,
+}
+
+// By hand: a derived one is proved anew at each way out of a function that holds such a value.
+impl Drop for Edge {
+    fn drop(self) {
+        let Edge { block: _, args: _ } = self;
+    }
 }
 
 /// An instruction that neither branches nor ends its block, with names in place of values.
@@ -218,7 +224,6 @@ pub enum PlainInstruction {
 ///
 /// Each variant but `Entry`, `Plain`, `Cursor`, `Outside`, `Immediate`, `Memory`, `Switch` and `Throwing` is the builder's method, or the
 /// instruction, of its name, and has its conditions. A variable is named by its number.
-#[derive(Drop)]
 pub enum Call {
     /// `create_block()`: answers the block.
     CreateBlock,
@@ -384,4 +389,74 @@ pub enum Call {
     Trap {
         code: TrapCode,
     },
+}
+
+// By hand: a derived one is proved anew at each way out of a function that holds such a value.
+impl Drop for Call {
+    fn drop(self) {
+        match self {
+            Call::CreateBlock => {}
+            Call::SwitchToBlock { block: _ } => {}
+            Call::SealBlock { block: _ } => {}
+            Call::SealAllBlocks => {}
+            Call::InsertBlockAfter { block: _, after: _ } => {}
+            Call::SetColdBlock { block: _ } => {}
+            Call::EnsureInsertedBlock => {}
+            Call::AppendBlockParam { block: _, ty: _ } => {}
+            Call::AppendBlockParamsForFunctionParams { block: _ } => {}
+            Call::AppendBlockParamsForFunctionReturns { block: _ } => {}
+            Call::Entry(_) => {}
+            Call::BlockCall { edge: _ } => {}
+            Call::CreateJumpTable {
+                default: _,
+                entries: _,
+            } => {}
+            Call::CreateExceptionTable {
+                signature: _,
+                normal: _,
+                items: _,
+            } => {}
+            Call::DeclareVar { ty: _ } => {}
+            Call::DefVar {
+                variable: _,
+                value: _,
+            } => {}
+            Call::UseVar { variable: _ } => {}
+            Call::TryDefVar {
+                variable: _,
+                value: _,
+            } => {}
+            Call::TryUseVar { variable: _ } => {}
+            Call::Plain(_) => {}
+            Call::Cursor(_) => {}
+            Call::Outside(_) => {}
+            Call::Immediate(_) => {}
+            Call::Memory(_) => {}
+            Call::SetSrcloc { srcloc: _ } => {}
+            Call::CollectDebugInfo => {}
+            Call::SetValLabel { value: _, label: _ } => {}
+            Call::ChangeJumpDestination {
+                branch: _,
+                from: _,
+                to: _,
+            } => {}
+            Call::F128const { bytes: _ } => {}
+            Call::Vconst { ty: _, bytes: _ } => {}
+            Call::Jump { destination: _ } => {}
+            Call::Brif {
+                condition: _,
+                block_then: _,
+                block_else: _,
+            } => {}
+            Call::BrTable { index: _, table: _ } => {}
+            Call::Switch {
+                entries: _,
+                value: _,
+                otherwise: _,
+            } => {}
+            Call::Throwing(_) => {}
+            Call::Return { values: _ } => {}
+            Call::Trap { code: _ } => {}
+        }
+    }
 }

@@ -18,12 +18,18 @@ pub enum Passed {
 }
 
 /// An edge that a table may be made of: its target, and what is passed to the target's parameters, in order.
-#[derive(Drop)]
 pub struct TableEdge {
     /// The block.
     pub block: Name,
     /// What it passes.
     pub args: Vec<Passed>,
+}
+
+// By hand: a derived one is proved anew at each way out of a function that holds such a value.
+impl Drop for TableEdge {
+    fn drop(self) {
+        let TableEdge { block: _, args: _ } = self;
+    }
 }
 
 /// An item of an exception table. Its edge is an answer of [`Call::BlockCall`](crate::Call::BlockCall).
@@ -43,7 +49,6 @@ pub enum TableItem {
 /// Each variant is the instruction of its name. A function is named by its number, and was imported; so was the table's
 /// signature. The table, which is known by its number, served no instruction before, and no target of its edges is
 /// sealed.
-#[derive(Drop)]
 pub enum ThrowingCall {
     /// `try_call function(x, ..), table`: calls a function that was imported, by the signature of the table.
     TryCall {
@@ -57,6 +62,24 @@ pub enum ThrowingCall {
         args: Vec<Name>,
         table: ExceptionTable,
     },
+}
+
+// By hand: a derived one is proved anew at each way out of a function that holds such a value.
+impl Drop for ThrowingCall {
+    fn drop(self) {
+        match self {
+            ThrowingCall::TryCall {
+                function: _,
+                args: _,
+                table: _,
+            } => {}
+            ThrowingCall::TryCallIndirect {
+                callee: _,
+                args: _,
+                table: _,
+            } => {}
+        }
+    }
 }
 
 impl ThrowingCall {

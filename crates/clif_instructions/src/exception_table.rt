@@ -43,11 +43,21 @@ pub enum ExceptionItem {
 }
 
 // What a call that may throw goes to: all edges in one list.
-#[derive(Drop)]
 struct Targets {
     sig: SigRef,
     edges: Vec<BlockCall>,
     items: Vec<ExceptionItem>,
+}
+
+// By hand: a derived one is proved anew at each way out of a function that holds such a value.
+impl Drop for Targets {
+    fn drop(self) {
+        let Targets {
+            sig: _,
+            edges: _,
+            items: _,
+        } = self;
+    }
 }
 
 /// What a call that may throw goes to, as a table and an instruction keep it, in memory of its own.

@@ -24,7 +24,6 @@ use std::slice;
 /// An instruction without its results and its place: what it does, and with which operands.
 ///
 /// The controlling type, which tells the types of the results, is given where an instruction is made.
-#[derive(Drop)]
 pub enum InstructionData {
     /// `iconst.T imm`: the low bits of a 64-bit number.
     UnaryImm {
@@ -152,6 +151,74 @@ pub enum InstructionData {
         args: ValueList,
         exception: ExceptionTargets,
     },
+}
+
+// By hand: a derived one is proved anew at each way out of a function that holds such a value.
+impl Drop for InstructionData {
+    fn drop(self) {
+        match self {
+            InstructionData::UnaryImm { imm: _ } => {}
+            InstructionData::UnaryIeee { opcode: _, bits: _ } => {}
+            InstructionData::UnaryConst {
+                opcode: _,
+                constant: _,
+            } => {}
+            InstructionData::Unary { opcode: _, arg: _ } => {}
+            InstructionData::Binary { opcode: _, args: _ } => {}
+            InstructionData::IntCompare { cond: _, args: _ } => {}
+            InstructionData::Concat { args: _ } => {}
+            InstructionData::Split { arg: _ } => {}
+            InstructionData::Convert { opcode: _, arg: _ } => {}
+            InstructionData::Ternary { args: _ } => {}
+            InstructionData::Load {
+                flags: _,
+                arg: _,
+                offset: _,
+            } => {}
+            InstructionData::Store {
+                flags: _,
+                args: _,
+                offset: _,
+            } => {}
+            InstructionData::StackLoad {
+                opcode: _,
+                slot: _,
+                offset: _,
+            } => {}
+            InstructionData::StackStore {
+                arg: _,
+                slot: _,
+                offset: _,
+            } => {}
+            InstructionData::Jump { destination: _ } => {}
+            InstructionData::Brif { arg: _, blocks: _ } => {}
+            InstructionData::BranchTable { arg: _, table: _ } => {}
+            InstructionData::MultiAry { args: _ } => {}
+            InstructionData::Trap { code: _ } => {}
+            InstructionData::CondTrap {
+                opcode: _,
+                arg: _,
+                code: _,
+            } => {}
+            InstructionData::Call {
+                func_ref: _,
+                args: _,
+            } => {}
+            InstructionData::CallIndirect {
+                sig_ref: _,
+                args: _,
+            } => {}
+            InstructionData::TryCall {
+                func_ref: _,
+                args: _,
+                exception: _,
+            } => {}
+            InstructionData::TryCallIndirect {
+                args: _,
+                exception: _,
+            } => {}
+        }
+    }
 }
 
 impl InstructionData {

@@ -10,20 +10,40 @@ use std::marker::Model;
 use std::slice;
 
 /// A list of values, most of the time a short one: up to two take no memory of their own.
-#[derive(Drop)]
 pub struct ValueList {
     alloc: Global,
     values: Values,
 }
 
+// By hand: a derived one is proved anew at each way out of a function that holds such a value.
+impl Drop for ValueList {
+    fn drop(self) {
+        let ValueList {
+            alloc: _,
+            values: _,
+        } = self;
+    }
+}
+
 // The values of a list.
-#[derive(Drop)]
 enum Values {
     None,
     One(Value),
     Two([Value; 2]),
     // Three or more, or fewer that are left of these.
     More(Box<SmallVec<Value, 6>>),
+}
+
+// By hand: a derived one is proved anew at each way out of a function that holds such a value.
+impl Drop for Values {
+    fn drop(self) {
+        match self {
+            Values::None => {}
+            Values::One(_) => {}
+            Values::Two(_) => {}
+            Values::More(_) => {}
+        }
+    }
 }
 
 const _: () = prove!(size_of::<ValueList>() == 16);
@@ -63,6 +83,7 @@ impl ValueList {
     }
 
     /// The values, in order.
+    #[inline(always)]
     pub fn as_slice(&self) -> &[Value]
         ensures { result.now ≡ self.now }
     {
@@ -75,6 +96,7 @@ impl ValueList {
     }
 
     /// Puts a value at the end. The only error is `Memory`, and the list is then as it was.
+    #[inline(always)]
     pub fn push(&mut self, value: Value) -> Result<(), BuildError>
         ensures ok { OnOk result (self.new ≡ self.old ++ value ∷ []) }
         ensures err { OnErr result (self.new ≡ self.old) }

@@ -23,7 +23,6 @@ enum Next {
 }
 
 /// A run of a function: the bits of the values that were given, memory, and the outside calls so far.
-#[derive(Drop)]
 struct State<'a, O> {
     alloc: Global,
     func: &'a Function,
@@ -35,6 +34,23 @@ struct State<'a, O> {
     // what the last function of the C library gave to a try call
     given: Option<Typed>,
     choices: Choices,
+}
+
+// By hand: a derived one is proved anew at each way out of a function that holds such a value.
+impl<O> Drop for State<'_, O> {
+    fn drop(self) {
+        let State {
+            alloc: _,
+            func: _,
+            values: _,
+            store: _,
+            pointer_width: _,
+            outside: _,
+            events: _,
+            given: _,
+            choices: _,
+        } = self;
+    }
 }
 
 /// A call by its parts.
@@ -421,6 +437,28 @@ impl<'a, O: Outside> State<'a, O> {
         }
     }
 
+    // What the run shows where it ended so, and the choices that it made.
+    fn ended(self, end: End) -> (Ending, Choices) {
+        let State {
+            alloc: _,
+            func: _,
+            values: _,
+            store,
+            pointer_width: _,
+            outside: _,
+            events,
+            given: _,
+            choices,
+        } = self;
+        let memory = store.memory;
+        let ending = Ending {
+            events,
+            end,
+            memory,
+        };
+        (ending, choices)
+    }
+
     // Makes an instruction of this shape and with these results.
     fn make(&mut self, shape: &InstructionData, results: &[Value]) -> Result<Next, Cause> {
         let Some(operation) = operation_of(self.func, shape) else {
@@ -529,19 +567,7 @@ pub fn run_counted<'a, O: Outside>(
         };
     }
     let end = state.steps(first, bound)?;
-    let State {
-        store,
-        events,
-        choices,
-        ..
-    } = state;
-    let memory = store.memory;
-    let ending = Ending {
-        events,
-        end,
-        memory,
-    };
-    Ok((ending, choices))
+    Ok(state.ended(end))
 }
 
 // A run before its first step.

@@ -29,7 +29,6 @@ enum Next {
 }
 
 /// A run of a script: what variables and names hold, memory, and the outside calls so far.
-#[derive(Drop)]
 struct State<'s, 'p, 'o, O> {
     alloc: Global,
     signature: &'s Signature,
@@ -44,6 +43,25 @@ struct State<'s, 'p, 'o, O> {
     events: Vec<Event>,
     // what a function of the C library gave a try call, for its normal edge
     given: Option<Typed>,
+}
+
+// By hand: a derived one is proved anew at each way out of a function that holds such a value.
+impl<O> Drop for State<'_, '_, '_, O> {
+    fn drop(self) {
+        let State {
+            alloc: _,
+            signature: _,
+            program: _,
+            calls: _,
+            variables: _,
+            names: _,
+            store: _,
+            pointer_width: _,
+            outside: _,
+            events: _,
+            given: _,
+        } = self;
+    }
 }
 
 impl<O: Outside> State<'_, '_, '_, O> {
@@ -245,6 +263,28 @@ impl<O: Outside> State<'_, '_, '_, O> {
             }
             (_, Outcome::Returned) => Ok(Next::Ended(End::Returned(bits_of(alloc, operands)?))),
             (_, Outcome::Trapped(code)) => Ok(Next::Ended(End::Trapped(code))),
+        }
+    }
+
+    // What the run shows where it ended so.
+    fn ended(self, end: End) -> Ending {
+        let State {
+            alloc: _,
+            signature: _,
+            program: _,
+            calls: _,
+            variables: _,
+            names: _,
+            store,
+            pointer_width: _,
+            outside: _,
+            events,
+            given: _,
+        } = self;
+        Ending {
+            events,
+            end,
+            memory: store.memory,
         }
     }
 
@@ -645,12 +685,7 @@ pub fn run<O: Outside>(
         }
         end = state.steps(entry, bound)?;
     }
-    let State { store, events, .. } = state;
-    Ok(Ending {
-        events,
-        end,
-        memory: store.memory,
-    })
+    Ok(state.ended(end))
 }
 
 // A run before its first step.

@@ -26,6 +26,7 @@ impl Function {
     /// Makes a block without parameters and instructions, which isn't in the layout yet.
     ///
     /// It gets the next number. `Full` comes where there are 2^32 - 1 blocks.
+    #[inline(always)]
     pub fn create_block(&mut self) -> Result<Block, BuildError>
         ensures ok { OnOk result (self.new ≡ with_block self.old) }
         ensures number { IfOk result (λ b. b ≡ length self.old.blocks) }
@@ -55,6 +56,7 @@ impl Function {
     /// Puts a parameter of type `ty` at the end of those of `block`.
     ///
     /// It gets the next number of a value. `Full` comes where there are 2^32 - 1 values.
+    #[inline(always)]
     pub fn append_block_param(&mut self, block: Block, ty: Type) -> Result<Value, BuildError>
         requires { block < length self.old.blocks }
         ensures ok { OnOk result (self.new ≡ with_param self.old block ty) }
@@ -79,6 +81,7 @@ impl Function {
     /// come from `ctrl_type`, its controlling type, which is `Type::Invalid` where it has none, and for a call from
     /// the signature that it names. `Full` comes where there are 2^32 - 1 instructions or 2^32 - 1 values, and so for
     /// an instruction without results too, or where fewer numbers of values are left than there are results.
+    #[inline(always)]
     pub fn insert_inst(
         &mut self,
         block: Block,
@@ -108,6 +111,7 @@ impl Function {
     }
 
     // Makes an instruction and puts it right behind `previous`, or at the front of `block` where that is none.
+    #[inline(always)]
     pub(crate) fn insert_inst_behind(
         &mut self,
         block: Block,

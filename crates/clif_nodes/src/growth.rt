@@ -17,6 +17,7 @@ use clif_types::{AbiParam, BuildError, EntityRef, Inst, Type, Value};
 use std::alloc::Global;
 
 /// The number of the next value, for which it makes room in the table.
+#[inline(always)]
 pub fn next_value(values: &mut Vec<ValueNode>) -> Result<Value, BuildError>
     ensures ok { IfOk result (λ v. v ≡ length values.old.items) }
     ensures few { OnOk result (length values.old.items < 2 ^ 32 - 1) }
@@ -33,6 +34,7 @@ pub fn next_value(values: &mut Vec<ValueNode>) -> Result<Value, BuildError>
 
 /// The list of `count` numbers of values, from `first` on.
 #[tactic(auto, using(crate::proofs::Results::range_with_len_more))]
+#[inline(always)]
 pub fn numbered_results(alloc: Global, first: usize, count: usize) -> Result<ValueList, BuildError>
     requires { first + count < 2 ^ 32 }
     ensures ok { IfOk result (λ l. l ≡ range_with_len first count) }
@@ -46,6 +48,7 @@ pub fn numbered_results(alloc: Global, first: usize, count: usize) -> Result<Val
 }
 
 /// The number of the first of so many values that come next, for which there are numbers left.
+#[inline(always)]
 pub fn next_numbers(len: usize, count: usize) -> Result<usize, BuildError>
     ensures ok { IfOk result (λ n. (n ≡ len) × (len < 2 ^ 32 - 1) × (len + count < 2 ^ 32)) }
     ensures full { OnErr result ((result ≡ Err BuildError.Full) × ((TABLE_LIMIT ≤ len) ⊎ (TABLE_LIMIT < len + count))) }
@@ -58,6 +61,7 @@ pub fn next_numbers(len: usize, count: usize) -> Result<usize, BuildError>
 }
 
 /// Makes room in the tables for an instruction with so many results, and makes the list of these.
+#[inline(always)]
 pub fn room_for_inst(
     alloc: Global,
     values: &mut Vec<ValueNode>,
@@ -129,6 +133,7 @@ pub fn push_given_nodes(values: &mut Vec<ValueNode>, inst: Inst, first: usize, g
 
 /// Puts the results of `inst` into the table of values, which has room for them: those of these kinds, and what a call
 /// gives.
+#[inline(always)]
 pub fn push_results(
     values: &mut Vec<ValueNode>,
     inst: Inst,

@@ -25,7 +25,6 @@ pub struct ValueNode {
 const _: () = prove!(size_of::<ValueNode>() == 16);
 
 /// An instruction with its results, its block and its source place.
-#[derive(Drop)]
 pub struct InstNode {
     pub shape: InstructionData,
     pub results: ValueList,
@@ -33,17 +32,41 @@ pub struct InstNode {
     pub srcloc: SourceLoc,
 }
 
+// By hand: a derived one is proved anew at each way out of a function that holds such a value.
+impl Drop for InstNode {
+    fn drop(self) {
+        let InstNode {
+            shape: _,
+            results: _,
+            block: _,
+            srcloc: _,
+        } = self;
+    }
+}
+
 const _: () = prove!(size_of::<InstNode>() == 80);
 
 /// A block: its parameters, the first and the last of its instructions, how many these are, and whether it is seldom
 /// reached.
-#[derive(Drop)]
 pub struct BlockData {
     pub params: ValueList,
     pub first_inst: InstLink,
     pub last_inst: InstLink,
     pub inst_count: u32,
     pub is_cold: bool,
+}
+
+// By hand: a derived one is proved anew at each way out of a function that holds such a value.
+impl Drop for BlockData {
+    fn drop(self) {
+        let BlockData {
+            params: _,
+            first_inst: _,
+            last_inst: _,
+            inst_count: _,
+            is_cold: _,
+        } = self;
+    }
 }
 
 const _: () = prove!(size_of::<BlockData>() == 32);

@@ -9,6 +9,7 @@ use crate::nodes::BlockData;
 use clif_types::{Block, EntityRef, Inst};
 
 /// The links that a new instruction gets behind `previous`, or at the front of the block where `previous` is none.
+#[inline(always)]
 pub fn links_behind(block: &BlockData, links: &[InstLinks], previous: Option<Inst>) -> InstLinks
     requires { IfSome previous (λ previous. previous < length links.now) }
     ensures { result ≡ links_behind block.now links.now previous }
@@ -21,6 +22,7 @@ pub fn links_behind(block: &BlockData, links: &[InstLinks], previous: Option<Ins
 
 /// Puts the links of a new instruction, which has the next number, into the table, which has room for them, and those
 /// of its neighbours to it.
+#[inline(always)]
 pub fn link_between(links: &mut Vec<InstLinks>, own: InstLinks, inst: Inst)
     requires room { vec_len links.old < vec_capacity links.old }
     requires new { inst ≡ length links.old.items }
@@ -34,6 +36,7 @@ pub fn link_between(links: &mut Vec<InstLinks>, own: InstLinks, inst: Inst)
 }
 
 /// Counts an instruction, which has these neighbours, as one of `block`.
+#[inline(always)]
 pub fn put_between(blocks: &mut [BlockData], block: Block, inst: Inst, own: &InstLinks)
     requires exists { block < length blocks.old }
     requires room { (slice_index_or blocks.old block no_data).inst_count < 2 ^ 32 - 1 }
@@ -49,6 +52,7 @@ pub fn put_between(blocks: &mut [BlockData], block: Block, inst: Inst, own: &Ins
 }
 
 // The instruction at one end of a block as `inst` is put where `neighbour` is, or at the end where it is none.
+#[inline(always)]
 fn end_with(end: Option<Inst>, neighbour: Option<Inst>, inst: Inst) -> Option<Inst>
     ensures { result ≡ last_after end neighbour inst }
 {

@@ -20,7 +20,6 @@ pub struct Typed {
 }
 
 /// What an instruction does.
-#[derive(Drop)]
 pub enum Operation {
     /// An integer constant.
     Iconst(i64),
@@ -75,6 +74,44 @@ pub enum Operation {
     Trap(TrapCode),
     /// Traps under a condition.
     CondTrap(CondTrapOpcode, TrapCode),
+}
+
+// By hand: a derived one is proved anew at each way out of a function that holds such a value.
+impl Drop for Operation {
+    fn drop(self) {
+        match self {
+            Operation::Iconst(_) => {}
+            Operation::FloatConst(_, _) => {}
+            Operation::PooledConst(_, _) => {}
+            Operation::Unary(_) => {}
+            Operation::Binary(_) => {}
+            Operation::Compare(_) => {}
+            Operation::Concat => {}
+            Operation::Split => {}
+            Operation::Convert(_) => {}
+            Operation::Select => {}
+            Operation::Load {
+                flags: _,
+                offset: _,
+            } => {}
+            Operation::Store {
+                flags: _,
+                offset: _,
+            } => {}
+            Operation::Stack {
+                opcode: _,
+                slot: _,
+                offset: _,
+            } => {}
+            Operation::StackStore { slot: _, offset: _ } => {}
+            Operation::Jump => {}
+            Operation::Brif => {}
+            Operation::BrTable(_) => {}
+            Operation::Return => {}
+            Operation::Trap(_) => {}
+            Operation::CondTrap(_, _) => {}
+        }
+    }
 }
 
 impl Operation {

@@ -19,11 +19,22 @@ pub enum Call {
 
 /// A look-up that is under way: two stacks, of calls and of results, stand in place of recursion, so
 /// that no depth of the program costs machine stack. Contracts see the top of each first.
-#[derive(Debug, Drop)]
+#[derive(Debug)]
 pub struct LookUp {
     calls: Vec<Call>,
     results: Vec<Value>,
     zeros: Vec<Block>,
+}
+
+// By hand: a derived one is proved anew at each way out of a function that holds such a value.
+impl Drop for LookUp {
+    fn drop(self) {
+        let LookUp {
+            calls: _,
+            results: _,
+            zeros: _,
+        } = self;
+    }
 }
 
 impl Model for LookUp {
@@ -37,6 +48,7 @@ impl Model for LookUp {
 
 impl LookUp {
     /// Nothing is looked up yet.
+    #[inline(always)]
     pub fn new(alloc: Global) -> Self
         ensures { result ≡ no_look_up }
     {
@@ -48,6 +60,7 @@ impl LookUp {
     }
 
     /// Takes the next call, if there is one.
+    #[inline(always)]
     pub fn next_call(&mut self) -> Option<Call>
         ensures { MatchOption result (self.old.calls ≡ [] × self.new ≡ self.old) (λ call. (self.old.calls ≡ call ∷ self.new.calls) × (self.new ≡ record self.old { calls = self.new.calls })) }
     {
@@ -56,6 +69,7 @@ impl LookUp {
 
     #[tactic(auto, using(crate::proofs::Stacks::stack_rules))]
     /// Puts the calls that look a variable up in the predecessors of a block, for a parameter of it.
+    #[inline(always)]
     pub fn begin(
         &mut self,
         predecessors: &[Inst],
@@ -74,6 +88,7 @@ impl LookUp {
     }
 
     /// Puts a result.
+    #[inline(always)]
     pub fn push_result(&mut self, value: Value) -> Result<(), BuildError>
         ensures ok { OnOk result (self.new ≡ record self.old { results = value ∷ self.old.results }) }
         ensures only_memory { OnErr result (result ≡ Err BuildError.Memory) }
@@ -84,6 +99,7 @@ impl LookUp {
 
     #[tactic(auto, using(crate::proofs::Stacks::stack_rules))]
     /// The last `count` results, in the order in which they came.
+    #[inline(always)]
     pub fn last_results(&self, count: usize) -> &[Value]
         requires { count ≤ length self.now.results }
         ensures { result.now ≡ reverse (take count self.now.results) }
@@ -93,6 +109,7 @@ impl LookUp {
 
     #[tactic(auto, using(crate::proofs::Stacks::stack_rules))]
     /// Forgets the last `count` results.
+    #[inline(always)]
     pub fn drop_results(&mut self, count: usize)
         requires { count ≤ length self.old.results }
         ensures { self.new ≡ record self.old { results = drop count self.old.results } }
@@ -102,6 +119,7 @@ impl LookUp {
     }
 
     /// Takes the one result.
+    #[inline(always)]
     pub fn take_result(&mut self) -> Value
         requires { length self.old.results ≡ 1 }
         ensures one { self.old.results ≡ result ∷ [] }
@@ -114,6 +132,7 @@ impl LookUp {
     }
 
     /// Tells of the zero that was put into this block, if one was.
+    #[inline(always)]
     pub fn tell_zero(&mut self, zero: Option<Block>) -> Result<(), BuildError>
         ensures ok { OnOk result (self.new ≡ record self.old { zeros = self.old.zeros ++ option_to_list zero }) }
         ensures only_memory { OnErr result (result ≡ Err BuildError.Memory) }
@@ -125,6 +144,7 @@ impl LookUp {
     }
 
     /// Forgets all, and keeps the room of the stacks.
+    #[inline(always)]
     pub fn clear(&mut self)
         ensures { self.new ≡ no_look_up }
     {
@@ -134,6 +154,7 @@ impl LookUp {
     }
 
     /// Takes the blocks of the zeros that were put, in order.
+    #[inline(always)]
     pub fn take_zeros(&mut self) -> Vec<Block>
         ensures { result.items ≡ self.old.zeros }
     {

@@ -30,6 +30,7 @@ impl Model for PassedBlocks {
 
 impl PassedBlocks {
     /// No block was passed.
+    #[inline(always)]
     pub fn new(alloc: Global) -> Self
         ensures { result ≡ [] }
     {
@@ -40,6 +41,7 @@ impl PassedBlocks {
     }
 
     /// The blocks, in order.
+    #[inline(always)]
     pub fn as_slice(&self) -> &[Block]
         ensures { result.now ≡ self.now }
     {
@@ -47,6 +49,7 @@ impl PassedBlocks {
     }
 
     /// Forgets all blocks, in a step.
+    #[inline(always)]
     pub fn clear(&mut self)
         ensures { self.new ≡ [] }
     {
@@ -55,6 +58,7 @@ impl PassedBlocks {
 
     #[tactic(auto, using(crate::proofs::SparseSet::passed_rules))]
     /// Whether a block was passed.
+    #[inline(always)]
     pub fn contains(&self, block: Block) -> bool
         ensures { IsTrue result ↔ Stands block self.now }
     {
@@ -65,6 +69,7 @@ impl PassedBlocks {
     }
 
     // Whether this block stands at this place.
+    #[inline(always)]
     fn stands_at(&self, block: Block, place: usize) -> bool
         ensures { IsTrue result ↔ (slice_get self.now place ≡ Some block) }
     {
@@ -77,6 +82,7 @@ impl PassedBlocks {
     #[tactic(auto, using(crate::proofs::SparseSet::passed_rules))]
     /// Puts a block that wasn't passed behind the others. The only error is `Memory`, and the blocks are
     /// then as they were.
+    #[inline(always)]
     pub fn push(&mut self, block: Block) -> Result<(), BuildError>
         requires { Stands block self.old → ⊥ }
         ensures ok { OnOk result (self.new ≡ self.old ++ block ∷ []) }

@@ -82,9 +82,16 @@ impl PendingList {
 /// The records of all variables: one hash map, with an entry for each variable and block of which
 /// something is known. So its memory is that of the records, and each question and each change costs
 /// one search, however many records there are.
-#[derive(Debug, Drop)]
+#[derive(Debug)]
 pub struct VariableTable {
     records: HashMap<(Variable, Block), Recorded>,
+}
+
+// By hand: a derived one is proved anew at each way out of a function that holds such a value.
+impl Drop for VariableTable {
+    fn drop(self) {
+        let VariableTable { records: _ } = self;
+    }
 }
 
 impl Model for VariableTable {
@@ -140,6 +147,7 @@ impl VariableTable {
     }
 
     /// The record of a variable in a block.
+    #[inline(always)]
     pub fn get(&self, variable: Variable, block: Block) -> Option<Value>
         ensures { result ≡ record_at self.now variable block }
     {
@@ -154,6 +162,7 @@ impl VariableTable {
     }
 
     /// Records a value for a variable in a block. After an error the records are as they were.
+    #[inline(always)]
     pub fn set(&mut self, variable: Variable, block: Block, value: Value) -> Result<(), BuildError>
         ensures entry { OnOk result (HasEntry self.old self.new variable block (recording value)) }
         ensures refused { OnErr result (self.new ≡ self.old) }
@@ -173,6 +182,7 @@ impl VariableTable {
     #[tactic(auto, using(crate::proofs::Copying::copying_rules))]
     /// Records a value for a variable in these blocks, up to the first `from` among them. After an error
     /// it may be recorded in some.
+    #[inline(always)]
     pub fn set_each(
         &mut self,
         variable: Variable,
@@ -196,6 +206,7 @@ impl VariableTable {
 
     /// Counts a look-up of a variable in a block's predecessors. After an error the records are as they
     /// were.
+    #[inline(always)]
     pub fn count_lookup(&mut self, variable: Variable, block: Block) -> Result<(), BuildError>
         ensures entry { OnOk result (HasEntry self.old self.new variable block counting) }
         ensures refused { OnErr result (self.new ≡ self.old) }
@@ -223,9 +234,16 @@ pub enum Sealed {
 }
 
 /// The branches that lead to a block, in the order in which they were declared.
-#[derive(Debug, Drop)]
+#[derive(Debug)]
 pub struct Predecessors {
     branches: SmallVec<Inst, 2>,
+}
+
+// By hand: a derived one is proved anew at each way out of a function that holds such a value.
+impl Drop for Predecessors {
+    fn drop(self) {
+        let Predecessors { branches: _ } = self;
+    }
 }
 
 impl Model for Predecessors {
@@ -290,7 +308,7 @@ impl Predecessors {
 }
 
 /// What the construction knows of a block.
-#[derive(Debug, Drop)]
+#[derive(Debug)]
 pub struct SsaBlock {
     /// The branches that lead to it.
     pub predecessors: Predecessors,
@@ -298,10 +316,27 @@ pub struct SsaBlock {
     pub sealed: Sealed,
 }
 
+// By hand: a derived one is proved anew at each way out of a function that holds such a value.
+impl Drop for SsaBlock {
+    fn drop(self) {
+        let SsaBlock {
+            predecessors: _,
+            sealed: _,
+        } = self;
+    }
+}
+
 /// What the construction knows of each block.
-#[derive(Debug, Drop)]
+#[derive(Debug)]
 pub struct BlockTable {
     blocks: Vec<SsaBlock>,
+}
+
+// By hand: a derived one is proved anew at each way out of a function that holds such a value.
+impl Drop for BlockTable {
+    fn drop(self) {
+        let BlockTable { blocks: _ } = self;
+    }
 }
 
 impl Model for BlockTable {
@@ -384,6 +419,7 @@ impl BlockTable {
     }
 
     /// Makes room for a block. What is known of each block stays.
+    #[inline(always)]
     pub fn declare(&mut self, block: Block) -> Result<(), BuildError>
         ensures same { (b : ℕ) → known_at self.new b ≡ known_at self.old b }
         ensures ok { OnOk result (block < length self.new) }
@@ -407,6 +443,7 @@ impl BlockTable {
     }
 
     /// Puts a branch behind those that lead to a block.
+    #[inline(always)]
     pub fn declare_predecessor(&mut self, block: Block, branch: Inst) -> Result<(), BuildError>
         ensures sealed { (b : ℕ) → sealed_at self.new b ≡ sealed_at self.old b }
         ensures ok { OnOk result ((b : ℕ) → predecessors_at self.new b ≡ (if b == block then predecessors_at self.old b ++ branch ∷ [] else predecessors_at self.old b)) }
@@ -431,6 +468,7 @@ impl BlockTable {
     }
 
     /// Puts a parameter behind those that wait in an unsealed block.
+    #[inline(always)]
     pub fn wait(&mut self, block: Block, variable: Variable, param: Value) -> Result<(), BuildError>
         requires { is_yes (sealed_at self.old block) ≡ false }
         ensures ok { OnOk result ((b : ℕ) → sealed_at self.new b ≡ (if b == block then Sealed.No (pending_of (sealed_at self.old b) ++ record { variable = variable; param = param } ∷ []) else sealed_at self.old b)) }

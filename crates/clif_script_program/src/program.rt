@@ -9,7 +9,6 @@ use clif_types::{AbiParam, EntityRef, ExceptionTable, JumpTable, PointerWidth, S
 use std::alloc::{AllocError, Global};
 
 /// A block of a variable program.
-#[derive(Drop)]
 pub struct ProgramBlock {
     /// The caller's parameters: their names and their types.
     pub params: Vec<(Name, Type)>,
@@ -19,8 +18,18 @@ pub struct ProgramBlock {
     pub is_filled: bool,
 }
 
+// By hand: a derived one is proved anew at each way out of a function that holds such a value.
+impl Drop for ProgramBlock {
+    fn drop(self) {
+        let ProgramBlock {
+            params: _,
+            items: _,
+            is_filled: _,
+        } = self;
+    }
+}
+
 /// A variable program, with the stack slots that the script asks for.
-#[derive(Drop)]
 pub struct Program {
     alloc: Global,
     current: Option<usize>,
@@ -45,6 +54,27 @@ pub struct Program {
     pub imports: Imports,
     /// For each call how many answers it has. What is no value is never given.
     pub answers: Vec<usize>,
+}
+
+// By hand: a derived one is proved anew at each way out of a function that holds such a value.
+impl Drop for Program {
+    fn drop(self) {
+        let Program {
+            alloc: _,
+            current: _,
+            numbers: _,
+            blocks: _,
+            entry: _,
+            variables: _,
+            slots: _,
+            tables: _,
+            exceptions: _,
+            branches: _,
+            switches: _,
+            imports: _,
+            answers: _,
+        } = self;
+    }
 }
 
 impl Program {

@@ -43,7 +43,7 @@ use std::marker::Model;
 use std::mem;
 
 /// The builder of SSA form: which value each variable has in each block.
-#[derive(Debug, Drop)]
+#[derive(Debug)]
 pub struct SSABuilder {
     alloc: Global,
     tables: SsaTables,
@@ -51,6 +51,18 @@ pub struct SSABuilder {
     passed: PassedBlocks,
     // The stacks of the last look-up: room that each one uses again.
     look_up: LookUp,
+}
+
+// By hand: a derived one is proved anew at each way out of a function that holds such a value.
+impl Drop for SSABuilder {
+    fn drop(self) {
+        let SSABuilder {
+            alloc: _,
+            tables: _,
+            passed: _,
+            look_up: _,
+        } = self;
+    }
 }
 
 impl Model for SSABuilder {
@@ -256,6 +268,7 @@ impl SSABuilder {
 
     /// Records that a variable has a value in a block from here on. Stack maps need the value, if the
     /// variable is marked. After an error each record is as it was, and stack maps may need the value.
+    #[inline(always)]
     pub fn def_var(
         &mut self,
         variable: Variable,
@@ -412,6 +425,7 @@ impl SSABuilder {
     }
 
     // Looks a variable up in a block.
+    #[inline(always)]
     fn look_up_in(
         &mut self,
         func: &mut Function,
@@ -460,6 +474,7 @@ impl SSABuilder {
     }
 
     // Makes one call.
+    #[inline(always)]
     fn make_call(
         &mut self,
         func: &mut Function,

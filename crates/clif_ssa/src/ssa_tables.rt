@@ -38,11 +38,22 @@ pub struct Reached {
 }
 
 /// What the construction knows of each variable in each block, and of each block.
-#[derive(Debug, Drop)]
+#[derive(Debug)]
 pub struct SsaTables {
     pub(crate) variables: VariableTable,
     pub(crate) blocks: BlockTable,
     pub(crate) tracking: Tracking,
+}
+
+// By hand: a derived one is proved anew at each way out of a function that holds such a value.
+impl Drop for SsaTables {
+    fn drop(self) {
+        let SsaTables {
+            variables: _,
+            blocks: _,
+            tracking: _,
+        } = self;
+    }
 }
 
 impl Model for SsaTables {
@@ -193,6 +204,7 @@ impl SsaTables {
 
     /// Records a value for a variable in a block, and for stack maps, if the variable is marked. After an
     /// error each record is as it was, and stack maps may need the value.
+    #[inline(always)]
     pub(crate) fn record(
         &mut self,
         variable: Variable,
@@ -236,6 +248,7 @@ impl SsaTables {
     }
 
     /// Counts a look-up of a variable in the predecessors of a block.
+    #[inline(always)]
     pub(crate) fn count_lookup(
         &mut self,
         variable: Variable,
@@ -252,6 +265,7 @@ impl SsaTables {
     }
 
     /// Puts a parameter behind those that wait in an unsealed block.
+    #[inline(always)]
     pub(crate) fn wait(
         &mut self,
         block: Block,
@@ -302,6 +316,7 @@ impl SsaTables {
     /// Walks from a block along single predecessors, as long as the variable isn't recorded and no block
     /// comes again, and answers the block that is reached. `passed` holds the blocks passed then. The
     /// only error is `Memory`.
+    #[inline(always)]
     pub(crate) fn walk(
         &self,
         func: &Function,
@@ -340,6 +355,7 @@ impl SsaTables {
     /// Records a value for a variable in the blocks passed, up to the first `from` among them.
     ///
     /// The only error is `Memory`. Some blocks may have the record then.
+    #[inline(always)]
     pub(crate) fn copy_record(
         &mut self,
         variable: Variable,
@@ -361,6 +377,7 @@ impl SsaTables {
     }
 
     /// Begins the look-up of a variable in the predecessors of a block, for a parameter of it.
+    #[inline(always)]
     pub(crate) fn begin_look_up(
         &mut self,
         variable: Variable,
@@ -381,6 +398,7 @@ impl SsaTables {
     }
 
     // Appends a parameter for a variable to a block that doesn't record it, and records it.
+    #[inline(always)]
     fn new_parameter(
         &mut self,
         func: &mut Function,
@@ -459,6 +477,7 @@ impl SsaTables {
 
     /// The record of a variable in a block, which is a result then, or where there is none a new parameter
     /// of the block.
+    #[inline(always)]
     pub(crate) fn record_or_parameter(
         &mut self,
         func: &mut Function,

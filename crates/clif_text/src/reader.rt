@@ -33,13 +33,25 @@ pub struct Script {
 }
 
 // What the lines so far say.
-#[derive(Drop)]
 struct Reader<'a> {
     alloc: Global,
     header: Header,
     scope: Scope<'a>,
     calls: Vec<Call>,
     lines: Vec<usize>,
+}
+
+// By hand: a derived one is proved anew at each way out of a function that holds such a value.
+impl Drop for Reader<'_> {
+    fn drop(self) {
+        let Reader {
+            alloc: _,
+            header: _,
+            scope: _,
+            calls: _,
+            lines: _,
+        } = self;
+    }
 }
 
 impl<'a> Reader<'a> {

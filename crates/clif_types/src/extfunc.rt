@@ -38,7 +38,7 @@ impl fmt::Display for AbiParam {
 }
 
 /// What a function takes and returns. It prints as `(i32, i64) -> i32 system_v`.
-#[derive(Debug, Drop)]
+#[derive(Debug)]
 pub struct Signature {
     /// The parameters, first to last.
     pub params: Vec<AbiParam>,
@@ -46,6 +46,17 @@ pub struct Signature {
     pub returns: Vec<AbiParam>,
     /// How both are passed.
     pub call_conv: CallConv,
+}
+
+// By hand: a derived one is proved anew at each way out of a function that holds such a value.
+impl Drop for Signature {
+    fn drop(self) {
+        let Signature {
+            params: _,
+            returns: _,
+            call_conv: _,
+        } = self;
+    }
 }
 
 impl Model for Signature {
@@ -134,7 +145,7 @@ impl fmt::Display for Signature {
 }
 
 /// A function that may be called. It prints as `colocated patchable %name sig0`.
-#[derive(PartialEq, Eq, Debug, Drop)]
+#[derive(PartialEq, Eq, Debug)]
 pub struct ExtFuncData {
     pub name: ExternalName,
     pub signature: SigRef,
@@ -142,6 +153,18 @@ pub struct ExtFuncData {
     pub colocated: bool,
     /// Whether its calls can be patched to go elsewhere.
     pub patchable: bool,
+}
+
+// By hand: a derived one is proved anew at each way out of a function that holds such a value.
+impl Drop for ExtFuncData {
+    fn drop(self) {
+        let ExtFuncData {
+            name: _,
+            signature: _,
+            colocated: _,
+            patchable: _,
+        } = self;
+    }
 }
 
 impl Clone for ExtFuncData {
