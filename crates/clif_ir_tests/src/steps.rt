@@ -267,65 +267,114 @@ fn label(
     Ok(())
 }
 
-fn make(rt: &impl Abort, func: &mut Function, step: Step<'_>, name: &str) -> Result<(), Fail> {
+fn create(func: &mut Function) -> Result<(), Fail> {
+    func.create_block()?;
+    Ok(())
+}
+
+fn ensure(rt: &impl Abort, func: &mut Function, block: u32) -> Result<(), Fail> {
+    let block = block_of(rt, func, block);
+    func.ensure_block_inserted(block)?;
+    Ok(())
+}
+
+fn cool(rt: &impl Abort, func: &mut Function, block: u32) {
+    let block = block_of(rt, func, block);
+    func.set_cold_block(block);
+}
+
+fn param(rt: &impl Abort, func: &mut Function, block: u32, ty: Type) -> Result<(), Fail> {
+    let block = block_of(rt, func, block);
+    func.append_block_param(block, ty)?;
+    Ok(())
+}
+
+fn slot(rt: &impl Abort, func: &mut Function, size: u32, align_shift: u8) -> Result<(), Fail> {
+    assert!(rt; align_shift < 32);
+    func.create_sized_stack_slot(StackSlotData::new(size, align_shift))?;
+    Ok(())
+}
+
+fn go(
+    rt: &impl Abort,
+    func: &mut Function,
+    block: u32,
+    transfer: Transfer<'_>,
+) -> Result<(), Fail> {
+    let shape = transfer_of(rt, func, transfer)?;
+    put(rt, func, block, InsertAt::Back, Type::Invalid, shape)
+}
+
+// Asserts whether the functions and signatures exist that an instruction names.
+fn has_entries(
+    rt: &impl Abort,
+    func: &mut Function,
+    transfer: Transfer<'_>,
+    exist: bool,
+    name: &str,
+) -> Result<(), Fail> {
+    let shape = transfer_of(rt, func, transfer)?;
+    assert!(rt; func.has_entries(&shape) == exist, "{name}");
+    Ok(())
+}
+
+// Makes a step that always succeeds.
+fn make_surely(rt: &impl Abort, func: &mut Function, step: Step<'_>, name: &str) {
     match step {
-        Step::Create => {
-            func.create_block()?;
-        }
-        Step::LayOut(block) => lay_out(rt, func, block)?,
-        Step::LaidOut => laid_out(func)?,
         Step::LayOutAfter(block, after) => lay_out_after(rt, func, block, after),
-        Step::Ensure(block) => {
-            let block = block_of(rt, func, block);
-            func.ensure_block_inserted(block)?;
-        }
-        Step::Cold(block) => {
-            let block = block_of(rt, func, block);
-            func.set_cold_block(block);
-        }
-        Step::Param(block, ty) => {
-            let block = block_of(rt, func, block);
-            func.append_block_param(block, ty)?;
-        }
-        Step::Alias(param, original) => alias(rt, func, param, original)?,
-        Step::Slot(size, align_shift) => {
-            assert!(rt; align_shift < 32);
-            func.create_sized_stack_slot(StackSlotData::new(size, align_shift))?;
-        }
-        Step::Pool(byte, count) => pool(func, byte, count)?,
-        Step::Import(name, params, returns) => import(func, name, params, returns)?,
-        Step::Put(block, ty, plain) => {
-            put(rt, func, block, InsertAt::Back, ty, shape_of(rt, plain))?;
-        }
-        Step::PutBehind(block, count, ty, plain) => {
-            let at = InsertAt::Behind(count);
-            put(rt, func, block, at, ty, shape_of(rt, plain))?;
-        }
-        Step::Before(inst, ty, plain) => {
-            beside(rt, func, inst, ty, shape_of(rt, plain), false)?;
-        }
-        Step::After(inst, ty, plain) => {
-            beside(rt, func, inst, ty, shape_of(rt, plain), true)?;
-        }
-        Step::Go(block, transfer) => {
-            let shape = transfer_of(rt, func, transfer)?;
-            put(rt, func, block, InsertAt::Back, Type::Invalid, shape)?;
-        }
-        Step::Append(inst, block, value) => append(rt, func, inst, block, value)?,
+        Step::Cold(block) => cool(rt, func, block),
         Step::Target(inst, from, to) => target(rt, func, inst, from, to),
         Step::Operand(inst, place, value) => operand(rt, func, inst, place, value),
         Step::Argument(inst, edge, place, value) => argument(rt, func, inst, edge, place, value),
-        Step::StackMap(inst, entries) => stack_map(rt, func, inst, entries)?,
         Step::Collect => func.collect_debug_info(),
-        Step::Label(value, from, number) => label(rt, func, value, from, number)?,
         Step::Is(fact) => assert!(rt; holds(rt, func, fact), "{name}"),
-        Step::Entries(transfer, exist) => {
-            let shape = transfer_of(rt, func, transfer)?;
-            assert!(rt; func.has_entries(&shape) == exist, "{name}");
-        }
-        Step::Prints(text) => prints(rt, func, text, name)?,
+        _ => assert!(rt; false, "{name}"),
     }
-    Ok(())
+}
+
+fn make(rt: &impl Abort, func: &mut Function, step: Step<'_>, name: &str) -> Result<(), Fail> {
+    match step {
+        Step::Create => create(func),
+        Step::LayOut(block) => lay_out(rt, func, block),
+        Step::LaidOut => laid_out(func),
+        Step::Ensure(block) => ensure(rt, func, block),
+        Step::Param(block, ty) => param(rt, func, block, ty),
+        Step::Alias(param, original) => alias(rt, func, param, original),
+        Step::Slot(size, align_shift) => slot(rt, func, size, align_shift),
+        Step::Pool(byte, count) => pool(func, byte, count),
+        Step::Import(name, params, returns) => import(func, name, params, returns),
+        Step::Put(block, ty, plain) => {
+            put(rt, func, block, InsertAt::Back, ty, shape_of(rt, plain))
+        }
+        Step::PutBehind(block, count, ty, plain) => {
+            put(
+                rt,
+                func,
+                block,
+                InsertAt::Behind(count),
+                ty,
+                shape_of(rt, plain),
+            )
+        }
+        Step::Before(inst, ty, plain) => beside(rt, func, inst, ty, shape_of(rt, plain), false),
+        Step::After(inst, ty, plain) => beside(rt, func, inst, ty, shape_of(rt, plain), true),
+        Step::Go(block, transfer) => go(rt, func, block, transfer),
+        Step::Append(inst, block, value) => append(rt, func, inst, block, value),
+        Step::StackMap(inst, entries) => stack_map(rt, func, inst, entries),
+        Step::Label(value, from, number) => label(rt, func, value, from, number),
+        Step::Entries(transfer, exist) => has_entries(rt, func, transfer, exist, name),
+        Step::Prints(text) => prints(rt, func, text, name),
+        Step::LayOutAfter(..)
+        | Step::Cold(_)
+        | Step::Target(..)
+        | Step::Operand(..)
+        | Step::Argument(..)
+        | Step::Collect
+        | Step::Is(_) => {
+            make_surely(rt, func, step, name);
+            Ok(())
+        }
+    }
 }
 
 /// The function with this head that steps make. The name is that of the case.
