@@ -1,101 +1,14 @@
-//! Scripts and the functions that are built of them answer the same: the tables of answers of all modules are tested here.
+//! A script whose blocks are sealed in any order answers the same.
 #![tactic(auto)]
 
-use crate::support::{
-    Answers, STEPS, answers, both_end, built, returned, row_of, script_of, text_ends, world_of,
-    zeros,
-};
-use crate::{changes, instructions, notes, switches, tables};
+use crate::support::{STEPS, both_end, built, returned, script_of, world_of, zeros};
+use clif_interpreter::Ending;
 use clif_interpreter::outside::Zeros;
-use clif_interpreter::{End, Ending};
 use clif_script::{Call, Name};
 use clif_text::Script;
-use clif_types::TrapCode;
 use std::alloc::{AllocError, Global};
 use std::process::Abort;
 use std::test::Fail;
-
-/// Rows by their names, and what they return.
-const ROWS: &[Answers] = &[
-    // a loop whose branch goes back by both of its arms
-    ("both_arms", &[(&[], &[0])]),
-    // the documented example of the builder, whose blocks are sealed as soon as may be, or all at the end: the loop goes on until
-    // 2 less some arguments is 0 modulo 2^32
-    (
-        "sample",
-        &[(&[1], &[0]), (&[2], &[0]), (&[0x8000_0001], &[0])],
-    ),
-    (
-        "sample_late",
-        &[(&[1], &[0]), (&[2], &[0]), (&[0x8000_0001], &[0])],
-    ),
-    // branches that are changed
-    ("change_both", &[(&[], &[1])]),
-    ("change_one", &[(&[], &[1])]),
-];
-
-/// What block1 reads is named in block3: x counts down from the argument.
-const NAMED_LATER: &str = "\
-function %named_later (i32) -> i32 system_v
-block0 = create_block
-block1 = create_block
-block2 = create_block
-block3 = create_block
-x = declare_var i32
-argument = append_block_param block0 i32
-switch_to_block block0
-seal_block block0
-def_var x argument
-jump block1
-switch_to_block block1
-reading = use_var x
-brif reading, block2, block3
-switch_to_block block2
-seal_block block2
-left = use_var x
-minus_one = iconst.i32 -1
-less = iadd left, minus_one
-def_var x less
-jump block1
-seal_block block1
-switch_to_block block3
-seal_block block3
-return reading
-";
-
-/// A reading that is named in a later block.
-const OWN_ANSWERS: &[Answers] = &[(
-    NAMED_LATER,
-    &[(&[0], &[0]), (&[1], &[0]), (&[3], &[0]), (&[40], &[0])],
-)];
-
-const ANSWERS: &[&[Answers]] = &[
-    changes::ANSWERS,
-    instructions::ANSWERS,
-    notes::ANSWERS,
-    switches::ANSWERS,
-    tables::ANSWERS,
-    OWN_ANSWERS,
-];
-
-/// Scripts with branches and variables.
-#[test]
-fn all_answers(rt: HostRuntime) -> Result<(), Fail> {
-    for (name, rows) in ROWS {
-        answers(&rt, rt.alloc(), row_of(name)?, rows)?;
-    }
-    // the value of a switch is its first key, or its second one
-    for (name, code) in [("switch_high", 1), ("switch_border", 2)] {
-        let end = End::Trapped(TrapCode::User(code));
-        text_ends(&rt, rt.alloc(), row_of(name)?, &[], end)?;
-    }
-    for scripts in ANSWERS {
-        for (text, rows) in scripts.iter() {
-            answers(&rt, rt.alloc(), text, rows)?;
-        }
-    }
-    Ok(())
-}
 
 /// Two loops, one in the other: the inner one counts y down from x, the outer one x from 3, and `total` counts the turns
 /// of the inner one. No block is sealed yet.
