@@ -343,3 +343,62 @@ fn sum_of_an_array(rt: HostRuntime) -> Result<(), Fail> {
     let end = returned(alloc, &[327])?;
     Pair::new(alloc, SUM)?.ends(&rt, alloc, &[4096], &before, end, after)
 }
+
+/// Each instruction without memory: of 12 and 10 it returns the sum of 120, 8, 14, 6, 244 and 243 in eight bits, so 635 - 512.
+const EACH_INSTRUCTION: &str = "\
+function %each (i8, i8) -> i8 system_v
+block0 = create_block
+block1 = create_block
+block2 = create_block
+a, b = append_block_params_for_function_params block0
+switch_to_block block0
+product = imul a b
+both = band a b
+either = bor a b
+one = bxor a b
+negative = ineg a
+turned = bnot a
+s1 = iadd product both
+s2 = iadd s1 either
+s3 = iadd s2 one
+s4 = iadd s3 negative
+s5 = iadd s4 turned
+left = ishl a b
+right = ushr a b
+signed = sshr a b
+quotient = udiv a b
+rest = urem a b
+signed_quotient = sdiv a b
+signed_rest = srem a b
+difference = isub a b
+holds = icmp slt a b
+chosen = select holds a b
+wide = uextend.i32 a
+signed_wide = sextend.i64 a
+narrow = ireduce.i8 wide
+joined = iconcat a b
+low, high = isplit joined
+more = iadd_imm_s a 7
+equal = icmp_imm_s eq a 12
+trapz a user1
+never = icmp ne a a
+trapnz never user2
+to_next = block_call block1
+table = create_jump_table to_next to_next
+br_table wide table
+switch_to_block block1
+switch a block2 12:block2 13:block2
+switch_to_block block2
+return s5
+seal_all_blocks
+";
+
+/// Memory is left by what doesn't store.
+#[test]
+fn memory_is_left(rt: HostRuntime) -> Result<(), Fail> {
+    let alloc = rt.alloc();
+    let before = memory_of(alloc, 4096, SIZE, &[7; SIZE])?;
+    let after = before.clone()?;
+    let end = returned(alloc, &[123])?;
+    Pair::new(alloc, EACH_INSTRUCTION)?.ends(&rt, alloc, &[12, 10], &before, end, after)
+}

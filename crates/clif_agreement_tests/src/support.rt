@@ -5,7 +5,7 @@ use clif_builder::FunctionBuilderContext;
 use clif_interpreter::outside::Zeros;
 use clif_interpreter::{End, Ending, Memory, Outside, World, function, script};
 use clif_ir::Function;
-use clif_script::{replay, row_text};
+use clif_script::replay;
 use clif_text::{Script, read};
 use std::alloc::Global;
 use std::process::Abort;
@@ -16,9 +16,6 @@ pub const SIZE: usize = 32;
 
 /// How many steps a run has at most.
 pub const STEPS: u64 = 1000;
-
-/// A script, and what it returns for each of these lists of arguments.
-pub type Answers = (&'static str, &'static [(&'static [u128], &'static [u128])]);
 
 /// So many accessible bytes from an address on, which begin with these, and are zero behind them.
 pub fn memory_of(alloc: Global, start: u64, size: usize, bytes: &[u8]) -> Result<Memory, Fail> {
@@ -39,14 +36,6 @@ pub fn script_of(alloc: Global, text: &str) -> Result<Script, Fail> {
     match read(alloc, text) {
         Ok(script) => Ok(script),
         Err(_) => Err("no script")?,
-    }
-}
-
-/// The script of the row of this name.
-pub fn row_of(name: &str) -> Result<&'static str, Fail> {
-    match row_text(name) {
-        Some(text) => Ok(text),
-        None => Err("no row")?,
     }
 }
 
@@ -144,29 +133,4 @@ pub fn returned(alloc: Global, values: &[u128]) -> Result<End, Fail> {
     let mut returned = Vec::new(alloc);
     returned.extend_from_slice(values)?;
     Ok(End::Returned(returned))
-}
-
-/// A script's text and its function end so.
-pub fn text_ends(
-    rt: &impl Abort,
-    alloc: Global,
-    text: &str,
-    arguments: &[u128],
-    end: End,
-) -> Result<(), Fail> {
-    Pair::new(alloc, text)?.ends_in_zeros(rt, alloc, arguments, end)
-}
-
-/// A script's text and its function return these values for each of these lists of arguments, and leave memory.
-pub fn answers(
-    rt: &impl Abort,
-    alloc: Global,
-    text: &str,
-    rows: &[(&[u128], &[u128])],
-) -> Result<(), Fail> {
-    let pair = Pair::new(alloc, text)?;
-    for (arguments, values) in rows {
-        pair.ends_in_zeros(rt, alloc, arguments, returned(alloc, values)?)?;
-    }
-    Ok(())
 }

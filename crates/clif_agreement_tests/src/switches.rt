@@ -1,7 +1,7 @@
 //! Switches, in scripts and in the functions that are built of them: control goes to the block of the value's case.
 #![tactic(auto)]
 
-use crate::support::{Answers, Pair, STEPS, returned, world_of, zeros};
+use crate::support::{Pair, STEPS, returned, world_of, zeros};
 use clif_interpreter::function;
 use clif_interpreter::outside::Zeros;
 use clif_interpreter::run::Choices;
@@ -202,99 +202,3 @@ fn borders(rt: HostRuntime) -> Result<(), Fail> {
     }
     Ok(())
 }
-
-/// A variable that is assigned before a switch and read behind it, in blocks to which several ways lead.
-const VARIABLE: &str = "\
-function %variable (i8) -> i8 system_v
-v = declare_var i8
-entry = create_block
-low = create_block
-high = create_block
-other = create_block
-x = append_block_params_for_function_params entry
-switch_to_block entry
-seal_block entry
-def_var v x
-switch x other 1:low 2:low 7:high 8:high 40:low 50:other
-switch_to_block low
-n = use_var v
-sum = iadd n n
-def_var v sum
-jump other
-switch_to_block high
-seal_block high
-n = use_var v
-return n
-seal_block low
-switch_to_block other
-n = use_var v
-one = iconst.i8 1
-sum = iadd n one
-return sum
-seal_block other
-";
-
-/// A loop with a switch in it: a number falls by its last case, and `turns` counts.
-const LOOP: &str = "\
-function %loop (i64) -> i64 system_v
-x = declare_var i64
-turns = declare_var i64
-entry = create_block
-turn = create_block
-even = create_block
-one = create_block
-end = create_block
-argument = append_block_params_for_function_params entry
-switch_to_block entry
-seal_block entry
-def_var x argument
-jump turn
-switch_to_block turn
-before = use_var turns
-after = iadd_imm_s before 1
-def_var turns after
-now = use_var x
-switch now one 0:end 2:even 4:even 6:even 8:even
-switch_to_block even
-seal_block even
-now = use_var x
-two = iconst.i64 2
-half = udiv now two
-def_var x half
-jump turn
-switch_to_block one
-seal_block one
-now = use_var x
-less = iadd_imm_s now -1
-def_var x less
-jump turn
-seal_block turn
-seal_block end
-switch_to_block end
-result = use_var turns
-return result
-";
-
-/// Scripts, and what they return.
-pub const ANSWERS: &[Answers] = &[
-    // low keys are doubled, and all but the high ones get 1 more
-    (
-        VARIABLE,
-        &[
-            (&[0], &[1]),
-            (&[1], &[3]),
-            (&[2], &[5]),
-            (&[3], &[4]),
-            (&[7], &[7]),
-            (&[8], &[8]),
-            (&[40], &[81]),
-            (&[50], &[51]),
-            (&[255], &[0]),
-        ],
-    ),
-    // 9, 8, 4, 2, 1, 0 are six turns
-    (
-        LOOP,
-        &[(&[0], &[1]), (&[2], &[3]), (&[9], &[6]), (&[11], &[8])],
-    ),
-];

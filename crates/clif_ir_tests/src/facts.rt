@@ -6,7 +6,7 @@ use clif_ir::function::{Function, ValueDef};
 use clif_types::{Block, EntityRef, Inst, Type, Value};
 use std::process::Abort;
 
-/// A fact, where blocks, values and instructions are told by their numbers.
+/// A fact, where blocks, values and instructions are named by their numbers.
 #[derive(Clone, Copy)]
 pub enum Fact {
     /// There are so many blocks.

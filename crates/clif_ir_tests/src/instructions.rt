@@ -1,4 +1,4 @@
-//! Instructions without lists and edges as plain data, where values and entries of tables are told by their numbers.
+//! Instructions without lists and edges as plain data, where values and entries of tables are named by their numbers.
 #![tactic(auto)]
 
 use crate::support::{below_1000, v};

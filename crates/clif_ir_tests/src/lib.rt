@@ -1,39 +1,24 @@
-//! Tests of `clif_ir`, of what no clause says: printed texts, as the printer's rules give them, and that calls succeed.
+//! Tests of functions and of their tables, of what no clause says: printed texts, as the printer's rules give them, that
+//! calls succeed, and what the check of types finds, as the documentation of Cranelift's instructions types them.
 //!
-//! Most tests are tables of functions that are made by the crate's calls alone (`steps.rt`).
+//! Most tests are tables of functions that are made by calls of `clif_ir` alone.
 #![tactic(auto)]
 
 #[cfg(test)]
-mod call_changes;
+mod check;
 #[cfg(test)]
-mod calls;
-#[cfg(test)]
-mod edges;
+mod cursor;
 #[cfg(test)]
 mod facts;
 #[cfg(test)]
-mod forms;
+mod functions;
 #[cfg(test)]
 mod instructions;
-#[cfg(test)]
-mod numbers;
-#[cfg(test)]
-mod rewrites;
-#[cfg(test)]
-mod rows;
-#[cfg(test)]
-mod shapes;
-#[cfg(test)]
-mod side_tables;
 #[cfg(test)]
 mod steps;
 #[cfg(test)]
 mod support;
 #[cfg(test)]
-mod texts;
+mod tables;
 #[cfg(test)]
 mod transfers;
-#[cfg(test)]
-mod walks;
-#[cfg(test)]
-mod writers;

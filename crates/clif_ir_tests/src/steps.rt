@@ -4,7 +4,7 @@
 use crate::facts::{Fact, holds};
 use crate::instructions::{Plain, shape_of};
 use crate::support::{
-    PLACE, b, below_1000, block_of, has_slots, inst_of, is_param, is_place_of, map_entry,
+    PLACE, b, below_1000, block_of, has_slots, inst_of, is_param, is_place_of, map_of,
     names_what_exists, prints, signature_of, value_of,
 };
 use crate::transfers::{Transfer, transfer_of};
@@ -22,12 +22,12 @@ use std::test::Fail;
 
 /// A function that is made by steps.
 pub struct Case {
-    /// What is told if a fact doesn't hold, or another text is printed.
+    /// What is said if a fact doesn't hold, or another text is printed.
     pub name: &'static str,
     /// The function without blocks.
     pub head: Head,
     /// How it is made.
-    pub steps: &'static [Step],
+    pub steps: &'static [Step<'static>],
 }
 
 /// The name and the signature of a function.
@@ -42,13 +42,15 @@ pub enum Head {
 /// The name `%sample`, with no parameters and no returned values.
 pub const SAMPLE: Head = Head::Named("sample", &[], &[], CallConv::SystemV);
 
-/// A step in the making of a function, where all is told by numbers.
+/// A step in the making of a function, where all is named by numbers.
 #[derive(Clone, Copy)]
-pub enum Step {
+pub enum Step<'a> {
     /// Makes a block.
     Create,
     /// Puts a block at the end of the layout.
     LayOut(u32),
+    /// Makes a block and puts it at the end of the layout.
+    LaidOut,
     /// Puts a block behind a block of the layout.
     LayOutAfter(u32, u32),
     /// Puts a block at the end of the layout, unless it is in the layout.
@@ -75,7 +77,7 @@ pub enum Step {
     /// Puts an instruction right behind another one, with its controlling type.
     After(u32, Type, Plain),
     /// Puts a return, a branch or a call at the end of a block.
-    Go(u32, Transfer),
+    Go(u32, Transfer<'a>),
     /// Puts a value at the end of what each edge of an instruction passes that goes to a block.
     Append(u32, u32, u32),
     /// Makes the edges of an instruction that go to a block go to another one.
@@ -93,7 +95,7 @@ pub enum Step {
     /// Finds that a fact holds.
     Is(Fact),
     /// Finds whether the functions and signatures exist that an instruction names.
-    Entries(Transfer, bool),
+    Entries(Transfer<'a>, bool),
     /// Finds that the function prints as this text.
     Prints(&'static str),
 }
@@ -114,6 +116,12 @@ fn lay_out(rt: &impl Abort, func: &mut Function, block: u32) -> Result<(), Fail>
     let block = block_of(rt, func, block);
     assert!(rt; !func.is_block_inserted(block));
     func.append_block(block)?;
+    Ok(())
+}
+
+fn laid_out(func: &mut Function) -> Result<(), Fail> {
+    let block = func.create_block()?;
+    func.ensure_block_inserted(block)?;
     Ok(())
 }
 
@@ -238,10 +246,7 @@ fn stack_map(
     inst: u32,
     entries: &[(Type, u32, u32)],
 ) -> Result<(), Fail> {
-    let mut map = Vec::new(func.allocator());
-    for entry in entries {
-        map.push(map_entry(rt, *entry))?;
-    }
+    let map = map_of(rt, func.allocator(), entries)?;
     let inst = inst_of(rt, func, inst);
     assert!(rt; has_slots(func, map.as_slice()));
     func.set_stack_map(inst, map)?;
@@ -262,72 +267,139 @@ fn label(
     Ok(())
 }
 
-fn make(rt: &impl Abort, func: &mut Function, step: Step, name: &str) -> Result<(), Fail> {
-    match step {
-        Step::Create => {
-            func.create_block()?;
-        }
-        Step::LayOut(block) => lay_out(rt, func, block)?,
-        Step::LayOutAfter(block, after) => lay_out_after(rt, func, block, after),
-        Step::Ensure(block) => {
-            let block = block_of(rt, func, block);
-            func.ensure_block_inserted(block)?;
-        }
-        Step::Cold(block) => {
-            let block = block_of(rt, func, block);
-            func.set_cold_block(block);
-        }
-        Step::Param(block, ty) => {
-            let block = block_of(rt, func, block);
-            func.append_block_param(block, ty)?;
-        }
-        Step::Alias(param, original) => alias(rt, func, param, original)?,
-        Step::Slot(size, align_shift) => {
-            assert!(rt; align_shift < 32);
-            func.create_sized_stack_slot(StackSlotData::new(size, align_shift))?;
-        }
-        Step::Pool(byte, count) => pool(func, byte, count)?,
-        Step::Import(name, params, returns) => import(func, name, params, returns)?,
-        Step::Put(block, ty, plain) => {
-            put(rt, func, block, InsertAt::Back, ty, shape_of(rt, plain))?;
-        }
-        Step::PutBehind(block, count, ty, plain) => {
-            let at = InsertAt::Behind(count);
-            put(rt, func, block, at, ty, shape_of(rt, plain))?;
-        }
-        Step::Before(inst, ty, plain) => {
-            beside(rt, func, inst, ty, shape_of(rt, plain), false)?;
-        }
-        Step::After(inst, ty, plain) => {
-            beside(rt, func, inst, ty, shape_of(rt, plain), true)?;
-        }
-        Step::Go(block, transfer) => {
-            let shape = transfer_of(rt, func, transfer)?;
-            put(rt, func, block, InsertAt::Back, Type::Invalid, shape)?;
-        }
-        Step::Append(inst, block, value) => append(rt, func, inst, block, value)?,
-        Step::Target(inst, from, to) => target(rt, func, inst, from, to),
-        Step::Operand(inst, place, value) => operand(rt, func, inst, place, value),
-        Step::Argument(inst, edge, place, value) => argument(rt, func, inst, edge, place, value),
-        Step::StackMap(inst, entries) => stack_map(rt, func, inst, entries)?,
-        Step::Collect => func.collect_debug_info(),
-        Step::Label(value, from, number) => label(rt, func, value, from, number)?,
-        Step::Is(fact) => assert!(rt; holds(rt, func, fact), "{name}"),
-        Step::Entries(transfer, exist) => {
-            let shape = transfer_of(rt, func, transfer)?;
-            assert!(rt; func.has_entries(&shape) == exist, "{name}");
-        }
-        Step::Prints(text) => prints(rt, func, text, name)?,
-    }
+fn create(func: &mut Function) -> Result<(), Fail> {
+    func.create_block()?;
     Ok(())
 }
 
-/// The function that the first steps make, and then those of a case.
-pub fn made(rt: &impl Abort, alloc: Global, first: &[Step], case: &Case) -> Result<Function, Fail> {
-    let mut func = begun(alloc, case.head)?;
-    for step in first {
-        make(rt, &mut func, *step, case.name)?;
+fn ensure(rt: &impl Abort, func: &mut Function, block: u32) -> Result<(), Fail> {
+    let block = block_of(rt, func, block);
+    func.ensure_block_inserted(block)?;
+    Ok(())
+}
+
+fn cool(rt: &impl Abort, func: &mut Function, block: u32) {
+    let block = block_of(rt, func, block);
+    func.set_cold_block(block);
+}
+
+fn param(rt: &impl Abort, func: &mut Function, block: u32, ty: Type) -> Result<(), Fail> {
+    let block = block_of(rt, func, block);
+    func.append_block_param(block, ty)?;
+    Ok(())
+}
+
+fn slot(rt: &impl Abort, func: &mut Function, size: u32, align_shift: u8) -> Result<(), Fail> {
+    assert!(rt; align_shift < 32);
+    func.create_sized_stack_slot(StackSlotData::new(size, align_shift))?;
+    Ok(())
+}
+
+fn go(
+    rt: &impl Abort,
+    func: &mut Function,
+    block: u32,
+    transfer: Transfer<'_>,
+) -> Result<(), Fail> {
+    let shape = transfer_of(rt, func, transfer)?;
+    put(rt, func, block, InsertAt::Back, Type::Invalid, shape)
+}
+
+// Asserts whether the functions and signatures exist that an instruction names.
+fn has_entries(
+    rt: &impl Abort,
+    func: &mut Function,
+    transfer: Transfer<'_>,
+    exist: bool,
+    name: &str,
+) -> Result<(), Fail> {
+    let shape = transfer_of(rt, func, transfer)?;
+    assert!(rt; func.has_entries(&shape) == exist, "{name}");
+    Ok(())
+}
+
+// Makes a step that always succeeds.
+fn make_surely(rt: &impl Abort, func: &mut Function, step: Step<'_>, name: &str) {
+    match step {
+        Step::LayOutAfter(block, after) => lay_out_after(rt, func, block, after),
+        Step::Cold(block) => cool(rt, func, block),
+        Step::Target(inst, from, to) => target(rt, func, inst, from, to),
+        Step::Operand(inst, place, value) => operand(rt, func, inst, place, value),
+        Step::Argument(inst, edge, place, value) => argument(rt, func, inst, edge, place, value),
+        Step::Collect => func.collect_debug_info(),
+        Step::Is(fact) => assert!(rt; holds(rt, func, fact), "{name}"),
+        _ => assert!(rt; false, "{name}"),
     }
+}
+
+fn make(rt: &impl Abort, func: &mut Function, step: Step<'_>, name: &str) -> Result<(), Fail> {
+    match step {
+        Step::Create => create(func),
+        Step::LayOut(block) => lay_out(rt, func, block),
+        Step::LaidOut => laid_out(func),
+        Step::Ensure(block) => ensure(rt, func, block),
+        Step::Param(block, ty) => param(rt, func, block, ty),
+        Step::Alias(param, original) => alias(rt, func, param, original),
+        Step::Slot(size, align_shift) => slot(rt, func, size, align_shift),
+        Step::Pool(byte, count) => pool(func, byte, count),
+        Step::Import(name, params, returns) => import(func, name, params, returns),
+        Step::Put(block, ty, plain) => {
+            put(rt, func, block, InsertAt::Back, ty, shape_of(rt, plain))
+        }
+        Step::PutBehind(block, count, ty, plain) => {
+            put(
+                rt,
+                func,
+                block,
+                InsertAt::Behind(count),
+                ty,
+                shape_of(rt, plain),
+            )
+        }
+        Step::Before(inst, ty, plain) => beside(rt, func, inst, ty, shape_of(rt, plain), false),
+        Step::After(inst, ty, plain) => beside(rt, func, inst, ty, shape_of(rt, plain), true),
+        Step::Go(block, transfer) => go(rt, func, block, transfer),
+        Step::Append(inst, block, value) => append(rt, func, inst, block, value),
+        Step::StackMap(inst, entries) => stack_map(rt, func, inst, entries),
+        Step::Label(value, from, number) => label(rt, func, value, from, number),
+        Step::Entries(transfer, exist) => has_entries(rt, func, transfer, exist, name),
+        Step::Prints(text) => prints(rt, func, text, name),
+        Step::LayOutAfter(..)
+        | Step::Cold(_)
+        | Step::Target(..)
+        | Step::Operand(..)
+        | Step::Argument(..)
+        | Step::Collect
+        | Step::Is(_) => {
+            make_surely(rt, func, step, name);
+            Ok(())
+        }
+    }
+}
+
+/// The function with this head that steps make. The name is that of the case.
+pub fn made_by(
+    rt: &impl Abort,
+    alloc: Global,
+    head: Head,
+    steps: &[Step<'_>],
+    name: &str,
+) -> Result<Function, Fail> {
+    let mut func = begun(alloc, head)?;
+    for step in steps {
+        make(rt, &mut func, *step, name)?;
+    }
+    Ok(func)
+}
+
+/// The function that the first steps make, and then those of a case.
+pub fn made(
+    rt: &impl Abort,
+    alloc: Global,
+    first: &[Step<'_>],
+    case: &Case,
+) -> Result<Function, Fail> {
+    let mut func = made_by(rt, alloc, case.head, first, case.name)?;
     for step in case.steps {
         make(rt, &mut func, *step, case.name)?;
     }
@@ -338,7 +410,7 @@ pub fn made(rt: &impl Abort, alloc: Global, first: &[Step], case: &Case) -> Resu
 pub fn make_all(
     rt: &impl Abort,
     alloc: Global,
-    first: &[Step],
+    first: &[Step<'_>],
     cases: &[Case],
 ) -> Result<(), Fail> {
     for case in cases {

@@ -43,6 +43,11 @@ pub fn v(rt: &impl Abort, number: u32) -> Value {
     Value::from_u32(below_1000(rt, number))
 }
 
+/// The instruction with this number, which may not exist.
+pub fn i(rt: &impl Abort, number: u32) -> Inst {
+    Inst::from_u32(below_1000(rt, number))
+}
+
 /// The block of a function with this number.
 pub fn block_of(rt: &impl Abort, func: &Function, number: u32) -> Block
     ensures { result < length func.now.blocks }
@@ -65,7 +70,7 @@ pub fn value_of(rt: &impl Abort, func: &Function, number: u32) -> Value
 pub fn inst_of(rt: &impl Abort, func: &Function, number: u32) -> Inst
     ensures { result < length func.now.insts }
 {
-    let inst = Inst::from_u32(below_1000(rt, number));
+    let inst = i(rt, number);
     assert!(rt; inst.index() < func.inst_count());
     inst
 }
@@ -75,6 +80,19 @@ pub fn map_entry(rt: &impl Abort, row: (Type, u32, u32)) -> UserStackMapEntry {
     let (ty, number, offset) = row;
     let slot = StackSlot::from_u32(below_1000(rt, number));
     UserStackMapEntry { ty, slot, offset }
+}
+
+/// The stack map of these entries.
+pub fn map_of(
+    rt: &impl Abort,
+    alloc: Global,
+    entries: &[(Type, u32, u32)],
+) -> Result<Vec<UserStackMapEntry>, Fail> {
+    let mut map = Vec::new(alloc);
+    for entry in entries {
+        map.push(map_entry(rt, *entry))?;
+    }
+    Ok(map)
 }
 
 /// Whether there is such a place in a list of so many.
@@ -169,7 +187,7 @@ pub fn signature_of(
     Ok(signature)
 }
 
-/// Asserts the text of a function. The name is told where it has another one.
+/// Asserts the text of a function. The name is said where it has another one.
 pub fn prints(rt: &impl Abort, func: &Function, text: &str, name: &str) -> Result<(), Fail> {
     let shown = func.display();
     let found = format!(in func.allocator(); "{shown}")?;

@@ -1,4 +1,4 @@
-//! Returns, branches and calls as plain data, where functions, signatures, blocks and values are told by their numbers.
+//! Returns, branches and calls as plain data, where functions, signatures, blocks and values are named by their numbers.
 #![tactic(auto)]
 
 use crate::support::{b, below_1000, v};
@@ -17,28 +17,28 @@ use std::test::Fail;
 
 /// A return, a branch or a call.
 #[derive(Clone, Copy)]
-pub enum Transfer {
+pub enum Transfer<'a> {
     /// A return of values.
-    Return(&'static [u32]),
+    Return(&'a [u32]),
     /// A jump.
-    Jump(To),
-    /// A branch by a value: the block that it goes to where the value isn't zero, and the other one.
-    Brif(u32, u32, u32),
+    Jump(To<'a>),
+    /// A branch by a value: the edge along which it goes where the value isn't zero, and the other one.
+    Brif(u32, To<'a>, To<'a>),
     /// A branch by a table: the value, the default block, and those of the entries.
-    BranchTable(u32, u32, &'static [u32]),
+    BranchTable(u32, u32, &'a [u32]),
     /// A call of a function.
-    Call(u32, &'static [u32]),
+    Call(u32, &'a [u32]),
     /// A call by a signature. The first operand is the address.
-    CallIndirect(u32, &'static [u32]),
+    CallIndirect(u32, &'a [u32]),
     /// A call of a function that may throw.
-    TryCall(u32, &'static [u32], Throws),
+    TryCall(u32, &'a [u32], Throws<'a>),
     /// A call that may throw. The first operand is the address.
-    TryCallIndirect(&'static [u32], Throws),
+    TryCallIndirect(&'a [u32], Throws<'a>),
 }
 
 /// An edge: its target, and what it passes.
 #[derive(Clone, Copy)]
-pub struct To(pub u32, pub &'static [Arg]);
+pub struct To<'a>(pub u32, pub &'a [Arg]);
 
 /// What an edge passes: a value, what a call returned, or what it threw.
 #[derive(Clone, Copy)]
@@ -50,17 +50,17 @@ pub enum Arg {
 
 /// Where a call goes: its signature, the edge where it returns, and the items.
 #[derive(Clone, Copy)]
-pub struct Throws {
+pub struct Throws<'a> {
     pub sig: u32,
-    pub normal: To,
-    pub items: &'static [Item],
+    pub normal: To<'a>,
+    pub items: &'a [Item<'a>],
 }
 
 /// An item of an exception table.
 #[derive(Clone, Copy)]
-pub enum Item {
-    Tag(u32, To),
-    Default(To),
+pub enum Item<'a> {
+    Tag(u32, To<'a>),
+    Default(To<'a>),
     Context(u32),
 }
 
@@ -80,7 +80,7 @@ fn arg_of(rt: &impl Abort, arg: Arg) -> BlockArg {
     }
 }
 
-fn edge_of(rt: &impl Abort, alloc: Global, to: To) -> Result<BlockCall, Fail> {
+fn edge_of(rt: &impl Abort, alloc: Global, to: To<'_>) -> Result<BlockCall, Fail> {
     let mut call = BlockCall::new(alloc, b(rt, to.0), &[])?;
     for arg in to.1 {
         call.args.push(arg_of(rt, *arg))?;
@@ -107,7 +107,7 @@ fn jump_table_of(
     Ok(table)
 }
 
-fn item_of(rt: &impl Abort, alloc: Global, item: Item) -> Result<ExceptionTableItem, Fail> {
+fn item_of(rt: &impl Abort, alloc: Global, item: Item<'_>) -> Result<ExceptionTableItem, Fail> {
     Ok(match item {
         Item::Tag(tag, to) => ExceptionTableItem::Tag(tag, edge_of(rt, alloc, to)?),
         Item::Default(to) => ExceptionTableItem::Default(edge_of(rt, alloc, to)?),
@@ -119,7 +119,7 @@ fn item_of(rt: &impl Abort, alloc: Global, item: Item) -> Result<ExceptionTableI
 fn exception_of(
     rt: &impl Abort,
     func: &mut Function,
-    throws: Throws,
+    throws: Throws<'_>,
 ) -> Result<ExceptionTargets, Fail> {
     let alloc = func.allocator();
     let mut items = Vec::new(alloc);
@@ -136,47 +136,109 @@ fn exception_of(
     Ok(exception)
 }
 
+fn branch_of(
+    rt: &impl Abort,
+    alloc: Global,
+    x: u32,
+    taken: To<'_>,
+    other: To<'_>,
+) -> Result<InstructionData, Fail> {
+    let arg = v(rt, x);
+    let taken = edge_of(rt, alloc, taken)?;
+    let other = edge_of(rt, alloc, other)?;
+    let blocks = [taken, other];
+    Ok(InstructionData::Brif { arg, blocks })
+}
+
+fn table_branch_of(
+    rt: &impl Abort,
+    func: &mut Function,
+    x: u32,
+    default: u32,
+    entries: &[u32],
+) -> Result<InstructionData, Fail> {
+    let arg = v(rt, x);
+    let table = jump_table_of(rt, func, default, entries)?;
+    Ok(InstructionData::BranchTable { arg, table })
+}
+
+fn call_of(
+    rt: &impl Abort,
+    alloc: Global,
+    number: u32,
+    args: &[u32],
+) -> Result<InstructionData, Fail> {
+    let func_ref = FuncRef::from_u32(below_1000(rt, number));
+    let args = values(rt, alloc, args)?;
+    Ok(InstructionData::Call { func_ref, args })
+}
+
+fn indirect_call_of(
+    rt: &impl Abort,
+    alloc: Global,
+    sig: u32,
+    args: &[u32],
+) -> Result<InstructionData, Fail> {
+    let sig_ref = SigRef::from_u32(below_1000(rt, sig));
+    let args = values(rt, alloc, args)?;
+    Ok(InstructionData::CallIndirect { sig_ref, args })
+}
+
+fn try_call_of(
+    rt: &impl Abort,
+    func: &mut Function,
+    number: u32,
+    args: &[u32],
+    throws: Throws<'_>,
+) -> Result<InstructionData, Fail> {
+    let func_ref = FuncRef::from_u32(below_1000(rt, number));
+    let args = values(rt, func.allocator(), args)?;
+    let exception = exception_of(rt, func, throws)?;
+    Ok(InstructionData::TryCall {
+        func_ref,
+        args,
+        exception,
+    })
+}
+
+fn indirect_try_call_of(
+    rt: &impl Abort,
+    func: &mut Function,
+    args: &[u32],
+    throws: Throws<'_>,
+) -> Result<InstructionData, Fail> {
+    let args = values(rt, func.allocator(), args)?;
+    let exception = exception_of(rt, func, throws)?;
+    Ok(InstructionData::TryCallIndirect { args, exception })
+}
+
+fn return_of(rt: &impl Abort, alloc: Global, args: &[u32]) -> Result<InstructionData, Fail> {
+    let args = values(rt, alloc, args)?;
+    Ok(InstructionData::MultiAry { args })
+}
+
+fn jump_of(rt: &impl Abort, alloc: Global, to: To<'_>) -> Result<InstructionData, Fail> {
+    let destination = edge_of(rt, alloc, to)?;
+    Ok(InstructionData::Jump { destination })
+}
+
 /// The shape of a return, a branch or a call.
 pub fn transfer_of(
     rt: &impl Abort,
     func: &mut Function,
-    transfer: Transfer,
+    transfer: Transfer<'_>,
 ) -> Result<InstructionData, Fail> {
     let alloc = func.allocator();
-    Ok(match transfer {
-        Transfer::Return(args) => InstructionData::MultiAry {
-            args: values(rt, alloc, args)?,
-        },
-        Transfer::Jump(to) => InstructionData::Jump {
-            destination: edge_of(rt, alloc, to)?,
-        },
-        Transfer::Brif(x, taken, other) => InstructionData::Brif {
-            arg: v(rt, x),
-            blocks: [
-                edge_of(rt, alloc, To(taken, &[]))?,
-                edge_of(rt, alloc, To(other, &[]))?,
-            ],
-        },
-        Transfer::BranchTable(x, default, entries) => InstructionData::BranchTable {
-            arg: v(rt, x),
-            table: jump_table_of(rt, func, default, entries)?,
-        },
-        Transfer::Call(number, args) => InstructionData::Call {
-            func_ref: FuncRef::from_u32(below_1000(rt, number)),
-            args: values(rt, alloc, args)?,
-        },
-        Transfer::CallIndirect(sig, args) => InstructionData::CallIndirect {
-            sig_ref: SigRef::from_u32(below_1000(rt, sig)),
-            args: values(rt, alloc, args)?,
-        },
-        Transfer::TryCall(number, args, throws) => InstructionData::TryCall {
-            func_ref: FuncRef::from_u32(below_1000(rt, number)),
-            args: values(rt, alloc, args)?,
-            exception: exception_of(rt, func, throws)?,
-        },
-        Transfer::TryCallIndirect(args, throws) => InstructionData::TryCallIndirect {
-            args: values(rt, alloc, args)?,
-            exception: exception_of(rt, func, throws)?,
-        },
-    })
+    match transfer {
+        Transfer::Return(args) => return_of(rt, alloc, args),
+        Transfer::Jump(to) => jump_of(rt, alloc, to),
+        Transfer::Brif(x, taken, other) => branch_of(rt, alloc, x, taken, other),
+        Transfer::BranchTable(x, default, entries) => {
+            table_branch_of(rt, func, x, default, entries)
+        }
+        Transfer::Call(number, args) => call_of(rt, alloc, number, args),
+        Transfer::CallIndirect(sig, args) => indirect_call_of(rt, alloc, sig, args),
+        Transfer::TryCall(number, args, throws) => try_call_of(rt, func, number, args, throws),
+        Transfer::TryCallIndirect(args, throws) => indirect_try_call_of(rt, func, args, throws),
+    }
 }

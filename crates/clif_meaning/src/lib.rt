@@ -6,5 +6,3 @@ pub mod bits;
 pub mod examples;
 pub mod machines;
 pub mod scripts;
-#[cfg(test)]
-mod tests;

@@ -1,5 +1,6 @@
 pub mod RecordLaws
 pub mod RecordMaps
+pub mod Pages
 pub mod SparseSet
 pub mod Stacks
 pub mod Copying

@@ -7,14 +7,11 @@ use Rattle.std.specs.Ordering.{nat_cmp, ordering_then, is_eq, eq_by_cmp}
 use Rattle.std.specs.Option.{unwrap_or}
 use Rattle.std.specs.FinMap as map
 use Rattle.std.specs.FinMap.{nat_cmp-IsAntisymmetric, get-insert, get-empty, get-from_entries, same_map, len-empty, len-insert}
-use Rattle.std.specs.HashMap.{HashMap, get, hash_map_len, IsUnique}
-use Rattle.std.specs.Map.{lookup, keys_of}
-use Rattle.std.specs.List.{AllByRecursion, IsDistinct}
 use Rattle.std.specs.Cmp.{IsTotalOrder, on_total, then_total, tied_itself, nat_cmp_total}
 use Rattle.std.proofs.lemmas.Grind.{common_steps}
 use Rattle.std.proofs.lemmas.Bool.{cases_eq}
 use Rattle.clif_records.specs.Tables.{Recorded, RecordMap, variable_then_block, nothing_recorded, recorded_at, record_at, lookups_at, one_more}
-use Rattle.clif_records.specs.Records.{records_in, recording, counting, HasEntry}
+use Rattle.clif_records.specs.Records.{recording, counting, HasEntry}
 
 -- THE ORDER -------------------------------------------------------------------------------------------------------
 
@@ -40,20 +37,20 @@ not_equal : (b : Bool) → (b ≡ true → ⊥) → b ≡ false
 not_equal true none = absurd (none refl)
 not_equal false none = refl
 
-apart : (p q : ℕ × ℕ) → p ≢ q → eq_by_cmp variable_then_block p q ≡ false
+pub apart : (p q : ℕ × ℕ) → p ≢ q → eq_by_cmp variable_then_block p q ≡ false
 apart p q other = not_equal _ (λ is. other (same_place p q (is_equal _ is)))
 
-itself : (p : ℕ × ℕ) → eq_by_cmp variable_then_block p p ≡ true
+pub itself : (p : ℕ × ℕ) → eq_by_cmp variable_then_block p p ≡ true
 itself p = ap is_eq (tied_itself in_order p)
 
-test_true : (a b : ℕ) → a ≡ b → (a == b) ≡ true
+pub test_true : (a b : ℕ) → a ≡ b → (a == b) ≡ true
 test_true a b same = eq-eqb a b same
 
-test_false : (a b : ℕ) → a ≢ b → (a == b) ≡ false
+pub test_false : (a b : ℕ) → a ≢ b → (a == b) ≡ false
 test_false a b other = grind (arith, common_steps, other)
 
 -- two keys are one where both numbers are
-key_test : (y c x b : ℕ) → eq_by_cmp variable_then_block (y, c) (x, b) ≡ (y == x && c == b)
+pub key_test : (y c x b : ℕ) → eq_by_cmp variable_then_block (y, c) (x, b) ≡ (y == x && c == b)
 key_test y c x b =
     elim (cases_eq y x) [
       | inl same ↦
@@ -152,86 +149,6 @@ record_at-entries [] x b = record_at-empty x b
 record_at-entries (e ∷ es) x b =
     record_at-insert (map.from_entries es) e.0.0 e.0.1 e.1 x b
     ∙ (λ i. if same_test e.0.0 x i && same_test e.0.1 b i then e.1.value else record_at-entries es x b i)
-
--- THE ENTRIES OF A MAP --------------------------------------------------------------------------------------------
-
--- two keys are equal where both numbers are
-abbrev pub same_key : ℕ × ℕ → ℕ × ℕ → Bool
-same_key p q = p.0 == q.0 && p.1 == q.1
-
--- a look-up among the entries is one in the records
-lookup_found : (es : List ((ℕ × ℕ) × Recorded)) (p : ℕ × ℕ) → lookup (same_key p) es ≡ map.find variable_then_block p es
-lookup_found [] p = refl
-lookup_found (e ∷ es) p = λ i. cond (sym (key_test p.0 p.1 e.0.0 e.0.1) i) (Some e.1) (lookup_found es p i)
-
-get-records_in : {S : Type 0} (kept : HashMap (ℕ × ℕ) Recorded S) (p : ℕ × ℕ) → map.get (records_in kept) p ≡ get same_key kept p
-get-records_in kept p = get-from_entries in_order kept.entries p ∙ sym (lookup_found kept.entries p)
-
-pub recorded_at-found : {S : Type 0} (kept : HashMap (ℕ × ℕ) Recorded S) (x b : ℕ) (found : Option Recorded) → found ≡ get same_key kept (x, b)
-    → recorded_at (records_in kept) x b ≡ unwrap_or found nothing_recorded
-recorded_at-found kept x b found is = ap (λ e. unwrap_or e nothing_recorded) (get-records_in kept (x, b) ∙ sym is)
-
--- what was found for a key, or nothing, was changed and put
-pub entry_changed : {S : Type 0} (old : HashMap (ℕ × ℕ) Recorded S) (updated new : List ((ℕ × ℕ) × Recorded)) (x b : ℕ) (change : Recorded → Recorded)
-    → ((q : ℕ × ℕ) → lookup (same_key q) updated ≡ cond (same_key (x, b) q) (Some (change (unwrap_or (get same_key old (x, b)) nothing_recorded))) (get same_key old q))
-    → new ≡ updated
-    → HasEntry (records_in old) (map.from_entries new) x b change
-entry_changed old updated new x b change found same =
-    ap map.from_entries same
-    ∙ same_map in_order same_place _ _ (λ q.
-    get-from_entries in_order updated q ∙ sym (lookup_found updated q) ∙ found q
-    ∙ (λ i. cond (turned q i) (Some (change (unwrap_or (sym (get-records_in old (x, b)) i) nothing_recorded))) (sym (get-records_in old q) i))
-    ∙ sym (get-insert in_order (records_in old) (x, b) (change (recorded_at (records_in old) x b)) q))
-  where
-    swapped : (m n : ℕ) → (m == n) ≡ (n == m)
-    swapped m n = elim (cases_eq m n) [ inl is ↦ grind (arith, common_steps, is) | inr other ↦ grind (arith, common_steps, other) ]
-
-    turned : (q : ℕ × ℕ) → same_key (x, b) q ≡ eq_by_cmp variable_then_block q (x, b)
-    turned q = (λ i. swapped x q.0 i && swapped b q.1 i) ∙ sym (key_test q.0 q.1 x b)
-
--- what was left alone is as it was
-pub entries_kept : {S : Type 0} (old new : HashMap (ℕ × ℕ) Recorded S) → new.entries ≡ old.entries → records_in new ≡ records_in old
-entries_kept old new same = ap map.from_entries same
-
-not_among : (es : List ((ℕ × ℕ) × Recorded)) (p : ℕ × ℕ) → AllByRecursion (λ q. same_key p q ≡ false) (keys_of es) → map.find variable_then_block p es ≡ None
-not_among [] p apart = refl
-not_among (e ∷ es) p apart =
-    ap (λ t. cond t (Some e.1) (map.find variable_then_block p es)) (key_test p.0 p.1 e.0.0 e.0.1 ∙ apart.0) ∙ not_among es p apart.1
-
--- where no key stands twice, there are as many records as entries
-pub len-records_in : {S : Type 0} (kept : HashMap (ℕ × ℕ) Recorded S) → IsUnique same_key kept → map.len (records_in kept) ≡ hash_map_len kept
-unfolding IsDistinct
-len-records_in kept unique = by kept.entries unique
-  where
-    by : (es : List ((ℕ × ℕ) × Recorded)) → IsDistinct same_key (keys_of es) → map.len (map.from_entries {R = variable_then_block} es) ≡ length es
-    by [] unique = len-empty variable_then_block Recorded
-    by (e ∷ es) unique =
-        let absent : map.get (map.from_entries {R = variable_then_block} es) e.0 ≡ None = get-from_entries in_order es e.0 ∙ not_among es e.0 unique.0 in
-        let rest : map.len (map.from_entries {R = variable_then_block} es) ≡ length es = by es unique.1 in
-        len-insert in_order (map.from_entries es) e.0 e.1
-        ∙ ap (λ (f : Option Recorded). cond (is_some f) (map.len (map.from_entries {R = variable_then_block} es)) (map.len (map.from_entries {R = variable_then_block} es) + 1)) absent
-        ∙ ap (λ n. n + 1) rest ∙ omega arith
-
--- nothing is recorded where there is no entry, and only there
-pub empty_of_none : {S : Type 0} (kept : HashMap (ℕ × ℕ) Recorded S) → hash_map_len kept ≡ 0 → records_in kept ≡ map.empty
-empty_of_none kept none = by kept.entries none
-  where
-    by : (es : List ((ℕ × ℕ) × Recorded)) → length es ≡ 0 → ◌≡◌ {A = RecordMap} (map.from_entries es) map.empty
-    by [] none = refl
-    by (e ∷ es) none = absurd (omega (arith, none))
-
-pub none_of_empty : {S : Type 0} (kept : HashMap (ℕ × ℕ) Recorded S) → records_in kept ≡ map.empty → hash_map_len kept ≡ 0
-none_of_empty kept empty = by kept.entries empty
-  where
-    some_none : {r : Recorded} → ◌≡◌ {A = Option Recorded} (Some r) None → ⊥
-    some_none same = cc
-
-    by : (es : List ((ℕ × ℕ) × Recorded)) → ◌≡◌ {A = RecordMap} (map.from_entries es) map.empty → length es ≡ 0
-    by [] empty = refl
-    by (e ∷ es) empty =
-        absurd (some_none (
-        ap (λ t. cond t (Some e.1) (map.find variable_then_block e.0 es)) (sym (itself e.0)) ∙ sym (get-from_entries in_order (e ∷ es) e.0)
-        ∙ ap (λ (m : RecordMap). map.get m e.0) empty ∙ get-empty variable_then_block e.0))
 
 -- A CHANGED ENTRY -------------------------------------------------------------------------------------------------
 

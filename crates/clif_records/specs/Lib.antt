@@ -1,6 +1,7 @@
 pub mod Tables
 pub mod Passed
 pub mod Records
+pub mod Pages
 pub mod Stacks
 pub mod Tracking
 pub mod Lends

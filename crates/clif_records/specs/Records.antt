@@ -1,14 +1,9 @@
 -- How `src/tables.rt` keeps the records, and what its calls make of them. Source: own.
 use Rattle.std.specs.Prelude.{◌≡◌, ℕ, ◌==◌, ◌&&◌, ◌⊎◌, true, List, Option, Some, if◌then◌else◌}
-use Rattle.std.specs.HashMap.{HashMap}
 use Rattle.std.specs.FinMap as map
 use Rattle.clif_records.specs.Tables.{Recorded, RecordMap, recorded_at, record_at, one_more}
 use Rattle.clif_instructions.specs.Members.{stands_in}
 use Rattle.clif_records.specs.Passed.{before_first}
-
--- the records that the entries of the map are
-abbrev pub records_in : {S : Type 0} → HashMap (ℕ × ℕ) Recorded S → RecordMap
-records_in kept = map.from_entries kept.entries
 
 -- with this value; with one more look-up counted
 abbrev pub recording : ℕ → Recorded → Recorded

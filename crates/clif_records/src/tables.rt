@@ -1,8 +1,9 @@
 //! Tables of the construction: the records of a variable, the branches that lead to a block, and the
 //! parameters that wait in it.
-ghost use Rattle.std.specs.Prelude.{◌≡◌, ◌==◌, ◌&&◌, ◌↔◌, IsTrue, false, ℕ, [], ◌∷◌, ◌++◌, ◌<◌, ◌≤◌, ◌+◌, ◌⊎◌, ◌^◌, length, OnOk, OnErr, IfOk, Some, None, if◌then◌else◌, slice_index_or};
+ghost use Rattle.std.specs.Prelude.{◌≡◌, ◌==◌, ◌&&◌, ◌↔◌, IsTrue, false, ℕ, [], ◌∷◌, ◌++◌, ◌<◌, ◌≤◌, ◌+◌, ◌⊎◌, ◌^◌, length, OnOk, OnErr, IfOk, Some, None, option_copied, if◌then◌else◌, slice_index_or};
 ghost use Rattle.clif_instructions.specs.Members.{Stands, place_of, without};
 ghost use Rattle.std.specs.FinMap as map;
+ghost use Rattle.clif_records.specs.Pages.{ChangesCell, IsAtHand, added_by, is_nothing, kept_at, page_number, place_in_page, recorded_in};
 ghost use Rattle.clif_records.specs.Records.{recording, counting, HasEntry, RecordsUpTo, RecordsSome};
 ghost use Rattle.clif_records.specs.Tables.{recorded_at, record_at, lookups_at, one_more, known_at, sealed_at, predecessors_at, sealed_predecessors_at, is_yes, pending_of};
 
@@ -79,30 +80,148 @@ impl PendingList {
     }
 }
 
-/// The records of all variables: one hash map, with an entry for each variable and block of which
-/// something is known. So its memory is that of the records, and each question and each change costs
-/// one search, however many records there are.
+/// What a page keeps of a variable in one of its blocks, in eight bytes.
+#[derive(Clone, Copy, Debug)]
+struct Cell {
+    // The number of the value; that of no value, `NO_VALUE`, where none is recorded.
+    value: u32,
+    lookups: u32,
+}
+
+// Stands for no value. No value has this number.
+const NO_VALUE: u32 = 0xffff_ffff;
+
+// Of how many blocks a page has the cells.
+const BLOCKS_IN_PAGE: u32 = 8;
+
+type Page = [Cell; BLOCKS_IN_PAGE as usize];
+
+const EMPTY_PAGE: Page = [Cell {
+    value: NO_VALUE,
+    lookups: 0,
+}; BLOCKS_IN_PAGE as usize];
+
+const _: () = prove!(size_of::<Page>() == 64);
+
+impl Cell {
+    // What it keeps.
+    fn recorded(self) -> Recorded
+        ensures { result ≡ recorded_in self }
+    {
+        let value = if self.value == NO_VALUE {
+            None
+        } else {
+            Some(Value::from_u32(self.value))
+        };
+        Recorded {
+            value,
+            lookups: self.lookups,
+        }
+    }
+
+    // Whether it keeps nothing.
+    fn is_empty(self) -> bool
+        ensures { result ≡ is_nothing (recorded_in self) }
+    {
+        self.value == NO_VALUE && self.lookups == 0
+    }
+}
+
+// What a cell of a page keeps.
+fn kept_at(page: &Page, place: usize) -> Recorded
+    requires { place < 8 }
+    ensures { result ≡ kept_at (Some page.now) place }
+{
+    page[place].recorded()
+}
+
+// Makes a cell keep a value. Returns how many cells more keep something.
+fn put_value(page: &mut Page, place: usize, value: Value) -> usize
+    requires { place < 8 }
+    ensures changed { ChangesCell page.old page.new place (recording value) }
+    ensures added { result ≡ added_by page.old place }
+{
+    let cell = &mut page[place];
+    let added = usize::from(cell.is_empty());
+    cell.value = value.as_u32();
+    added
+}
+
+// Makes a cell count a look-up. Returns how many cells more keep something.
+fn count_one(page: &mut Page, place: usize) -> usize
+    requires { place < 8 }
+    ensures changed { ChangesCell page.old page.new place counting }
+    ensures added { result ≡ added_by page.old place }
+{
+    let cell = &mut page[place];
+    let added = usize::from(cell.is_empty());
+    cell.lookups = cell.lookups.saturating_add(1);
+    added
+}
+
+// The number of the page of a block: pages have eight blocks each, by their numbers.
+fn page_number(block: Block) -> u32
+    ensures { result ≡ page_number block }
+{
+    block.as_u32() / BLOCKS_IN_PAGE
+}
+
+// Where the cell of a block is in its page.
+fn place_in_page(block: Block) -> usize
+    ensures exact { result ≡ place_in_page block }
+    ensures inside { result < 8 }
+{
+    (block.as_u32() % BLOCKS_IN_PAGE) as usize
+}
+
+/// The page of a variable that was searched last, in which blocks beside one another have their cells.
+#[derive(Clone, Copy)]
+pub struct PageAtHand<'a> {
+    number: u32,
+    page: Option<&'a Page>,
+}
+
+impl PageAtHand<'_> {
+    // What the page keeps for a block of its number.
+    fn recorded(&self, block: Block) -> Recorded
+        ensures { result ≡ kept_at (option_copied self.now.page) (place_in_page block) }
+    {
+        match self.page {
+            Some(page) => kept_at(page, place_in_page(block)),
+            None => NOTHING_RECORDED,
+        }
+    }
+}
+
+/// The records of all variables: a hash map from a variable and eight blocks with numbers side by side to a page
+/// of cells, and how many cells keep something. So its memory is at most one page a record, and blocks that lie
+/// side by side share the search for their page.
 #[derive(Debug)]
 pub struct VariableTable {
-    records: HashMap<(Variable, Block), Recorded>,
+    pages: HashMap<(Variable, u32), Page>,
+    count: usize,
 }
 
 // By hand: a derived one is proved anew at each way out of a function that holds such a value.
 impl Drop for VariableTable {
     fn drop(self) {
-        let VariableTable { records: _ } = self;
+        let VariableTable { pages: _, count: _ } = self;
     }
 }
 
 impl Model for VariableTable {
-    ghost use Rattle.clif_records.specs.Records.{records_in};
+    ghost use Rattle.std.specs.Prelude.{◌≡◌};
+    ghost use Rattle.std.specs.FinMap as map;
+    ghost use Rattle.clif_records.specs.Pages.{records_in};
     ghost use Rattle.clif_records.specs.Tables.{RecordMap, record_map_code};
 
     ghost Value = { RecordMap };
 
     ghost coded = { record_map_code };
 
-    ghost view = { λ t. records_in t.records };
+    ghost view = { λ t. records_in t.pages };
+
+    ghost invariant = { λ t. t.count ≡ map.len (records_in t.pages) };
 }
 
 impl VariableTable {
@@ -111,7 +230,8 @@ impl VariableTable {
         ensures { result ≡ map.empty }
     {
         VariableTable {
-            records: HashMap::new(alloc),
+            pages: HashMap::new(alloc),
+            count: 0,
         }
     }
 
@@ -119,31 +239,78 @@ impl VariableTable {
     pub fn clear(&mut self)
         ensures { self.new ≡ map.empty }
     {
-        self.records.clear();
+        self.pages.clear();
+        self.count = 0;
     }
 
     /// Whether nothing is recorded.
     pub fn is_empty(&self) -> bool
         ensures { IsTrue result ↔ (self.now ≡ map.empty) }
     {
-        self.records.is_empty()
+        self.count == 0
     }
 
     /// In how many pairs of a variable and a block something is recorded.
     pub fn records(&self) -> usize
         ensures { result ≡ map.len self.now }
     {
-        self.records.len()
+        self.count
+    }
+
+    /// The page that has the cell of a variable in a block, if there is one.
+    #[inline(always)]
+    pub fn page_of(&self, variable: Variable, block: Block) -> PageAtHand<'_>
+        ensures number { result.number ≡ page_number block }
+        ensures at_hand { IsAtHand self.now variable result }
+    {
+        let number = page_number(block);
+        PageAtHand {
+            number,
+            page: self.pages.get(&(variable, number)),
+        }
+    }
+
+    // The page at hand, if it has the cell of a variable in a block, and otherwise the one that has.
+    #[inline(always)]
+    fn turned<'a>(
+        &'a self,
+        variable: Variable,
+        block: Block,
+        at_hand: PageAtHand<'a>,
+    ) -> PageAtHand<'a>
+        requires { IsAtHand self.now variable at_hand }
+        ensures number { result.number ≡ page_number block }
+        ensures at_hand { IsAtHand self.now variable result }
+    {
+        if at_hand.number == page_number(block) {
+            return at_hand;
+        }
+        self.page_of(variable, block)
+    }
+
+    /// The record of a variable in a block. Its page is searched only where the one at hand is another, and is at
+    /// hand then.
+    #[inline(always)]
+    pub fn get_beside<'a>(
+        &'a self,
+        variable: Variable,
+        block: Block,
+        at_hand: &mut PageAtHand<'a>,
+    ) -> Option<Value>
+        requires { IsAtHand self.now variable at_hand.old }
+        ensures exact { result ≡ record_at self.now variable block }
+        ensures at_hand { IsAtHand self.now variable at_hand.new }
+    {
+        let turned = self.turned(variable, block, *at_hand);
+        *at_hand = turned;
+        turned.recorded(block).value
     }
 
     /// What is known of a variable in a block.
     fn recorded(&self, variable: Variable, block: Block) -> Recorded
         ensures { result ≡ recorded_at self.now variable block }
     {
-        match self.records.get(&(variable, block)) {
-            Some(recorded) => *recorded,
-            None => NOTHING_RECORDED,
-        }
+        self.page_of(variable, block).recorded(block)
     }
 
     /// The record of a variable in a block.
@@ -171,11 +338,14 @@ impl VariableTable {
         ensures err { OnErr result ((v b : ℕ) → record_at self.new v b ≡ record_at self.old v b) }
         ensures only_memory { OnErr result (result ≡ Err BuildError.Memory) }
     {
-        let recorded = self
-            .records
-            .entry((variable, block))?
-            .or_insert(NOTHING_RECORDED);
-        recorded.value = Some(value);
+        if self.count == usize::MAX {
+            return Err(BuildError::Memory);
+        }
+        let page = self
+            .pages
+            .entry((variable, page_number(block)))?
+            .or_insert(EMPTY_PAGE);
+        self.count += put_value(page, place_in_page(block), value);
         Ok(())
     }
 
@@ -215,11 +385,14 @@ impl VariableTable {
         ensures err { OnErr result ((v b : ℕ) → lookups_at self.new v b ≡ lookups_at self.old v b) }
         ensures only_memory { OnErr result (result ≡ Err BuildError.Memory) }
     {
-        let recorded = self
-            .records
-            .entry((variable, block))?
-            .or_insert(NOTHING_RECORDED);
-        recorded.lookups = recorded.lookups.saturating_add(1);
+        if self.count == usize::MAX {
+            return Err(BuildError::Memory);
+        }
+        let page = self
+            .pages
+            .entry((variable, page_number(block)))?
+            .or_insert(EMPTY_PAGE);
+        self.count += count_one(page, place_in_page(block));
         Ok(())
     }
 }

@@ -1,8 +1,8 @@
-//! Scripts whose functions have several blocks, and their texts: layout, parameters, changed branches and try calls.
+//! Scripts whose functions have several blocks: layout, parameters, changed branches and try calls.
 #![tactic(auto)]
 
-/// Scripts, and the texts of their functions.
-pub const FUNCTIONS: &[&str] = &[
+/// Scripts.
+pub const SCRIPTS: &[&str] = &[
     // The row of this name, with its last block cold: the header of a cold block says so.
     "\
 function %both_arms () -> i32 system_v
@@ -32,23 +32,6 @@ seal_block block3
 value = use_var x
 return value
 seal_block block0
- => \
-function %both_arms() -> i32 system_v {
-block0:
-    v0 = iconst.i32 5
-    jump block1(v0)  ; v0 = 5
-
-block1(v1: i32):
-    brif v1, block2, block3
-
-block2:
-    v2 = iconst.i32 -1
-    v3 = iadd.i32 v1, v2  ; v2 = -1
-    brif v3, block1(v3), block1(v3)
-
-block3 cold:
-    return v1
-}
 ",
     // A difference keeps the order of its operands. Its block is put into the layout before anything is in it.
     "\
@@ -61,14 +44,6 @@ v1 = iconst.i32 1
 v2 = isub v0 v1
 return v2
 seal_block b
- => \
-function %difference() -> i32 system_v {
-block0:
-    v0 = iconst.i32 3
-    v1 = iconst.i32 1
-    v2 = isub v0, v1  ; v0 = 3, v1 = 1
-    return v2
-}
 ",
     // A block that was put behind the entry stays there, whichever is filled first.
     "\
@@ -88,19 +63,6 @@ seal_block block2
 v1 = iconst.i32 2
 return v1
 seal_block block0
- => \
-function %behind() -> i32 system_v {
-block0:
-    jump block1
-
-block2:
-    v1 = iconst.i32 2
-    return v1  ; v1 = 2
-
-block1:
-    v0 = iconst.i32 1
-    return v0  ; v0 = 1
-}
 ",
     // The entry has the function's parameters.
     "\
@@ -110,11 +72,6 @@ x = append_block_params_for_function_params b
 switch_to_block b
 seal_block b
 return x
- => \
-function %same(i32) -> i32 system_v {
-block0(v0: i32):
-    return v0
-}
 ",
     // A block has a parameter that a branch passes; it gets its number first.
     "\
@@ -129,15 +86,6 @@ jump last(one)
 switch_to_block last
 seal_block last
 return taken
- => \
-function %passed() -> i32 system_v {
-block0:
-    v1 = iconst.i32 1
-    jump block1(v1)  ; v1 = 1
-
-block1(v0: i32):
-    return v0
-}
 ",
     // The same with the types that the function returns.
     "\
@@ -152,15 +100,6 @@ jump last(one)
 switch_to_block last
 seal_block last
 return taken
- => \
-function %passed() -> i32 system_v {
-block0:
-    v1 = iconst.i32 1
-    jump block1(v1)  ; v1 = 1
-
-block1(v0: i32):
-    return v0
-}
 ",
     // A branch leads to the entry while it is unsealed, and is changed before that is sealed: the variable that was read in the
     // other block, by then sealed, is what the entry assigned.
@@ -182,19 +121,6 @@ change_jump_destination @branch entry last
 switch_to_block last
 return x
 seal_all_blocks
- => \
-function %entry() -> i32 system_v {
-block0:
-    v0 = iconst.i32 1
-    v1 -> v0
-    brif v0, block2, block1  ; v0 = 1
-
-block1:
-    return v1  ; v1 = 1
-
-block2:
-    return v0  ; v0 = 1
-}
 ",
     // Both edges of a try call lead to a block that uses a variable, and so does a jump with another value of it: the call is one
     // of two predecessors, so the variable's parameter stays, and the call passes its value along both edges.
@@ -228,25 +154,6 @@ switch_to_block meeting
 seal_block meeting
 met = use_var variable
 return met
- => \
-function %meet(i64) -> i64 system_v {
-    sig0 = (i64) -> i32 system_v
-    fn0 = %f sig0
-
-block0(v0: i64):
-    brif v0, block1, block2
-
-block1:
-    v1 = iconst.i32 1
-    try_call fn0(v0), sig0, block3(v1), [ default: block3(v1) ]  ; v1 = 1, v1 = 1
-
-block2:
-    v2 = iconst.i32 2
-    jump block3(v2)  ; v2 = 2
-
-block3(v3: i32):
-    return v3
-}
 ",
     // The forms of a try call: a tag, a default and a context, in the order in which they were given; and a call of what is at an
     // address, with no items.
@@ -278,16 +185,5 @@ normal = block_call returned(ret0)
 u = create_exception_table s normal
 try_call_indirect address (x) u
 seal_all_blocks
- => \
-function %forms(i64) -> i64 system_v {
-    sig0 = (i64) -> i32 system_v
-    fn0 = %f sig0
-
-block0(v0: i64, v1: i64, v2: i64, v3: i64, v4: i64, v5: i64, v6: i64, v7: i64):
-    try_call fn0(v7), sig0, block3(ret0), [ tag1: block2(exn0), default: block4, context v5 ]
-
-block1:
-    try_call_indirect v1(v7), sig0, block3(ret0), []
-}
 ",
 ];

@@ -1,23 +1,5 @@
-//! The rows by name, and more scripts, with the texts of their functions. The examples in the folder `examples` are these
-//! and some rows.
+//! Scripts of the folder `examples`, and more of the same kind.
 #![tactic(auto)]
-
-/// The rows by their names, with the texts of their functions.
-pub const ROWS: [(&str, &str); 13] = [
-    ("first", FIRST_TEXT),
-    ("reordering", REORDERING_TEXT),
-    ("sample", SAMPLE_TEXT),
-    ("sample_late", SAMPLE_LATE_TEXT),
-    ("both_arms", BOTH_ARMS_TEXT),
-    ("undef_vectors", UNDEF_VECTORS_TEXT),
-    ("switch_many", SWITCH_MANY_TEXT),
-    ("switch_128bit_max_u64", SWITCH_128BIT_MAX_U64_TEXT),
-    ("switch_high", SWITCH_HIGH_TEXT),
-    ("switch_border", SWITCH_BORDER_TEXT),
-    ("change_both", CHANGE_BOTH_TEXT),
-    ("change_one", CHANGE_ONE_TEXT),
-    ("empty", EMPTY_TEXT),
-];
 
 /// The function of no calls.
 pub const EMPTY_TEXT: &str = "function u0:0() fast {\n}\n";
@@ -61,247 +43,6 @@ return meaning
 seal_all_blocks
 ";
 
-/// Its function.
-pub const SWITCH_TEXT: &str = "\
-function %meaning_of_status(i16) -> i8 system_v {
-block0(v0: i16):
-    v1 = iconst.i16 301
-    v2 = icmp uge v0, v1  ; v1 = 301
-    brif v2, block7, block6
-
-block7:
-    v3 = iconst.i16 500
-    v4 = icmp.i16 eq v0, v3  ; v3 = 500
-    brif v4, block4, block8
-
-block8:
-    v5 = iconst.i16 404
-    v6 = icmp.i16 eq v0, v5  ; v5 = 404
-    brif v6, block3, block9
-
-block9:
-    v7 = iconst.i16 301
-    v8 = icmp.i16 uge v0, v7  ; v7 = 301
-    brif v8, block10, block5
-
-block10:
-    v9 = iconst.i16 -301
-    v10 = iadd.i16 v0, v9  ; v9 = -301
-    v11 = uextend.i32 v10
-    br_table v11, block5, [block2, block2]
-
-block6:
-    v12 = iconst.i16 204
-    v13 = icmp.i16 eq v0, v12  ; v12 = 204
-    brif v13, block1, block11
-
-block11:
-    v14 = iconst.i16 200
-    v15 = icmp.i16 uge v0, v14  ; v14 = 200
-    brif v15, block12, block5
-
-block12:
-    v16 = iconst.i16 -200
-    v17 = iadd.i16 v0, v16  ; v16 = -200
-    v18 = uextend.i32 v17
-    br_table v18, block5, [block1, block1]
-
-block1:
-    v19 = iconst.i8 1
-    return v19  ; v19 = 1
-
-block2:
-    v20 = iconst.i8 2
-    return v20  ; v20 = 2
-
-block3:
-    v21 = iconst.i8 3
-    return v21  ; v21 = 3
-
-block4:
-    v22 = iconst.i8 4
-    return v22  ; v22 = 4
-
-block5:
-    v23 = iconst.i8 0
-    return v23  ; v23 = 0
-}
-";
-
-/// The function of the switch with four ranges.
-pub const SWITCH_MANY_TEXT: &str = "\
-function u0:0() fast {
-block0:
-    v0 = iconst.i8 0
-    v1 = iconst.i8 7
-    v2 = icmp uge v0, v1  ; v0 = 0, v1 = 7
-    brif v2, block9, block8
-
-block9:
-    v3 = iconst.i8 10
-    v4 = icmp.i8 uge v0, v3  ; v0 = 0, v3 = 10
-    brif v4, block11, block10
-
-block11:
-    v5 = iconst.i8 -10
-    v6 = iadd.i8 v0, v5  ; v0 = 0, v5 = -10
-    v7 = uextend.i32 v6
-    br_table v7, block0, [block5, block6, block7]
-
-block10:
-    v8 = iconst.i8 7
-    v9 = icmp.i8 eq v0, v8  ; v0 = 0, v8 = 7
-    brif v9, block4, block0
-
-block8:
-    v10 = iconst.i8 5
-    v11 = icmp.i8 eq v0, v10  ; v0 = 0, v10 = 5
-    brif v11, block3, block12
-
-block12:
-    v12 = uextend.i32 v0  ; v0 = 0
-    br_table v12, block0, [block1, block2]
-}
-";
-
-const SWITCH_128BIT_MAX_U64_TEXT: &str = "\
-function %switch_128bit_max_u64() system_v {
-block0:
-    v0 = iconst.i64 0
-    v1 = uextend.i128 v0  ; v0 = 0
-    v2 = iconst.i64 -1
-    v3 = iconst.i64 0
-    v4 = iconcat v2, v3  ; v2 = -1, v3 = 0
-    v5 = icmp eq v1, v4
-    brif v5, block1, block4
-
-block4:
-    brif.i128 v1, block3, block2
-}
-";
-
-const SWITCH_HIGH_TEXT: &str = "\
-function %switch_high() system_v {
-block0:
-    v0 = iconst.i64 0x8000_0000_0000_0001
-    v1 = iconst.i64 0
-    v2 = iconcat v0, v1  ; v0 = 0x8000_0000_0000_0001, v1 = 0
-    v3 = iconst.i64 0x8000_0000_0000_0001
-    v4 = iconst.i64 0
-    v5 = iconcat v3, v4  ; v3 = 0x8000_0000_0000_0001, v4 = 0
-    v6 = icmp uge v2, v5
-    brif v6, block4, block3
-
-block4:
-    v7 = iconst.i64 0x8000_0000_0000_0001
-    v8 = iconst.i64 0
-    v9 = iconcat v7, v8  ; v7 = 0x8000_0000_0000_0001, v8 = 0
-    v10 = isub.i128 v2, v9
-    v11 = iconst.i64 0xffff_ffff
-    v12 = sextend.i128 v11  ; v11 = 0xffff_ffff
-    v13 = icmp ugt v10, v12
-    brif v13, block3, block5
-
-block5:
-    v14 = ireduce.i32 v10
-    br_table v14, block3, [block1, block2]
-
-block1:
-    trap user1
-
-block2:
-    trap user2
-
-block3:
-    trap user3
-}
-";
-
-const SWITCH_BORDER_TEXT: &str = "\
-function %switch_border() system_v {
-block0:
-    v0 = iconst.i64 0x8000_0000_0000_0001
-    v1 = iconst.i64 0
-    v2 = iconcat v0, v1  ; v0 = 0x8000_0000_0000_0001, v1 = 0
-    v3 = iconst.i64 0x8000_0000_0000_0000
-    v4 = iconst.i64 0
-    v5 = iconcat v3, v4  ; v3 = 0x8000_0000_0000_0000, v4 = 0
-    v6 = icmp uge v2, v5
-    brif v6, block4, block3
-
-block4:
-    v7 = iconst.i64 0x8000_0000_0000_0000
-    v8 = sextend.i128 v7  ; v7 = 0x8000_0000_0000_0000
-    v9 = iadd.i128 v2, v8
-    v10 = iconst.i64 0xffff_ffff
-    v11 = sextend.i128 v10  ; v10 = 0xffff_ffff
-    v12 = icmp ugt v9, v11
-    brif v12, block3, block5
-
-block5:
-    v13 = ireduce.i32 v9
-    br_table v13, block3, [block1, block2]
-
-block1:
-    trap user1
-
-block2:
-    trap user2
-
-block3:
-    trap user3
-}
-";
-
-const CHANGE_BOTH_TEXT: &str = "\
-function %change_both() -> i32 system_v {
-block0:
-    v0 = iconst.i32 1
-    brif v0, block2, block2  ; v0 = 1
-
-block2:
-    return v0  ; v0 = 1
-}
-";
-
-const CHANGE_ONE_TEXT: &str = "\
-function %change_one() -> i32 system_v {
-block0:
-    v0 = iconst.i32 1
-    brif v0, block2, block2  ; v0 = 1
-
-block2:
-    return v0  ; v0 = 1
-}
-";
-
-const FIRST_TEXT: &str = "\
-function %first() -> i32 system_v {
-block0:
-    v3 = iconst.i32 0
-    v0 -> v3
-    v1 = iconst.i32 7
-    v2 = iadd v0, v1  ; v0 = 0, v1 = 7
-    return v2
-}
-";
-
-const REORDERING_TEXT: &str = "\
-function %reordering() system_v {
-block0:
-    v0 = iconst.i32 0
-    v1 = iconst.i32 1
-    v2 = iconst.i32 2
-    v3 -> v2
-    jump block1(v0, v1)  ; v0 = 0, v1 = 1
-
-block1(v4: i32, v6: i32):
-    v5 = iadd v4, v3  ; v3 = 2
-    v7 = isub v6, v5
-    jump block1(v5, v7)
-}
-";
-
 pub const DIAMOND: &str = "\
 # Each arm assigns x, and the block where they meet gets it as a parameter.
 function %diamond () -> i32 system_v
@@ -332,25 +73,6 @@ switch_to_block join
 seal_block join
 value = use_var x
 return value
-";
-
-pub const DIAMOND_TEXT: &str = "\
-function %diamond() -> i32 system_v {
-block0:
-    v0 = iconst.i32 0
-    brif v0, block1, block2  ; v0 = 0
-
-block1:
-    v1 = iconst.i32 1
-    jump block3(v1)  ; v1 = 1
-
-block2:
-    v2 = iconst.i32 2
-    jump block3(v2)  ; v2 = 2
-
-block3(v3: i32):
-    return v3
-}
 ";
 
 pub const NESTED_LOOPS: &str = "\
@@ -399,31 +121,6 @@ i4 = use_var i
 return i4
 ";
 
-pub const NESTED_LOOPS_TEXT: &str = "\
-function %nested() -> i32 system_v {
-block0:
-    v0 = iconst.i32 3
-    jump block1(v0)  ; v0 = 3
-
-block1(v1: i32):
-    v5 -> v1
-    jump block2(v1)
-
-block2(v2: i32):
-    v3 = iconst.i32 -1
-    v4 = iadd v2, v3  ; v3 = -1
-    brif v4, block2(v4), block3
-
-block3:
-    v6 = iconst.i32 -1
-    v7 = iadd.i32 v1, v6  ; v6 = -1
-    brif v7, block1(v7), block4
-
-block4:
-    return v7
-}
-";
-
 pub const SUM_OF_BYTES: &str = "\
 # Adds up the bytes from `start` up to `end`.
 function %sum_of_bytes (i64, i64) -> i32 system_v
@@ -464,30 +161,6 @@ result = use_var total
 return result
 ";
 
-pub const SUM_OF_BYTES_TEXT: &str = "\
-function %sum_of_bytes(i64, i64) -> i32 system_v {
-block0(v0: i64, v1: i64):
-    v11 = iconst.i32 0
-    v10 -> v11
-    jump block1(v0, v11)  ; v11 = 0
-
-block1(v2: i64, v6: i32):
-    v3 = icmp ult v2, v1
-    brif v3, block2, block3
-
-block2:
-    v4 = load.i8 notrap v2
-    v5 = uextend.i32 v4
-    v7 = iadd.i32 v6, v5
-    v8 = iconst.i64 1
-    v9 = iadd.i64 v2, v8  ; v8 = 1
-    jump block1(v9, v7)
-
-block3:
-    return v6
-}
-";
-
 pub const CHECKED_ELEMENT: &str = "\
 # Element `index` of eight numbers at `array`. A null pointer traps, and so does an index past the last element.
 function %checked_element (i64, i32) -> i32 system_v
@@ -517,27 +190,6 @@ seal_block outside
 trap user2
 ";
 
-pub const CHECKED_ELEMENT_TEXT: &str = "\
-function %checked_element(i64, i32) -> i32 system_v {
-block0(v0: i64, v1: i32):
-    trapz v0, user1
-    v2 = iconst.i32 8
-    v3 = icmp ult v1, v2  ; v2 = 8
-    brif v3, block1, block2
-
-block1:
-    v4 = iconst.i32 4
-    v5 = imul.i32 v1, v4  ; v4 = 4
-    v6 = uextend.i64 v5
-    v7 = iadd.i64 v0, v6
-    v8 = load.i32 notrap aligned v7
-    return v8
-
-block2:
-    trap user2
-}
-";
-
 pub const FORMS: &str = "\
 function %forms (i64) -> f32 system_v
 b = create_block
@@ -555,23 +207,6 @@ store notrap is_less p -8
 trapnz byte int_ovf
 return single
 seal_block b
-";
-
-pub const FORMS_TEXT: &str = "\
-function %forms(i64) -> f32 system_v {
-block0(v0: i64):
-    v1 = f16const 0x3c00
-    v2 = f32const 0.0
-    v3 = f64const 0x0000000000000001
-    v4 = load.i8 aligned v0+4
-    v5 = sextend.i32 v4
-    v6 = iconcat v5, v5
-    v7 = icmp slt v6, v0
-    v8, v9 = isplit v6
-    store notrap v7, v0-8
-    trapnz v4, int_ovf
-    return v2  ; v2 = 0.0
-}
 ";
 
 pub const SLOTS: &str = "\
@@ -597,124 +232,6 @@ stack_store sum $1.0 -4
 return sum
 ";
 
-pub const SLOTS_TEXT: &str = "\
-function %slots(i32) -> i32 system_v {
-    ss0 = explicit_slot 4, align = 4
-    ss1 = explicit_slot 16, align = 8
-
-block0(v0: i32):
-    stack_store v0, ss0
-    v1 = stack_addr.i64 ss1+8
-    store v0, v1+4
-    v2 = stack_load.i16 ss1+12
-    v3 = uextend.i32 v2
-    v4 = stack_load.i32 ss0
-    v5 = iadd v3, v4
-    jump block1
-
-block1:
-    stack_store.i32 v5, ss1-4
-    return v5
-}
-";
-
-pub const MISUSE: &str = "\
-# No branch may lead to a block that is sealed.
-block0 = create_block
-switch_to_block block0
-seal_block block0
-jump block0
-";
-
-pub const MISUSE_TEXT: &str = "\
-misuse at call 3
-line 5: jump block0: block0 is sealed
-";
-
-const BOTH_ARMS_TEXT: &str = "\
-function %both_arms() -> i32 system_v {
-block0:
-    v0 = iconst.i32 5
-    jump block1(v0)  ; v0 = 5
-
-block1(v1: i32):
-    brif v1, block2, block3
-
-block2:
-    v2 = iconst.i32 -1
-    v3 = iadd.i32 v1, v2  ; v2 = -1
-    brif v3, block1(v3), block1(v3)
-
-block3:
-    return v1
-}
-";
-
-const UNDEF_VECTORS_TEXT: &str = "\
-function %sample() -> i8x16, i8x16, f32x4 system_v {
-    const0 = 0x00000000000000000000000000000000
-
-block0:
-    v5 = f32const 0.0
-    v6 = splat.f32x4 v5  ; v5 = 0.0
-    v2 -> v6
-    v4 = vconst.i8x16 const0
-    v1 -> v4
-    v3 = vconst.i8x16 const0
-    v0 -> v3
-    return v0, v1, v2  ; v0 = const0, v1 = const0
-}
-";
-
-const SAMPLE_TEXT: &str = "\
-function %sample(i32) -> i32 system_v {
-block0(v0: i32):
-    v6 -> v0
-    v1 = iconst.i32 2
-    v2 = iadd v0, v1  ; v1 = 2
-    jump block1(v1, v2)  ; v1 = 2
-
-block1(v3: i32, v4: i32):
-    v5 = iadd v3, v4
-    brif v3, block3, block2
-
-block2:
-    v7 = isub.i32 v5, v6
-    return v3
-
-block3:
-    v8 = isub.i32 v3, v6
-    jump block1(v8, v5)
-}
-";
-
-const SAMPLE_LATE_TEXT: &str = "\
-function %sample(i32) -> i32 system_v {
-block0(v0: i32):
-    v1 = iconst.i32 2
-    v2 = iadd v0, v1  ; v1 = 2
-    jump block1(v1, v2, v0)  ; v1 = 2
-
-block1(v3: i32, v4: i32, v14: i32):
-    v9 -> v3
-    v10 -> v3
-    v7 -> v14
-    v11 -> v14
-    v5 = iadd v3, v4
-    v6 -> v5
-    v13 -> v5
-    brif v3, block3, block2
-
-block2:
-    v8 = isub.i32 v6, v7
-    return v9
-
-block3:
-    v12 = isub.i32 v10, v11
-    jump block1(v12, v13, v11)
-}
-";
-
 pub const PLACED: &str = "\
 b0 = create_block
 b1 = create_block
@@ -729,19 +246,6 @@ jump b2
 switch_to_block b2
 return
 seal_all_blocks
-";
-
-pub const PLACED_TEXT: &str = "\
-function u0:0() fast {
-block0:
-    jump block1
-
-block2 cold:
-    return
-
-block1:
-    jump block2
-}
 ";
 
 pub const TABLE: &str = "\
@@ -776,20 +280,36 @@ many = iconst.i32 99
 return many
 ";
 
-pub const TABLE_TEXT: &str = "\
-function %jump_table(i32) -> i32 system_v {
-block0(v0: i32):
-    br_table v0, block3, [block1, block2(v0)]
+/// The example `records`.
+pub const RECORDS: &str = "\
+# Two records of 24 bytes: a name of 16, and then a number. Where their names differ, the first record is copied over the second
+# one, and the 64 bytes behind the second one are cleared. Answers whether the names were the same, the number of the second record,
+# and the order of what lies behind the second record and behind the first one.
+function %update (i64, i64) -> i8, i64, i32 system_v
+entry = create_block
+differ = create_block
+done = create_block
+first, second = append_block_params_for_function_params entry
 
-block1:
-    v2 = iconst.i32 10
-    return v2  ; v2 = 10
+switch_to_block entry
+seal_block entry
+same = emit_small_memory_compare eq first second 16 8 8
+brif same done differ
 
-block2(v1: i32):
-    return v1
+switch_to_block differ
+seal_block differ
+emit_small_memory_copy second first 24 8 8 nonoverlap
+behind = iadd_imm_s second 24
+emit_small_memset behind 0 64 8
+jump done
+seal_block done
 
-block3:
-    v3 = iconst.i32 99
-    return v3  ; v3 = 99
-}
+switch_to_block done
+place = iadd_imm_s second 16
+number = load.i64 place
+behind = iadd_imm_s second 24
+rest = iadd_imm_s first 24
+size = iconst.i64 40
+order = call_memcmp behind rest size
+return same number order
 ";

@@ -1,8 +1,8 @@
-//! Instructions in scripts, and the lines that functions have for them. A value that is assigned to a variable has its type.
+//! Instructions in scripts. A value that is assigned to a variable has its type.
 #![tactic(auto)]
 
-/// Scripts, and the texts of their functions.
-pub const FUNCTIONS: &[&str] = &[
+/// Scripts.
+pub const SCRIPTS: &[&str] = &[
     // Each operation on one or two numbers.
     "\
 function %operations () -> i32 system_v
@@ -27,26 +27,6 @@ v15 = urem v14 v1
 v16 = srem v15 v1
 return v16
 seal_block b
- => \
-function %operations() -> i32 system_v {
-block0(v0: i32, v1: i32):
-    v2 = ineg v0
-    v3 = bnot v2
-    v4 = iadd v0, v1
-    v5 = isub v0, v1
-    v6 = imul v4, v5
-    v7 = band v3, v6
-    v8 = bor v7, v0
-    v9 = bxor v8, v1
-    v10 = ishl v9, v0
-    v11 = ushr v10, v0
-    v12 = sshr v11, v0
-    v13 = udiv v12, v1
-    v14 = sdiv v13, v1
-    v15 = urem v14, v1
-    v16 = srem v15, v1
-    return v16
-}
 ",
     // Conversions and a choice.
     "\
@@ -61,16 +41,6 @@ v4 = splat.i32x4 v0
 v5 = select v3 v0 v1
 return v5
 seal_block b
- => \
-function %chosen() -> i32 system_v {
-block0(v0: i32):
-    v1 = iconst.i32 5
-    v2 = uextend.i64 v0
-    v3 = ireduce.i16 v2
-    v4 = splat.i32x4 v0
-    v5 = select v3, v0, v1  ; v1 = 5
-    return v5
-}
 ",
     "\
 function %floats () -> i32 system_v
@@ -87,14 +57,6 @@ def_var single v1
 def_var double v2
 return v1
 seal_block b
- => \
-function %floats() -> i32 system_v {
-block0:
-    v0 = f16const 0x3c00
-    v1 = f32const 0.0
-    v2 = f64const 0x8000000000000000
-    return v1  ; v1 = 0.0
-}
 ",
     // A wider number, a comparison and two halves.
     "\
@@ -117,15 +79,6 @@ def_var number v5
 def_var number v6
 return v3
 seal_block b
- => \
-function %compared() -> i32 system_v {
-block0(v0: i32, v1: i32):
-    v2 = sextend.i64 v0
-    v3 = icmp slt v0, v1
-    v4 = iconcat v0, v1
-    v5, v6 = isplit v4
-    return v3
-}
 ",
     // A block goes on behind a store.
     "\
@@ -139,13 +92,6 @@ store v1 v0 -8
 def_var number v1
 return v1
 seal_block b
- => \
-function %memory() -> i32 system_v {
-block0(v0: i32):
-    v1 = load.i32 notrap aligned v0+4
-    store v1, v0-8
-    return v1
-}
 ",
     // A block goes on behind a trap under a condition, and ends with any other one.
     "\
@@ -157,13 +103,6 @@ trapz v0 int_divz
 trapnz v0 user7
 trap heap_oob
 seal_block b
- => \
-function %traps() -> i32 system_v {
-block0(v0: i32):
-    trapz v0, int_divz
-    trapnz v0, user7
-    trap heap_oob
-}
 ",
     // The cursor appends to the current block.
     "\
@@ -174,13 +113,6 @@ seal_block b
 v0 = cursor iconst.i32 5
 v1 = cursor iadd v0 v0
 return v1
- => \
-function %cursor() -> i32 system_v {
-block0:
-    v0 = iconst.i32 5
-    v1 = iadd v0, v0  ; v0 = 5, v0 = 5
-    return v1
-}
 ",
     // The results of a call are what the signature returns, and print before its name.
     "\
@@ -195,18 +127,6 @@ v1 = call f (v0)
 v2 = iconst.i64 64
 v3 = call_indirect s v2 (v1)
 return v3
- => \
-function %calls() -> i32 system_v {
-    sig0 = (i32) -> i32 system_v
-    fn0 = %g sig0
-
-block0:
-    v0 = iconst.i32 7
-    v1 = call fn0(v0)  ; v0 = 7
-    v2 = iconst.i64 64
-    v3 = call_indirect sig0, v2(v1)  ; v2 = 64
-    return v3
-}
 ",
     // A stack slot is stored into, read, and its address taken.
     "\
@@ -220,17 +140,6 @@ stack_store v0 slot
 v1 = stack_load.i32 slot 4
 v2 = stack_addr.i64 slot -4
 return v1
- => \
-function %slot() -> i32 system_v {
-    ss0 = explicit_slot 8, align = 8
-
-block0:
-    v0 = iconst.i32 7
-    stack_store v0, ss0  ; v0 = 7
-    v1 = stack_load.i32 ss0+4
-    v2 = stack_addr.i64 ss0-4
-    return v1
-}
 ",
     // A branch by the function's parameter: the default stands before the entries.
     "\
@@ -254,19 +163,5 @@ return index
 switch_to_block second
 return passed
 seal_all_blocks
- => \
-function %table(i32) -> i32 system_v {
-block0(v0: i32):
-    br_table v0, block1, [block2, block3(v0)]
-
-block1:
-    return v0
-
-block2:
-    return v0
-
-block3(v1: i32):
-    return v1
-}
 ",
 ];

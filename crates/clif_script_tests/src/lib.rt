@@ -1,5 +1,6 @@
-//! Tests of `clif_script` and `clif_text`, of what no clause says: texts, statuses and errors, what each script of a list
-//! answers, and that calls succeed. The values are those of the printer's rules and of the builder's documented conditions.
+//! Tests of `clif_script` and `clif_text`, of what no clause says and no program prints: scripts that calls are written as, replays
+//! with a context that served before, the condition that a misused call breaks, writers that refuse, and what functions hold. The
+//! files in the folder `tests` have the cases that are a text in and a text out.
 #![tactic(auto)]
 
 #[cfg(test)]
@@ -7,15 +8,15 @@ mod blocks;
 #[cfg(test)]
 mod changes;
 #[cfg(test)]
+mod commands;
+#[cfg(test)]
 mod constants;
 #[cfg(test)]
 mod data;
 #[cfg(test)]
 mod entries;
 #[cfg(test)]
-mod errors;
-#[cfg(test)]
-mod helper_texts;
+mod functions;
 #[cfg(test)]
 mod helpers;
 #[cfg(test)]
@@ -31,11 +32,9 @@ mod placements;
 #[cfg(test)]
 mod refusals;
 #[cfg(test)]
+mod refused_writes;
+#[cfg(test)]
 mod replays;
-#[cfg(test)]
-mod rows;
-#[cfg(test)]
-mod runs;
 #[cfg(test)]
 mod support;
 #[cfg(test)]
@@ -43,8 +42,8 @@ mod switches;
 #[cfg(test)]
 mod tables;
 #[cfg(test)]
-mod texts;
-#[cfg(test)]
 mod tries;
 #[cfg(test)]
 mod undefined;
+#[cfg(test)]
+mod written;

@@ -1,4 +1,4 @@
-//! Runs of the programs over writers in memory, and what tables of scripts say.
+//! Runs of the programs over writers in memory, and functions of scripts.
 #![tactic(auto)]
 
 use clif_builder::FunctionBuilderContext;
@@ -8,10 +8,9 @@ use clif_text::{Script, read, write};
 use std::alloc::{AllocError, Global};
 use std::io;
 use std::io::Write;
-use std::process::Abort;
 use std::test::Fail;
 
-/// A script, or a line of one, and what is expected of it.
+/// A script, and what its calls are written as.
 pub type Row = (&'static str, &'static str);
 
 /// Takes so many writes, and refuses each later one.
@@ -115,48 +114,9 @@ impl Program<'_> {
             err: err.bytes,
         })
     }
-
-    /// It gives this status and these texts.
-    pub fn gives(
-        self,
-        rt: &impl Abort,
-        alloc: Global,
-        status: u8,
-        out: &str,
-        err: &str,
-    ) -> Result<(), Fail> {
-        let ran = self.run(alloc, MANY, MANY)?;
-        assert!(rt;
-            ran.err.as_slice() == err.as_bytes(),
-            "where {err}{out} was expected"
-        );
-        assert!(rt;
-            ran.out.as_slice() == out.as_bytes(),
-            "where {out}{err} was expected"
-        );
-        assert!(rt; ran.status == status, "where {status} was expected");
-        Ok(())
-    }
-
-    /// It gives this status: with 0 it prints the text, and else it tells it.
-    pub fn shows(self, rt: &impl Abort, alloc: Global, status: u8, text: &str) -> Result<(), Fail> {
-        let (out, err) = if status == 0 { (text, "") } else { ("", text) };
-        self.gives(rt, alloc, status, out, err)
-    }
 }
 
-/// A script gives this status: with 0 the text of its function, and else what is told of it.
-pub fn gives(
-    rt: &impl Abort,
-    alloc: Global,
-    script: &str,
-    status: u8,
-    text: &str,
-) -> Result<(), Fail> {
-    Program::Build(script.as_bytes()).shows(rt, alloc, status, text)
-}
-
-/// What stands before `=>` in a row, a script or a line of one, and what is expected of it.
+/// What stands before `=>` in a row, a script, and what is expected of it.
 pub fn parts(row: &str) -> Result<(&str, &str), Fail> {
     match row.split_once(" => ") {
         Some(parts) => Ok(parts),

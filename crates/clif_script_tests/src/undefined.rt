@@ -1,9 +1,8 @@
-//! Variables of several types that are read and never assigned: their zeros stand before the block's first instruction. What
-//! is read may be assigned to the variable, since it has its type.
+//! Variables of several types that are read and never assigned. What is read may be assigned to the variable, since it has its type.
 #![tactic(auto)]
 
-/// Scripts, and the texts of their functions.
-pub const FUNCTIONS: &[&str] = &[
+/// Scripts.
+pub const SCRIPTS: &[&str] = &[
     // Read before the block is sealed: the parameters get their numbers first.
     "\
 function %undefined () -> i32 system_v
@@ -23,19 +22,6 @@ read = use_var z
 def_var z read
 seal_block b
 return
- => \
-function %undefined() -> i32 system_v {
-block0:
-    v7 = f16const 0.0
-    v3 -> v7
-    v6 = f64const 0.0
-    v2 -> v6
-    v5 = f32const 0.0
-    v1 -> v5
-    v4 = iconst.i8 0
-    v0 -> v4
-    return
-}
 ",
     // Zeros of two instructions.
     "\
@@ -53,20 +39,6 @@ read = use_var z
 def_var z read
 seal_block b
 return
- => \
-function %undefined() -> i32 system_v {
-block0:
-    v7 = f64const 0.0
-    v8 = splat.f64x2 v7  ; v7 = 0.0
-    v2 -> v8
-    v5 = f32const 0.0
-    v6 = splat.f32x4 v5  ; v5 = 0.0
-    v1 -> v6
-    v3 = iconst.i64 0
-    v4 = uextend.i128 v3  ; v3 = 0
-    v0 -> v4
-    return
-}
 ",
     // Zeros of constants: equal bytes are one constant.
     "\
@@ -84,19 +56,6 @@ read = use_var z
 def_var z read
 seal_block b
 return
- => \
-function %undefined() -> i32 system_v {
-    const0 = 0x00000000000000000000000000000000
-
-block0:
-    v5 = f128const const0
-    v2 -> v5
-    v4 = vconst.i8x16 const0
-    v1 -> v4
-    v3 = vconst.i8x16 const0
-    v0 -> v3
-    return
-}
 ",
     // Read in a sealed block: each zero is put at once.
     "\
@@ -117,20 +76,5 @@ z = declare_var f32x4
 read = use_var z
 def_var z read
 return
- => \
-function %undefined() -> i32 system_v {
-block0:
-    v8 = f32const 0.0
-    v9 = splat.f32x4 v8  ; v8 = 0.0
-    v7 -> v9
-    v6 = f64const 0.0
-    v5 -> v6
-    v4 = f32const 0.0
-    v3 -> v4
-    v1 = iconst.i64 0
-    v2 = uextend.i128 v1  ; v1 = 0
-    v0 -> v2
-    return
-}
 ",
 ];

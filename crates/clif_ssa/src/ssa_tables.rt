@@ -334,7 +334,8 @@ impl SsaTables {
     {
         passed.clear();
         let mut reached = block;
-        let mut recorded = self.record_at(variable, reached);
+        let mut at_hand = self.variables.page_of(variable, reached);
+        let mut recorded = self.variables.get_beside(variable, reached, &mut at_hand);
         while recorded.is_none() {
             let Some(before) = self.single_predecessor(func, reached) else {
                 break;
@@ -344,7 +345,7 @@ impl SsaTables {
             }
             passed.push(reached)?;
             reached = before;
-            recorded = self.record_at(variable, reached);
+            recorded = self.variables.get_beside(variable, reached, &mut at_hand);
         }
         Ok(Reached {
             block: reached,

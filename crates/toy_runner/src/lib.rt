@@ -4,8 +4,6 @@
 
 mod command;
 mod execution;
-#[cfg(test)]
-mod tests;
 
 pub use clif_interpreter::STEPS;
 pub use command::{Command, Run, USAGE};

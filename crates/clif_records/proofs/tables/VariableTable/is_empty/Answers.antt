@@ -1,7 +1,13 @@
-use Rattle.clif_records.proofs.RecordMaps.{empty_of_none, none_of_empty}
+use Rattle.std.proofs.Common.{rules, ◌≡◌, ◌∙◌, sym, ap, arith, eq-eqb}
+use Rattle.std.specs.FinMap as map
+use Rattle.std.specs.FinMap.{len-empty, empty_of_len}
+use Rattle.std.proofs.lemmas.Grind.{common_steps}
+use Rattle.clif_records.specs.Tables.{Recorded, variable_then_block}
 use Rattle.clif_records.proofs.tables.VariableTable.is_empty.Goals as goal
 
 pub returns : goal.returns
 returns c =
-    rw (← c.self.view_is)
-    (λ is. empty_of_none c.self.inside.records (c.is_empty.ensures.0 is), λ none. c.is_empty.ensures.1 (none_of_empty c.self.inside.records none))
+    rw (← c.self.view_is) (
+      λ is. let none : c.self.inside.count ≡ 0 = grind (arith, common_steps, is) in empty_of_len _ (sym c.self.invariant ∙ none),
+      λ empty. let none : c.self.inside.count ≡ 0 = c.self.invariant ∙ ap map.len empty ∙ len-empty variable_then_block Recorded in grind (arith, common_steps, none),
+    )

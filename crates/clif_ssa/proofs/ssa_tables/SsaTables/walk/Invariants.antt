@@ -2,6 +2,7 @@ use Rattle.std.proofs.Common.{◌≡◌, ◌<◌, ◌-◌, length}
 use Rattle.clif_instructions.specs.Members.{Once}
 use Rattle.clif_ssa.specs.Ssa.{record_of}
 use Rattle.clif_ssa.specs.LookUp.{IsWalk}
+use Rattle.clif_records.specs.Pages.{IsAtHand}
 use Rattle.clif_ssa.proofs.Walks.{AllBelow}
 use Rattle.clif_ssa.proofs.ssa_tables.SsaTables.walk.Given as goal
 
@@ -11,6 +12,7 @@ invariant-loop-variable l =
     × Once l.passed × AllBelow (length l.self.blocks) l.passed
     × (l.reached < length l.func.blocks)
     × (l.recorded ≡ record_of l.self l.variable l.reached)
+    × IsAtHand l.self.records l.variable l.at_hand
 
 abbrev pub decreases-loop-variable : goal.decreases-loop-variable
 decreases-loop-variable l = length l.self.blocks - length l.passed

@@ -1,0 +1,3 @@
+pub mod TryTables
+pub mod Unused
+pub mod Serving

@@ -1,0 +1,2 @@
+pub mod TryTables
+pub mod RowTables

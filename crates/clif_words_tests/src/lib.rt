@@ -1,8 +1,0 @@
-//! Tests of `clif_words`, of what no clause says: which words are refused, and that calls succeed. The values are those
-//! that docs/SCRIPTS.md tells.
-#![tactic(auto)]
-
-#[cfg(test)]
-mod lines;
-#[cfg(test)]
-mod spellings;

@@ -1,8 +1,0 @@
-use Rattle.std.proofs.Common.{rules}
-use Rattle.cranelift_frontend_tests.proofs.TryTables.{serves}
-use Rattle.cranelift_frontend_tests.proofs.try_calls.call.Goals as goal
-
-pub try_call-requires-clause-serves : goal.try_call-requires-clause-serves
-try_call-requires-clause-serves g c =
-    serves c.ins.result.now c.args.table c.args.sig c.args.context
-    (search rules) (search rules) (search rules) (search rules) (search rules) (search rules)

@@ -1,4 +1,0 @@
-use Rattle.switch_tests.proofs.asserted.switch_of.Goals as goal
-
-pub loop-place-init : goal.loop-place-init
-loop-place-init g c = c.empty_switch-switch.ensures c.args.builder.now
