@@ -2,18 +2,16 @@
 //! the script and the function. Where the file is `-`, the script is read from standard input.
 #![tactic(auto)]
 
+use clif_command_line::{bytes_of, words};
 use clif_script::{Command, USAGE, build, execute};
-use std::io::Read;
+use std::io;
 use std::process::ExitCode;
-use std::rt::{Env, Files};
-use std::{env, fs, io};
 
 fn main(rt: HostRuntime) -> ExitCode {
-    let mut words = Vec::new(rt.alloc());
-    if !collect_words(&rt, &mut words) {
+    let Ok(words) = words(&rt) else {
         let _ = rt.eprintln("no memory");
         return ExitCode::from(1);
-    }
+    };
     let Some(command) = Command::of(words.as_slice()) else {
         let _ = rt.eprintln(USAGE);
         return ExitCode::from(2);
@@ -35,27 +33,4 @@ fn carry_out(rt: &HostRuntime, command: &Command<'_>, bytes: &[u8]) -> u8 {
         Command::Build { .. } => build(rt.alloc(), bytes, &mut out, &mut err),
         Command::Run { run, .. } => execute(rt.alloc(), bytes, run, &mut out, &mut err),
     }
-}
-
-// The words after the program's name; answers whether there was memory for them.
-fn collect_words<R: Env + AllocGlobal>(rt: &R, words: &mut Vec<String>) -> bool {
-    let Ok(all) = env::args(rt) else {
-        return false;
-    };
-    for word in all.skip(1) {
-        if words.push(word).is_err() {
-            return false;
-        }
-    }
-    true
-}
-
-// The bytes of a file, or of standard input where the path is `-`.
-fn bytes_of<R: Files + Input + AllocGlobal>(rt: &R, path: &str) -> io::Result<Vec<u8>> {
-    if path != "-" {
-        return fs::read(rt, path);
-    }
-    let mut bytes = Vec::new(rt.alloc());
-    rt.reader().read_to_end(&mut bytes)?;
-    Ok(bytes)
 }

@@ -1,0 +1,33 @@
+//! What a program gets from its command line: the words, and the bytes of the file that one of them names.
+#![tactic(auto)]
+
+use std::io::Read;
+use std::rt::{Env, Files};
+use std::{env, fs, io};
+
+/// The words after the program's name.
+///
+/// # Errors
+///
+/// Where memory is refused, or a word isn't UTF-8.
+pub fn words<R: Env + AllocGlobal>(rt: &R) -> io::Result<Vec<String>> {
+    let mut words = Vec::new(rt.alloc());
+    for word in env::args(rt)?.skip(1) {
+        words.push(word)?;
+    }
+    Ok(words)
+}
+
+/// The bytes of a file, or of standard input where the path is `-`.
+///
+/// # Errors
+///
+/// Those of [`fs::read`] and of [`Read::read_to_end`].
+pub fn bytes_of<R: Files + Input + AllocGlobal>(rt: &R, path: &str) -> io::Result<Vec<u8>> {
+    if path != "-" {
+        return fs::read(rt, path);
+    }
+    let mut bytes = Vec::new(rt.alloc());
+    rt.reader().read_to_end(&mut bytes)?;
+    Ok(bytes)
+}
