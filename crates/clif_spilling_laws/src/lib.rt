@@ -1,9 +1,18 @@
-//! Laws of spilling: what stores, reloads and stack maps of spilled values do, and what is live where. The functions here have
-//! empty bodies, and their contracts are the laws of the definitions.
+//! The law of spilling: a function with stores and reloads of spilled values and exact stack maps means, under a moving collector
+//! that goes by the maps, what the function before means under the collector over the recorded values. And laws that it rests on. The
+//! functions here have empty bodies, and their contracts are the laws of the definitions.
 #![tactic(auto)]
 
 ghost use Rattle.clif_spilling_laws.specs.Accesses.{ReloadsRun, StoredIsLoaded};
+ghost use Rattle.clif_spilling_laws.specs.Laws.{SpillingMeansTheSame};
 ghost use Rattle.clif_spilling_laws.specs.PartLaws.{EachEntryMoves, LiveIsGiven, NothingLiveAtEntry, SpilledIsLive};
+
+/// A function with stores, reloads and exact maps means, under the collector by maps, what the function before means under the
+/// collector over the members: where each value is given once, edges match, aliases are typed, the function is well placed, no slot
+/// is shared, and the world places the slots and the run before spares the new ones.
+pub fn spilling_means_the_same()
+    ensures { SpillingMeansTheSame }
+{}
 
 /// What was stored in a spilled value's slot is loaded from it, where the value fits its type.
 pub fn stored_is_loaded()
