@@ -1,0 +1,17 @@
+pub mod Lists
+pub mod Slots
+pub mod Passing
+pub mod LivePaths
+pub mod SpilledLive
+pub mod Accesses
+pub mod Reloading
+pub mod Storing
+pub mod Maps
+pub mod Relation
+pub mod Entering
+pub mod Edges
+pub mod Following
+pub mod Calling
+pub mod CallShapes
+pub mod Stepping
+pub mod Simulating

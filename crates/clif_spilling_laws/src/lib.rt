@@ -1,0 +1,45 @@
+//! The law of spilling: a function with stores and reloads of spilled values and exact stack maps means, under a moving collector
+//! that goes by the maps, what the function before means under the collector over the recorded values. And laws that it rests on. The
+//! functions here have empty bodies, and their contracts are the laws of the definitions.
+#![tactic(auto)]
+
+ghost use Rattle.clif_spilling_laws.specs.Accesses.{ReloadsRun, StoredIsLoaded};
+ghost use Rattle.clif_spilling_laws.specs.Laws.{SpillingMeansTheSame};
+ghost use Rattle.clif_spilling_laws.specs.PartLaws.{EachEntryMoves, LiveIsGiven, NothingLiveAtEntry, SpilledIsLive};
+
+/// A function with stores, reloads and exact maps means, under the collector by maps, what the function before means under the
+/// collector over the members: where each value is given once, edges match, aliases are typed, the function is well placed, no slot
+/// is shared, and the world places the slots and the run before spares the new ones.
+pub fn spilling_means_the_same()
+    ensures { SpillingMeansTheSame }
+{}
+
+/// What was stored in a spilled value's slot is loaded from it, where the value fits its type.
+pub fn stored_is_loaded()
+    ensures { StoredIsLoaded }
+{}
+
+/// A reload runs, in two steps of the machine, and changes no memory.
+pub fn reloads_run()
+    ensures { ReloadsRun }
+{}
+
+/// Nothing is live at the entry of a well placed function but the entry's parameters.
+pub fn nothing_live_at_entry()
+    ensures { NothingLiveAtEntry }
+{}
+
+/// What is live at a place that is reached is a value of the function.
+pub fn live_is_given()
+    ensures { LiveIsGiven }
+{}
+
+/// What is live across a call that is reached is live right after it is given.
+pub fn spilled_is_live()
+    ensures { SpilledIsLive }
+{}
+
+/// The collector by maps moves what lies in each slot that a map names, once.
+pub fn each_entry_moves()
+    ensures { EachEntryMoves }
+{}
