@@ -78,7 +78,7 @@ fn copy(
     alignments: (u8, u8),
     non_overlapping: bool,
     flags: MemFlagsData,
-) -> Result<Option<Value>, BuildError> {
+) -> Result<(), BuildError> {
     let (dest_align, src_align) = alignments;
     asserts_current(rt, builder);
     asserts_pointer(rt, builder, dest);
@@ -93,8 +93,7 @@ fn copy(
         src_align,
         non_overlapping,
         flags,
-    )?;
-    Ok(None)
+    )
 }
 
 fn fill(
@@ -105,12 +104,11 @@ fn fill(
     size: u64,
     alignment: u8,
     flags: MemFlagsData,
-) -> Result<Option<Value>, BuildError> {
+) -> Result<(), BuildError> {
     asserts_current(rt, builder);
     asserts_pointer(rt, builder, buffer);
     assert!(rt; may_move(CONFIG.pointer_width, size, alignment));
-    builder.emit_small_memset(CONFIG, buffer, byte, size, alignment, flags)?;
-    Ok(None)
+    builder.emit_small_memset(CONFIG, buffer, byte, size, alignment, flags)
 }
 
 fn compare(
@@ -122,7 +120,7 @@ fn compare(
     size: u64,
     alignments: (u8, u8),
     flags: MemFlagsData,
-) -> Result<Option<Value>, BuildError> {
+) -> Result<Value, BuildError> {
     let left_align = NonZeroU8::new(alignments.0).expect(rt, "an alignment");
     let right_align = NonZeroU8::new(alignments.1).expect(rt, "an alignment");
     asserts_current(rt, builder);
@@ -130,7 +128,7 @@ fn compare(
     asserts_pointer(rt, builder, right);
     asserts_unsigned(rt, cond);
     assert!(rt; fits_pointer(CONFIG.pointer_width, size));
-    let answer = builder.emit_small_memory_compare(
+    builder.emit_small_memory_compare(
         CONFIG,
         cond,
         left,
@@ -139,70 +137,10 @@ fn compare(
         left_align,
         right_align,
         flags,
-    )?;
-    Ok(Some(answer))
+    )
 }
 
-fn memcpy(
-    rt: &impl Abort,
-    builder: &mut FunctionBuilder<'_>,
-    dest: Value,
-    src: Value,
-    size: Value,
-) -> Result<Option<Value>, BuildError> {
-    asserts_current(rt, builder);
-    asserts_pointer(rt, builder, dest);
-    asserts_pointer(rt, builder, src);
-    asserts_pointer(rt, builder, size);
-    builder.call_memcpy(CONFIG, dest, src, size)?;
-    Ok(None)
-}
-
-fn memmove(
-    rt: &impl Abort,
-    builder: &mut FunctionBuilder<'_>,
-    dest: Value,
-    src: Value,
-    size: Value,
-) -> Result<Option<Value>, BuildError> {
-    asserts_current(rt, builder);
-    asserts_pointer(rt, builder, dest);
-    asserts_pointer(rt, builder, src);
-    asserts_pointer(rt, builder, size);
-    builder.call_memmove(CONFIG, dest, src, size)?;
-    Ok(None)
-}
-
-fn memset(
-    rt: &impl Abort,
-    builder: &mut FunctionBuilder<'_>,
-    buffer: Value,
-    ch: Value,
-    size: Value,
-) -> Result<Option<Value>, BuildError> {
-    asserts_current(rt, builder);
-    asserts_pointer(rt, builder, buffer);
-    asserts_typed(rt, builder, ch, I8);
-    asserts_pointer(rt, builder, size);
-    builder.call_memset(CONFIG, buffer, ch, size)?;
-    Ok(None)
-}
-
-fn memcmp(
-    rt: &impl Abort,
-    builder: &mut FunctionBuilder<'_>,
-    left: Value,
-    right: Value,
-    size: Value,
-) -> Result<Option<Value>, BuildError> {
-    asserts_current(rt, builder);
-    asserts_pointer(rt, builder, left);
-    asserts_pointer(rt, builder, right);
-    asserts_pointer(rt, builder, size);
-    Ok(Some(builder.call_memcmp(CONFIG, left, right, size)?))
-}
-
-/// Calls a helper on values; what it answers, if it answers a value.
+/// Calls a function of the C library on values.
 fn call(
     rt: &impl Abort,
     builder: &mut FunctionBuilder<'_>,
@@ -210,19 +148,47 @@ fn call(
     helper: Helper,
 ) -> Result<Option<Value>, BuildError> {
     let at = |place: usize| *values.get(place).expect(rt, "an operand");
+    asserts_current(rt, builder);
     match helper {
-        Helper::Memcpy(dest, src, size) => memcpy(rt, builder, at(dest), at(src), at(size)),
-        Helper::Memmove(dest, src, size) => memmove(rt, builder, at(dest), at(src), at(size)),
-        Helper::Memset(buffer, ch, size) => memset(rt, builder, at(buffer), at(ch), at(size)),
-        Helper::Memcmp(left, right, size) => memcmp(rt, builder, at(left), at(right), at(size)),
+        Helper::Memcpy(dest, src, size) => {
+            let (dest, src, size) = (at(dest), at(src), at(size));
+            asserts_pointer(rt, builder, dest);
+            asserts_pointer(rt, builder, src);
+            asserts_pointer(rt, builder, size);
+            builder.call_memcpy(CONFIG, dest, src, size)?;
+            Ok(None)
+        }
+        Helper::Memmove(dest, src, size) => {
+            let (dest, src, size) = (at(dest), at(src), at(size));
+            asserts_pointer(rt, builder, dest);
+            asserts_pointer(rt, builder, src);
+            asserts_pointer(rt, builder, size);
+            builder.call_memmove(CONFIG, dest, src, size)?;
+            Ok(None)
+        }
+        Helper::Memset(buffer, ch, size) => {
+            let (buffer, ch, size) = (at(buffer), at(ch), at(size));
+            asserts_pointer(rt, builder, buffer);
+            asserts_typed(rt, builder, ch, I8);
+            asserts_pointer(rt, builder, size);
+            builder.call_memset(CONFIG, buffer, ch, size)?;
+            Ok(None)
+        }
+        Helper::Memcmp(left, right, size) => {
+            let (left, right, size) = (at(left), at(right), at(size));
+            asserts_pointer(rt, builder, left);
+            asserts_pointer(rt, builder, right);
+            asserts_pointer(rt, builder, size);
+            Ok(Some(builder.call_memcmp(CONFIG, left, right, size)?))
+        }
         Helper::Copy {
-            operands: (dest, src),
+            operands,
             size,
             alignments,
             non_overlapping,
             flags,
         } => {
-            let (dest, src) = (at(dest), at(src));
+            let (dest, src) = (at(operands.0), at(operands.1));
             copy(
                 rt,
                 builder,
@@ -232,7 +198,8 @@ fn call(
                 alignments,
                 non_overlapping,
                 flags,
-            )
+            )?;
+            Ok(None)
         }
         Helper::Fill {
             buffer,
@@ -240,16 +207,19 @@ fn call(
             size,
             alignment,
             flags,
-        } => fill(rt, builder, at(buffer), byte, size, alignment, flags),
+        } => {
+            fill(rt, builder, at(buffer), byte, size, alignment, flags)?;
+            Ok(None)
+        }
         Helper::Compare {
             cond,
-            operands: (left, right),
+            operands,
             size,
             alignments,
             flags,
         } => {
-            let (left, right) = (at(left), at(right));
-            compare(rt, builder, cond, left, right, size, alignments, flags)
+            let (left, right) = (at(operands.0), at(operands.1));
+            Ok(Some(compare(rt, builder, cond, left, right, size, alignments, flags)?))
         }
     }
 }
