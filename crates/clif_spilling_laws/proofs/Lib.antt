@@ -15,3 +15,4 @@ pub mod Calling
 pub mod CallShapes
 pub mod Stepping
 pub mod Simulating
+pub mod Typed
