@@ -4,6 +4,7 @@
 #![tactic(auto)]
 
 ghost use Rattle.clif_spilling_laws.specs.Accesses.{ReloadsRun, StoredIsLoaded};
+ghost use Rattle.clif_spilling_laws.specs.Examples.{SpillingExamples};
 ghost use Rattle.clif_spilling_laws.specs.Laws.{SpillingMeansTheSame};
 ghost use Rattle.clif_spilling_laws.specs.PartLaws.{EachEntryMoves, LiveIsGiven, NothingLiveAtEntry, SpilledIsLive, TypedRunsFit};
 
@@ -47,4 +48,10 @@ pub fn each_entry_moves()
 /// In the run of a typed function each instruction gives bits to each of its results, and the members fit their types.
 pub fn typed_runs_fit()
     ensures { TypedRunsFit }
+{}
+
+/// The function of a worked row with a try call and its landing block is a spilling, and meets what the law asks of functions; wrong
+/// ones are refused.
+pub fn spilling_examples()
+    ensures { SpillingExamples }
 {}
