@@ -15,3 +15,5 @@ pub mod Calling
 pub mod CallShapes
 pub mod Stepping
 pub mod Simulating
+pub mod Worked
+pub mod Typed

@@ -6,3 +6,4 @@ pub mod Runs
 pub mod Accesses
 pub mod PartLaws
 pub mod Laws
+pub mod Examples

@@ -1,13 +1,14 @@
 -- Laws that the law of spilling rests on, as the contracts of this crate's functions state them: what is live in a well placed
 -- function in which each value is given once, over any test that says which arguments of edges count; and what the collector by
--- maps does to spill slots.
+-- maps does to spill slots; and what typed runs keep.
 use Rattle.std.specs.Prelude.{◌≡◌, ◌<◌, ℕ, Bool, List, map, Contains}
 use Rattle.std.specs.List.Sorted.{IsStrictlyIncreasing}
 use Rattle.clif_types.specs.Types.{bytes_of}
 use Rattle.clif_types.specs.declared.types.«Type».{«Type»}
 use Rattle.clif_meaning.specs.Bits.{Bits, value_bytes, value_of_bytes}
-use Rattle.clif_meaning.specs.FunctionMachine.{entries_moved}
+use Rattle.clif_meaning.specs.FunctionMachine.{FunctionRun, entries_moved, function_machine}
 use Rattle.clif_meaning.specs.FunctionView.{FunctionView}
+use Rattle.clif_meaning.specs.Machine.{state_after}
 use Rattle.clif_meaning.specs.Memory.{Memory, bytes_in}
 use Rattle.clif_meaning.specs.Path.{Place, IsReachable, IsStart}
 use Rattle.clif_meaning.specs.WellPlaced.{WellPlaced, function_code, function_flow, given_on_entry, placed_at, placed_gives}
@@ -15,7 +16,9 @@ use Rattle.clif_meaning.specs.World.{World, PlacesSlots}
 use Rattle.clif_spilling_laws.specs.GivesOnce.{GivesOnce}
 use Rattle.clif_spilling_laws.specs.Live.{IsLiveAcrossCall, IsLiveAfter, IsLiveBefore, IsSlotOf, place_at}
 use Rattle.clif_spilling_laws.specs.Rewriting.{entry_of}
-use Rattle.clif_spilling_laws.specs.Runs.{after_run, slot_range}
+use Rattle.clif_typed_runs.specs.Laws.{OfNextPlaced}
+use Rattle.clif_typed_runs.specs.ValuesFit.{IsFunctionTyped}
+use Rattle.clif_spilling_laws.specs.Runs.{GivesEach, MembersFit, after_run, outcome_in, slot_range}
 use Rattle.clif_spilling_laws.specs.Spilling.{Spilling}
 
 -- Nothing is live before the first instruction of the entry but the entry's parameters.
@@ -53,3 +56,19 @@ EachEntryMoves =
     → bytes_in (entries_moved (after_run s world) moved (map (entry_of s) values) memory) (slot_range s world w)
     ≡ value_bytes (bytes_of (s.before.value_type w))
     (moved (s.before.value_type w) (value_of_bytes (bytes_in memory (slot_range s world w))))
+
+-- in each step of the run each result gets bits
+abbrev pub GivesEachInRun : FunctionRun → Type 0
+GivesEachInRun run =
+    (n : ℕ) → OfNextPlaced (λ placed. GivesEach run (state_after (function_machine run) n) placed (outcome_in run (state_after (function_machine run) n) placed))
+    (state_after (function_machine run) n).control
+
+-- A run gives each result bits, and its members fit: of what the law of spilling asks of the run before, all but that it spares hidden
+-- addresses.
+pub record RunFits (members : ℕ → Bool) (run : FunctionRun) : Type 0 where
+  pub gives_each : GivesEachInRun run
+  pub fits : MembersFit members run
+
+-- A typed run does.
+abbrev pub TypedRunsFit : Type 0
+TypedRunsFit = (members : ℕ → Bool) (run : FunctionRun) → IsFunctionTyped run → RunFits members run

@@ -4,8 +4,9 @@
 #![tactic(auto)]
 
 ghost use Rattle.clif_spilling_laws.specs.Accesses.{ReloadsRun, StoredIsLoaded};
+ghost use Rattle.clif_spilling_laws.specs.Examples.{SpillingExamples};
 ghost use Rattle.clif_spilling_laws.specs.Laws.{SpillingMeansTheSame};
-ghost use Rattle.clif_spilling_laws.specs.PartLaws.{EachEntryMoves, LiveIsGiven, NothingLiveAtEntry, SpilledIsLive};
+ghost use Rattle.clif_spilling_laws.specs.PartLaws.{EachEntryMoves, LiveIsGiven, NothingLiveAtEntry, SpilledIsLive, TypedRunsFit};
 
 /// A function with stores, reloads and exact maps means, under the collector by maps, what the function before means under the
 /// collector over the members: where each value is given once, edges match, aliases are typed, the function is well placed, no slot
@@ -42,4 +43,15 @@ pub fn spilled_is_live()
 /// The collector by maps moves what lies in each slot that a map names, once.
 pub fn each_entry_moves()
     ensures { EachEntryMoves }
+{}
+
+/// In the run of a typed function each instruction gives bits to each of its results, and the members fit their types.
+pub fn typed_runs_fit()
+    ensures { TypedRunsFit }
+{}
+
+/// The function of a worked row with a try call and its landing block is a spilling, and meets what the law asks of functions; wrong
+/// ones are refused.
+pub fn spilling_examples()
+    ensures { SpillingExamples }
 {}

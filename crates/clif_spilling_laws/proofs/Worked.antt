@@ -1,0 +1,453 @@
+-- The worked examples of spilling, and the wrong ones that are refused.
+use Rattle.std.proofs.Common.{◌≡◌, ◌⊎◌, ◌<◌, ◌≤◌, inl, inr, ℕ, zero, suc, Bool, true, false, List, [], ◌∷◌, map, refl, sym, ap, subst, ◌∙◌, arith, Option, None, Some}
+use Rattle.std.specs.Prelude.{Contains, slice_get}
+use Rattle.std.specs.List.{AllByRecursion}
+use Rattle.std.proofs.lemmas.Bool.{eqb-true}
+use Rattle.clif_types.specs.declared.stackmap.UserStackMapEntry.{UserStackMapEntry}
+use Rattle.clif_meaning.specs.FunctionView.{FunctionView}
+use Rattle.clif_meaning.specs.Instruction.{Argument, Known, CallResult, Edge}
+use Rattle.clif_meaning.specs.Path.{IsReachable, Place}
+use Rattle.clif_meaning.specs.Typing.{EachEdgeMatches, EdgesMatch, call_shape, value_types_at}
+use Rattle.clif_meaning.specs.WellPlaced.{WellPlaced, function_code, function_flow, given_on_entry, placed_gives, placed_names, placed_passes, placed_targets}
+use Rattle.clif_safepoints.specs.Analysis.{IsReached}
+use Rattle.clif_safepoints.specs.Liveness.{IsLiveAcross}
+use Rattle.clif_spilling_laws.specs.Examples.{SpillingExamples, every, given_twice, landing_edge, narrows, normal_edge, one_slot, only_first, reload_of, spilled_blocks, the_entry, tries, try_blocks, try_spilling, two_live, view_with}
+use Rattle.clif_spilling_laws.specs.GivesOnce.{GivesOnce}
+use Rattle.clif_spilling_laws.specs.Laws.{MaySpill}
+use Rattle.clif_spilling_laws.specs.Live.{IsLiveAcrossCall, IsLiveAfter, IsLiveBefore, IsSlotOf, SharesNoSlot, SpillsLive, counted, place_at}
+use Rattle.clif_spilling_laws.specs.Rewriting.{AreRewritten, IsCopied, IsExactMap, IsKept, IsLandingBlock, IsLedOn, IsLeft, IsNamed, IsRead, IsRewritten, IsRewrittenBlock, IsRewrittenItem, IsSpilling, Lands, LeadsStraight, entry_of}
+use Rattle.clif_spilling_laws.specs.Spilling.{AreReloads, IsReload, IsStore, Reload, SlotAccess, Spilling}
+use Rattle.clif_spilling_laws.proofs.Lists.{contains_cases, contains_first, contains_more, contains_none, true_false}
+
+abbrev s : Spilling
+s = try_spilling
+
+no_way : true ≡ false → ⊥
+no_way e = cc
+
+first_alone : (v : ℕ) → only_first v ≡ true → v ≡ 0
+first_alone v is = eqb-true v 0 is
+
+reached_entry : IsReachable (function_flow s.before) (place_at 0 0)
+reached_entry = ([], (refl, (refl, omega arith)))
+
+-- the recorded value is passed by the normal edge
+live_first : IsLiveAcross (counted every) s.before (place_at 0 0) 0
+live_first = (contains_none 0, [], (normal_edge, 0, 0, contains_first normal_edge (record { target = 2; arguments = [] } ∷ []), refl, refl, refl))
+
+across_first : IsLiveAcrossCall every only_first s.before 0
+across_first = record {
+  place = place_at 0 0;
+  reachable = reached_entry;
+  placed = tries (0 ∷ []) normal_edge [];
+  there = refl;
+  shape = narrows;
+  call = refl;
+  member = refl;
+  unaliased = refl;
+  live = live_first;
+}
+
+spilled : SpillsLive every only_first s
+spilled v = (λ is. subst (λ (w : ℕ). IsLiveAcrossCall every only_first s.before w) (sym (first_alone v is)) across_first, λ across. across.member)
+
+-- RELOADS AND STORES ----------------------------------------------------------------------------------------------------
+
+before_call : AreReloads s (reload_of 0 6 7 ∷ [])
+before_call = (
+  record {
+    spilled = refl;
+    address = record { beyond = omega arith; typed = refl; itself = refl };
+    copy = record { beyond = omega arith; typed = refl; itself = refl };
+  },
+  λ y h. absurd (contains_none y h),
+  tt,
+)
+
+when_landed : AreReloads s (reload_of 0 3 4 ∷ [])
+when_landed = (
+  record {
+    spilled = refl;
+    address = record { beyond = omega arith; typed = refl; itself = refl };
+    copy = record { beyond = omega arith; typed = refl; itself = refl };
+  },
+  λ y h. absurd (contains_none y h),
+  tt,
+)
+
+reads_copy : (address copy : ℕ) → s.after.value_type copy ≡ s.before.value_type 0 → IsRead s (reload_of 0 address copy ∷ []) 0 copy
+reads_copy address copy typed = record {
+  typed = λ aliases. typed;
+  how = inl (refl, reload_of 0 address copy, contains_first (reload_of 0 address copy) [], refl, refl);
+}
+
+-- the landing block's parameter is neither the copy nor the address of its reload
+parameter_apart : (x : Reload) → Contains (reload_of 0 3 4 ∷ []) x → (5 ≡ x.copy → ⊥) × (5 ≡ x.access.address → ⊥)
+parameter_apart x h = by (contains_cases (reload_of 0 3 4) x [] h)
+  where
+    by : (reload_of 0 3 4 ≡ x) ⊎ Contains [] x → (5 ≡ x.copy → ⊥) × (5 ≡ x.access.address → ⊥)
+    by (inl same) = (
+      λ e. let g : 5 ≡ 4 = e ∙ sym (ap (λ (z : Reload). z.copy) same) in absurd (omega (arith, g)),
+      λ e. let g : 5 ≡ 3 = e ∙ sym (ap (λ (z : Reload). z.access.address) same) in absurd (omega (arith, g)),
+    )
+    by (inr none) = absurd (contains_none x none)
+
+lands : Lands every s narrows normal_edge landing_edge
+lands = record {
+  reloads = reload_of 0 3 4 ∷ [];
+  are_reloads = when_landed;
+  passed = Known 4 ∷ Known 5 ∷ [];
+  arguments = refl;
+  fresh = ((omega arith, refl, contains_none 5, parameter_apart), tt);
+  types = refl;
+  landed = (inl (reads_copy 3 4 refl), (refl, refl));
+  items = refl;
+}
+
+exact : IsExactMap every only_first s (place_at 0 0) (the_entry ∷ [])
+exact = record {
+  values = 0 ∷ [];
+  rising = λ k inside. absurd (omega (arith, inside));
+  all = λ v. (there v, λ live. subst (λ (w : ℕ). Contains (0 ∷ []) w) (sym (first_alone v live.0)) (contains_first 0 []));
+  entries_are = refl;
+}
+  where
+    there : (v : ℕ) → Contains (0 ∷ []) v → (only_first v ≡ true) × (v ≡ v) × IsLiveAcross (counted every) s.before (place_at 0 0) v
+    there v h = by (contains_cases 0 v [] h)
+      where
+        by : (0 ≡ v) ⊎ Contains [] v → (only_first v ≡ true) × (v ≡ v) × IsLiveAcross (counted every) s.before (place_at 0 0) v
+        by (inl same) =
+            subst (λ (w : ℕ). (only_first w ≡ true) × (w ≡ w) × IsLiveAcross (counted every) s.before (place_at 0 0) w) same (refl, refl, live_first)
+        by (inr none) = absurd (contains_none v none)
+
+call_kept : IsKept every s only_first (place_at 0 0) (reload_of 0 6 7 ∷ []) (tries (0 ∷ []) normal_edge []) (tries (7 ∷ []) landing_edge (the_entry ∷ []))
+call_kept = record {
+  operation = refl;
+  controlling = λ aliases. refl;
+  operands = (reads_copy 6 7 refl, tt);
+  contexts = refl;
+  edges = (inr lands, (inl (record { target = refl; arguments = tt }), tt));
+  results = refl;
+  stack_map = exact;
+}
+
+-- BLOCKS ----------------------------------------------------------------------------------------------------------------
+
+call_block : IsRewrittenBlock every s only_first 0
+call_block = record {
+  parameters = refl;
+  items = record {
+    stores = record { value = 0; address = 8; region = None } ∷ [];
+    are_stores = inl (record { value = refl; address = record { beyond = omega arith; typed = refl; itself = refl } }, refl);
+    rest = _;
+    code_is = refl;
+    rewritten = record {
+      reloads = reload_of 0 6 7 ∷ [];
+      are_reloads = before_call;
+      new = tries (7 ∷ []) landing_edge (the_entry ∷ []);
+      is_kept = call_kept;
+      stores = [];
+      are_stores = refl;
+      rest = [];
+      code_is = refl;
+      goes_on = refl;
+    };
+  };
+}
+
+return_block : IsRewrittenBlock every s only_first 1
+return_block = record {
+  parameters = refl;
+  items = record {
+    stores = [];
+    are_stores = refl;
+    rest = _;
+    code_is = refl;
+    rewritten = record {
+      reloads = [];
+      are_reloads = tt;
+      new = _;
+      is_kept = record {
+        operation = refl;
+        controlling = λ aliases. refl;
+        operands = (record { typed = λ aliases. refl; how = inr (refl, refl) }, tt);
+        contexts = refl;
+        edges = tt;
+        results = refl;
+        stack_map = refl;
+      };
+      stores = [];
+      are_stores = refl;
+      rest = [];
+      code_is = refl;
+      goes_on = refl;
+    };
+  };
+}
+
+trap_block : IsRewrittenBlock every s only_first 2
+trap_block = record {
+  parameters = refl;
+  items = record {
+    stores = [];
+    are_stores = refl;
+    rest = _;
+    code_is = refl;
+    rewritten = record {
+      reloads = [];
+      are_reloads = tt;
+      new = _;
+      is_kept = record { operation = refl; controlling = λ aliases. refl; operands = tt; contexts = refl; edges = tt; results = refl; stack_map = refl };
+      stores = [];
+      are_stores = refl;
+      rest = [];
+      code_is = refl;
+      goes_on = refl;
+    };
+  };
+}
+
+-- no edge leads to block 3
+no_target : (b k : ℕ) → Contains (placed_targets (slice_get (try_blocks normal_edge b).items k)) 3 → ⊥
+no_target zero zero h = by (contains_cases 1 3 (2 ∷ []) h)
+  where
+    last : (◌≡◌ {A = ℕ} 2 3) ⊎ Contains {X = ℕ} [] 3 → ⊥
+    last (inl e) = absurd (omega (arith, e))
+    last (inr none) = contains_none 3 none
+
+    by : (◌≡◌ {A = ℕ} 1 3) ⊎ Contains {X = ℕ} (2 ∷ []) 3 → ⊥
+    by (inl e) = absurd (omega (arith, e))
+    by (inr more) = last (contains_cases 2 3 [] more)
+no_target zero (suc k) h = contains_none 3 h
+no_target (suc zero) zero h = contains_none 3 h
+no_target (suc zero) (suc k) h = contains_none 3 h
+no_target (suc (suc zero)) zero h = contains_none 3 h
+no_target (suc (suc zero)) (suc k) h = contains_none 3 h
+no_target (suc (suc (suc n))) k h = contains_none 3 h
+
+some_number : (a b : ℕ) → ◌≡◌ {A = Option ℕ} (Some a) (Some b) → a ≡ b
+some_number a b e = cc
+
+not_reached : IsReached s.before 3 → ⊥
+not_reached (inl entry) = let e : 0 ≡ 3 = some_number 0 3 entry in absurd (omega (arith, e))
+not_reached (inr from) = no_target from.0.block from.0.index from.2
+
+rewritten_block : (block : ℕ) → IsReached s.before block → IsRewrittenBlock every s only_first block
+rewritten_block zero is = call_block
+rewritten_block (suc zero) is = return_block
+rewritten_block (suc (suc zero)) is = trap_block
+rewritten_block (suc (suc (suc zero))) is = absurd (not_reached is)
+rewritten_block (suc (suc (suc (suc n)))) is = record { parameters = refl; items = refl }
+
+landing_block : IsLandingBlock every s 3
+landing_block = record {
+  no_parameters = refl;
+  no_items = refl;
+  place = place_at 0 0;
+  reachable = reached_entry;
+  placed = tries (0 ∷ []) normal_edge [];
+  there = refl;
+  call = narrows;
+  is_call = refl;
+  old = normal_edge;
+  is_edge = contains_first normal_edge (record { target = 2; arguments = [] } ∷ []);
+  new = landing_edge;
+  target = refl;
+  lands = lands;
+}
+
+other_block : (block : ℕ) → (IsReached s.before block → ⊥) → (s.after.blocks block ≡ s.before.blocks block) ⊎ IsLandingBlock every s block
+other_block zero none = absurd (none (inl refl))
+other_block (suc zero) none = inl refl
+other_block (suc (suc zero)) none = inl refl
+other_block (suc (suc (suc zero))) none = inr landing_block
+other_block (suc (suc (suc (suc n)))) none = inl refl
+
+is_spilling : IsSpilling every s only_first
+is_spilling = record {
+  text = record { entry = refl; signature = refl; reached = rewritten_block; others = other_block };
+  spilled = spilled;
+  slots = λ v is. subst (λ (w : ℕ). IsSlotOf s w) (sym (first_alone v is)) (record { slot = _; there = refl; beyond = omega arith; size = refl; align = refl });
+  old_slots = (_, refl);
+  types = λ v low. refl;
+  aliases = λ v low. refl;
+}
+
+-- WHAT THE LAW ASKS -----------------------------------------------------------------------------------------------------
+
+-- the block whose parameter a value is
+abbrev owner : ℕ → ℕ
+owner zero = 0
+owner (suc n) = 1
+
+owned : (b v w : ℕ) → b ≡ owner v → v < 3 → v ≡ w → (b ≡ owner w) × (w < 3)
+owned b v w is low same = (subst (λ (u : ℕ). b ≡ owner u) same is, subst (λ (u : ℕ). u < 3) same low)
+
+parameter_owner : (b v : ℕ) → Contains (try_blocks normal_edge b).parameters v → (b ≡ owner v) × (v < 3)
+parameter_owner zero v h = by (contains_cases 0 v [] h)
+  where
+    by : (0 ≡ v) ⊎ Contains [] v → (0 ≡ owner v) × (v < 3)
+    by (inl same) = owned 0 0 v refl (omega arith) same
+    by (inr none) = absurd (contains_none v none)
+parameter_owner (suc zero) v h = by (contains_cases 1 v (2 ∷ []) h)
+  where
+    last : (2 ≡ v) ⊎ Contains [] v → (1 ≡ owner v) × (v < 3)
+    last (inl same) = owned 1 2 v refl (omega arith) same
+    last (inr none) = absurd (contains_none v none)
+
+    by : (1 ≡ v) ⊎ Contains (2 ∷ []) v → (1 ≡ owner v) × (v < 3)
+    by (inl same) = owned 1 1 v refl (omega arith) same
+    by (inr more) = last (contains_cases 2 v [] more)
+parameter_owner (suc (suc zero)) v h = absurd (contains_none v h)
+parameter_owner (suc (suc (suc n))) v h = absurd (contains_none v h)
+
+no_result : (b k v : ℕ) → Contains (placed_gives (slice_get (try_blocks normal_edge b).items k)) v → ⊥
+no_result zero zero v h = contains_none v h
+no_result zero (suc k) v h = contains_none v h
+no_result (suc zero) zero v h = contains_none v h
+no_result (suc zero) (suc k) v h = contains_none v h
+no_result (suc (suc zero)) zero v h = contains_none v h
+no_result (suc (suc zero)) (suc k) v h = contains_none v h
+no_result (suc (suc (suc n))) k v h = contains_none v h
+
+no_results : (b k : ℕ) → placed_gives (slice_get (try_blocks normal_edge b).items k) ≡ []
+no_results zero zero = refl
+no_results zero (suc k) = refl
+no_results (suc zero) zero = refl
+no_results (suc zero) (suc k) = refl
+no_results (suc (suc zero)) zero = refl
+no_results (suc (suc zero)) (suc k) = refl
+no_results (suc (suc (suc n))) k = refl
+
+gives_once : GivesOnce s.before 3
+gives_once = record {
+  parameters_below = λ b v h. let is = parameter_owner b v h in is.1;
+  results_below = λ p v h. absurd (no_result p.block p.index v h);
+  one_block = λ b d v h g. let first = parameter_owner b v h in let second = parameter_owner d v g in first.0 ∙ sym second.0;
+  one_place = λ p q v h g. absurd (no_result p.block p.index v h);
+  apart = λ b p v h g. no_result p.block p.index v g;
+  edges_give_nothing = λ p some. no_results p.block p.index;
+}
+
+edges_match : EdgesMatch s.before
+edges_match zero = ((refl, (refl, tt)), tt)
+edges_match (suc zero) = (tt, tt)
+edges_match (suc (suc zero)) = (tt, tt)
+edges_match (suc (suc (suc n))) = tt
+
+named_at : (b k x : ℕ) → Contains (placed_names (λ v. v) (slice_get (try_blocks normal_edge b).items k)) x → Contains (given_on_entry (function_code s.before) b k) x
+named_at zero zero x h = h
+named_at zero (suc k) x h = absurd (contains_none x h)
+named_at (suc zero) zero x h = by (contains_cases 1 x [] h)
+  where
+    by : (1 ≡ x) ⊎ Contains [] x → Contains (1 ∷ 2 ∷ []) x
+    by (inl same) = subst (λ (w : ℕ). Contains (1 ∷ 2 ∷ []) w) same (contains_first 1 (2 ∷ []))
+    by (inr none) = absurd (contains_none x none)
+named_at (suc zero) (suc k) x h = absurd (contains_none x h)
+named_at (suc (suc zero)) zero x h = absurd (contains_none x h)
+named_at (suc (suc zero)) (suc k) x h = absurd (contains_none x h)
+named_at (suc (suc (suc n))) k x h = absurd (contains_none x h)
+
+passed_at : (b k x : ℕ) → Contains (placed_passes (λ v. v) (slice_get (try_blocks normal_edge b).items k)) x → Contains (given_on_entry (function_code s.before) b k) x
+passed_at zero zero x h = h
+passed_at zero (suc k) x h = absurd (contains_none x h)
+passed_at (suc zero) zero x h = absurd (contains_none x h)
+passed_at (suc zero) (suc k) x h = absurd (contains_none x h)
+passed_at (suc (suc zero)) zero x h = absurd (contains_none x h)
+passed_at (suc (suc zero)) (suc k) x h = absurd (contains_none x h)
+passed_at (suc (suc (suc n))) k x h = absurd (contains_none x h)
+
+well_placed : WellPlaced s.before
+well_placed = record {
+  named = λ q x h path walk. inl (named_at q.block q.index x h);
+  passed = λ q x h. inr (λ path walk. inl (passed_at q.block q.index x h));
+}
+
+may_spill : MaySpill every only_first s
+may_spill = record {
+  gives_once = gives_once;
+  edges_match = edges_match;
+  aliases_typed = λ v. refl;
+  well_placed = well_placed;
+  counts_enough = λ target place param reached uncounted is. absurd (no_way uncounted);
+  shares_no_slot = record {
+    before = λ p reachable v w first second live_v live_w same. first_alone v first ∙ sym (first_alone w second);
+    after = λ p reachable v w first second live_v live_w same. first_alone v first ∙ sym (first_alone w second);
+  };
+}
+
+-- WRONG ONES ------------------------------------------------------------------------------------------------------------
+
+two_after : (v : ℕ) → Contains (0 ∷ 1 ∷ []) v → IsLiveAfter every one_slot.before (place_at 0 0) v
+two_after v h = (place_at 0 1 ∷ [], (inl (refl, refl, omega arith), contains_none v, inl (map_same v h)))
+  where
+    map_same : (v : ℕ) → Contains (0 ∷ 1 ∷ []) v → Contains (map (λ (x : ℕ). x) (0 ∷ 1 ∷ [])) v
+    map_same v h = h
+
+shared : SharesNoSlot every one_slot → ⊥
+shared none =
+    let e : 0 ≡ 1 = none.after (place_at 0 0) ([], (refl, (refl, omega arith))) 0 1 refl refl
+    (two_after 0 (contains_first 0 (1 ∷ []))) (two_after 1 (contains_more 0 1 (1 ∷ []) (contains_first 1 []))) refl in
+    absurd (omega (arith, e))
+
+other_arguments : ◌≡◌ {A = List (Argument ℕ)} (Known 7 ∷ CallResult 0 ∷ []) (CallResult 0 ∷ []) → ⊥
+other_arguments e = cc
+
+reload_first : IsLedOn every s (Some narrows) (reload_of 0 6 7 ∷ []) normal_edge (record { target = 1; arguments = Known 7 ∷ CallResult 0 ∷ [] }) → ⊥
+reload_first (inr landing) = other_arguments landing.arguments
+reload_first (inl straight) = by straight.arguments.0
+  where
+    how : IsCopied s [] 0 7 ⊎ IsNamed s 0 7 → ⊥
+    how (inl copied) = contains_none copied.1 copied.2
+    how (inr named) = no_way named.0
+
+    by : IsRead s [] 0 7 ⊎ ((every 1 0 ≡ false) × IsLeft s 0 7) → ⊥
+    by (inl read) = how read.how
+    by (inr left) = no_way left.0
+
+lacks_entry : IsExactMap every only_first s (place_at 0 0) [] → ⊥
+lacks_entry is = by is.values ((is.all 0).1 (refl, refl, live_first)) is.entries_are
+  where
+    by : (vs : List ℕ) → Contains vs 0 → [] ≡ map (entry_of s) vs → ⊥
+    by [] h e = contains_none 0 h
+    by (v ∷ vs) h e = cc
+
+other_slot : IsRead s (reload_of 1 6 7 ∷ []) 0 7 → ⊥
+other_slot read = by read.how
+  where
+    of : (x : Reload) → x.access.value ≡ 0 → (reload_of 1 6 7 ≡ x) ⊎ Contains [] x → ⊥
+    of x zero_is (inl same) = let e : 1 ≡ 0 = ap (λ (z : Reload). z.access.value) same ∙ zero_is in absurd (omega (arith, e))
+    of x zero_is (inr none) = contains_none x none
+
+    by : IsCopied s (reload_of 1 6 7 ∷ []) 0 7 ⊎ IsNamed s 0 7 → ⊥
+    by (inl copied) = of copied.1 copied.3 (contains_cases (reload_of 1 6 7) copied.1 [] copied.2)
+    by (inr named) = no_way named.0
+
+one_or_two : {A : Type 0} (a b c : A) → (a ∷ []) ≡ (b ∷ c ∷ []) → ⊥
+one_or_two a b c e = cc
+
+too_few : EdgesMatch (view_with (try_blocks (record { target = 1; arguments = Known 0 ∷ [] })) []) → ⊥
+too_few match = let first = match 0 in one_or_two _ _ _ first.0.0
+
+twice : GivesOnce (view_with given_twice []) 1 → ⊥
+twice once =
+    let same : place_at 0 0 ≡ place_at 0 1 = once.one_place (place_at 0 0) (place_at 0 1) 0 (contains_first 0 []) (contains_first 0 []) in
+    let e : 0 ≡ 1 = ap (λ (p : Place ℕ). p.index) same in
+    absurd (omega (arith, e))
+
+pub examples : SpillingExamples
+examples = record {
+  try_call = is_spilling;
+  may_spill = may_spill;
+  shared = shared;
+  before_call = reload_first;
+  lacks_entry = lacks_entry;
+  no_store = no_store_here;
+  other_slot = other_slot;
+  too_few = too_few;
+  twice = twice;
+}
+  where
+    no_store_here : (⊥ ⊎ ((IsLiveBefore every s.before (place_at 0 0) 0 → ⊥) × (◌≡◌ {A = List SlotAccess} [] []))) → ⊥
+    no_store_here (inl none) = none
+    no_store_here (inr unneeded) = unneeded.0 (inr live_first)

@@ -1,0 +1,5 @@
+use Rattle.clif_spilling_laws.proofs.Worked.{examples}
+use Rattle.clif_spilling_laws.proofs.spilling_examples.Goals as goal
+
+pub returns : goal.returns
+returns c = examples

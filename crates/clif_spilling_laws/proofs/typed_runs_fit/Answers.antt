@@ -1,0 +1,5 @@
+use Rattle.clif_spilling_laws.proofs.Typed.{typed_runs_fit}
+use Rattle.clif_spilling_laws.proofs.typed_runs_fit.Goals as goal
+
+pub returns : goal.returns
+returns c = typed_runs_fit
