@@ -1,12 +1,10 @@
-//! Tests of what needs no function: types and other plain data, the tables of opcodes, the ranges of switches, the words
-//! of scripts, and the worked rows of the meaning.
+//! Tests of what needs no function: types and other plain data, the tables of opcodes, the ranges of switches, and the
+//! words of scripts.
 //!
 //! They test what no clause says: that calls succeed, and texts, which are those of the printer's rules, of Cranelift and
 //! of docs/SCRIPTS.md.
 #![tactic(auto)]
 
-#[cfg(test)]
-mod meaning;
 #[cfg(test)]
 mod opcodes;
 #[cfg(test)]

@@ -12,4 +12,6 @@ mod rows;
 #[cfg(test)]
 mod shapes;
 #[cfg(test)]
+mod slots;
+#[cfg(test)]
 mod steps;

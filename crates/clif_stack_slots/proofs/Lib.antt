@@ -1,0 +1,3 @@
+-- What changes of the slots leave.
+pub mod Free
+pub mod Assigned
