@@ -29,9 +29,13 @@ impl<'a> FunctionBuilder<'a> {
     /// The value that a variable has at this point of the current block, as [`FunctionBuilder::use_var`] returns it,
     /// if the variable is declared.
     ///
-    /// Otherwise it is refused with `UsedBeforeDeclared`, and the current block is in the layout, as after
-    /// [`FunctionBuilder::ensure_inserted_block`]; nothing else has changed, and the builder goes on. There is a
-    /// current block, which isn't filled. After `Memory` or `Full` the builder has failed.
+    /// There is a current block, which isn't filled.
+    ///
+    /// # Errors
+    ///
+    /// `UsedBeforeDeclared` for a variable that isn't declared: the current block is in the layout then, as after
+    /// [`FunctionBuilder::ensure_inserted_block`], nothing else has changed, and the builder goes on. `Memory`,
+    /// `Full` or `Failed` as [`FunctionBuilder::use_var`].
     pub fn try_use_var(
         &mut self,
         variable: Variable,
@@ -70,11 +74,15 @@ impl<'a> FunctionBuilder<'a> {
         Ok(Ok(value))
     }
 
-    /// Assigns a value to a variable, as [`FunctionBuilder::def_var`] does, if the variable is declared and its type is
-    /// the value's.
+    /// Assigns a value to a variable, as [`FunctionBuilder::def_var`] does, if the variable is declared and its type
+    /// is the value's.
     ///
-    /// Otherwise it is refused, and nothing has changed: with `DefinedBeforeDeclared`, or else with `TypeMismatch`. There
-    /// is a current block, which isn't filled. After `Memory` the variable is what it was, and the builder has failed.
+    /// There is a current block, which isn't filled.
+    ///
+    /// # Errors
+    ///
+    /// `DefinedBeforeDeclared` for a variable that isn't declared, or else `TypeMismatch` for a value of another
+    /// type: nothing has changed then, and the builder goes on. `Memory` or `Failed` as [`FunctionBuilder::def_var`].
     pub fn try_def_var(
         &mut self,
         variable: Variable,

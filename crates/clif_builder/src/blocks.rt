@@ -34,8 +34,12 @@ impl<'a> FunctionBuilder<'a> {
 
     /// Puts a block into the layout right after another one. This affects nothing but the order of the text.
     ///
-    /// `after` is in the layout and `block` isn't. Without this call a block enters the layout as its last one,
-    /// once something is made in it. It takes no memory, so its one error is `Failed`.
+    /// `after` is in the layout and `block` isn't. Without this call a block enters the layout as its last one, once
+    /// something is made in it.
+    ///
+    /// # Errors
+    ///
+    /// `Failed` alone, after an error of an earlier call: it takes no memory.
     pub fn insert_block_after(&mut self, block: Block, after: Block) -> Result<(), BuildError>
         requires exists { block < length self.old.func.now.blocks }
         requires outside { Stands block self.old.func.now.layout → ⊥ }
@@ -78,10 +82,15 @@ impl<'a> FunctionBuilder<'a> {
         self.func.set_cold_block(block);
     }
 
-    /// Brings the current block into the layout now, as its last block, even if nothing is made in it yet. It is
-    /// no longer pristine then.
+    /// Brings the current block into the layout now, as its last block, even if nothing is made in it yet. It is no
+    /// longer pristine then.
     ///
     /// There is a current block, which isn't filled.
+    ///
+    /// # Errors
+    ///
+    /// `Memory`, where memory is refused, and `Failed` after an error of an earlier call. The builder has failed
+    /// then.
     pub fn ensure_inserted_block(&mut self) -> Result<(), BuildError>
         requires current { HasCurrent self.old }
         ensures call { IsCall self.old self.new result }
@@ -111,9 +120,12 @@ impl<'a> FunctionBuilder<'a> {
     /// Appends a parameter to a block, and returns its value. Pass an argument for it on each branch to the block;
     /// that isn't checked.
     ///
-    /// The block is pristine ([`FunctionBuilder::is_pristine`]); later, parameters of variables may follow. `Full`
-    /// means that there are 2^32 - 1 values. After an error the block has the parameters that it had, and the
-    /// builder has failed.
+    /// The block is pristine ([`FunctionBuilder::is_pristine`]); later, parameters of variables may follow.
+    ///
+    /// # Errors
+    ///
+    /// `Memory`, where memory is refused, `Full`, where there are 2^32 - 1 values, and `Failed` after an error of an
+    /// earlier call. The block has the parameters that it had then, and the builder has failed.
     pub fn append_block_param(&mut self, block: Block, ty: Type) -> Result<Value, BuildError>
         requires exists { block < length self.old.func.now.blocks }
         requires pristine { status_of self.old.ctx.now block ≡ BlockStatus.Empty }
@@ -143,8 +155,13 @@ impl<'a> FunctionBuilder<'a> {
     /// Appends the function's parameters, as its signature lists them, to a block: the entry block, which
     /// [`FunctionBuilder::block_params`] then tells the values of.
     ///
-    /// The block is pristine, and no branch leads to it ([`FunctionBuilder::has_any_predecessors`]). `Full` means
-    /// that there are 2^32 - 1 values now, and so no room for all of the parameters; some may have been appended.
+    /// The block is pristine, and no branch leads to it ([`FunctionBuilder::has_any_predecessors`]).
+    ///
+    /// # Errors
+    ///
+    /// `Memory`, where memory is refused, `Full`, where there are 2^32 - 1 values now, and so no room for all of the
+    /// parameters, and `Failed` after an error of an earlier call. Some may have been appended then, and the builder
+    /// has failed.
     pub fn append_block_params_for_function_params(
         &mut self,
         block: Block,
@@ -174,11 +191,13 @@ impl<'a> FunctionBuilder<'a> {
         appended
     }
 
-    /// Appends a parameter to a block for each value that the function returns: for a block that all returns jump
-    /// to.
+    /// Appends a parameter to a block for each value that the function returns: for a block that all returns jump to.
     ///
-    /// The block is pristine. `Full` means that there are 2^32 - 1 values now, and so no room for all of the
-    /// parameters; some may have been appended.
+    /// The block is pristine.
+    ///
+    /// # Errors
+    ///
+    /// Those of [`FunctionBuilder::append_block_params_for_function_params`].
     pub fn append_block_params_for_function_returns(
         &mut self,
         block: Block,

@@ -24,15 +24,17 @@ impl<'a> FunctionBuilder<'a> {
         self.ctx.leads_to(inst, block)
     }
 
-    /// Lets each edge of a branch that leads to `old_block` lead to `new_block`, and pass what it passed. The edges of
-    /// jump tables and exception tables that serve the branch are its own.
+    /// Lets each edge of a branch that leads to `old_block` lead to `new_block`, and pass what it passed. The edges
+    /// of jump tables and exception tables that serve the branch are its own.
     ///
     /// The branch leads to `old_block` ([`FunctionBuilder::leads_to`] tests it), and both blocks are unsealed: seal a
-    /// block only once no branch to it changes anymore. The branch is one predecessor of `new_block`, behind those that
-    /// were, unless it was one of them, and none of `old_block`. Where both are one block nothing changes.
+    /// block only once no branch to it changes anymore. The branch is one predecessor of `new_block`, behind those
+    /// that were, unless it was one of them, and none of `old_block`. Where both are one block nothing changes.
     ///
-    /// The only error but `Failed` is `Memory`; the function and all predecessors are as before then, and the builder has
-    /// failed.
+    /// # Errors
+    ///
+    /// `Memory`, where memory is refused, and `Failed` after an error of an earlier call. The function and all
+    /// predecessors are as they were then, and the builder has failed.
     pub fn change_jump_destination(
         &mut self,
         inst: Inst,

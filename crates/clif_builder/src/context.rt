@@ -67,7 +67,11 @@ impl StatusTable {
         }
     }
 
-    /// Sets the status of a block. After an error each status is as it was.
+    /// Sets the status of a block.
+    ///
+    /// # Errors
+    ///
+    /// `Memory`, where memory is refused. Each status is as it was then.
     pub fn set(&mut self, block: Block, status: BlockStatus) -> Result<(), BuildError>
         ensures ok { OnOk result ((b : ℕ) → slice_index_or self.new b BlockStatus.Empty ≡ (if b == block then status else slice_index_or self.old b BlockStatus.Empty)) }
         ensures err { OnErr result ((b : ℕ) → slice_index_or self.new b BlockStatus.Empty ≡ slice_index_or self.old b BlockStatus.Empty) }

@@ -14,8 +14,12 @@ use clif_types::{
 impl<'a> FunctionBuilder<'a> {
     /// Makes a stack slot of a fixed size in the function, and returns its number: `ss0`, `ss1`, and so on.
     ///
-    /// It may be made at any time. `Full` means that there are 2^32 - 1 such slots. After an error the function is
-    /// as it was, and the builder has failed.
+    /// It may be made at any time.
+    ///
+    /// # Errors
+    ///
+    /// `Memory`, where memory is refused, `Full`, where there are 2^32 - 1 such entries, and `Failed` after an error
+    /// of an earlier call. The function is as it was then, and the builder has failed.
     pub fn create_sized_stack_slot(&mut self, slot: StackSlotData) -> Result<StackSlot, BuildError>
         ensures { MakesEntry (AStackSlot slot) self.old self.new result }
     {
@@ -30,7 +34,9 @@ impl<'a> FunctionBuilder<'a> {
 
     /// Makes a stack slot whose size is known only when the program runs: `dss0`, `dss1`, and so on.
     ///
-    /// Errors are those of [`FunctionBuilder::create_sized_stack_slot`].
+    /// # Errors
+    ///
+    /// Those of [`FunctionBuilder::create_sized_stack_slot`].
     pub fn create_dynamic_stack_slot(
         &mut self,
         slot: DynamicStackSlotData,
@@ -48,7 +54,9 @@ impl<'a> FunctionBuilder<'a> {
 
     /// Makes a global value: `gv0`, `gv1`, and so on.
     ///
-    /// Errors are those of [`FunctionBuilder::create_sized_stack_slot`].
+    /// # Errors
+    ///
+    /// Those of [`FunctionBuilder::create_sized_stack_slot`].
     pub fn create_global_value(&mut self, value: GlobalValueData) -> Result<GlobalValue, BuildError>
         ensures { MakesEntry (AGlobalValue value) self.old self.new result }
     {
@@ -64,7 +72,9 @@ impl<'a> FunctionBuilder<'a> {
     /// Imports a signature, with which functions can be imported: `sig0`, `sig1`, and so on. Equal signatures get
     /// numbers of their own.
     ///
-    /// Errors are those of [`FunctionBuilder::create_sized_stack_slot`].
+    /// # Errors
+    ///
+    /// Those of [`FunctionBuilder::create_sized_stack_slot`].
     pub fn import_signature(&mut self, signature: Signature) -> Result<SigRef, BuildError>
         ensures { MakesEntry (ASignature signature) self.old self.new result }
     {
@@ -79,8 +89,11 @@ impl<'a> FunctionBuilder<'a> {
 
     /// Imports a function: `fn0`, `fn1`, and so on. Equal functions get numbers of their own.
     ///
-    /// Its signature was imported ([`FunctionBuilder::signature`] tells). Errors are those of
-    /// [`FunctionBuilder::create_sized_stack_slot`].
+    /// Its signature was imported ([`FunctionBuilder::signature`] tells).
+    ///
+    /// # Errors
+    ///
+    /// Those of [`FunctionBuilder::create_sized_stack_slot`].
     pub fn import_function(&mut self, function: ExtFuncData) -> Result<FuncRef, BuildError>
         requires signature_exists { function.signature < length self.old.func.now.tables.signatures }
         ensures { MakesEntry (AFunction function) self.old self.new result }
@@ -97,7 +110,10 @@ impl<'a> FunctionBuilder<'a> {
     /// The edge to a block that passes these arguments to its parameters, in order, for a jump table or an exception
     /// table: nothing is made in the function.
     ///
-    /// The only errors are `Memory` and `Failed`.
+    /// # Errors
+    ///
+    /// `Memory`, where memory is refused, and `Failed` after an error of an earlier call. The builder has failed
+    /// then.
     pub fn block_call(&mut self, block: Block, args: &[BlockArg]) -> Result<BlockCall, BuildError>
         ensures { MakesEdge block args.now self.old self.new result }
     {
@@ -110,10 +126,14 @@ impl<'a> FunctionBuilder<'a> {
         edge
     }
 
-    /// Makes a jump table, for one `br_table`: its default and its entries are edges, of which [`block_call`] makes one.
+    /// Makes a jump table, for one `br_table`: its default and its entries are edges, of which [`block_call`] makes
+    /// one.
     ///
-    /// No branch is made, and what the edges name is asked for only by the `br_table`. Errors are those of
-    /// [`FunctionBuilder::create_sized_stack_slot`].
+    /// No branch is made, and what the edges name is asked for only by the `br_table`.
+    ///
+    /// # Errors
+    ///
+    /// Those of [`FunctionBuilder::create_sized_stack_slot`].
     ///
     /// [`block_call`]: FunctionBuilder::block_call
     pub fn create_jump_table(&mut self, table: JumpTableData) -> Result<JumpTable, BuildError>
@@ -128,12 +148,15 @@ impl<'a> FunctionBuilder<'a> {
         made
     }
 
-    /// Makes an exception table, for one `try_call` or `try_call_indirect`: the signature of the call, the edge along which
-    /// it goes when it returns, and the items, which say along which edge it goes when it throws. [`block_call`] makes
-    /// the edges.
+    /// Makes an exception table, for one `try_call` or `try_call_indirect`: the signature of the call, the edge along
+    /// which it goes when it returns, and the items, which say along which edge it goes when it throws.
+    /// [`block_call`] makes the edges.
     ///
-    /// No branch is made, and what the table names is asked for only by the try call. Errors are those of
-    /// [`FunctionBuilder::create_sized_stack_slot`].
+    /// No branch is made, and what the table names is asked for only by the try call.
+    ///
+    /// # Errors
+    ///
+    /// Those of [`FunctionBuilder::create_sized_stack_slot`].
     ///
     /// [`block_call`]: FunctionBuilder::block_call
     pub fn create_exception_table(

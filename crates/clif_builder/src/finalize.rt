@@ -29,17 +29,20 @@ use clif_types::{Block, EntityRef, EntitySet, TargetFrontendConfig, Value};
 
 impl<'a> FunctionBuilder<'a> {
     /// Ends the building. The function is finished if each block that isn't pristine is sealed and has its
-    /// terminator; otherwise the first one that lacks either, by number, is returned as `Unsealed` or
-    /// `Unfilled`. A builder that failed returns `Failed`.
+    /// terminator; otherwise the first one that lacks either, by number, is returned as `Unsealed` or `Unfilled`. A
+    /// builder that failed returns `Failed`.
     ///
-    /// Where values were recorded for stack maps, the values are found that are live across each call; `Memory` may be
-    /// returned then. A try call that is reached and whose context is one of the recorded values, the first by number, is
-    /// returned as `TrackedContext`: an unwinder keeps its context, and no collector can move that. No stack map is made
-    /// yet.
+    /// A try call that is reached and whose context is one of the recorded values, the first by number, is returned
+    /// as `TrackedContext`: an unwinder keeps its context, and no collector can move that. No stack map is made yet.
     ///
-    /// A finished function does what the calls said, with variables: its events, and how it returns or traps, are
-    /// the same, also where a collector moves what is recorded for stack maps at each outside call. The function itself
+    /// A finished function does what the calls said, with variables: its events, and how it returns or traps, are the
+    /// same, also where a collector moves what is recorded for stack maps at each outside call. The function itself
     /// isn't changed here. The context is cleared in every case, and so serves for the next function.
+    ///
+    /// # Errors
+    ///
+    /// `Unsealed`, `Unfilled` or `TrackedContext`, as above; `Memory`, where values were recorded for stack maps and
+    /// memory is refused; `Failed` after an error of an earlier call. The context is empty then, too.
     pub fn finalize(self, config: TargetFrontendConfig) -> Result<(), FinalizeError>
         ensures answer { Ends self.entry result }
         ensures ledger { (calls : List AnsweredCall) → AgreesWithLedger calls self.entry → self.entry.failed ≡ false → TracksNothing (script_of calls) → RefusalAgrees calls (refusal_of (ledger_of calls) Finalize) result }

@@ -183,9 +183,13 @@ impl<'a> FunctionBuilder<'a> {
 
     /// Makes a new block. It isn't sealed, is pristine, and isn't in the layout until something is made in it.
     ///
-    /// Blocks are numbered from 0 on. `Full` means that there are 2^32 - 1 blocks. After an error the builder has
-    /// failed: every later call that returns a `Result` returns `Failed`. Where memory was refused, the function may
-    /// have one block more.
+    /// Blocks are numbered from 0 on.
+    ///
+    /// # Errors
+    ///
+    /// `Memory`, where memory is refused, `Full`, where there are 2^32 - 1 blocks, and `Failed` after an error of an
+    /// earlier call. The builder has failed then: every later call that returns a `Result` returns `Failed`. Where
+    /// memory was refused, the function may have one block more.
     pub fn create_block(&mut self) -> Result<Block, BuildError>
         ensures call { IsCall self.old self.new result }
         ensures function { OnOk result (self.new.func.now ≡ with_block self.old.func.now) }
@@ -217,15 +221,20 @@ impl<'a> FunctionBuilder<'a> {
 
     /// Tells the builder that all predecessors of a block are known: no branch to it will be built anymore.
     ///
-    /// Seal a block as soon as its last predecessor has its branch; a loop's header, once the jump back to it
-    /// is built. A variable that was used in the block before has a pending parameter, which is completed now, in
-    /// the order in which the parameters were made. If no value or a single one comes from the predecessors, the
+    /// Seal a block as soon as its last predecessor has its branch; a loop's header, once the jump back to it is
+    /// built. A variable that was used in the block before has a pending parameter, which is completed now, in the
+    /// order in which the parameters were made. If no value or a single one comes from the predecessors, the
     /// parameter becomes an alias of it (of a zero, if none does); otherwise it stays, and each edge to the block
     /// passes its argument.
     ///
-    /// A block is sealed once ([`FunctionBuilder::is_sealed`] tests it). If it is sealed too early, a branch to
-    /// it can't be built later; if it is never sealed, [`FunctionBuilder::finalize`] returns `Unsealed`. After
-    /// `Memory` or `Full` the builder has failed; the function may have got some of the parameters' arguments.
+    /// A block is sealed once ([`FunctionBuilder::is_sealed`] tests it). If it is sealed too early, a branch to it
+    /// can't be built later; if it is never sealed, [`FunctionBuilder::finalize`] returns `Unsealed`.
+    ///
+    /// # Errors
+    ///
+    /// `Memory`, where memory is refused, `Full`, where there is no number left for a parameter or a zero, and
+    /// `Failed` after an error of an earlier call. The builder has failed then; the function may have got some of the
+    /// parameters' arguments.
     pub fn seal_block(&mut self, block: Block) -> Result<(), BuildError>
         requires exists { block < length self.old.func.now.blocks }
         requires unsealed { is_yes (sealed_of self.old.ctx.now.ssa block) ≡ false }
@@ -263,6 +272,10 @@ impl<'a> FunctionBuilder<'a> {
     /// don't know when a block has its last predecessor. Call it once all branches are built.
     ///
     /// The function means the same, but it may have parameters that earlier sealing would have spared.
+    ///
+    /// # Errors
+    ///
+    /// Those of [`FunctionBuilder::seal_block`].
     pub fn seal_all_blocks(&mut self) -> Result<(), BuildError>
         ensures call { IsCall self.old self.new result }
         ensures sealed { OnOk result ((b : ℕ) → b < length self.new.func.now.blocks → is_yes (sealed_of self.new.ctx.now.ssa b) ≡ true) }
@@ -293,9 +306,14 @@ impl<'a> FunctionBuilder<'a> {
 
     /// Declares a variable of the source language, and returns its number: 0, 1, and so on.
     ///
-    /// A variable is assigned by [`FunctionBuilder::def_var`] and read by [`FunctionBuilder::use_var`], in any
-    /// block; the builder finds the values and block parameters that this takes in SSA form. A variable that is
-    /// read before it is assigned is zero. Its type is any but `Invalid`.
+    /// A variable is assigned by [`FunctionBuilder::def_var`] and read by [`FunctionBuilder::use_var`], in any block;
+    /// the builder finds the values and block parameters that this takes in SSA form. A variable that is read before
+    /// it is assigned is zero. Its type is any but `Invalid`.
+    ///
+    /// # Errors
+    ///
+    /// `Memory`, where memory is refused, `Full`, where there are 2^32 - 1 variables, and `Failed` after an error of
+    /// an earlier call. The builder has failed then.
     pub fn declare_var(&mut self, ty: Type) -> Result<Variable, BuildError>
         requires { IsTrue (is_type ty) }
         ensures call { IsCall self.old self.new result }
@@ -322,7 +340,12 @@ impl<'a> FunctionBuilder<'a> {
     /// variable is marked ([`FunctionBuilder::declare_var_needs_stack_map`]).
     ///
     /// The variable is declared, and its type is the value's. There is a current block, which isn't filled. An
-    /// assignment makes no instruction. After an error the variable is what it was, and the builder has failed.
+    /// assignment makes no instruction.
+    ///
+    /// # Errors
+    ///
+    /// `Memory`, where memory is refused, and `Failed` after an error of an earlier call. The variable is what it was
+    /// then, and the builder has failed.
     pub fn def_var(&mut self, variable: Variable, value: Value) -> Result<(), BuildError>
         requires current { HasCurrent self.old }
         requires declared { variable < length self.old.ctx.now.variables }
@@ -357,15 +380,14 @@ impl<'a> FunctionBuilder<'a> {
 
     /// The value that a variable has at this point of the current block.
     ///
-    /// The last value that was assigned in the block is returned. Without one, the builder looks through
-    /// the predecessors. In a block that isn't sealed they aren't all known, so the block gets a pending parameter
-    /// for the variable, which is returned and is completed by [`FunctionBuilder::seal_block`]. In a sealed
-    /// block the predecessors are searched at once, back along single predecessors as far as these are
-    /// sealed; a parameter stays only where different values meet, and a zero is put where no value comes.
+    /// The last value that was assigned in the block is returned. Without one, the builder looks through the
+    /// predecessors. In a block that isn't sealed they aren't all known, so the block gets a pending parameter for
+    /// the variable, which is returned and is completed by [`FunctionBuilder::seal_block`]. In a sealed block the
+    /// predecessors are searched at once, back along single predecessors as far as these are sealed; a parameter
+    /// stays only where different values meet, and a zero is put where no value comes.
     ///
-    /// The variable is declared. There is a current block, which isn't filled. The value stays good: use it
-    /// wherever the block's code goes on, and ask again in other blocks. After `Memory` or `Full` the builder has
-    /// failed.
+    /// The variable is declared. There is a current block, which isn't filled. The value stays good: use it wherever
+    /// the block's code goes on, and ask again in other blocks.
     ///
     /// ```
     /// let before = builder.use_var(total)?;
@@ -373,6 +395,11 @@ impl<'a> FunctionBuilder<'a> {
     /// let sum = builder.ins().iadd(before, two)?;
     /// builder.def_var(total, sum)?;
     /// ```
+    ///
+    /// # Errors
+    ///
+    /// `Memory`, where memory is refused, `Full`, where there is no number left for a parameter or a zero, and
+    /// `Failed` after an error of an earlier call. The builder has failed then.
     pub fn use_var(&mut self, variable: Variable) -> Result<Value, BuildError>
         requires current { HasCurrent self.old }
         requires declared { variable < length self.old.ctx.now.variables }

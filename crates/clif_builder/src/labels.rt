@@ -20,8 +20,13 @@ impl<'a> FunctionBuilder<'a> {
     /// The label begins at the source place that instructions get now ([`FunctionBuilder::set_srcloc`]), and
     /// [`Function::value_labels`] reads the labels of a value in the order in which they were given.
     ///
-    /// Nothing is kept unless [`FunctionBuilder::collect_debug_info`] was called before. What the function means doesn't
-    /// change. The only errors are `Memory` and `Failed`; after one the function is as it was.
+    /// Nothing is kept unless [`FunctionBuilder::collect_debug_info`] was called before. What the function means
+    /// doesn't change.
+    ///
+    /// # Errors
+    ///
+    /// `Memory`, where memory is refused, and `Failed` after an error of an earlier call. The function is as it was
+    /// then, and the builder has failed.
     ///
     /// [`Function::value_labels`]: clif_ir::Function::value_labels
     pub fn set_val_label(&mut self, value: Value, label: ValueLabel) -> Result<(), BuildError>

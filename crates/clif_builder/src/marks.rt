@@ -12,12 +12,16 @@ use clif_ssa::Variable;
 use clif_types::{BuildError, Value};
 
 impl<'a> FunctionBuilder<'a> {
-    /// Has stack maps name each value that a variable gets: those that are assigned to it, and the block
-    /// parameters that are made for it.
+    /// Has stack maps name each value that a variable gets: those that are assigned to it, and the block parameters
+    /// that are made for it.
     ///
     /// The variable is declared, was neither used nor assigned so far, and has a type of 1 to 16 bytes. No
-    /// instruction is made, and no other call answers otherwise. The only errors are `Memory` and `Failed`;
-    /// after one nothing has changed.
+    /// instruction is made, and no other call answers otherwise.
+    ///
+    /// # Errors
+    ///
+    /// `Memory`, where memory is refused, and `Failed` after an error of an earlier call. Nothing else has changed
+    /// then, and the builder has failed.
     pub fn declare_var_needs_stack_map(&mut self, variable: Variable) -> Result<(), BuildError>
         requires fits { VariableFits self.old.ctx.now variable }
         requires unused { IsUnused self.old.ctx.now variable }
@@ -35,7 +39,10 @@ impl<'a> FunctionBuilder<'a> {
     /// Has stack maps name a value, where it is live across a call.
     ///
     /// The value has a type of 1 to 16 bytes. No instruction is made, and no other call answers otherwise.
-    /// The only errors are `Memory` and `Failed`; after one nothing has changed.
+    ///
+    /// # Errors
+    ///
+    /// Those of [`FunctionBuilder::declare_var_needs_stack_map`].
     pub fn declare_value_needs_stack_map(&mut self, value: Value) -> Result<(), BuildError>
         requires { ValueFits self.old value }
         ensures records { RecordsValue self.old self.new result value }

@@ -43,8 +43,12 @@ fn is_second(keys: &HashSet<u128>, key: u128) -> bool
     follows(keys, key) && !follows(keys, key.saturating_sub(1))
 }
 
-/// How many jump tables a switch makes, where no key comes twice: one for each range of several keys that follow one another.
-/// The tables of later calls are numbered behind these.
+/// How many jump tables a switch makes, where no key comes twice: one for each range of several keys that follow one
+/// another. The tables of later calls are numbered behind these.
+///
+/// # Errors
+///
+/// `AllocError`, where memory is refused.
 pub fn table_count(alloc: Global, entries: &[SwitchEntry]) -> Result<usize, AllocError>
     ensures { IfOk result (λ count. count ≡ table_count entries.now) }
 {

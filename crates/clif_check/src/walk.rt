@@ -9,6 +9,10 @@ use clif_types::Block;
 
 /// Whether each instruction of the layout is well typed; else the first one that isn't, in layout order, and the
 /// first part of it that isn't, in the order of [`crate::CheckErrorKind`]. It takes no memory.
+///
+/// # Errors
+///
+/// A [`crate::CheckError`] for the first instruction that isn't well typed.
 pub fn check(func: &Function) -> Result<(), CheckError>
     ensures ok { OnOk result (All (IsWellTyped func.now) (insts_in_order func.now)) }
     ensures first { IfErr result (IsFirstError func.now (insts_in_order func.now)) }

@@ -11,6 +11,10 @@ use clif_types::{FuncRef, UserStackMapEntry};
 use std::fmt;
 
 /// A function, and in parentheses the arguments.
+///
+/// # Errors
+///
+/// `fmt::Error`, where the writer refuses the text.
 pub fn write_call<W: fmt::Write>(
     f: &mut fmt::Formatter<W>,
     function: FuncRef,
@@ -22,6 +26,10 @@ pub fn write_call<W: fmt::Write>(
 }
 
 /// An address, and in parentheses the arguments, which follow it in the list.
+///
+/// # Errors
+///
+/// `fmt::Error`, where the writer refuses the text.
 pub fn write_call_of_address<W: fmt::Write>(
     f: &mut fmt::Formatter<W>,
     args: &ValueList,
@@ -35,6 +43,10 @@ pub fn write_call_of_address<W: fmt::Write>(
 }
 
 /// The signature of a try call, its normal edge, and its items.
+///
+/// # Errors
+///
+/// `fmt::Error`, where the writer refuses the text.
 pub fn write_exceptions<W: fmt::Write>(
     f: &mut fmt::Formatter<W>,
     exception: &ExceptionTargets,
@@ -100,6 +112,10 @@ pub fn is_call(shape: &InstructionData) -> bool
 }
 
 /// The stack map of a call; nothing where it is empty.
+///
+/// # Errors
+///
+/// `fmt::Error`, where the writer refuses the text.
 pub fn write_stack_map<W: fmt::Write>(
     f: &mut fmt::Formatter<W>,
     entries: &[UserStackMapEntry],

@@ -8,6 +8,10 @@ use clif_types::{StackSlot, Value};
 use std::fmt;
 
 /// Values, joined by `, `.
+///
+/// # Errors
+///
+/// `fmt::Error`, where the writer refuses the text.
 pub fn write_values<W: fmt::Write>(f: &mut fmt::Formatter<W>, values: &[Value]) -> fmt::Result {
     for (place, value) in values.iter().enumerate() {
         if place > 0 {
@@ -20,6 +24,10 @@ pub fn write_values<W: fmt::Write>(f: &mut fmt::Formatter<W>, values: &[Value]) 
 }
 
 /// The operands and then the edges, after a space and joined by `, `; nothing where there are none.
+///
+/// # Errors
+///
+/// `fmt::Error`, where the writer refuses the text.
 pub fn write_operands<W: fmt::Write>(
     f: &mut fmt::Formatter<W>,
     shape: &InstructionData,
@@ -38,6 +46,10 @@ pub fn write_operands<W: fmt::Write>(
 }
 
 /// Edges, joined by `, `.
+///
+/// # Errors
+///
+/// `fmt::Error`, where the writer refuses the text.
 pub fn write_edges<W: fmt::Write>(f: &mut fmt::Formatter<W>, edges: &[BlockCall]) -> fmt::Result {
     for (place, edge) in edges.iter().enumerate() {
         if place > 0 {
@@ -49,6 +61,10 @@ pub fn write_edges<W: fmt::Write>(f: &mut fmt::Formatter<W>, edges: &[BlockCall]
 }
 
 /// The target of an edge, and in parentheses what it passes; without these where it passes nothing.
+///
+/// # Errors
+///
+/// `fmt::Error`, where the writer refuses the text.
 pub fn write_edge<W: fmt::Write>(f: &mut fmt::Formatter<W>, edge: &BlockCall) -> fmt::Result {
     let block = edge.block;
     write!(f, "{block}")?;
@@ -65,6 +81,10 @@ pub fn write_edge<W: fmt::Write>(f: &mut fmt::Formatter<W>, edge: &BlockCall) ->
 }
 
 /// The index of a `br_table`, its default edge, and in brackets its entries.
+///
+/// # Errors
+///
+/// `fmt::Error`, where the writer refuses the text.
 pub fn write_table<W: fmt::Write>(
     f: &mut fmt::Formatter<W>,
     index: Value,
@@ -78,6 +98,10 @@ pub fn write_table<W: fmt::Write>(
 }
 
 /// A place from a stack slot on.
+///
+/// # Errors
+///
+/// `fmt::Error`, where the writer refuses the text.
 pub fn write_place<W: fmt::Write>(
     f: &mut fmt::Formatter<W>,
     separator: &str,

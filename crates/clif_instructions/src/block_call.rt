@@ -93,7 +93,11 @@ impl BlockArgs {
         }
     }
 
-    /// A list of these arguments. The only error is `Memory`.
+    /// A list of these arguments.
+    ///
+    /// # Errors
+    ///
+    /// `Memory`, where memory is refused.
     pub fn from_slice(alloc: Global, args: &[BlockArg]) -> Result<Self, BuildError>
         ensures ok { IfOk result (λ l. l ≡ args.now) }
         ensures only_memory { OnErr result (result ≡ Err BuildError.Memory) }
@@ -117,7 +121,11 @@ impl BlockArgs {
         }
     }
 
-    /// Puts an argument at the end. The only error is `Memory`, and the list is then as it was.
+    /// Puts an argument at the end.
+    ///
+    /// # Errors
+    ///
+    /// `Memory`, where memory is refused; the list is as it was then.
     pub fn push(&mut self, arg: BlockArg) -> Result<(), BuildError>
         ensures ok { OnOk result (self.new ≡ self.old ++ arg ∷ []) }
         ensures err { OnErr result (self.new ≡ self.old) }
@@ -183,7 +191,11 @@ impl Drop for BlockCall {
 const _: () = prove!(size_of::<BlockCall>() == 24);
 
 impl BlockCall {
-    /// An edge to `block` that passes these arguments. The only error is `Memory`.
+    /// An edge to `block` that passes these arguments.
+    ///
+    /// # Errors
+    ///
+    /// `Memory`, where memory is refused.
     pub fn new(alloc: Global, block: Block, args: &[BlockArg]) -> Result<Self, BuildError>
         ensures ok { IfOk result (λ call. (call.block ≡ block) × (call.args ≡ args.now)) }
         ensures only_memory { OnErr result (result ≡ Err BuildError.Memory) }

@@ -5,8 +5,11 @@ ghost use Rattle.clif_instructions.specs.Edges.{appended_to, redirected, with_ar
 use crate::block_call::{BlockArg, BlockCall};
 use clif_types::{Block, BuildError, Value};
 
-/// Puts a value at the end of what each edge passes that goes to `block`. The only error is `Memory`, and the
-/// edges are then as they were.
+/// Puts a value at the end of what each edge passes that goes to `block`.
+///
+/// # Errors
+///
+/// `Memory`, where memory is refused; the edges are as they were then.
 pub fn append_to_edges(
     edges: &mut [BlockCall],
     block: Block,

@@ -108,7 +108,11 @@ fn push_item(
 }
 
 impl ExceptionTargets {
-    /// The table of this signature, normal edge and items. The only error is `Memory`.
+    /// The table of this signature, normal edge and items.
+    ///
+    /// # Errors
+    ///
+    /// `Memory`, where memory is refused.
     pub fn new(alloc: Global, table: ExceptionTableData) -> Result<ExceptionTargets, BuildError>
         ensures ok { IfOk result (λ kept. kept ≡ exception_shape table) }
         ensures only_memory { OnErr result (result ≡ Err BuildError.Memory) }

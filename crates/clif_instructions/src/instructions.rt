@@ -279,8 +279,11 @@ impl InstructionData {
         }
     }
 
-    /// Puts a value at the end of what each edge passes that goes to `block`. The only error is `Memory`, and
-    /// the instruction is then as it was.
+    /// Puts a value at the end of what each edge passes that goes to `block`.
+    ///
+    /// # Errors
+    ///
+    /// `Memory`, where memory is refused; the instruction is as it was then.
     pub fn append_argument(&mut self, block: Block, value: Value) -> Result<(), BuildError>
         ensures ok { OnOk result (self.new ≡ with_argument block value self.old) }
         ensures err { OnErr result (self.new ≡ self.old) }

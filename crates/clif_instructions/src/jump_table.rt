@@ -27,7 +27,11 @@ impl Model for JumpTableData {
 }
 
 impl JumpTableData {
-    /// The table of this default and these entries. The only error is `Memory`.
+    /// The table of this default and these entries.
+    ///
+    /// # Errors
+    ///
+    /// `Memory`, where memory is refused.
     pub fn new(default: BlockCall, entries: Vec<BlockCall>) -> Result<JumpTableData, BuildError>
         ensures ok { IfOk result (λ table. table ≡ default ∷ entries.items) }
         ensures only_memory { OnErr result (result ≡ Err BuildError.Memory) }

@@ -68,7 +68,11 @@ impl ValueList {
         }
     }
 
-    /// A list of these values. The only error is `Memory`.
+    /// A list of these values.
+    ///
+    /// # Errors
+    ///
+    /// `Memory`, where memory is refused.
     pub fn from_slice(alloc: Global, values: &[Value]) -> Result<Self, BuildError>
         ensures ok { IfOk result (λ l. l ≡ values.now) }
         ensures only_memory { OnErr result (result ≡ Err BuildError.Memory) }
@@ -95,7 +99,11 @@ impl ValueList {
         }
     }
 
-    /// Puts a value at the end. The only error is `Memory`, and the list is then as it was.
+    /// Puts a value at the end.
+    ///
+    /// # Errors
+    ///
+    /// `Memory`, where memory is refused; the list is as it was then.
     #[inline(always)]
     pub fn push(&mut self, value: Value) -> Result<(), BuildError>
         ensures ok { OnOk result (self.new ≡ self.old ++ value ∷ []) }

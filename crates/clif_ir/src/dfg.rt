@@ -25,7 +25,11 @@ use clif_types::{Block, BuildError, EntityRef, Inst, SourceLoc, Type, Value};
 impl Function {
     /// Makes a block without parameters and instructions, which isn't in the layout yet.
     ///
-    /// It gets the next number. `Full` comes where there are 2^32 - 1 blocks.
+    /// It gets the next number.
+    ///
+    /// # Errors
+    ///
+    /// `Memory`, where memory is refused, or `Full`, where there are 2^32 - 1 blocks. The function is as it was then.
     #[inline(always)]
     pub fn create_block(&mut self) -> Result<Block, BuildError>
         ensures ok { OnOk result (self.new ≡ with_block self.old) }
@@ -55,7 +59,11 @@ impl Function {
 
     /// Puts a parameter of type `ty` at the end of those of `block`.
     ///
-    /// It gets the next number of a value. `Full` comes where there are 2^32 - 1 values.
+    /// It gets the next number of a value.
+    ///
+    /// # Errors
+    ///
+    /// `Memory`, where memory is refused, or `Full`, where there are 2^32 - 1 values. The function is as it was then.
     #[inline(always)]
     pub fn append_block_param(&mut self, block: Block, ty: Type) -> Result<Value, BuildError>
         requires { block < length self.old.blocks }
@@ -73,14 +81,19 @@ impl Function {
         Ok(value)
     }
 
-    /// Makes an instruction and puts it into `block`. To find its place costs a step for each instruction
-    /// before it, and one at the back. Behind or before an instruction that is known,
-    /// [`Function::insert_inst_after`] and [`Function::insert_inst_before`] find it in a step.
+    /// Makes an instruction and puts it into `block`. To find its place costs a step for each instruction before it,
+    /// and one at the back. Behind or before an instruction that is known, [`Function::insert_inst_after`] and
+    /// [`Function::insert_inst_before`] find it in a step.
     ///
-    /// It gets the next number of an instruction, and its results get the next numbers of values. Their types
-    /// come from `ctrl_type`, its controlling type, which is `Type::Invalid` where it has none, and for a call from
-    /// the signature that it names. `Full` comes where there are 2^32 - 1 instructions or 2^32 - 1 values, and so for
-    /// an instruction without results too, or where fewer numbers of values are left than there are results.
+    /// It gets the next number of an instruction, and its results get the next numbers of values. Their types come
+    /// from `ctrl_type`, its controlling type, which is `Type::Invalid` where it has none, and for a call from the
+    /// signature that it names.
+    ///
+    /// # Errors
+    ///
+    /// `Memory`, where memory is refused, or `Full`, where there are 2^32 - 1 instructions or 2^32 - 1 values, and so
+    /// for an instruction without results too, or where fewer numbers of values are left than there are results. The
+    /// function is as it was then.
     #[inline(always)]
     pub fn insert_inst(
         &mut self,
@@ -162,7 +175,9 @@ impl Function {
 
     /// Puts `value` at the end of what each edge of branch `inst` passes that goes to `block`.
     ///
-    /// The only error is `Memory`.
+    /// # Errors
+    ///
+    /// `Memory`, where memory is refused. The function is as it was then.
     pub fn append_branch_argument(
         &mut self,
         inst: Inst,
@@ -181,11 +196,14 @@ impl Function {
         Ok(())
     }
 
-    /// Takes parameter `param` away from its block and makes it another name of what `original`
-    /// stands for. What named `param` names it still.
+    /// Takes parameter `param` away from its block and makes it another name of what `original` stands for. What
+    /// named `param` names it still.
     ///
-    /// `original` mustn't stand for `param` itself, so that aliases never run in a circle. The only
-    /// error is `Memory`.
+    /// `original` mustn't stand for `param` itself, so that aliases never run in a circle.
+    ///
+    /// # Errors
+    ///
+    /// `Memory`, where memory is refused. The function is as it was then.
     pub fn change_param_to_alias(&mut self, param: Value, original: Value) -> Result<(), BuildError>
         requires param_exists { param < length self.old.values }
         requires is_param { (value_at self.old param).origin ≡ ValueOrigin.Param (home_of (value_at self.old param).origin) }

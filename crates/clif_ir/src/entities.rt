@@ -70,6 +70,10 @@ impl Function {
     }
 
     /// Makes a stack slot.
+    ///
+    /// # Errors
+    ///
+    /// `Memory`, where memory is refused, or `Full`, where the table has 2^32 - 1 entries. All is as it was then.
     pub fn create_sized_stack_slot(&mut self, slot: StackSlotData) -> Result<StackSlot, BuildError>
         ensures { MakesIn (AStackSlot slot) self.old self.new result }
     {
@@ -77,6 +81,10 @@ impl Function {
     }
 
     /// Makes a stack slot whose size is known only when the program runs.
+    ///
+    /// # Errors
+    ///
+    /// `Memory`, where memory is refused, or `Full`, where the table has 2^32 - 1 entries. All is as it was then.
     pub fn create_dynamic_stack_slot(
         &mut self,
         slot: DynamicStackSlotData,
@@ -87,6 +95,10 @@ impl Function {
     }
 
     /// Makes a global value.
+    ///
+    /// # Errors
+    ///
+    /// `Memory`, where memory is refused, or `Full`, where the table has 2^32 - 1 entries. All is as it was then.
     pub fn create_global_value(&mut self, value: GlobalValueData) -> Result<GlobalValue, BuildError>
         ensures { MakesIn (AGlobalValue value) self.old self.new result }
     {
@@ -94,6 +106,10 @@ impl Function {
     }
 
     /// Imports a signature, as a new one also where there is an equal one.
+    ///
+    /// # Errors
+    ///
+    /// `Memory`, where memory is refused, or `Full`, where the table has 2^32 - 1 entries. All is as it was then.
     pub fn import_signature(&mut self, signature: Signature) -> Result<SigRef, BuildError>
         ensures { MakesIn (ASignature signature) self.old self.new result }
     {
@@ -101,6 +117,10 @@ impl Function {
     }
 
     /// Imports a function, as a new one also where there is an equal one. Its signature was imported.
+    ///
+    /// # Errors
+    ///
+    /// `Memory`, where memory is refused, or `Full`, where the table has 2^32 - 1 entries. All is as it was then.
     pub fn import_function(&mut self, function: ExtFuncData) -> Result<FuncRef, BuildError>
         requires signature_exists { function.signature < length self.old.tables.signatures }
         ensures { MakesIn (AFunction function) self.old self.new result }
@@ -108,8 +128,11 @@ impl Function {
         self.tables.import_function(function)
     }
 
-    /// The constant of these bytes, the lowest first. It is made if there is none: equal bytes are one
-    /// constant.
+    /// The constant of these bytes, the lowest first. It is made if there is none: equal bytes are one constant.
+    ///
+    /// # Errors
+    ///
+    /// `Memory`, where memory is refused, or `Full`, where there are 2^32 - 1 other constants. All is as it was then.
     pub fn pool_constant(&mut self, bytes: &[u8]) -> Result<Constant, BuildError>
         ensures { Pools bytes.now self.old.tables.constants self.old self.new
             (with_tables self.old (with_constant self.old.tables bytes.now)) result }
@@ -118,6 +141,10 @@ impl Function {
     }
 
     /// Makes a jump table, which serves no instruction so far.
+    ///
+    /// # Errors
+    ///
+    /// `Memory`, where memory is refused, or `Full`, where the table has 2^32 - 1 entries. All is as it was then.
     pub fn create_jump_table(&mut self, table: JumpTableData) -> Result<JumpTable, BuildError>
         ensures { MakesEntry (λ number. number) (length self.old.tables.jump_tables) self.old self.new
             (with_tables self.old (with_jump_table self.old.tables table)) result }
@@ -135,6 +162,10 @@ impl Function {
     }
 
     /// Makes an exception table, which serves no instruction so far.
+    ///
+    /// # Errors
+    ///
+    /// `Memory`, where memory is refused, or `Full`, where the table has 2^32 - 1 entries. All is as it was then.
     pub fn create_exception_table(
         &mut self,
         table: ExceptionTableData,

@@ -162,8 +162,11 @@ impl Function {
         mark_inserted(&mut self.block_places, block);
     }
 
-    /// Puts a block, which isn't in the layout, at its end. The first one so put is the entry. The only
-    /// error is `Memory`, and the function is then as it was.
+    /// Puts a block, which isn't in the layout, at its end. The first one so put is the entry.
+    ///
+    /// # Errors
+    ///
+    /// `Memory`, where memory is refused; the function is as it was then.
     pub fn append_block(&mut self, block: Block) -> Result<(), BuildError>
         requires exists { block < length self.old.blocks }
         requires outside { Stands block self.old.layout → ⊥ }
@@ -179,8 +182,11 @@ impl Function {
         Ok(())
     }
 
-    /// Puts a block at the end of the layout, unless it is in the layout. The only error is `Memory`, and
-    /// the function is then as it was.
+    /// Puts a block at the end of the layout, unless it is in the layout.
+    ///
+    /// # Errors
+    ///
+    /// `Memory`, where memory is refused; the function is as it was then.
     pub fn ensure_block_inserted(&mut self, block: Block) -> Result<(), BuildError>
         requires { block < length self.old.blocks }
         ensures ok { OnOk result (self.new ≡ inserted_in self.old block) }

@@ -54,6 +54,10 @@ impl Function {
     /// Makes an instruction and puts it right before the instruction `next` of a block.
     ///
     /// It walks along nothing, and is otherwise as [`Function::insert_inst`] says.
+    ///
+    /// # Errors
+    ///
+    /// Those of [`Function::insert_inst`].
     pub fn insert_inst_before(
         &mut self,
         next: Inst,
@@ -82,6 +86,10 @@ impl Function {
     /// Makes an instruction and puts it right behind the instruction `previous` of a block.
     ///
     /// It walks along nothing, and is otherwise as [`Function::insert_inst`] says.
+    ///
+    /// # Errors
+    ///
+    /// Those of [`Function::insert_inst`].
     pub fn insert_inst_after(
         &mut self,
         previous: Inst,

@@ -18,7 +18,11 @@ impl Function {
         self.tables.stack_map(inst)
     }
 
-    /// Gives an instruction this stack map, in place of the one that it had. The only error is `Memory`.
+    /// Gives an instruction this stack map, in place of the one that it had.
+    ///
+    /// # Errors
+    ///
+    /// `Memory`, where memory is refused. The function is as it was then.
     pub fn set_stack_map(
         &mut self,
         inst: Inst,
@@ -42,7 +46,11 @@ impl Function {
     }
 
     /// Gives a value a label from a source place on, behind those that it has; nothing is kept where labels aren't
-    /// collected. The only error is `Memory`.
+    /// collected.
+    ///
+    /// # Errors
+    ///
+    /// `Memory`, where memory is refused. The function is as it was then.
     pub fn set_val_label(&mut self, value: Value, start: ValueLabelStart) -> Result<(), BuildError>
         requires value_exists { value < length self.old.values }
         ensures ok { OnOk result (self.new ≡

@@ -177,14 +177,19 @@ pub fn signature_of(
     returns: &[Type],
     call_conv: CallConv,
 ) -> Result<Signature, AllocError> {
-    let mut signature = Signature::new(alloc, call_conv);
-    for ty in params {
-        signature.params.push(AbiParam::new(*ty))?;
+    Ok(Signature {
+        params: params_of(alloc, params)?,
+        returns: params_of(alloc, returns)?,
+        call_conv,
+    })
+}
+
+fn params_of(alloc: Global, types: &[Type]) -> Result<Vec<AbiParam>, AllocError> {
+    let mut params = Vec::new(alloc);
+    for ty in types {
+        params.push(AbiParam::new(*ty))?;
     }
-    for ty in returns {
-        signature.returns.push(AbiParam::new(*ty))?;
-    }
-    Ok(signature)
+    Ok(params)
 }
 
 /// Asserts the text of a function. The name is said where it has another one.

@@ -17,6 +17,10 @@ use clif_types::{AbiParam, BuildError, EntityRef, Inst, Type, Value};
 use std::alloc::Global;
 
 /// The number of the next value, for which it makes room in the table.
+///
+/// # Errors
+///
+/// `Memory`, where memory is refused, or `Full`, where the table holds 2^32 - 1 values.
 #[inline(always)]
 pub fn next_value(values: &mut Vec<ValueNode>) -> Result<Value, BuildError>
     ensures ok { IfOk result (λ v. v ≡ length values.old.items) }
@@ -33,6 +37,10 @@ pub fn next_value(values: &mut Vec<ValueNode>) -> Result<Value, BuildError>
 }
 
 /// The list of `count` numbers of values, from `first` on.
+///
+/// # Errors
+///
+/// `Memory`, where memory is refused.
 #[tactic(auto, using(crate::proofs::Results::range_with_len_more))]
 #[inline(always)]
 pub fn numbered_results(alloc: Global, first: usize, count: usize) -> Result<ValueList, BuildError>
@@ -48,6 +56,10 @@ pub fn numbered_results(alloc: Global, first: usize, count: usize) -> Result<Val
 }
 
 /// The number of the first of so many values that come next, for which there are numbers left.
+///
+/// # Errors
+///
+/// `Full` alone, where the table holds 2^32 - 1 entries, or has fewer numbers left than that.
 #[inline(always)]
 pub fn next_numbers(len: usize, count: usize) -> Result<usize, BuildError>
     ensures ok { IfOk result (λ n. (n ≡ len) × (len < 2 ^ 32 - 1) × (len + count < 2 ^ 32)) }
@@ -61,6 +73,11 @@ pub fn next_numbers(len: usize, count: usize) -> Result<usize, BuildError>
 }
 
 /// Makes room in the tables for an instruction with so many results, and makes the list of these.
+///
+/// # Errors
+///
+/// `Memory`, where memory is refused, or `Full`, where a table has no number left for the instruction or for each
+/// result.
 #[inline(always)]
 pub fn room_for_inst(
     alloc: Global,

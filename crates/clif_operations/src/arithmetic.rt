@@ -130,6 +130,10 @@ fn shifted(ty: Type, x: u128, count: u32) -> u128 {
 }
 
 /// An operation on two operands, of a type.
+///
+/// # Errors
+///
+/// The reason of the trap, where the operation traps.
 pub fn binary(opcode: BinaryOpcode, ty: Type, x: u128, y: u128) -> Result<u128, TrapCode> {
     let bits = match opcode {
         BinaryOpcode::Iadd => x.wrapping_add(y),

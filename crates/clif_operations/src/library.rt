@@ -68,6 +68,10 @@ pub fn is_library_signature(
 }
 
 /// The signature of a function, with this convention.
+///
+/// # Errors
+///
+/// `AllocError`, where memory is refused.
 pub fn library_signature(
     alloc: Global,
     callee: LibCall,

@@ -42,6 +42,10 @@ impl Access {
 
 impl Memory {
     /// Memory whose accessible bytes, so many from an address on, are zero.
+    ///
+    /// # Errors
+    ///
+    /// `AllocError`, where memory is refused.
     pub fn zeros(alloc: Global, start: u64, size: usize) -> Result<Memory, AllocError> {
         let mut bytes = Vec::new(alloc);
         for _ in 0..size {

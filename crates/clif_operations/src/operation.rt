@@ -164,6 +164,10 @@ pub struct Store {
 
 /// What an instruction does to operands and memory, and its controlling type. `given` is the type that is given with
 /// the instruction, if one is; `returns` is what the function returns.
+///
+/// # Errors
+///
+/// A [`Fault`], where the interpreters can't carry it out, or memory is refused.
 pub fn carry_out(
     alloc: Global,
     operation: &Operation,
@@ -244,7 +248,12 @@ fn have_types(values: &[Typed], params: &[AbiParam]) -> bool {
 }
 
 impl Store {
-    /// Places one more stack slot in memory, of so many bytes, whose address is a multiple of 2 to the power of `shift`.
+    /// Places one more stack slot in memory, of so many bytes, whose address is a multiple of 2 to the power of
+    /// `shift`.
+    ///
+    /// # Errors
+    ///
+    /// A [`Fault`], where there is no room for it, or memory is refused.
     pub fn add_slot(&mut self, size: u32, shift: u8) -> Result<(), Fault> {
         let end = self.memory.end();
         self.slots.add(size, shift, end)
@@ -359,6 +368,10 @@ fn gave(alloc: Global, bits: &[u128]) -> Result<Outcome, Stop> {
 }
 
 /// The bits of values.
+///
+/// # Errors
+///
+/// A [`Fault`], where memory is refused.
 pub fn bits_of(alloc: Global, values: &[Typed]) -> Result<Vec<u128>, Fault> {
     let mut bits = Vec::new(alloc);
     for value in values {
@@ -368,6 +381,10 @@ pub fn bits_of(alloc: Global, values: &[Typed]) -> Result<Vec<u128>, Fault> {
 }
 
 /// The same bits at a type, if the interpreters keep so many.
+///
+/// # Errors
+///
+/// A [`Fault`], where the type is wider than the interpreters keep.
 pub fn kept(ty: Type, bits: u128) -> Result<Typed, Fault> {
     if ty.bits() > 128 {
         return Err(Fault::TooWide(ty));

@@ -22,6 +22,10 @@ impl SwitchMap {
     }
 
     /// Adds a key, with the next edge.
+    ///
+    /// # Errors
+    ///
+    /// `AllocError`, where memory is refused.
     pub fn push(&mut self, key: u128) -> Result<(), AllocError> {
         self.edges.insert(key, self.count)?;
         self.count = self.count.saturating_add(1);

@@ -47,7 +47,11 @@ fn add_case(
     Ok(())
 }
 
-/// The fewest ranges that the cases make, by rising keys. The only error is `Memory`.
+/// The fewest ranges that the cases make, by rising keys.
+///
+/// # Errors
+///
+/// `Memory`, where memory is refused.
 pub fn ranges_of(alloc: Global, cases: &BTreeMap<u128, Block>) -> Result<Vec<CaseRange>, BuildError>
     ensures ok { IfOk result (λ ranges. AreRangesOf cases.now.entries ranges.items) }
     ensures fewest { IfOk result (λ ranges. AreFewest ranges.items) }

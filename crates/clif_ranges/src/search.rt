@@ -52,8 +52,12 @@ pub struct Node<'r> {
 /// How many ranges are tested one after the other.
 const IN_TURN: usize = 3;
 
-/// The nodes of the search among these ranges, each behind those from which control comes to it. A number is that of a block in
-/// the order in which the blocks are made. The only error is `Memory`.
+/// The nodes of the search among these ranges, each behind those from which control comes to it. A number is that of
+/// a block in the order in which the blocks are made.
+///
+/// # Errors
+///
+/// `Memory`, where memory is refused.
 pub fn search_tree<'r>(alloc: Global, ranges: &'r [CaseRange]) -> Result<Vec<Node<'r>>, BuildError>
     requires { AreSeparate ranges.now }
     ensures ok { IfOk result (λ nodes. FindsCases ranges.now nodes.items 0) }

@@ -67,8 +67,12 @@ impl LookUp {
         self.calls.pop()
     }
 
-    #[tactic(auto, using(crate::proofs::Stacks::stack_rules))]
     /// Puts the calls that look a variable up in the predecessors of a block, for a parameter of it.
+    ///
+    /// # Errors
+    ///
+    /// `Memory`, where memory is refused.
+    #[tactic(auto, using(crate::proofs::Stacks::stack_rules))]
     #[inline(always)]
     pub fn begin(
         &mut self,
@@ -88,6 +92,10 @@ impl LookUp {
     }
 
     /// Puts a result.
+    ///
+    /// # Errors
+    ///
+    /// `Memory`, where memory is refused.
     #[inline(always)]
     pub fn push_result(&mut self, value: Value) -> Result<(), BuildError>
         ensures ok { OnOk result (self.new ≡ record self.old { results = value ∷ self.old.results }) }
@@ -132,6 +140,10 @@ impl LookUp {
     }
 
     /// Tells of the zero that was put into this block, if one was.
+    ///
+    /// # Errors
+    ///
+    /// `Memory`, where memory is refused.
     #[inline(always)]
     pub fn tell_zero(&mut self, zero: Option<Block>) -> Result<(), BuildError>
         ensures ok { OnOk result (self.new ≡ record self.old { zeros = self.old.zeros ++ option_to_list zero }) }

@@ -79,9 +79,12 @@ impl PassedBlocks {
         }
     }
 
+    /// Puts a block that wasn't passed behind the others.
+    ///
+    /// # Errors
+    ///
+    /// `Memory`, where memory is refused; the blocks are as they were then.
     #[tactic(auto, using(crate::proofs::SparseSet::passed_rules))]
-    /// Puts a block that wasn't passed behind the others. The only error is `Memory`, and the blocks are
-    /// then as they were.
     #[inline(always)]
     pub fn push(&mut self, block: Block) -> Result<(), BuildError>
         requires { Stands block self.old → ⊥ }

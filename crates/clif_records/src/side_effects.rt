@@ -22,6 +22,10 @@ impl SideEffects {
     }
 
     /// Puts what another call did behind.
+    ///
+    /// # Errors
+    ///
+    /// `Memory`, where memory is refused.
     pub fn append(&mut self, later: &SideEffects) -> Result<(), BuildError>
         ensures ok { OnOk result (self.new.instructions_added_to_blocks.items ≡ self.old.instructions_added_to_blocks.items ++ later.now.instructions_added_to_blocks.items) }
         ensures only_memory { OnErr result (result ≡ Err BuildError.Memory) }

@@ -328,7 +328,11 @@ impl VariableTable {
         self.recorded(variable, block).lookups
     }
 
-    /// Records a value for a variable in a block. After an error the records are as they were.
+    /// Records a value for a variable in a block.
+    ///
+    /// # Errors
+    ///
+    /// `Memory`, where memory is refused. The records are as they were then.
     #[inline(always)]
     pub fn set(&mut self, variable: Variable, block: Block, value: Value) -> Result<(), BuildError>
         ensures entry { OnOk result (HasEntry self.old self.new variable block (recording value)) }
@@ -349,9 +353,12 @@ impl VariableTable {
         Ok(())
     }
 
+    /// Records a value for a variable in these blocks, up to the first `from` among them.
+    ///
+    /// # Errors
+    ///
+    /// `Memory`, where memory is refused. The value may be recorded in some of the blocks then.
     #[tactic(auto, using(crate::proofs::Copying::copying_rules))]
-    /// Records a value for a variable in these blocks, up to the first `from` among them. After an error
-    /// it may be recorded in some.
     #[inline(always)]
     pub fn set_each(
         &mut self,
@@ -374,8 +381,11 @@ impl VariableTable {
         Ok(())
     }
 
-    /// Counts a look-up of a variable in a block's predecessors. After an error the records are as they
-    /// were.
+    /// Counts a look-up of a variable in a block's predecessors.
+    ///
+    /// # Errors
+    ///
+    /// `Memory`, where memory is refused. The records are as they were then.
     #[inline(always)]
     pub fn count_lookup(&mut self, variable: Variable, block: Block) -> Result<(), BuildError>
         ensures entry { OnOk result (HasEntry self.old self.new variable block counting) }
@@ -592,6 +602,10 @@ impl BlockTable {
     }
 
     /// Makes room for a block. What is known of each block stays.
+    ///
+    /// # Errors
+    ///
+    /// `Memory`, where memory is refused.
     #[inline(always)]
     pub fn declare(&mut self, block: Block) -> Result<(), BuildError>
         ensures same { (b : ℕ) → known_at self.new b ≡ known_at self.old b }
@@ -616,6 +630,10 @@ impl BlockTable {
     }
 
     /// Puts a branch behind those that lead to a block.
+    ///
+    /// # Errors
+    ///
+    /// `Memory`, where memory is refused. The branches that lead to each block are as they were then.
     #[inline(always)]
     pub fn declare_predecessor(&mut self, block: Block, branch: Inst) -> Result<(), BuildError>
         ensures sealed { (b : ℕ) → sealed_at self.new b ≡ sealed_at self.old b }
@@ -641,6 +659,10 @@ impl BlockTable {
     }
 
     /// Puts a parameter behind those that wait in an unsealed block.
+    ///
+    /// # Errors
+    ///
+    /// `Memory`, where memory is refused. Each block is as it was then.
     #[inline(always)]
     pub fn wait(&mut self, block: Block, variable: Variable, param: Value) -> Result<(), BuildError>
         requires { is_yes (sealed_at self.old block) ≡ false }
@@ -658,6 +680,10 @@ impl BlockTable {
     }
 
     /// Seals a block, and answers the parameters that waited in it.
+    ///
+    /// # Errors
+    ///
+    /// `Memory`, where memory is refused. Each block is as it was then.
     pub fn seal(&mut self, block: Block) -> Result<PendingList, BuildError>
         ensures pending { IfOk result (λ l. l ≡ pending_of (sealed_at self.old block)) }
         ensures ok { OnOk result ((b : ℕ) → sealed_at self.new b ≡ (if b == block then Sealed.Yes else sealed_at self.old b)) }

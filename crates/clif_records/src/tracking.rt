@@ -62,7 +62,11 @@ impl Tracking {
         self.marked.contains(variable)
     }
 
-    /// Marks a variable. After an error nothing has changed.
+    /// Marks a variable.
+    ///
+    /// # Errors
+    ///
+    /// `Memory`, where memory is refused. Nothing has changed then.
     pub fn mark(&mut self, variable: Variable) -> Result<(), BuildError>
         ensures ok { OnOk result (self.new ≡ with_mark self.old variable) }
         ensures err { OnErr result (self.new ≡ self.old) }
@@ -72,8 +76,11 @@ impl Tracking {
         Ok(())
     }
 
-    /// A variable gets a value, which is recorded if the variable is marked. After an error nothing has
-    /// changed.
+    /// A variable gets a value, which is recorded if the variable is marked.
+    ///
+    /// # Errors
+    ///
+    /// `Memory`, where memory is refused. Nothing has changed then.
     pub fn bind(&mut self, variable: Variable, value: Value) -> Result<(), BuildError>
         ensures ok { OnOk result (self.new ≡ with_binding self.old variable value) }
         ensures err { OnErr result (self.new ≡ self.old) }

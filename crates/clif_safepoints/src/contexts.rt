@@ -14,8 +14,11 @@ use clif_instructions::exception_table::ExceptionItem;
 use clif_ir::Function;
 use clif_types::{BuildError, EntityRef, EntitySet, Inst, Value};
 
-/// The first try call, by its number, that is reached and one of whose contexts is recorded. The only error is
-/// `Memory`.
+/// The first try call, by its number, that is reached and one of whose contexts is recorded.
+///
+/// # Errors
+///
+/// `Memory`, where memory is refused.
 pub fn tracked_context(
     func: &Function,
     recorded: &EntitySet<Value>,

@@ -48,8 +48,11 @@ impl LivenessAnalysis {
         self.handled = 0;
     }
 
-    /// Finds the recorded values that are live across each call that is reached. The only error is `Memory`, and then
-    /// nothing is found.
+    /// Finds the recorded values that are live across each call that is reached.
+    ///
+    /// # Errors
+    ///
+    /// `Memory`, where memory is refused. Nothing is found then.
     pub fn run(&mut self, func: &Function, recorded: &EntitySet<Value>) -> Result<(), BuildError>
         ensures ok { OnOk result (IsAnalysis func.now recorded.now self.new) }
         ensures err { OnErr result (self.new ≡ nothing_found) }

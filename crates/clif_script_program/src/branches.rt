@@ -16,6 +16,10 @@ impl Branches {
     }
 
     /// Adds the next call, whose edges lead to these blocks.
+    ///
+    /// # Errors
+    ///
+    /// `AllocError`, where memory is refused.
     pub fn push(&mut self, targets: Vec<Option<usize>>) -> Result<(), AllocError> {
         self.targets.push(targets)?;
         Ok(())

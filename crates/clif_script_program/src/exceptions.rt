@@ -17,6 +17,10 @@ pub struct Exceptions {
 
 impl Exceptions {
     /// Of this signature, normal edge and items.
+    ///
+    /// # Errors
+    ///
+    /// `AllocError`, where memory is refused.
     pub fn new(
         alloc: Global,
         signature: SigRef,
@@ -54,6 +58,10 @@ impl ExceptionTables {
     }
 
     /// Adds the next one.
+    ///
+    /// # Errors
+    ///
+    /// `AllocError`, where memory is refused.
     pub fn push(&mut self, table: Exceptions) -> Result<(), AllocError> {
         self.tables.push(table)?;
         Ok(())

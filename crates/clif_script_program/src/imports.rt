@@ -45,6 +45,10 @@ impl Imports {
     }
 
     /// An entry of a table is made.
+    ///
+    /// # Errors
+    ///
+    /// `AllocError`, where memory is refused.
     pub fn add(&mut self, entry: &EntryCall) -> Result<(), AllocError> {
         match entry {
             EntryCall::ImportSignature(signature) => self.signatures.push(signature.clone()?)?,
@@ -58,7 +62,12 @@ impl Imports {
         Ok(())
     }
 
-    /// A memory helper imports the function that it calls, and its signature, of which the convention doesn't matter here.
+    /// A memory helper imports the function that it calls, and its signature, of which the convention doesn't matter
+    /// here.
+    ///
+    /// # Errors
+    ///
+    /// `AllocError`, where memory is refused.
     pub fn add_called(&mut self, called: &MemoryCall) -> Result<(), AllocError> {
         let Some(callee) = called.called_function() else {
             return Ok(());

@@ -175,6 +175,10 @@ pub fn with_constant_of(call: ImmediateCall) -> (WithConstant, Name) {
 }
 
 /// The values that a memory helper names, in order.
+///
+/// # Errors
+///
+/// `AllocError`, where memory is refused.
 pub fn operands_of(alloc: Global, call: &MemoryCall) -> Result<Vec<Name>, AllocError> {
     let mut operands = Vec::new(alloc);
     match call {
@@ -289,8 +293,12 @@ pub fn edge_of<'a>(plan: &Plan<'a>, number: usize) -> Option<&'a Edge> {
     }
 }
 
-/// Where the edges of the instruction of a call lead, in order; those of one that a table serves are of the calls at these
-/// places.
+/// Where the edges of the instruction of a call lead, in order; those of one that a table serves are of the calls at
+/// these places.
+///
+/// # Errors
+///
+/// `AllocError`, where memory is refused.
 pub fn targets_of(
     alloc: Global,
     calls: &[Call],

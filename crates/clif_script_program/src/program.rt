@@ -79,6 +79,10 @@ impl Drop for Program {
 
 impl Program {
     /// The variable program of these calls, for a function of this signature and pointers of this width.
+    ///
+    /// # Errors
+    ///
+    /// `AllocError`, where memory is refused.
     pub fn of(
         alloc: Global,
         calls: &[Call],

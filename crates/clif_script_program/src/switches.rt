@@ -21,6 +21,10 @@ impl Switches {
     }
 
     /// Adds the switch at a place, which has these cases.
+    ///
+    /// # Errors
+    ///
+    /// `AllocError`, where memory is refused.
     pub fn add(&mut self, place: usize, entries: &[SwitchEntry]) -> Result<(), AllocError> {
         let mut map = SwitchMap::new(self.alloc);
         for entry in entries {

@@ -105,6 +105,10 @@ impl SSABuilder {
     }
 
     /// Makes a block known, which is unsealed unless it was sealed before.
+    ///
+    /// # Errors
+    ///
+    /// `Memory`, where memory is refused.
     pub fn declare_block(&mut self, block: Block) -> Result<(), BuildError>
         ensures records { self.new.records ≡ self.old.records }
         ensures blocks { (b : ℕ) → sealed_of self.new b ≡ sealed_of self.old b }
@@ -121,8 +125,12 @@ impl SSABuilder {
         self.tables.declare_block(block)
     }
 
-    /// Puts a branch behind those that lead to a block, which isn't sealed. A branch is declared once for
-    /// each block to which it leads, when it is made.
+    /// Puts a branch behind those that lead to a block, which isn't sealed. A branch is declared once for each block
+    /// to which it leads, when it is made.
+    ///
+    /// # Errors
+    ///
+    /// `Memory`, where memory is refused. The branches that lead to each block are as they were then.
     pub fn declare_block_predecessor(&mut self, block: Block, inst: Inst) -> Result<(), BuildError>
         requires { is_yes (sealed_of self.old block) ≡ false }
         ensures ok { OnOk result (Declares self.old self.new block inst) }
@@ -156,12 +164,16 @@ impl SSABuilder {
         self.tables.remove_predecessor(block, inst);
     }
 
-    /// Moves a branch from a block to another one, both of which aren't sealed: each of its edges to `from` goes to `to`,
-    /// and passes what it passed.
+    /// Moves a branch from a block to another one, both of which aren't sealed: each of its edges to `from` goes to
+    /// `to`, and passes what it passed.
     ///
-    /// The branch is put behind those that lead to `to`, unless it is one of them, and is taken away from those that lead
-    /// to `from`; the others keep their order. Where both are one block nothing changes. The only error is `Memory`; the
-    /// function and the branches that lead to each block are as before then.
+    /// The branch is put behind those that lead to `to`, unless it is one of them, and is taken away from those that
+    /// lead to `from`; the others keep their order. Where both are one block nothing changes.
+    ///
+    /// # Errors
+    ///
+    /// `Memory`, where memory is refused. The function and the branches that lead to each block are as they were
+    /// then.
     pub fn move_branch(
         &mut self,
         func: &mut Function,
@@ -266,8 +278,12 @@ impl SSABuilder {
         self.tables.is_sealed(block)
     }
 
-    /// Records that a variable has a value in a block from here on. Stack maps need the value, if the
-    /// variable is marked. After an error each record is as it was, and stack maps may need the value.
+    /// Records that a variable has a value in a block from here on. Stack maps need the value, if the variable is
+    /// marked.
+    ///
+    /// # Errors
+    ///
+    /// `Memory`, where memory is refused. Each record is as it was then, and stack maps may need the value.
     #[inline(always)]
     pub fn def_var(
         &mut self,
@@ -290,8 +306,12 @@ impl SSABuilder {
         self.tables.record(variable, block, value)
     }
 
-    /// Marks a variable: stack maps need each value that it gets from here on, by an assignment or as a
-    /// parameter that is made for it. After an error nothing has changed.
+    /// Marks a variable: stack maps need each value that it gets from here on, by an assignment or as a parameter
+    /// that is made for it.
+    ///
+    /// # Errors
+    ///
+    /// `Memory`, where memory is refused. Nothing has changed then.
     pub fn mark_var_needs_stack_map(&mut self, variable: Variable) -> Result<(), BuildError>
         ensures ok { OnOk result (self.new ≡ record self.old { tracking = with_mark self.old.tracking variable }) }
         ensures err { OnErr result (self.new ≡ self.old) }
@@ -317,13 +337,17 @@ impl SSABuilder {
 
     /// The value of a variable of type `ty` in a block.
     ///
-    /// Where none is recorded, the walk goes from the block along single predecessors of sealed blocks to
-    /// one that has a record, which is copied to the blocks passed. Where it can go no further, or would
-    /// pass a block again, a parameter is appended to the block reached and recorded. In an unsealed
-    /// block it is the answer, and waits until the block is sealed. In a sealed one the predecessors are
-    /// looked up at once: where one value comes from them the parameter becomes another name of it, and
-    /// where none does, of a zero. Stack maps need each parameter that is made, if the variable is marked, and
-    /// no zero.
+    /// Where none is recorded, the walk goes from the block along single predecessors of sealed blocks to one that
+    /// has a record, which is copied to the blocks passed. Where it can go no further, or would pass a block again, a
+    /// parameter is appended to the block reached and recorded. In an unsealed block it is the answer, and waits
+    /// until the block is sealed. In a sealed one the predecessors are looked up at once: where one value comes from
+    /// them the parameter becomes another name of it, and where none does, of a zero. Stack maps need each parameter
+    /// that is made, if the variable is marked, and no zero.
+    ///
+    /// # Errors
+    ///
+    /// `Memory`, where memory is refused, or `Full`, where a table of the function has no number left for a parameter
+    /// or a zero.
     pub fn use_var(
         &mut self,
         func: &mut Function,
@@ -612,9 +636,14 @@ impl SSABuilder {
         })
     }
 
-    /// Seals a block: all branches that lead to it are declared. Each parameter that waits in it is
-    /// completed, in the order in which they were made: its variable is looked up in the predecessors. A
-    /// block that is sealed stays as it is.
+    /// Seals a block: all branches that lead to it are declared. Each parameter that waits in it is completed, in the
+    /// order in which they were made: its variable is looked up in the predecessors. A block that is sealed stays as
+    /// it is.
+    ///
+    /// # Errors
+    ///
+    /// `Memory`, where memory is refused, or `Full`, where a table of the function has no number left for a parameter
+    /// or a zero. The block is sealed or as it was then.
     pub fn seal_block(
         &mut self,
         block: Block,
@@ -651,6 +680,10 @@ impl SSABuilder {
     }
 
     /// Seals all blocks of the function that aren't sealed, by rising number.
+    ///
+    /// # Errors
+    ///
+    /// Those of [`SSABuilder::seal_block`].
     pub fn seal_all_blocks(&mut self, func: &mut Function) -> Result<SideEffects, BuildError>
         requires named { Named func.old self.old }
         ensures sealed { OnOk result ((b : ℕ) → b < length func.old.blocks → is_yes (sealed_of self.new b) ≡ true) }

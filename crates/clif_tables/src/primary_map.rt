@@ -11,6 +11,10 @@ use std::marker::{Model, PhantomData};
 pub const TABLE_LIMIT: usize = 0xffff_ffff;
 
 /// The number of the next entry of a table that holds `len` entries.
+///
+/// # Errors
+///
+/// `Full` alone, where the table holds 2^32 - 1 entries.
 pub fn next_number(len: usize) -> Result<u32, BuildError>
     ensures ok { IfOk result (λ n. (n ≡ len) × (n < 2 ^ 32 - 1)) }
     ensures full { OnErr result ((result ≡ Err BuildError.Full) × (TABLE_LIMIT ≤ len)) }

@@ -102,6 +102,10 @@ impl Tables {
     }
 
     /// Makes a stack slot.
+    ///
+    /// # Errors
+    ///
+    /// `Memory`, where memory is refused, or `Full`, where the table has 2^32 - 1 entries. All is as it was then.
     pub fn create_sized_stack_slot(&mut self, slot: StackSlotData) -> Result<StackSlot, BuildError>
         ensures { Makes (length self.old.stack_slots) self.old self.new (with_stack_slot self.old slot) result }
     {
@@ -109,6 +113,10 @@ impl Tables {
     }
 
     /// Makes a stack slot whose size is known only when the program runs.
+    ///
+    /// # Errors
+    ///
+    /// `Memory`, where memory is refused, or `Full`, where the table has 2^32 - 1 entries. All is as it was then.
     pub fn create_dynamic_stack_slot(
         &mut self,
         slot: DynamicStackSlotData,
@@ -120,6 +128,10 @@ impl Tables {
     }
 
     /// Makes a global value.
+    ///
+    /// # Errors
+    ///
+    /// `Memory`, where memory is refused, or `Full`, where the table has 2^32 - 1 entries. All is as it was then.
     pub fn create_global_value(&mut self, value: GlobalValueData) -> Result<GlobalValue, BuildError>
         ensures { Makes (length self.old.global_values) self.old self.new (with_global_value self.old value) result }
     {
@@ -127,6 +139,10 @@ impl Tables {
     }
 
     /// Imports a signature, as a new one also where there is an equal one.
+    ///
+    /// # Errors
+    ///
+    /// `Memory`, where memory is refused, or `Full`, where the table has 2^32 - 1 entries. All is as it was then.
     pub fn import_signature(&mut self, signature: Signature) -> Result<SigRef, BuildError>
         ensures { Makes (length self.old.signatures) self.old self.new (with_signature self.old signature) result }
     {
@@ -134,14 +150,21 @@ impl Tables {
     }
 
     /// Imports a function, as a new one also where there is an equal one.
+    ///
+    /// # Errors
+    ///
+    /// `Memory`, where memory is refused, or `Full`, where the table has 2^32 - 1 entries. All is as it was then.
     pub fn import_function(&mut self, function: ExtFuncData) -> Result<FuncRef, BuildError>
         ensures { Makes (length self.old.functions) self.old self.new (with_function self.old function) result }
     {
         self.functions.push(function)
     }
 
-    /// The constant of these bytes, the lowest first. It is made if there is none: equal bytes are one
-    /// constant.
+    /// The constant of these bytes, the lowest first. It is made if there is none: equal bytes are one constant.
+    ///
+    /// # Errors
+    ///
+    /// `Memory`, where memory is refused, or `Full`, where there are 2^32 - 1 other constants. All is as it was then.
     pub fn pool_constant(&mut self, bytes: &[u8]) -> Result<Constant, BuildError>
         ensures { Pools bytes.now self.old.constants self.old self.new (with_constant self.old bytes.now) result }
     {
@@ -149,6 +172,10 @@ impl Tables {
     }
 
     /// Makes a jump table, which serves no instruction so far.
+    ///
+    /// # Errors
+    ///
+    /// `Memory`, where memory is refused, or `Full`, where the table has 2^32 - 1 entries. All is as it was then.
     pub fn create_jump_table(&mut self, table: JumpTableData) -> Result<JumpTable, BuildError>
         ensures { Makes (length self.old.jump_tables) self.old self.new (with_jump_table self.old table) result }
     {
@@ -156,6 +183,10 @@ impl Tables {
     }
 
     /// Makes an exception table, which serves no instruction so far.
+    ///
+    /// # Errors
+    ///
+    /// `Memory`, where memory is refused, or `Full`, where the table has 2^32 - 1 entries. All is as it was then.
     pub fn create_exception_table(
         &mut self,
         table: ExceptionTableData,
@@ -269,8 +300,11 @@ impl Tables {
         self.stack_maps.get(inst)
     }
 
-    /// Gives an instruction a stack map, in place of the one that it had. An empty one reads as none. The
-    /// only error is `Memory`; nothing is changed then.
+    /// Gives an instruction a stack map, in place of the one that it had. An empty one reads as none.
+    ///
+    /// # Errors
+    ///
+    /// `Memory`; nothing is changed then.
     pub fn set_stack_map(
         &mut self,
         inst: Inst,
@@ -293,7 +327,10 @@ impl Tables {
     }
 
     /// Gives a value one label more. Where labels aren't collected, nothing is kept, and the answer is `Ok`.
-    /// The only error is `Memory`; nothing is changed then.
+    ///
+    /// # Errors
+    ///
+    /// `Memory`; nothing is changed then.
     pub fn set_val_label(&mut self, value: Value, start: ValueLabelStart) -> Result<(), BuildError>
         ensures ok { OnOk result (self.new ≡ with_label self.old value start) }
         ensures err { OnErr result (self.new ≡ self.old) }

@@ -71,8 +71,12 @@ impl AliasRegionSet {
 
     /// The region of this data, which is added if it isn't there.
     ///
-    /// Errors: `Memory`, and `Full` where 2^32 - 1 other regions are there. Then no region is added, and the
-    /// set keeps the first such refusal (`refusal`).
+    /// Then no region is added, and the set keeps the first such refusal (`refusal`).
+    ///
+    /// # Errors
+    ///
+    /// `Memory`, where memory is refused, and `Full`, where 2^32 - 1 other regions are there. No region is added
+    /// then, and the set keeps the first such refusal (`refusal`).
     pub fn insert(&mut self, region: AliasRegionData) -> Result<AliasRegion, BuildError>
         ensures region { IfOk result (λ number. number ≡ region_of self.old region) }
         ensures ok { OnOk result (self.new ≡ with_region self.old region) }

@@ -60,7 +60,11 @@ impl<K: EntityRef> EntitySet<K> {
 
     /// Makes the number a member, and answers whether it was none before.
     ///
-    /// Errors: `Memory`, only for a number that is no member. Then nothing changes.
+    /// Then nothing changes.
+    ///
+    /// # Errors
+    ///
+    /// `Memory`, only for a number that is no member. Nothing changes then.
     pub fn insert(&mut self, key: K) -> Result<bool, BuildError>
         ensures members { OnOk result (self.new ≡ with_member self.old (K.index_of key)) }
         ensures added { IfOk result (λ added. added ≡ not (has self.old (K.index_of key))) }

@@ -93,20 +93,31 @@ fn operands(rt: HostRuntime) -> Result<(), Fail> {
     finds_in(&rt, alloc, "wrong address", &WRONG_ADDRESS, address)
 }
 
+// Asserts what the check finds where the values of a call's signature, which are v1 and v2, are returned so.
+fn returns_in(
+    rt: &impl Abort,
+    alloc: Global,
+    call: Transfer<'static>,
+    returned: &'static [u32],
+    expected: Option<(u32, CheckErrorKind)>,
+) -> Result<(), Fail> {
+    let steps = [
+        Import("g", &[], &[F32, I64]),
+        LaidOut,
+        Param(0, I64),
+        Go(0, call),
+        Go(0, Return(returned)),
+    ];
+    finds(rt, alloc, "results", &[F32, I64], &steps, expected)
+}
+
 // The results of a call have the types that its signature returns.
 #[test]
 fn results(rt: HostRuntime) -> Result<(), Fail> {
-    for call in [Call(0, &[]), CallIndirect(0, &[0])] {
-        for (returned, expected) in [([1, 2], None), ([2, 1], Some((1, CheckErrorKind::Return)))] {
-            let steps = [
-                Import("g", &[], &[F32, I64]),
-                LaidOut,
-                Param(0, I64),
-                Go(0, call),
-                Go(0, Return(&returned)),
-            ];
-            finds(&rt, rt.alloc(), "results", &[F32, I64], &steps, expected)?;
-        }
-    }
-    Ok(())
+    let alloc = rt.alloc();
+    let wrong = Some((1, CheckErrorKind::Return));
+    returns_in(&rt, alloc, Call(0, &[]), &[1, 2], None)?;
+    returns_in(&rt, alloc, Call(0, &[]), &[2, 1], wrong)?;
+    returns_in(&rt, alloc, CallIndirect(0, &[0]), &[1, 2], None)?;
+    returns_in(&rt, alloc, CallIndirect(0, &[0]), &[2, 1], wrong)
 }
