@@ -1,24 +1,19 @@
 -- What the calls that ask for stack maps make of a builder. Source: own, after the crate's documentation of
 -- `declare_var_needs_stack_map` and `declare_value_needs_stack_map`.
-use Rattle.std.specs.Prelude.{◌≡◌, ◌≢◌, ◌<◌, ◌≤◌, ℕ, length, Result, Err, OnOk, OnErr, Some, None, slice_get}
+use Rattle.std.specs.Prelude.{◌≡◌, ◌≢◌, ◌<◌, ℕ, length, Result, Err, OnOk, OnErr, Some, None, slice_get}
 use Rattle.clif_types.specs.declared.error.BuildError.{BuildError}
 use Rattle.clif_types.specs.declared.error.BuildError.TheVariants.{Full}
 use Rattle.clif_types.specs.declared.types.«Type».{«Type»}
-use Rattle.clif_types.specs.Types.{bytes_of}
 use Rattle.clif_ir.specs.Body.{value_at}
 use Rattle.clif_records.specs.Tracking.{Tracked, with_mark, with_recorded}
 use Rattle.clif_ssa.specs.Ssa.{record_of}
+use Rattle.clif_stack_slots.specs.Sizes.{FitsStackMap}
 use Rattle.clif_builder.specs.declared.builder.FunctionBuilder.{FunctionBuilder}
 use Rattle.clif_builder.specs.Builder.{HasCurrent}
 use Rattle.clif_builder.specs.Calls.{IsCall}
 use Rattle.clif_builder.specs.Context.{ContextState}
 use Rattle.clif_builder.specs.Growth.{Grows, RemembersIn}
 use Rattle.clif_builder.specs.Tracking.{with_tracking}
-
--- a stack map has room for a value of this type: it has 1 to 16 bytes
-pub record FitsStackMap (ty : «Type») : Type 0 where
-  pub some : 1 ≤ bytes_of ty
-  pub fits : bytes_of ty ≤ 16
 
 -- the variable is declared, and its type fits
 pub record VariableFits (c : ContextState) (variable : ℕ) : Type 0 where
