@@ -23,7 +23,7 @@ use Rattle.clif_expansion.specs.Emission.{AreGiven, building, reading_emitted}
 use Rattle.clif_expansion.specs.Examples.{negating, run_of}
 use Rattle.clif_expansion.specs.JoinedPrograms.{built_items}
 use Rattle.clif_expansion.specs.JoinedRunExamples.{JoinedRunExamples, narrow_run}
-use Rattle.clif_expansion.specs.JoinedRuns.{calls_run}
+use Rattle.clif_expansion.specs.CallsRun.{calls_run}
 use Rattle.clif_expansion.specs.Laws.{IsSoundRun, TakesTyped, TakesValues}
 use Rattle.clif_expansion.specs.Line.{Contents, RunsTo}
 use Rattle.clif_expansion.specs.PerformedCalls.{IsPerformed}

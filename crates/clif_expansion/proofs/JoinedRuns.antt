@@ -16,7 +16,8 @@ use Rattle.clif_expansion.specs.Code.{DecidesItem, Does, NameTypes, PerformsItem
 use Rattle.clif_expansion.specs.Emission.{building, importing, ledger_importing, line_calls, reading_across, reading_importing, reading_line}
 use Rattle.clif_expansion.specs.Expansion.{IsCutProgram, IsExpandedRun, types_in}
 use Rattle.clif_expansion.specs.JoinedCalls.{AreJoinedCalls, Asking, Emitting, Giving, IsBuiltWith, IsGiven, IsSame, Starting, Switching}
-use Rattle.clif_expansion.specs.JoinedRuns.{JoinedCallsMeanTheSame, calls_run, tracked_by_call, tracked_by_calls}
+use Rattle.clif_expansion.specs.CallsRun.{calls_run, tracked_by_call, tracked_by_calls}
+use Rattle.clif_expansion.specs.JoinedRuns.{JoinedCallsMeanTheSame}
 use Rattle.clif_expansion.specs.Joining.{IsJoined, IsReadRequest, answers_at, reading_after}
 use Rattle.clif_expansion.specs.Laying.{IsLaid, IsLaidProgram}
 use Rattle.clif_expansion.specs.PerformedCalls.{ArePerformed, HaveTypes}

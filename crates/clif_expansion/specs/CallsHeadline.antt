@@ -16,7 +16,7 @@ use Rattle.clif_meaning.specs.ScriptMachine.{ScriptRun, script_machine}
 use Rattle.clif_meaning.specs.Store.{in_slots_from}
 use Rattle.clif_meaning.specs.WellPlaced.{IsWellPlaced, program_code}
 use Rattle.clif_meaning.specs.World.{World}
-use Rattle.clif_expansion.specs.JoinedRuns.{calls_run, calls_track}
+use Rattle.clif_expansion.specs.CallsRun.{calls_run, calls_track}
 use Rattle.clif_expansion.specs.ScriptCall.{ScriptCall, ledger_of, program_of_calls}
 
 -- The premises on calls, made for a function of this signature with pointers of this type, and on the run of them.

@@ -25,7 +25,7 @@ use Rattle.clif_expansion.specs.CallsHeadline.{CallsMeanTheSame, CallsPremises}
 use Rattle.clif_expansion.specs.CallsVerdict.{AreCallsAllowed, made, verdict_on_call_attempts, verdict_on_calls}
 use Rattle.clif_expansion.specs.Constants.{computing, i64}
 use Rattle.clif_expansion.specs.JoinedCalls.{AreJoinedCalls}
-use Rattle.clif_expansion.specs.JoinedRuns.{calls_run}
+use Rattle.clif_expansion.specs.CallsRun.{calls_run}
 use Rattle.clif_expansion.specs.PerformedCalls.{IsPerformed}
 use Rattle.clif_expansion.specs.Reading.{Reading}
 use Rattle.clif_expansion.specs.ScriptCall.{Ask, Emit, ScriptCall, ledger_of, program_of_calls}

@@ -20,7 +20,7 @@ use Rattle.clif_typed_runs.specs.ValuesFit.{ScriptFits}
 use Rattle.clif_expansion.specs.CallsHeadline.{CallersEdgesMatchInCalls, CallsMeanTheSame, CallsPlacementPremises, CallsPremises}
 use Rattle.clif_expansion.specs.CallsVerdict.{AreCallsAllowed}
 use Rattle.clif_expansion.specs.JoinedCalls.{AreJoinedCalls}
-use Rattle.clif_expansion.specs.JoinedRuns.{calls_run, calls_track}
+use Rattle.clif_expansion.specs.CallsRun.{calls_run, calls_track}
 use Rattle.clif_expansion.specs.Laws.{IsSoundRun}
 use Rattle.clif_expansion.specs.PerformedCalls.{ArePerformed}
 use Rattle.clif_expansion.specs.Reading.{Reading}

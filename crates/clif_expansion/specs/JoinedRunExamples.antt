@@ -14,7 +14,7 @@ use Rattle.clif_expansion.specs.Emission.{AreGiven}
 use Rattle.clif_expansion.specs.Constants.{computing}
 use Rattle.clif_expansion.specs.Examples.{negating, negation, of_32_bits, run_of}
 use Rattle.clif_expansion.specs.JoinedCalls.{AreJoinedCalls}
-use Rattle.clif_expansion.specs.JoinedRuns.{calls_run}
+use Rattle.clif_expansion.specs.CallsRun.{calls_run}
 use Rattle.clif_expansion.specs.Laws.{IsSoundRun}
 use Rattle.clif_expansion.specs.PerformedCalls.{ArePerformed, IsPerformed}
 use Rattle.clif_expansion.specs.Reading.{Reading}

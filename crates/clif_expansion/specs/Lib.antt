@@ -24,6 +24,7 @@ pub mod JoinedCalls
 pub mod ConstantCalls
 pub mod JoinedPrograms
 pub mod PerformedCalls
+pub mod CallsRun
 pub mod JoinedRuns
 pub mod JoinedRunExamples
 pub mod CallsVerdict

@@ -23,7 +23,7 @@ use Rattle.clif_meaning.specs.WellPlaced.{IsWellPlaced, program_code}
 use Rattle.clif_meaning.specs.World.{World}
 use Rattle.clif_expansion.specs.CallsHeadline.{CallsMeanTheSame, CallsPlacementPremises, CallsPremises}
 use Rattle.clif_expansion.specs.HeadlineLaws.{AskingMeansTheSame}
-use Rattle.clif_expansion.specs.JoinedRuns.{calls_track, tracked_by_calls}
+use Rattle.clif_expansion.specs.CallsRun.{calls_track, tracked_by_calls}
 use Rattle.clif_expansion.specs.ScriptCall.{Ask, ScriptCall, ledger_of, program_of_calls}
 use Rattle.clif_expansion.proofs.ScriptCalls.{asking_stays}
 

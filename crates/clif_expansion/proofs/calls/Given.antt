@@ -25,7 +25,7 @@ use Rattle.clif_typed_runs.proofs.ScriptSteps.{runs_fit}
 use Rattle.clif_expansion.specs.Laws.{TakesTyped}
 use Rattle.clif_expansion.specs.CallsVerdict.{AreCallsAllowed}
 use Rattle.clif_expansion.specs.HeadlineLaws.{CallsNameValues}
-use Rattle.clif_expansion.specs.JoinedRuns.{calls_run}
+use Rattle.clif_expansion.specs.CallsRun.{calls_run}
 use Rattle.clif_expansion.specs.PerformedCalls.{HaveTypes}
 use Rattle.clif_expansion.specs.ScriptCall.{Ask, Emit, ScriptCall, call_allowed, call_answers, emitted_item, emitted_types, ledger_behind, ledger_of, ledger_with_call, program_behind, program_of_calls, program_with_call, with_imports}
 use Rattle.clif_expansion.proofs.EmittedPrograms.{one_longer}

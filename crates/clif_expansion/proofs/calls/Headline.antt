@@ -25,7 +25,7 @@ use Rattle.clif_expansion.specs.CallsHeadline.{CallsPremises, in_spill_slot_besi
 use Rattle.clif_expansion.specs.CallsVerdict.{AreCallsAllowed}
 use Rattle.clif_expansion.specs.HeadlineLaws.{CallsMeanWhatPlainCallsMean, JoinedCallsKeepPremises}
 use Rattle.clif_expansion.specs.JoinedCalls.{AreJoinedCalls}
-use Rattle.clif_expansion.specs.JoinedRuns.{calls_run}
+use Rattle.clif_expansion.specs.CallsRun.{calls_run}
 use Rattle.clif_expansion.specs.Laws.{IsSoundRun}
 use Rattle.clif_expansion.specs.PerformedCalls.{ArePerformed}
 use Rattle.clif_expansion.specs.Reading.{Reading}

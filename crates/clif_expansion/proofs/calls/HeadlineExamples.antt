@@ -32,7 +32,7 @@ use Rattle.clif_meaning.proofs.StraightLine
 use Rattle.clif_expansion.specs.Constants.{computing, i64}
 use Rattle.clif_expansion.specs.HeadlineExamples.{HeadlineExamples, is_seven, is_wide_seven, returning_calls, returning_script}
 use Rattle.clif_expansion.specs.JoinedCalls.{AreJoinedCalls, Asking, Emitting}
-use Rattle.clif_expansion.specs.JoinedRuns.{calls_run}
+use Rattle.clif_expansion.specs.CallsRun.{calls_run}
 use Rattle.clif_expansion.specs.PerformedCalls.{IsPerformed}
 use Rattle.clif_expansion.specs.Reading.{Reading}
 use Rattle.clif_expansion.specs.ScriptCall.{Ask, Emit, ScriptCall, ledger_of, program_of_calls}

@@ -18,7 +18,7 @@ use Rattle.clif_expansion.specs.Emission.{StaysInLine}
 use Rattle.clif_expansion.specs.Expansion.{IsReadBlock}
 use Rattle.clif_expansion.specs.JoinedCalls.{AreJoinedCalls}
 use Rattle.clif_expansion.specs.JoinedPrograms.{DecidesAlong, IsDecider, IsDecidingItem, built_items}
-use Rattle.clif_expansion.specs.JoinedRuns.{calls_track, tracked_by_calls}
+use Rattle.clif_expansion.specs.CallsRun.{calls_track, tracked_by_calls}
 use Rattle.clif_expansion.specs.Joining.{IsJoined}
 use Rattle.clif_expansion.specs.Reading.{Agree, IsReadArgument, IsReadAs, IsReadEdge, IsReadItem, Reading}
 use Rattle.clif_expansion.specs.ScriptCall.{ScriptCall, emitted_item, ledger_of, program_of_calls}
