@@ -1,5 +1,5 @@
 -- The edges and items of exception tables. Source: own, after the crate's documentation of them.
-use Rattle.std.specs.Prelude.{ℕ, List, [], ◌∷◌, map, flat_map}
+use Rattle.std.specs.Prelude.{ℕ, List, [], ◌∷◌, map, flat_map, slice_set}
 use Rattle.clif_instructions.specs.declared.block_call.BlockCall.{BlockCall}
 use Rattle.clif_instructions.specs.declared.exception_table.ExceptionItem.{ExceptionItem}
 use Rattle.clif_instructions.specs.declared.exception_table.ExceptionItem.TheVariants as kept
@@ -43,3 +43,7 @@ item_context (kept.Context value) = value ∷ []
 -- the contexts of a table, in order
 abbrev pub contexts_of : ExceptionShape → List ℕ
 contexts_of table = flat_map item_context table.items
+
+-- a table, of whose items this one is this context
+abbrev pub with_context_at : ℕ → ℕ → ExceptionShape → ExceptionShape
+with_context_at item value table = record table { items = slice_set table.items item (kept.Context value) }

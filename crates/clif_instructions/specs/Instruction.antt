@@ -9,7 +9,8 @@ use Rattle.clif_opcodes.specs.Kinds.{result_type}
 use Rattle.clif_opcodes.specs.Typing.{Row, row_of}
 use Rattle.clif_instructions.specs.declared.block_call.BlockCall.{BlockCall}
 use Rattle.clif_instructions.specs.Edges.{appended_to, with_argument_to, redirected, with_target_changed, with_passed, with_passed_at}
-use Rattle.clif_instructions.specs.ExceptionTables.{ExceptionShape, contexts_of}
+use Rattle.clif_instructions.specs.ExceptionTables.{ExceptionShape, contexts_of, with_context_at}
+use Rattle.clif_instructions.specs.declared.exception_table.ExceptionItem.{ExceptionItem}
 use Rattle.clif_instructions.specs.declared.instructions.InstructionData.{InstructionData}
 use Rattle.clif_instructions.specs.declared.instructions.InstructionData.TheVariants.{UnaryImm, UnaryIeee, UnaryConst, Unary, Binary, IntCompare, Concat, Split, Convert, Ternary, Load, Store, StackLoad, StackStore, Jump, Brif, BranchTable, MultiAry, Trap, CondTrap, Call, CallIndirect, TryCall, TryCallIndirect}
 
@@ -91,6 +92,27 @@ with_edge_argument edge place value (BranchTable arg table) = BranchTable arg (w
 with_edge_argument edge place value (TryCall function args table) = TryCall function args (with_edges (with_passed_at edge place value table.edges) table)
 with_edge_argument edge place value (TryCallIndirect args table) = TryCallIndirect args (with_edges (with_passed_at edge place value table.edges) table)
 with_edge_argument edge place value shape = shape
+
+-- an instruction, of whose edges this one is this one
+abbrev pub with_edge : ℕ → BlockCall → InstructionData → InstructionData
+with_edge edge call (Jump destination) = Jump call
+with_edge edge call (Brif arg blocks) = Brif arg (slice_set blocks edge call)
+with_edge edge call (BranchTable arg table) = BranchTable arg (slice_set table edge call)
+with_edge edge call (TryCall function args table) = TryCall function args (with_edges (slice_set table.edges edge call) table)
+with_edge edge call (TryCallIndirect args table) = TryCallIndirect args (with_edges (slice_set table.edges edge call) table)
+with_edge edge call shape = shape
+
+-- the items of its exception table
+abbrev pub items_of : InstructionData → List ExceptionItem
+items_of (TryCall function args table) = table.items
+items_of (TryCallIndirect args table) = table.items
+items_of _ = []
+
+-- an instruction, of whose items this one is this context
+abbrev pub with_context : ℕ → ℕ → InstructionData → InstructionData
+with_context item value (TryCall function args table) = TryCall function args (with_context_at item value table)
+with_context item value (TryCallIndirect args table) = TryCallIndirect args (with_context_at item value table)
+with_context item value shape = shape
 
 -- an instruction whose operand at this place, of those that it has, is this value
 abbrev pub with_operand : ℕ → ℕ → InstructionData → InstructionData

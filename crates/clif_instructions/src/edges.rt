@@ -1,5 +1,5 @@
 //! Changes of the edges of a branch or of a table, all at once.
-ghost use Rattle.std.specs.Prelude.{◌≡◌, ◌<◌, ◌≤◌, length, OnOk, OnErr};
+ghost use Rattle.std.specs.Prelude.{◌≡◌, ◌<◌, ◌≤◌, length, slice_set, OnOk, OnErr};
 ghost use Rattle.clif_instructions.specs.Edges.{appended_to, redirected, with_argument_to, with_target_changed, edge_at, with_passed, with_passed_at, taken_from, taken_back};
 
 use crate::block_call::{BlockArg, BlockCall};
@@ -97,4 +97,12 @@ pub(crate) fn set_argument_at(edges: &mut [BlockCall], edge: usize, place: usize
     ensures { edges.new ≡ with_passed_at edge place value edges.old }
 {
     set_argument(&mut edges[edge], place, value);
+}
+
+// Makes one of these edges another one.
+pub(crate) fn set_edge_at(edges: &mut [BlockCall], edge: usize, call: BlockCall)
+    requires { edge < length edges.old }
+    ensures { edges.new ≡ slice_set edges.old edge call }
+{
+    edges[edge] = call;
 }

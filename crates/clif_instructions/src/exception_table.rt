@@ -1,10 +1,10 @@
 //! Exception tables.
-ghost use Rattle.std.specs.Prelude.{◌≡◌, ◌<◌, ◌++◌, ◌∷◌, [], length, slice_index_or, OnOk, OnErr, IfOk};
+ghost use Rattle.std.specs.Prelude.{◌≡◌, ◌<◌, ◌++◌, ◌∷◌, [], length, slice_index_or, slice_set, OnOk, OnErr, IfOk};
 ghost use Rattle.clif_instructions.specs.Edges.{edge_at, with_argument_to, with_passed_at, with_target_changed};
-ghost use Rattle.clif_instructions.specs.ExceptionTables.{exception_shape, item_edges, kept_item};
+ghost use Rattle.clif_instructions.specs.ExceptionTables.{exception_shape, item_edges, kept_item, with_context_at};
 
 use crate::block_call::BlockCall;
-use crate::edges::{append_to_edges, redirect_edges, set_argument_at};
+use crate::edges::{append_to_edges, redirect_edges, set_argument_at, set_edge_at};
 use clif_types::{Block, BuildError, SigRef, Value};
 use std::alloc::Global;
 use std::marker::Model;
@@ -186,5 +186,21 @@ impl ExceptionTargets {
         ensures { self.new ≡ record self.old { edges = with_passed_at edge place value self.old.edges } }
     {
         set_argument_at(self.targets.edges.as_mut_slice(), edge, place, value);
+    }
+
+    /// Makes the edge at `edge` another one.
+    pub(crate) fn set_edge(&mut self, edge: usize, call: BlockCall)
+        requires { edge < length self.old.edges }
+        ensures { self.new ≡ record self.old { edges = slice_set self.old.edges edge call } }
+    {
+        set_edge_at(self.targets.edges.as_mut_slice(), edge, call);
+    }
+
+    /// Makes the item at `item` the context `value`.
+    pub(crate) fn set_context(&mut self, item: usize, value: Value)
+        requires { item < length self.old.items }
+        ensures { self.new ≡ with_context_at item value self.old }
+    {
+        self.targets.items[item] = ExceptionItem::Context(value);
     }
 }

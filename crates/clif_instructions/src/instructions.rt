@@ -2,11 +2,12 @@
 ghost use Rattle.std.specs.Prelude.{◌≡◌, ◌<◌, length, option_copied, slice_set, OnOk, OnErr};
 ghost use Rattle.clif_opcodes.specs.Typing.{float_const_row, pooled_const_row};
 ghost use Rattle.clif_instructions.specs.Edges.{edge_at, with_passed_at, with_target_changed};
-ghost use Rattle.clif_instructions.specs.Instruction.{operands, destinations, with_argument, with_targets_changed, with_edge_argument, with_operand, exception_table, has_result, is_branch, is_terminator, opcode_of, typing_of};
+ghost use Rattle.clif_instructions.specs.Instruction.{operands, destinations, with_argument, with_targets_changed, with_edge, with_edge_argument, with_context, with_operand, items_of, exception_table, has_result, is_branch, is_terminator, opcode_of, typing_of};
 
 use crate::block_call::BlockCall;
 use crate::edges::{
     append_to_edge, append_to_edges, redirect_edge, redirect_edges, set_argument, set_argument_at,
+    set_edge_at,
 };
 use crate::exception_table::ExceptionTargets;
 use crate::jump_table::JumpTableData;
@@ -332,6 +333,36 @@ impl InstructionData {
             }
             InstructionData::TryCallIndirect { exception, .. } => {
                 exception.set_argument(edge, place, value);
+            }
+            _ => {}
+        }
+    }
+
+    /// Makes the edge at `edge` another one.
+    pub fn set_edge(&mut self, edge: usize, call: BlockCall)
+        requires { edge < length (destinations self.old) }
+        ensures exact { self.new ≡ with_edge edge call self.old }
+        ensures edges { destinations self.new ≡ slice_set (destinations self.old) edge call }
+    {
+        match self {
+            InstructionData::Jump { destination } => *destination = call,
+            InstructionData::Brif { blocks, .. } => set_edge_at(blocks, edge, call),
+            InstructionData::BranchTable { table, .. } => table.set_edge(edge, call),
+            InstructionData::TryCall { exception, .. } => exception.set_edge(edge, call),
+            InstructionData::TryCallIndirect { exception, .. } => exception.set_edge(edge, call),
+            _ => {}
+        }
+    }
+
+    /// Makes the item at `item` of a try call's exception table the context `value`.
+    pub fn set_context(&mut self, item: usize, value: Value)
+        requires { item < length (items_of self.old) }
+        ensures exact { self.new ≡ with_context item value self.old }
+    {
+        match self {
+            InstructionData::TryCall { exception, .. } => exception.set_context(item, value),
+            InstructionData::TryCallIndirect { exception, .. } => {
+                exception.set_context(item, value);
             }
             _ => {}
         }

@@ -1,9 +1,9 @@
 //! Jump tables.
-ghost use Rattle.std.specs.Prelude.{◌≡◌, ◌∷◌, ◌<◌, length, slice_index_or, drop, OnOk, OnErr, IfOk};
+ghost use Rattle.std.specs.Prelude.{◌≡◌, ◌∷◌, ◌<◌, length, slice_index_or, slice_set, drop, OnOk, OnErr, IfOk};
 ghost use Rattle.clif_instructions.specs.Edges.{edge_at, with_argument_to, with_passed_at, with_target_changed};
 
 use crate::block_call::BlockCall;
-use crate::edges::{append_to_edges, redirect_edges, set_argument_at};
+use crate::edges::{append_to_edges, redirect_edges, set_argument_at, set_edge_at};
 use clif_types::{Block, BuildError, Value};
 use std::marker::Model;
 
@@ -86,5 +86,13 @@ impl JumpTableData {
         ensures { self.new ≡ with_passed_at edge place value self.old }
     {
         set_argument_at(self.edges.as_mut_slice(), edge, place, value);
+    }
+
+    /// Makes the edge at `edge` another one.
+    pub(crate) fn set_edge(&mut self, edge: usize, call: BlockCall)
+        requires { edge < length self.old }
+        ensures { self.new ≡ slice_set self.old edge call }
+    {
+        set_edge_at(self.edges.as_mut_slice(), edge, call);
     }
 }

@@ -15,7 +15,7 @@ use Rattle.clif_instructions.proofs.Lists.{at_set}
 use Rattle.clif_ir.proofs.KeepsShape.{Fits, fits_now, with_shape_consistent}
 
 -- what holds of all entries holds of all where one is replaced by one of which it holds
-all_set : {X : Type 0} (P : X → Type 0) (xs : List X) (i : ℕ) (y : X) → i < length xs → P y → All P xs → All P (slice_set xs i y)
+pub all_set : {X : Type 0} (P : X → Type 0) (xs : List X) (i : ℕ) (y : X) → i < length xs → P y → All P xs → All P (slice_set xs i y)
 all_set P xs i y inside new old k d below =
     let count : length (slice_set xs i y) ≡ length xs = grind (arith, common_steps) in
     at_set P xs i y k d inside (λ _. new) (λ _. old k d (omega (arith, count, below)))
@@ -28,7 +28,7 @@ numbers_set n xs place v inside here known k below =
     at_set (λ x. x < n) xs place v k 0 here (λ _. inside) (λ _. known k (omega (arith, count, below)))
 
 -- a list of one, whose only entry is replaced
-only_set : {X : Type 0} (x y : X) (place : ℕ) → place < 1 → ◌≡◌ {A = List X} (y ∷ []) (slice_set (x ∷ []) place y)
+pub only_set : {X : Type 0} (x y : X) (place : ℕ) → place < 1 → ◌≡◌ {A = List X} (y ∷ []) (slice_set (x ∷ []) place y)
 only_set x y zero inside = refl
 only_set x y (suc place) inside = absurd (omega (arith, inside))
 

@@ -14,6 +14,7 @@ pub mod KeepsListed
 pub mod KeepsBranch
 pub mod KeepsShape
 pub mod KeepsOperand
+pub mod KeepsEdge
 pub mod Leading
 pub mod KeepsCold
 pub mod Orders

@@ -8,7 +8,8 @@ use Rattle.clif_nodes.specs.declared.nodes.ValueOrigin.{ValueOrigin}
 use Rattle.clif_nodes.specs.declared.nodes.ValueOrigin.TheVariants.{Result, Param, Alias}
 use Rattle.clif_nodes.specs.declared.nodes.InstNode.{InstNode}
 use Rattle.clif_instructions.specs.declared.insert_at.InsertAt.{InsertAt}
-use Rattle.clif_instructions.specs.Instruction.{with_argument, with_targets_changed, with_edge_argument, with_operand}
+use Rattle.clif_instructions.specs.Instruction.{with_argument, with_targets_changed, with_context, with_edge, with_edge_argument, with_operand}
+use Rattle.clif_instructions.specs.declared.block_call.BlockCall.{BlockCall}
 use Rattle.clif_ir.specs.Body.{Body, block_at, inst_at, value_at, resolved}
 use Rattle.clif_nodes.specs.Nodes.{empty_block, result_nodes}
 use Rattle.clif_instructions.specs.Members.{put_at, without, stands_in}
@@ -85,6 +86,14 @@ with_operand_at f i place v = with_shape f i (with_operand place v (inst_at f i)
 -- with value `v` as what this edge of instruction `i` passes at this place
 abbrev pub with_passed_argument : Body → ℕ → ℕ → ℕ → ℕ → Body
 with_passed_argument f i edge place v = with_shape f i (with_edge_argument edge place v (inst_at f i).shape)
+
+-- with this edge of instruction `i` being this one
+abbrev pub with_edge_at : Body → ℕ → ℕ → BlockCall → Body
+with_edge_at f i edge call = with_shape f i (with_edge edge call (inst_at f i).shape)
+
+-- with value `v` as the context at this item of the exception table of instruction `i`
+abbrev pub with_context_of : Body → ℕ → ℕ → ℕ → Body
+with_context_of f i item v = with_shape f i (with_context item v (inst_at f i).shape)
 
 -- the block of a value that is a parameter
 abbrev pub home_of : ValueOrigin → ℕ

@@ -5,14 +5,15 @@
 //! its block and its source place.
 ghost use Rattle.std.specs.Prelude.{◌≡◌, ◌≢◌, ◌<◌, ◌+◌, ◌-◌, ◌^◌, length, slice_index, EachIndex, All, IfOk, OnOk, OnErr};
 ghost use Rattle.clif_instructions.specs.Edges.{edge_at};
-ghost use Rattle.clif_instructions.specs.Instruction.{contexts, entries_of, operands, destinations};
+ghost use Rattle.clif_instructions.specs.Instruction.{contexts, entries_of, items_of, operands, destinations};
 ghost use Rattle.clif_tables.specs.Callees.{count_of_results, types_of_results};
 ghost use Rattle.clif_ir.specs.Body.{block_at, inst_at, resolved};
-ghost use Rattle.clif_ir.specs.Changes.{HasNoRoom, with_branch_target, with_inst, with_operand_at, with_passed_argument};
+ghost use Rattle.clif_ir.specs.Changes.{HasNoRoom, with_branch_target, with_context_of, with_edge_at, with_inst, with_operand_at, with_passed_argument};
 ghost use Rattle.clif_ir.specs.Consistent.{EdgeExists, EntryExists, ValueExists};
 ghost use Rattle.clif_ir.specs.Reading.{place_in_block};
 
 use crate::function::Function;
+use clif_instructions::block_call::BlockCall;
 use clif_instructions::insert_at::InsertAt;
 use clif_instructions::instructions::InstructionData;
 use clif_types::{Block, BuildError, EntityRef, Inst, SourceLoc, Type, Value};
@@ -49,6 +50,27 @@ impl Function {
         self.insts[inst.index()]
             .shape
             .set_edge_argument(edge, place, value);
+    }
+
+    /// Makes an edge of an instruction another one, whose target and arguments exist. Edges are counted from 0 on, in
+    /// the order in which they are printed. The other edges stay, also those to the same block.
+    pub fn replace_edge(&mut self, inst: Inst, edge: usize, call: BlockCall)
+        requires inst_exists { inst < length self.old.insts }
+        requires edge_exists { edge < length (destinations (inst_at self.old inst).shape) }
+        requires call_exists { EdgeExists self.old call }
+        ensures { self.new ≡ with_edge_at self.old inst edge call }
+    {
+        self.insts[inst.index()].shape.set_edge(edge, call);
+    }
+
+    /// Makes `value` the context at an item of the exception table of a try call, in place of that item.
+    pub fn replace_context(&mut self, inst: Inst, item: usize, value: Value)
+        requires inst_exists { inst < length self.old.insts }
+        requires item_exists { item < length (items_of (inst_at self.old inst).shape) }
+        requires value_exists { value < length self.old.values }
+        ensures { self.new ≡ with_context_of self.old inst item value }
+    {
+        self.insts[inst.index()].shape.set_context(item, value);
     }
 
     /// Makes an instruction and puts it right before the instruction `next` of a block.
