@@ -16,4 +16,6 @@ pub mod CallShapes
 pub mod Stepping
 pub mod Simulating
 pub mod Worked
+pub mod Left
+pub mod Examples
 pub mod Typed

@@ -7,3 +7,4 @@ pub mod Accesses
 pub mod PartLaws
 pub mod Laws
 pub mod Examples
+pub mod MovedExample

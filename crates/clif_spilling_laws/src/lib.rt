@@ -6,6 +6,7 @@
 ghost use Rattle.clif_spilling_laws.specs.Accesses.{ReloadsRun, StoredIsLoaded};
 ghost use Rattle.clif_spilling_laws.specs.Examples.{SpillingExamples};
 ghost use Rattle.clif_spilling_laws.specs.Laws.{SpillingMeansTheSame};
+ghost use Rattle.clif_spilling_laws.specs.MovedExample.{MovedExample};
 ghost use Rattle.clif_spilling_laws.specs.PartLaws.{EachEntryMoves, LiveIsGiven, NothingLiveAtEntry, SpilledIsLive, TypedRunsFit};
 
 /// A function with stores, reloads and exact maps means, under the collector by maps, what the function before means under the
@@ -54,4 +55,10 @@ pub fn typed_runs_fit()
 /// ones are refused.
 pub fn spilling_examples()
     ensures { SpillingExamples }
+{}
+
+/// The law's premises hold at once of a function with a value that an outside call moves: both runs return the moved number, and
+/// without the entry in the call's stack map the function is refused, and returns the number that was passed.
+pub fn moved_example()
+    ensures { MovedExample }
 {}

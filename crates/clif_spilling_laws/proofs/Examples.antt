@@ -1,0 +1,4 @@
+-- The worked examples.
+pub mod Parts
+pub mod Straight
+pub mod Moved

@@ -1,0 +1,86 @@
+-- What the worked examples share: lists of one or two members, a reload of a value, an exact map with one entry or none, and what is
+-- left as it is.
+use Rattle.std.proofs.Common.{◌≡◌, ◌⊎◌, ◌<◌, ◌≤◌, inl, inr, ℕ, Bool, true, false, List, [], ◌∷◌, map, refl, sym, ap, subst, ◌∙◌, arith, Option, Some, None}
+use Rattle.std.specs.Prelude.{Contains}
+use Rattle.std.proofs.lemmas.Bool.{eqb-true}
+use Rattle.clif_types.specs.declared.stackmap.UserStackMapEntry.{UserStackMapEntry}
+use Rattle.clif_meaning.specs.Path.{Place}
+use Rattle.clif_safepoints.specs.Liveness.{IsLiveAcross}
+use Rattle.clif_spilling_laws.specs.Examples.{every, only_first, reload_of}
+use Rattle.clif_spilling_laws.specs.Live.{counted}
+use Rattle.clif_spilling_laws.specs.Rewriting.{IsExactMap, IsRead, entry_of}
+use Rattle.clif_spilling_laws.specs.Spilling.{AreReloads, IsNew, Spilling}
+use Rattle.clif_spilling_laws.proofs.Lists.{contains_cases, contains_first, contains_none}
+
+pub no_way : true ≡ false → ⊥
+no_way e = cc
+
+pub first_alone : (v : ℕ) → only_first v ≡ true → v ≡ 0
+first_alone v is = eqb-true v 0 is
+
+pub some_number : (a b : ℕ) → ◌≡◌ {A = Option ℕ} (Some a) (Some b) → a ≡ b
+some_number a b e = cc
+
+pub first_member : {X : Type 0} (x y : X) (xs ys : List X) → (x ∷ xs) ≡ (y ∷ ys) → x ≡ y
+first_member x y xs ys e = cc
+
+-- the one member of a list
+pub alone : {X : Type 0} (x y : X) → Contains (x ∷ []) y → x ≡ y
+alone {X} x y h = by (contains_cases x y [] h)
+  where
+    by : (x ≡ y) ⊎ Contains [] y → x ≡ y
+    by (inl same) = same
+    by (inr none) = absurd (contains_none y none)
+
+-- one of the two members
+pub one_of_two : {X : Type 0} (x y z : X) → Contains (x ∷ y ∷ []) z → (x ≡ z) ⊎ (y ≡ z)
+one_of_two {X} x y z h = by (contains_cases x z (y ∷ []) h)
+  where
+    by : (x ≡ z) ⊎ Contains (y ∷ []) z → (x ≡ z) ⊎ (y ≡ z)
+    by (inl same) = inl same
+    by (inr more) = inr (alone y z more)
+
+-- a reload by itself
+pub one_reload : (s : Spilling) (value address copy : ℕ) → s.is_spilled value ≡ true → IsNew s s.pointer address
+    → IsNew s (s.before.value_type value) copy → AreReloads s (reload_of value address copy ∷ [])
+one_reload s value address copy spilled new_address new_copy =
+    (record { spilled = spilled; address = new_address; copy = new_copy }, λ y h. absurd (contains_none y h), tt)
+
+-- the value is read by its reload's copy
+pub reads_copy : (s : Spilling) (value address copy : ℕ) → s.is_spilled value ≡ true → s.before.resolved value ≡ value
+    → s.after.value_type copy ≡ s.before.value_type value → IsRead s (reload_of value address copy ∷ []) value copy
+reads_copy s value address copy spilled itself typed = record {
+  typed = λ aliases. typed;
+  how = inl (
+    subst (λ (v : ℕ). s.is_spilled v ≡ true) (sym itself) spilled,
+    reload_of value address copy,
+    contains_first (reload_of value address copy) [],
+    sym itself,
+    refl,
+  );
+}
+
+-- one entry is exact where the first value lives on
+pub exact_first : (s : Spilling) (p : Place ℕ) → s.before.resolved 0 ≡ 0 → IsLiveAcross (counted every) s.before p 0
+    → IsExactMap every only_first s p (entry_of s 0 ∷ [])
+exact_first s p itself live = record {
+  values = 0 ∷ [];
+  rising = λ k inside. absurd (omega (arith, inside));
+  all = λ v. (
+    λ h. subst IsNamed (alone 0 v h) (refl, itself, live),
+    λ named. subst (λ (w : ℕ). Contains (0 ∷ []) w) (sym (first_alone v named.0)) (contains_first 0 []),
+  );
+  entries_are = refl;
+}
+  where
+    IsNamed : ℕ → Type 0
+    IsNamed v = (only_first v ≡ true) × (s.before.resolved v ≡ v) × IsLiveAcross (counted every) s.before p v
+
+-- a map without entries isn't exact where a member lives on
+pub not_exact : (s : Spilling) (members : ℕ → Bool) (p : Place ℕ) (v : ℕ) → members v ≡ true → s.before.resolved v ≡ v
+    → IsLiveAcross (counted every) s.before p v → IsExactMap every members s p [] → ⊥
+not_exact s members p v member itself live is = by is.values ((is.all v).1 (member, itself, live)) is.entries_are
+  where
+    by : (vs : List ℕ) → Contains vs v → [] ≡ map (entry_of s) vs → ⊥
+    by [] h e = contains_none v h
+    by (w ∷ vs) h e = cc

@@ -1,0 +1,47 @@
+-- Functions of one block, which no instruction leaves by an edge: what is given before a place on every path to it.
+use Rattle.std.proofs.Common.{◌≡◌, ◌⊎◌, ◌<◌, ◌≤◌, ◌+◌, inl, inr, ℕ, zero, suc, List, [], ◌∷◌, refl, sym, ap, subst, ◌∙◌, arith, Option, Some}
+use Rattle.std.specs.Prelude.{Contains}
+use Rattle.clif_meaning.specs.FunctionView.{FunctionView}
+use Rattle.clif_meaning.specs.Path.{IsPath, Leads, Place}
+use Rattle.clif_meaning.specs.WellPlaced.{IsGivenAlong, function_code, function_flow, given_on_entry, placed_at, placed_gives, placed_targets}
+use Rattle.clif_spilling_laws.specs.Live.{place_at}
+use Rattle.clif_spilling_laws.proofs.Examples.Parts.{some_number}
+use Rattle.clif_spilling_laws.proofs.Lists.{contains_none}
+
+module _ (function : FunctionView) (none : (p : Place ℕ) → placed_targets (placed_at function p) ≡ []) (entry : function.entry ≡ Some 0) where
+  -- control goes to the next place of the block alone
+  pub goes_next : (p q : Place ℕ) → Leads (function_flow function) p q → (q.block ≡ p.block) × (q.index ≡ p.index + 1)
+  goes_next p q (inl next) = (next.0, next.1)
+  goes_next p q (inr other) = absurd (contains_none q.block (subst (λ (xs : List ℕ). Contains xs q.block) (none p) other.0))
+
+  pub in_entry : (p : Place ℕ) (path : List (Place ℕ)) → IsPath (function_flow function) (p ∷ path) → p.block ≡ 0
+  in_entry p [] start = some_number p.block 0 (sym start.0 ∙ entry)
+  in_entry p (q ∷ path) walk = let next = goes_next q p walk.0 in next.0 ∙ in_entry q path walk.1
+
+  last_or_before : (j k : ℕ) → j < k + 1 → (k ≡ j) ⊎ (j < k)
+  last_or_before j k few = grind arith
+
+  -- what an instruction gives is given along each path that comes further
+  pub given_along : (x k : ℕ) → Contains (placed_gives (placed_at function (place_at 0 k))) x → (q : Place ℕ) (path : List (Place ℕ))
+      → IsPath (function_flow function) (q ∷ path) → k < q.index → IsGivenAlong (function_code function) x path
+  given_along x k h q [] start further = absurd (let e = start.1.0 in omega (arith, e, further))
+  given_along x k h q (p ∷ path) walk further =
+      by (last_or_before k p.index (let next = goes_next p q walk.0 in let e = next.1 in omega (arith, e, further))) (given_along x k h p path walk.1)
+    where
+      by : (p.index ≡ k) ⊎ (k < p.index) → (k < p.index → IsGivenAlong (function_code function) x path) → IsGivenAlong (function_code function) x (p ∷ path)
+      by (inr before) along = inr (inr (along before))
+      by (inl here) along =
+          inl (subst (λ (b : ℕ). Contains (placed_gives (placed_at function (place_at b p.index))) x) (sym (in_entry p path walk.1))
+          (subst (λ (i : ℕ). Contains (placed_gives (placed_at function (place_at 0 i))) x) (sym here) h))
+
+  -- and so is a parameter
+  pub parameter_along : (x : ℕ) → Contains (function.blocks 0).parameters x → (q : Place ℕ) (path : List (Place ℕ))
+      → IsPath (function_flow function) (q ∷ path) → 0 < q.index → IsGivenAlong (function_code function) x path
+  parameter_along x h q [] start further = absurd (let e = start.1.0 in omega (arith, e, further))
+  parameter_along x h q (p ∷ path) walk further = by p.index refl (parameter_along x h p path walk.1)
+    where
+      by : (i : ℕ) → p.index ≡ i → (0 < p.index → IsGivenAlong (function_code function) x path) → IsGivenAlong (function_code function) x (p ∷ path)
+      by zero is along =
+          inr (inl (subst (λ (b : ℕ). Contains (given_on_entry (function_code function) b p.index) x) (sym (in_entry p path walk.1))
+          (subst (λ (i : ℕ). Contains (given_on_entry (function_code function) 0 i) x) (sym is) h)))
+      by (suc i) is along = inr (inr (along (omega (arith, is))))
