@@ -17,5 +17,7 @@ pub mod Stepping
 pub mod Simulating
 pub mod Worked
 pub mod Left
+pub mod Matching
+pub mod GivenOnce
 pub mod Examples
 pub mod Typed

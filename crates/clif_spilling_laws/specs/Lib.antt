@@ -6,5 +6,6 @@ pub mod Runs
 pub mod Accesses
 pub mod PartLaws
 pub mod Laws
+pub mod EdgeLaws
 pub mod Examples
 pub mod MovedExample

@@ -4,7 +4,9 @@
 #![tactic(auto)]
 
 ghost use Rattle.clif_spilling_laws.specs.Accesses.{ReloadsRun, StoredIsLoaded};
+ghost use Rattle.clif_spilling_laws.specs.EdgeLaws.{EdgesStayMatched};
 ghost use Rattle.clif_spilling_laws.specs.Examples.{SpillingExamples};
+ghost use Rattle.clif_spilling_laws.specs.GivesOnce.{ConsistentGivesOnce};
 ghost use Rattle.clif_spilling_laws.specs.Laws.{SpillingMeansTheSame};
 ghost use Rattle.clif_spilling_laws.specs.MovedExample.{MovedExample};
 ghost use Rattle.clif_spilling_laws.specs.PartLaws.{EachEntryMoves, LiveIsGiven, NothingLiveAtEntry, SpilledIsLive, TypedRunsFit};
@@ -49,6 +51,17 @@ pub fn each_entry_moves()
 /// In the run of a typed function each instruction gives bits to each of its results, and the members fit their types.
 pub fn typed_runs_fit()
     ensures { TypedRunsFit }
+{}
+
+/// Matching edges stay matching, landing blocks included: where the function before gives each value once, its aliases are typed, and
+/// its blocks that aren't reached lead to no landing block.
+pub fn edges_stay_matched()
+    ensures { EdgesStayMatched }
+{}
+
+/// A consistent function gives each value once.
+pub fn consistent_gives_once()
+    ensures { ConsistentGivesOnce }
 {}
 
 /// The function of a worked row with a try call and its landing block is a spilling, and meets what the law asks of functions; wrong
