@@ -21,7 +21,7 @@ use Rattle.clif_spilling_laws.specs.Runs.{after_run, before_run}
 use Rattle.clif_spilling_laws.specs.Spilling.{AreStores, SlotAccess, Spilling, store_items}
 use Rattle.clif_spilling_laws.proofs.Lists.{assigned_alike, assigned_other, contains_none, dropped, member_or_not}
 use Rattle.clif_spilling_laws.proofs.LivePaths.{live_below}
-use Rattle.clif_spilling_laws.proofs.Passing.{Passes, passes_nothing}
+use Rattle.clif_spilling_laws.proofs.Passing.{BeginsQuietly, Passes, passes_nothing}
 use Rattle.clif_spilling_laws.proofs.Relation.{Alike, AtPlace, ControlAlike, Held, SeenAlike, Setting}
 use Rattle.clif_spilling_laws.proofs.SpilledLive.{parameter_is_live, result_is_live}
 use Rattle.clif_spilling_laws.proofs.Storing.{AreStored, HoldsIn, stores_run}
@@ -52,7 +52,7 @@ module _ (counts : ℕ → ℕ → Bool) (members : ℕ → Bool) (s : Spilling)
   Arrives P p q = (q' : FunctionState) × Passes R P q q' × Alike counts members s world p q'
 
   module _ (P : FunctionState → Type 0) (events : List Event)
-      (through : (values : ℕ → Bits) (memory : Memory) (code : List Placed) → P (state_of values memory events (At code))) where
+      (through : (values : ℕ → Bits) (memory : Memory) (code : List Placed) → BeginsQuietly code → P (state_of values memory events (At code))) where
     -- What is live where the runs go on is held, after the stores, if what was just given has the same bits, and the rest was held.
     module _ (Needed : ℕ → Type 0) (given : List ℕ) (old old' new : ℕ → Bits) (memory : Memory)
         (others : (v : ℕ) → (Contains given v → ⊥) → old' v ≡ old v)

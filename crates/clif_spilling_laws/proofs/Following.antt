@@ -25,7 +25,7 @@ use Rattle.clif_spilling_laws.proofs.Edges.{OwnHeld, ReadAlike, edge_as_many, fr
 use Rattle.clif_spilling_laws.proofs.Entering.{Arrives, L, R, entered, slots, still_held}
 use Rattle.clif_spilling_laws.proofs.Lists.{assigned_alike, assigned_other, contains_cases, contains_none, true_or_false}
 use Rattle.clif_spilling_laws.proofs.LivePaths.{live_after_below}
-use Rattle.clif_spilling_laws.proofs.Passing.{Passes, passes_some, passes_step, passes_then}
+use Rattle.clif_spilling_laws.proofs.Passing.{BeginsQuietly, Passes, passes_some, passes_step, passes_then}
 use Rattle.clif_spilling_laws.proofs.Relation.{Alike, Held, SeenAlike, Setting}
 use Rattle.clif_spilling_laws.proofs.Reloading.{AreReloaded, each_reload, old_is_kept, reloads_run}
 use Rattle.clif_spilling_laws.proofs.Slots.{there_is_loaded}
@@ -56,7 +56,7 @@ module _ (counts : ℕ → ℕ → Bool) (members : ℕ → Bool) (s : Spilling)
     (match : EachEdgeMatches s.before.value_type (value_types_at s.before) (call_shape old.instruction.operation) old.instruction.edges)
     (edge : Edge ℕ ℕ) (is_edge : Contains old.instruction.edges edge)
     (p q : FunctionState) (seen : SeenAlike s world p q) (given : List Bits)
-    (through : (values : ℕ → Bits) (memory : Memory) (code : List Placed) → P (state_of values memory q.events (At code)))
+    (through : (values : ℕ → Bits) (memory : Memory) (code : List Placed) → BeginsQuietly code → P (state_of values memory q.events (At code)))
     (across : (v : ℕ) → v < s.count → IsLiveAcross (counted counts) s.before (place_at block index) v → Held s world v p.values q.values q.memory)
     (fits : (v : ℕ) → s.is_spilled v ≡ true → IsValue (s.before.value_type v) (p.values v)) where
   abbrev run : FunctionRun
@@ -203,7 +203,7 @@ module _ (counts : ℕ → ℕ → Bool) (members : ℕ → Bool) (s : Spilling)
         × Passes run P (state_of base q.memory q.events (At (reload_items s lands.reloads (jump_item edge.target lands.passed ∷ []))))
         (state_of f q.memory q.events (At (jump_item edge.target lands.passed ∷ [])))
     ran =
-        reloads_run s world c.pointers c.places (slots counts members s world c) P q.memory q.events (λ values code. through values q.memory code)
+        reloads_run s world c.pointers c.places (slots counts members s world c) P q.memory q.events (λ values code quiet. through values q.memory code quiet)
         lands.reloads (jump_item edge.target lands.passed ∷ []) base lands.are_reloads
 
     abbrev g : ℕ → Bits
@@ -268,6 +268,6 @@ module _ (counts : ℕ → ℕ → Bool) (members : ℕ → Bool) (s : Spilling)
           passes_then run P (state_of base q.memory q.events (At (reload_items s lands.reloads (jump_item edge.target lands.passed ∷ [])))) at_jump arrived.0 ran.2
               (passes_some run P at_jump arrived.0
               (passes_step run P at_jump (enter_block run at_jump edge.target new_bits) arrived.0
-              (through g q.memory (jump_item edge.target lands.passed ∷ [])) refl arrived.1)),
+              (through g q.memory (jump_item edge.target lands.passed ∷ []) refl) refl arrived.1)),
           arrived.2,
         )

@@ -27,7 +27,7 @@ module _ (s : Spilling) (world : World) (places : PlacesSlots world s.after.slot
   abbrev moved_bits : Memory → ℕ → Bits
   moved_bits memory v = moved (s.before.value_type v) (value_of_bytes (held memory v))
 
-  range_is : (v : ℕ) → entry_range R (entry_of s v) ≡ slot_range s world v
+  pub range_is : (v : ℕ) → entry_range R (entry_of s v) ≡ slot_range s world v
   range_is v = λ i. record { width = world.pointer_width; start = plus_zero (world.slot_place (s.slot_of v)) i; size = bytes_of (s.before.value_type v) }
     where
       plus_zero : (n : ℕ) → n + 0 ≡ n

@@ -1,6 +1,13 @@
 -- Runs of a function's machine through states that are so.
-use Rattle.std.proofs.Common.{◌≡◌, ℕ, zero, suc, sym, subst, refl}
+use Rattle.std.proofs.Common.{◌≡◌, ℕ, zero, suc, List, [], ◌∷◌, None, sym, subst, refl}
 use Rattle.clif_meaning.specs.FunctionMachine.{FunctionRun, FunctionState, function_step}
+use Rattle.clif_meaning.specs.FunctionView.{Placed}
+use Rattle.clif_meaning.specs.Typing.{call_shape}
+
+-- code that doesn't begin with a call
+abbrev pub BeginsQuietly : List Placed → Type 0
+BeginsQuietly [] = Unit {0}
+BeginsQuietly (placed ∷ rest) = call_shape placed.instruction.operation ≡ None
 
 -- this many steps lead from the one state to the other, and each state before that is so
 abbrev pub Walks : FunctionRun → (FunctionState → Type 0) → ℕ → FunctionState → FunctionState → Type 0

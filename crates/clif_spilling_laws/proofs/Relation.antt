@@ -1,21 +1,26 @@
 -- States of the two runs that agree: the simulation's relation, and what it gives of single values.
-use Rattle.std.proofs.Common.{◌≡◌, ◌⊎◌, ◌<◌, inl, inr, ℕ, Bool, true, false, List, [], ◌∷◌, drop, refl, sym, ap, subst, ◌∙◌, Some}
+use Rattle.std.proofs.Common.{◌≡◌, ◌⊎◌, ◌<◌, inl, inr, ℕ, Bool, true, false, List, [], ◌∷◌, drop, refl, sym, ap, subst, ◌∙◌, Option, Some, None}
 use Rattle.std.specs.Prelude.{Contains}
 use Rattle.clif_types.specs.Types.{bits_of, bytes_of}
 use Rattle.clif_meaning.specs.Bits.{Bits, value_bytes}
-use Rattle.clif_meaning.specs.Event.{Event}
+use Rattle.clif_meaning.specs.Event.{CallShape, Event}
 use Rattle.clif_meaning.specs.FunctionMachine.{FunctionRun, FunctionState}
 use Rattle.clif_meaning.specs.FunctionView.{Placed}
 use Rattle.clif_meaning.specs.Machine.{Control, At, HasReturned, HasTrapped, IsStuck}
 use Rattle.clif_meaning.specs.Memory.{Memory}
 use Rattle.clif_meaning.specs.Path.{IsReachable}
+use Rattle.clif_meaning.specs.Typing.{call_shape}
 use Rattle.clif_meaning.specs.WellPlaced.{function_flow}
 use Rattle.clif_meaning.specs.World.{World, PlacesSlots}
+use Rattle.clif_typed_runs.specs.Laws.{OfNextPlaced}
+use Rattle.clif_spilling_laws.specs.Accesses.{state_of}
 use Rattle.clif_spilling_laws.specs.Laws.{MaySpill}
 use Rattle.clif_spilling_laws.specs.Live.{IsLiveBefore, IsSlotOf, place_at}
 use Rattle.clif_spilling_laws.specs.Rewriting.{AreRewritten, IsSpilling}
 use Rattle.clif_spilling_laws.specs.Runs.{after_run, before_run, in_spill_slots, slot_range}
+use Rattle.clif_spilling_laws.specs.SlotContents.{HoldsAtCall}
 use Rattle.clif_spilling_laws.specs.Spilling.{Spilling}
+use Rattle.clif_spilling_laws.proofs.Passing.{BeginsQuietly}
 use Rattle.clif_spilling_laws.proofs.Storing.{HoldsIn}
 
 -- what the law asks, but for the runs
@@ -62,7 +67,22 @@ IsAt (HasReturned results) = ⊥
 IsAt (HasTrapped reason) = ⊥
 IsAt IsStuck = ⊥
 
--- A state between: it shows the events before, or those after where the run has no end then.
-pub record Between (before : List Event) (p : FunctionState) (q : FunctionState) : Type 0 where
+module _ (counts : ℕ → ℕ → Bool) (members : ℕ → Bool) (s : Spilling) (world : World) where
+  -- where the run after comes to a call, the slots that it names hold what the run before has in this state
+  abbrev pub HoldsNext : FunctionState → FunctionState → Type 0
+  HoldsNext p q =
+      OfNextPlaced (λ new. (call : CallShape) → call_shape new.instruction.operation ≡ Some call → HoldsAtCall counts members s world new p q) q.control
+
+  no_call : {P : Type 0} (call : CallShape) → ◌≡◌ {A = Option CallShape} None (Some call) → P
+  no_call call e = cc
+
+  pub quietly_holds : (p : FunctionState) (values : ℕ → Bits) (memory : Memory) (events : List Event) (code : List Placed) → BeginsQuietly code
+      → HoldsNext p (state_of values memory events (At code))
+  quietly_holds p values memory events [] quiet = tt
+  quietly_holds p values memory events (placed ∷ rest) quiet = λ call is. no_call call (sym quiet ∙ is)
+
+-- A state between, of which this is to hold: it shows the events before, or those after where the run has no end then.
+pub record Between (Holds : FunctionState → Type 0) (before : List Event) (p : FunctionState) (q : FunctionState) : Type 0 where
   pub at : IsAt q.control
   pub shows : (q.events ≡ before) ⊎ ((q.events ≡ p.events) × IsAt p.control)
+  pub holds : Holds q

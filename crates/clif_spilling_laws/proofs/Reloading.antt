@@ -16,7 +16,7 @@ use Rattle.clif_spilling_laws.specs.Runs.{after_run}
 use Rattle.clif_spilling_laws.specs.Spilling.{AreReloads, IsKeptBy, IsReload, Reload, Spilling, load_item, reload_items}
 use Rattle.clif_spilling_laws.proofs.Accesses.{address_step, load_step}
 use Rattle.clif_spilling_laws.proofs.Lists.{assigned_one, assigned_other, contains_cases, contains_first, contains_more, contains_none}
-use Rattle.clif_spilling_laws.proofs.Passing.{Passes, passes_nothing, passes_some, passes_step}
+use Rattle.clif_spilling_laws.proofs.Passing.{BeginsQuietly, Passes, passes_nothing, passes_some, passes_step}
 
 pub assigned_apart : (p : ℕ) (x : Bits) (old : ℕ → Bits) (v : ℕ) → (v ≡ p → ⊥) → assigned same_value (p ∷ []) (x ∷ []) old v ≡ old v
 assigned_apart p x old v apart = assigned_other (p ∷ []) (x ∷ []) old v (λ h. by (contains_cases p v [] h))
@@ -48,7 +48,7 @@ pub record AreReloaded (s : Spilling) (world : World) (reloads : List Reload) (v
 
 module _ (s : Spilling) (world : World) (pointers : world.pointer_width ≡ bits_of s.pointer) (places : PlacesSlots world s.after.slots)
     (slots : (v : ℕ) → s.is_spilled v ≡ true → IsSlotOf s v) (P : FunctionState → Type 0) (memory : Memory) (events : List Event)
-    (through : (values : ℕ → Bits) (code : List Placed) → P (state_of values memory events (At code))) where
+    (through : (values : ℕ → Bits) (code : List Placed) → BeginsQuietly code → P (state_of values memory events (At code))) where
   abbrev R : FunctionRun
   R = after_run s world
 
@@ -95,11 +95,11 @@ module _ (s : Spilling) (world : World) (pointers : world.pointer_width ≡ bits
           let tail : List Placed = reload_items s reloads rest in
           passes_some R P (at values (reload_items s (x ∷ reloads) rest)) (at new rest)
           (passes_step R P (at values (reload_items s (x ∷ reloads) rest)) (at first (load_item s x ∷ tail)) (at new rest)
-          (through values (reload_items s (x ∷ reloads) rest))
+          (through values (reload_items s (x ∷ reloads) rest) refl)
           (address_step s world pointers places x.access (load_item s x ∷ tail) values memory events has)
           (passes_some R P (at first (load_item s x ∷ tail)) (at new rest)
           (passes_step R P (at first (load_item s x ∷ tail)) (at second tail) (at new rest)
-          (through first (load_item s x ∷ tail))
+          (through first (load_item s x ∷ tail) refl)
           (load_step s world pointers places x tail first memory events has are.0.address
           (assigned_one x.access.address (world.slot_place (s.slot_of x.access.value)) values))
           more)))

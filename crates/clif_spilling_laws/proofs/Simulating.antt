@@ -1,18 +1,19 @@
 -- The run with stores and reloads simulates the one before: each step of the one is matched by some steps of the other.
-use Rattle.std.proofs.Common.{◌≡◌, ◌⊎◌, ◌<◌, ◌≤◌, inl, inr, ℕ, zero, suc, Bool, true, false, List, [], ◌∷◌, refl, sym, ap, subst, ◌∙◌, arith, Option, Some, None}
+use Rattle.std.proofs.Common.{◌≡◌, ◌⊎◌, ◌<◌, ◌≤◌, ◌+◌, ◌-◌, inl, inr, ℕ, zero, suc, Bool, true, false, List, [], ◌∷◌, refl, sym, ap, subst, ◌∙◌, arith, Option, Some, None}
 use Rattle.std.specs.Prelude.{Contains}
 use Rattle.clif_types.specs.declared.trapcode.TrapCode.{TrapCode}
 use Rattle.clif_meaning.specs.Bits.{Bits, IsValue}
-use Rattle.clif_meaning.specs.Event.{Event}
+use Rattle.clif_meaning.specs.Event.{CallShape, Event}
 use Rattle.clif_meaning.specs.FunctionMachine.{FunctionRun, FunctionState, blank_state, enter_block, function_machine, function_shown, function_step, start_at}
 use Rattle.clif_meaning.specs.FunctionView.{Placed}
 use Rattle.clif_meaning.specs.Machine.{Control, At, HasReturned, HasTrapped, IsStuck, Ending, NotYet, Returned, Trapped, Machine, Observation, ending_of, observed, state_after}
 use Rattle.clif_meaning.specs.Memory.{Memory}
 use Rattle.clif_meaning.specs.SameMeaning.{SameMeaning}
 use Rattle.clif_meaning.specs.Store.{shown_memory}
+use Rattle.clif_meaning.specs.Typing.{call_shape}
 use Rattle.clif_meaning.specs.World.{World}
 use Rattle.clif_meaning.proofs.Stuttering
-use Rattle.clif_meaning.proofs.Stuttering.{Matched, ShowsOnlyEnds, Simulates, steps_from}
+use Rattle.clif_meaning.proofs.Stuttering.{Matched, ShowsOnlyEnds, Simulates, state_after-+, steps_from}
 use Rattle.clif_safepoints.specs.Analysis.{IsReached}
 use Rattle.clif_typed_runs.specs.Laws.{OfNextPlaced}
 use Rattle.clif_spilling_laws.specs.Accesses.{state_of}
@@ -20,13 +21,14 @@ use Rattle.clif_spilling_laws.specs.Laws.{MaySpill, SpillingMeansTheSame}
 use Rattle.clif_spilling_laws.specs.Live.{IsLiveBefore, place_at}
 use Rattle.clif_spilling_laws.specs.Rewriting.{IsSpilling}
 use Rattle.clif_spilling_laws.specs.Runs.{IsInOrder, IsMetBy, after_run, before_run, in_spill_slots}
+use Rattle.clif_spilling_laws.specs.SlotContents.{HoldsAtCall, SlotContents}
 use Rattle.clif_spilling_laws.specs.Spilling.{Spilling}
 use Rattle.clif_spilling_laws.proofs.Calling.{shown_alike}
 use Rattle.clif_spilling_laws.proofs.Edges.{front_filled}
 use Rattle.clif_spilling_laws.proofs.Entering.{Arrives, entered}
 use Rattle.clif_spilling_laws.proofs.LivePaths.{entry_is_live}
-use Rattle.clif_spilling_laws.proofs.Passing.{Passes, PassesOn, Walks}
-use Rattle.clif_spilling_laws.proofs.Relation.{Alike, Between, ControlAlike, IsAt, SeenAlike, Setting}
+use Rattle.clif_spilling_laws.proofs.Passing.{BeginsQuietly, Passes, PassesOn, Walks}
+use Rattle.clif_spilling_laws.proofs.Relation.{Alike, Between, ControlAlike, HoldsNext, IsAt, SeenAlike, Setting}
 use Rattle.clif_spilling_laws.proofs.Stepping.{matched}
 
 -- WALKS -----------------------------------------------------------------------------------------------------------------
@@ -130,12 +132,29 @@ module _ (counts : ℕ → ℕ → Bool) (members : ℕ → Bool) (s : Spilling)
     abbrev Stepped : FunctionState → FunctionState → Type 0
     Stepped p q =
         (k : ℕ) × (q' : FunctionState) × (steps_from (function_machine right) k q ≡ q') × Agree (function_step left p) q'
-        × ShowsOnlyEnds (function_machine right) k q × (0 < k)
+        × ShowsOnlyEnds (function_machine right) k q × (0 < k) × ((j : ℕ) → j < k → HoldsNext counts members s world p (steps_from (function_machine right) j q))
+
+    -- of one step
+    at_first_alone : (p q : FunctionState) → HoldsNext counts members s world p q
+        → (j : ℕ) → j < 1 → HoldsNext counts members s world p (steps_from (function_machine right) j q)
+    at_first_alone p q holds zero few = holds
+    at_first_alone p q holds (suc j) few = absurd (omega (arith, few))
+
+    -- on the way from the step's begin
+    abbrev OnTheWay : FunctionState → FunctionState → FunctionState → Type 0
+    OnTheWay p q x = Between (HoldsNext counts members s world p) q.events (function_step left p) x
 
     -- of a state that stays
-    still : (p q : FunctionState) → function_step left p ≡ p → function_step right q ≡ q → Agree p q → Stepped p q
-    still p q left_stays right_stays alike =
-        (1, q, right_stays, subst (λ (x : FunctionState). Agree x q) (sym left_stays) alike, quiet_step right (λ x. Unit {0}) q, omega arith)
+    still : (p q : FunctionState) → function_step left p ≡ p → function_step right q ≡ q → Agree p q → HoldsNext counts members s world p q → Stepped p q
+    still p q left_stays right_stays alike holds = (
+      1,
+      q,
+      right_stays,
+      subst (λ (x : FunctionState). Agree x q) (sym left_stays) alike,
+      quiet_step right (λ x. Unit {0}) q,
+      omega arith,
+      at_first_alone p q holds,
+    )
 
     last_or_before : (j k : ℕ) → j ≤ k → (j ≡ k) ⊎ (j < k)
     last_or_before j k few = grind arith
@@ -151,6 +170,7 @@ module _ (counts : ℕ → ℕ → Bool) (members : ℕ → Bool) (s : Spilling)
       next.2,
       λ j few. by j (last_or_before j (suc on.0) few),
       omega arith,
+      λ j few. let is = walk_states right (OnTheWay p0 q0) (suc on.0) q0 next.0 on.1 j few in is.holds,
     )
       where
         p0 : FunctionState
@@ -159,27 +179,27 @@ module _ (counts : ℕ → ℕ → Bool) (members : ℕ → Bool) (s : Spilling)
         q0 : FunctionState
         q0 = record q { control = At code }
 
-        next : (q' : FunctionState) × PassesOn right (Between q.events (function_step left (record p { control = At (old ∷ olds) }))) (record q { control = At code }) q'
+        next : (q' : FunctionState) × PassesOn right (OnTheWay (record p { control = At (old ∷ olds) }) (record q { control = At code })) (record q { control = At code }) q'
             × Agree (function_step left (record p { control = At (old ∷ olds) })) q'
         next =
             matched counts members s world c alike.control.0 alike.control.1 old olds code (record p { control = At (old ∷ olds) }) (record q { control = At code })
-            alike.seen alike.control.2 in_order fits
+            alike.seen refl alike.control.2 in_order fits
 
         q' : FunctionState
         q' = next.0
 
-        on : (k : ℕ) × Walks right (Between q.events (function_step left (record p { control = At (old ∷ olds) }))) (suc k) (record q { control = At code }) next.0
+        on : (k : ℕ) × Walks right (OnTheWay (record p { control = At (old ∷ olds) }) (record q { control = At code })) (suc k) (record q { control = At code }) next.0
         on = next.1
 
         reaches : steps_from (function_machine right) (suc on.0) (record q { control = At code }) ≡ next.0
-        reaches = walk_end right (Between q.events (function_step left (record p { control = At (old ∷ olds) }))) (suc on.0) (record q { control = At code }) next.0 on.1
+        reaches = walk_end right (OnTheWay (record p { control = At (old ∷ olds) }) (record q { control = At code })) (suc on.0) (record q { control = At code }) next.0 on.1
 
         Shows : FunctionState → Type 0
         Shows x =
             (function_shown right x ≡ function_shown right (record q { control = At code }))
             ⊎ (function_shown right x ≡ function_shown right (steps_from (function_machine right) (suc on.0) (record q { control = At code })))
 
-        between : (x : FunctionState) → Between q.events (function_step left (record p { control = At (old ∷ olds) })) x → Shows x
+        between : (x : FunctionState) → OnTheWay (record p { control = At (old ∷ olds) }) (record q { control = At code }) x → Shows x
         between x is = which is.shows
           where
             which : (x.events ≡ q.events) ⊎ ((x.events ≡ (function_step left (record p { control = At (old ∷ olds) })).events) × IsAt (function_step left (record p { control = At (old ∷ olds) })).control) → Shows x
@@ -194,7 +214,7 @@ module _ (counts : ℕ → ℕ → Bool) (members : ℕ → Bool) (s : Spilling)
         by j (inl end) = inr (ap (λ (n : ℕ). function_shown right (steps_from (function_machine right) n (record q { control = At code }))) end)
         by j (inr inside) =
             between (steps_from (function_machine right) j (record q { control = At code }))
-            (walk_states right (Between q.events (function_step left (record p { control = At (old ∷ olds) }))) (suc on.0) (record q { control = At code }) next.0 on.1 j inside)
+            (walk_states right (OnTheWay (record p { control = At (old ∷ olds) }) (record q { control = At code })) (suc on.0) (record q { control = At code }) next.0 on.1 j inside)
 
     stepped : (p q : FunctionState) (d d' : Control Placed) → Agree (record p { control = d }) (record q { control = d' })
         → OfNextPlaced (IsInOrder left (record p { control = d })) d → ((v : ℕ) → members v ≡ true → IsValue (s.before.value_type v) (p.values v))
@@ -207,11 +227,12 @@ module _ (counts : ℕ → ℕ → Bool) (members : ℕ → Bool) (s : Spilling)
           record { seen = record { events = alike.seen.events; memory = alike.seen.memory }; control = tt },
           quiet_step right (λ x. Unit {0}) (record q { control = At [] }),
           omega arith,
+          at_first_alone (record p { control = At [] }) (record q { control = At [] }) tt,
         )
     stepped p q (At (old ∷ olds)) (At code) alike in_order fits = placed_step p q old olds code alike in_order fits
-    stepped p q (HasReturned results) (HasReturned others) alike in_order fits = still (record p { control = HasReturned results }) (record q { control = HasReturned others }) refl refl alike
-    stepped p q (HasTrapped reason) (HasTrapped other) alike in_order fits = still (record p { control = HasTrapped reason }) (record q { control = HasTrapped other }) refl refl alike
-    stepped p q IsStuck IsStuck alike in_order fits = still (record p { control = IsStuck }) (record q { control = IsStuck }) refl refl alike
+    stepped p q (HasReturned results) (HasReturned others) alike in_order fits = still (record p { control = HasReturned results }) (record q { control = HasReturned others }) refl refl alike tt
+    stepped p q (HasTrapped reason) (HasTrapped other) alike in_order fits = still (record p { control = HasTrapped reason }) (record q { control = HasTrapped other }) refl refl alike tt
+    stepped p q IsStuck IsStuck alike in_order fits = still (record p { control = IsStuck }) (record q { control = IsStuck }) refl refl alike tt
     stepped p q (At []) (HasReturned results) alike in_order fits = absurd alike.control
     stepped p q (At []) (HasTrapped reason) alike in_order fits = absurd alike.control
     stepped p q (At []) IsStuck alike in_order fits = absurd alike.control
@@ -230,8 +251,16 @@ module _ (counts : ℕ → ℕ → Bool) (members : ℕ → Bool) (s : Spilling)
 
     -- THE START ---------------------------------------------------------------------------------------------------------
 
+    -- it is before no call
+    abbrev IsQuiet : FunctionState → Type 0
+    IsQuiet x = OfNextPlaced (λ placed. call_shape placed.instruction.operation ≡ None) x.control
+
+    quiet_code : (code : List Placed) → BeginsQuietly code → OfNextPlaced (λ placed. call_shape placed.instruction.operation ≡ None) (At code)
+    quiet_code [] quiet = tt
+    quiet_code (placed ∷ rest) quiet = quiet
+
     abbrev AtStart : Option ℕ → FunctionState → Type 0
-    AtStart entry x = Between [] (start_at left entry) x × IsAt (start_at left entry).control
+    AtStart entry x = Between IsQuiet [] (start_at left entry) x × IsAt (start_at left entry).control
 
     abbrev Started : Option ℕ → Type 0
     Started entry = Arrives counts members s world c (AtStart entry) (start_at left entry) (start_at right entry)
@@ -243,7 +272,7 @@ module _ (counts : ℕ → ℕ → Bool) (members : ℕ → Bool) (s : Spilling)
       record { seen = record { events = refl; memory = λ a h. refl }; control = tt },
     )
     starting (Some entry) is =
-        entered counts members s world c (AtStart (Some entry)) [] (λ values memory code. (record { at = tt; shows = inl refl }, tt))
+        entered counts members s world c (AtStart (Some entry)) [] (λ values memory code quiet. (record { at = tt; shows = inl refl; holds = quiet_code code quiet }, tt))
         entry reached (blank_state left) (blank_state right) (record { events = refl; memory = λ a h. refl }) refl world.arguments world.arguments
         (λ v low live h. refl)
         (λ v low live none. absurd (none (entry_is_live counts s.before c.may.well_placed v (place_at entry 0)
@@ -263,23 +292,24 @@ module _ (counts : ℕ → ℕ → Bool) (members : ℕ → Bool) (s : Spilling)
         pub is : p ≡ state_after (function_machine left) steps
         pub alike : Agree p q
 
-      step : (p q : FunctionState) → Related p q → Matched (function_machine left) (function_machine right) Related (λ x. 0) p q
-      step p q related = record {
-        steps = there.0;
-        related = record {
-          steps = suc related.steps;
-          is = ap (function_step left) related.is;
-          alike = subst (λ (x : FunctionState). Agree (function_step left p) x) (sym there.2) there.3;
-        };
-        quiet = there.4;
-        gets_on = inl there.5;
+      matched_by : (p q : FunctionState) → Related p q → Stepped p q
+      matched_by p q related =
+          stepped p q p.control q.control related.alike
+          (subst (λ (x : FunctionState). OfNextPlaced (IsInOrder left x) x.control) (sym related.is) (met.in_order related.steps))
+          (subst (λ (x : FunctionState). (v : ℕ) → members v ≡ true → IsValue (s.before.value_type v) (x.values v)) (sym related.is) (met.fits related.steps))
+
+      follows : (p q : FunctionState) (related : Related p q)
+          → Related (function_step left p) (steps_from (function_machine right) (matched_by p q related).0 q)
+      follows p q related = record {
+        steps = suc related.steps;
+        is = ap (function_step left) related.is;
+        alike = let there = matched_by p q related in subst (λ (x : FunctionState). Agree (function_step left p) x) (sym there.2) there.3;
       }
-        where
-          there : Stepped p q
-          there =
-              stepped p q p.control q.control related.alike
-              (subst (λ (x : FunctionState). OfNextPlaced (IsInOrder left x) x.control) (sym related.is) (met.in_order related.steps))
-              (subst (λ (x : FunctionState). (v : ℕ) → members v ≡ true → IsValue (s.before.value_type v) (x.values v)) (sym related.is) (met.fits related.steps))
+
+      step : (p q : FunctionState) → Related p q → Matched (function_machine left) (function_machine right) Related (λ x. 0) p q
+      step p q related =
+          let there = matched_by p q related in
+          record { steps = there.0; related = follows p q related; quiet = there.4; gets_on = inl there.5 }
 
       right_start : start_at right s.after.entry ≡ start_at right s.before.entry
       right_start = ap (start_at right) c.spills.text.entry
@@ -317,11 +347,15 @@ module _ (counts : ℕ → ℕ → Bool) (members : ℕ → Bool) (s : Spilling)
               (subst (AtStart s.before.entry) (from_start right (AtStart s.before.entry) j)
               (walk_states right (AtStart s.before.entry) walk.0 (start_at right s.after.entry) begun.0 walk.1 j inside))
 
+      starts_related : Related (start_at left s.before.entry) (state_after (function_machine right) walk.0)
+      starts_related =
+          record { steps = 0; is = refl; alike = subst (λ (x : FunctionState). Agree (start_at left s.before.entry) x) (sym reached_there) begun.2 }
+
       simulates : Simulates (function_machine left) (function_machine right) Related (λ x. 0)
       simulates = record {
         ahead = walk.0;
         at_first = at_first;
-        starts = record { steps = 0; is = refl; alike = subst (λ (x : FunctionState). Agree (start_at left s.before.entry) x) (sym reached_there) begun.2 };
+        starts = starts_related;
         shows = λ p q related. shows p q related.alike;
         step = step;
       }
@@ -329,6 +363,109 @@ module _ (counts : ℕ → ℕ → Bool) (members : ℕ → Bool) (s : Spilling)
       pub same : SameMeaning (observed (function_machine left)) (observed (function_machine right))
       same = Stuttering.same_meaning (function_machine left) (function_machine right) Related (λ x. 0) simulates
 
+      -- WHAT SLOTS HOLD -------------------------------------------------------------------------------------------------
+
+      -- After this many steps the run after is on the way from a state that a state of the run before is related to, to the next one.
+      record Covered (n : ℕ) : Type 0 where
+        moment : ℕ
+        from : ℕ
+        related : Related (state_after (function_machine left) moment) (state_after (function_machine right) from)
+        begun_by : from ≤ n
+        ends : n < from + (matched_by (state_after (function_machine left) moment) (state_after (function_machine right) from) related).0
+
+      order : (j k : ℕ) → (j < k) ⊎ (k ≤ j)
+      order j k = grind arith
+
+      covered : (j : ℕ) → Covered (walk.0 + j)
+      covered zero = record {
+        moment = 0;
+        from = walk.0;
+        related = starts_related;
+        begun_by = omega arith;
+        ends = let some = (matched_by left_start (state_after (function_machine right) walk.0) starts_related).5 in omega (arith, some);
+      }
+        where
+          left_start : FunctionState
+          left_start = start_at left s.before.entry
+      covered (suc j) = next (covered j)
+        where
+          next : Covered (walk.0 + j) → Covered (walk.0 + suc j)
+          next c = by (order (walk.0 + suc j) (c.from + k))
+            where
+              p : FunctionState
+              p = state_after (function_machine left) c.moment
+
+              q : FunctionState
+              q = state_after (function_machine right) c.from
+
+              k : ℕ
+              k = (matched_by p q c.related).0
+
+              then : Related (state_after (function_machine left) (suc c.moment)) (state_after (function_machine right) (c.from + k))
+              then =
+                  subst (λ (x : FunctionState). Related (state_after (function_machine left) (suc c.moment)) x)
+                  (state_after-+ (function_machine right) c.from k) (follows p q c.related)
+
+              by : (walk.0 + suc j < c.from + k) ⊎ (c.from + k ≤ walk.0 + suc j) → Covered (walk.0 + suc j)
+              by (inl inside) = record { moment = c.moment; from = c.from; related = c.related; begun_by = let b = c.begun_by in omega (arith, b); ends = inside }
+              by (inr past) = record {
+                moment = suc c.moment;
+                from = c.from + k;
+                related = then;
+                begun_by = past;
+                ends =
+                    let some = (matched_by (state_after (function_machine left) (suc c.moment)) (state_after (function_machine right) (c.from + k)) then).5 in
+                    let b = c.ends in omega (arith, some, b);
+              }
+
+      holds_there : (n : ℕ) → Covered n → (m : ℕ) × HoldsNext counts members s world (state_after (function_machine left) m) (state_after (function_machine right) n)
+      holds_there n c = (
+        c.moment,
+        subst (λ (i : ℕ). HoldsNext counts members s world p (state_after (function_machine right) i)) whole
+            (subst (λ (x : FunctionState). HoldsNext counts members s world p x) (state_after-+ (function_machine right) c.from (n - c.from))
+            (there.6 (n - c.from) (let b = c.begun_by in let e = c.ends in omega (arith, b, e)))),
+      )
+        where
+          p : FunctionState
+          p = state_after (function_machine left) c.moment
+
+          there : Stepped p (state_after (function_machine right) c.from)
+          there = matched_by p (state_after (function_machine right) c.from) c.related
+
+          whole : c.from + (n - c.from) ≡ n
+          whole = let b = c.begun_by in omega (arith, b)
+
+      pub contents : (n : ℕ) (new : Placed) (rest : List Placed) (call : CallShape)
+          → (state_after (function_machine right) n).control ≡ At (new ∷ rest) → call_shape new.instruction.operation ≡ Some call
+          → (m : ℕ) × HoldsAtCall counts members s world new (state_after (function_machine left) m) (state_after (function_machine right) n)
+      contents n new rest call at is = by (order n walk.0)
+        where
+          q : FunctionState
+          q = state_after (function_machine right) n
+
+          no_call : {X : Type 0} → ◌≡◌ {A = Option CallShape} None (Some call) → X
+          no_call e = cc
+
+          by : (n < walk.0) ⊎ (walk.0 ≤ n) → (m : ℕ) × HoldsAtCall counts members s world new (state_after (function_machine left) m) (state_after (function_machine right) n)
+          by (inl before) =
+              let first : AtStart s.before.entry (state_after (function_machine right) n) =
+              subst (AtStart s.before.entry) (from_start right (AtStart s.before.entry) n)
+              (walk_states right (AtStart s.before.entry) walk.0 (start_at right s.after.entry) begun.0 walk.1 n before) in
+              no_call (sym (subst (λ (d : Control Placed). OfNextPlaced (λ placed. call_shape placed.instruction.operation ≡ None) d) at first.0.holds) ∙ is)
+          by (inr after) =
+              let whole : walk.0 + (n - walk.0) ≡ n = omega (arith, after) in
+              let found = holds_there n (subst Covered whole (covered (n - walk.0))) in (
+                found.0,
+                subst (λ (d : Control Placed). OfNextPlaced (λ new. (call : CallShape) → call_shape new.instruction.operation ≡ Some call
+                    → HoldsAtCall counts members s world new (state_after (function_machine left) found.0) (state_after (function_machine right) n)) d) at found.1 call is,
+              )
+
+abbrev the_setting : (counts : ℕ → ℕ → Bool) (members : ℕ → Bool) (s : Spilling) (world : World) → IsSpilling counts s members → MaySpill counts members s
+    → IsMetBy members s world → Setting counts members s world
+the_setting counts members s world spills may met = record { spills = spills; may = may; pointers = met.pointers; places = met.places }
+
 pub means_the_same : SpillingMeansTheSame
-means_the_same counts members s world spills may met =
-    same counts members s world (record { spills = spills; may = may; pointers = met.pointers; places = met.places }) met
+means_the_same counts members s world spills may met = same counts members s world (the_setting counts members s world spills may met) met
+
+pub slot_contents : SlotContents
+slot_contents counts members s world spills may met = contents counts members s world (the_setting counts members s world spills may met) met

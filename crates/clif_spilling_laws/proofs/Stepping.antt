@@ -2,14 +2,15 @@
 use Rattle.std.proofs.Common.{◌≡◌, ◌⊎◌, ◌<◌, ◌≤◌, ◌||◌, inl, inr, ℕ, zero, suc, Bool, true, false, List, [], ◌∷◌, length, map, drop, refl, sym, ap, subst, ◌∙◌, Option, Some, None}
 use Rattle.std.specs.Prelude.{Contains, slice_get}
 use Rattle.std.specs.List.{AllByRecursion, AllZip}
+use Rattle.clif_types.specs.declared.stackmap.UserStackMapEntry.{UserStackMapEntry}
 use Rattle.clif_meaning.specs.Access.{touched_ranges}
-use Rattle.clif_meaning.specs.Bits.{Bits, IsValue}
+use Rattle.clif_meaning.specs.Bits.{Bits, IsValue, value_of_bytes}
 use Rattle.clif_meaning.specs.Event.{Answer, CallShape, Callee, Event, Exception, Results}
 use Rattle.clif_meaning.specs.FunctionMachine.{FunctionRun, FunctionState, call_outside, carry_out, follow_edge, function_step, run_placed, same_value, take_answer, value_bits}
 use Rattle.clif_meaning.specs.FunctionView.{Placed}
 use Rattle.clif_meaning.specs.Instruction.{Edge}
 use Rattle.clif_meaning.specs.Machine.{Control, At, HasReturned, HasTrapped, IsStuck}
-use Rattle.clif_meaning.specs.Memory.{Memory, Range, lies_in}
+use Rattle.clif_meaning.specs.Memory.{Memory, Range, bytes_in, lies_in}
 use Rattle.clif_meaning.specs.Outcome.{Outcome, Gives, Goes, Returns, Traps, Calls, NoStep, outcome_of}
 use Rattle.clif_meaning.specs.Path.{IsReachable}
 use Rattle.clif_meaning.specs.Premises.{SparesRange}
@@ -20,11 +21,12 @@ use Rattle.clif_meaning.specs.World.{World}
 use Rattle.clif_outcome_laws.specs.Locality.{Agree, ChangeAlike, lies_in_one}
 use Rattle.clif_outcome_laws.proofs.Local.{outcomes_are_local}
 use Rattle.clif_safepoints.specs.Liveness.{IsLiveAcross, used_operands}
-use Rattle.clif_safepoints.proofs.Paths.{contains_at, contains_map}
+use Rattle.clif_safepoints.proofs.Paths.{contained_in_map, contains_at, contains_map}
 use Rattle.clif_spilling_laws.specs.Accesses.{state_of}
 use Rattle.clif_spilling_laws.specs.Live.{IsLiveBefore, counted, place_at}
-use Rattle.clif_spilling_laws.specs.Rewriting.{AreRewritten, HasMap, IsCopied, IsExactMap, IsLedOn, IsNamed, IsRead, IsRewrittenItem}
+use Rattle.clif_spilling_laws.specs.Rewriting.{AreRewritten, HasMap, IsCopied, IsExactMap, IsLedOn, IsNamed, IsRead, IsRewrittenItem, entry_of}
 use Rattle.clif_spilling_laws.specs.Runs.{AnswersEach, GivesEach, IsInOrder, in_spill_slots, outcome_in}
+use Rattle.clif_spilling_laws.specs.SlotContents.{HoldsAtCall, HoldsValue}
 use Rattle.clif_spilling_laws.specs.Spilling.{AreReloads, IsReload, Reload, Spilling, reload_items, store_items}
 use Rattle.clif_spilling_laws.proofs.CallShapes.{Makes, outcome_makes}
 use Rattle.clif_spilling_laws.proofs.Calling.{events_are, fits_after, held_after, seen_after}
@@ -33,10 +35,11 @@ use Rattle.clif_spilling_laws.proofs.Entering.{Arrives, L, R, gave, slots}
 use Rattle.clif_spilling_laws.proofs.Following.{followed_landing, followed_straight}
 use Rattle.clif_spilling_laws.proofs.Lists.{contains_first, contains_more, contains_none, dropped, true_false, true_or_false, zip_map}
 use Rattle.clif_spilling_laws.proofs.LivePaths.{live_below}
-use Rattle.clif_spilling_laws.proofs.Passing.{Passes, PassesOn, passes_nothing, passes_step, passes_then_on}
-use Rattle.clif_spilling_laws.proofs.Relation.{Alike, AtPlace, Between, Held, IsAt, SeenAlike, Setting}
+use Rattle.clif_spilling_laws.proofs.Maps.{range_is}
+use Rattle.clif_spilling_laws.proofs.Passing.{BeginsQuietly, Passes, PassesOn, passes_nothing, passes_step, passes_then_on}
+use Rattle.clif_spilling_laws.proofs.Relation.{Alike, AtPlace, Between, Held, HoldsNext, IsAt, SeenAlike, Setting, quietly_holds}
 use Rattle.clif_spilling_laws.proofs.Reloading.{AreReloaded, each_reload, old_is_kept, reloads_run}
-use Rattle.clif_spilling_laws.proofs.Slots.{same_in_slot, there_is_loaded}
+use Rattle.clif_spilling_laws.proofs.Slots.{same_in_slot, spelled_back, there_is_loaded}
 
 -- two lists side by side, at a place
 abbrev ZipAt : {X Y : Type 0} → (X → Y → Type 0) → List X → List Y → ℕ → Type 0
@@ -102,7 +105,7 @@ module _ (counts : ℕ → ℕ → Bool) (members : ℕ → Bool) (s : Spilling)
       → IsLiveAcross (counted counts) s.before (place_at block index) x.access.value → q.values x.copy ≡ p.values x.access.value)
       (k : ℕ)
       (through : (edge : Edge ℕ ℕ) → slice_get old.instruction.edges k ≡ Some edge → (values : ℕ → Bits) (memory : Memory) (code : List Placed)
-      → P (state_of values memory q.events (At code))) where
+      → BeginsQuietly code → P (state_of values memory q.events (At code))) where
     led : (made : Option CallShape) → call_shape old.instruction.operation ≡ made → (edge edge' : Edge ℕ ℕ) → slice_get old.instruction.edges k ≡ Some edge
         → Contains old.instruction.edges edge → IsLedOn counts s made reloads edge edge' → To P (follow_edge left p given (Some edge)) (follow_edge right q given (Some edge'))
     led None made edge edge' is h straight =
@@ -137,7 +140,7 @@ module _ (counts : ℕ → ℕ → Bool) (members : ℕ → Bool) (s : Spilling)
   -- AN INSTRUCTION ------------------------------------------------------------------------------------------------------
 
   module _ (block index : ℕ) (old : Placed) (olds code : List Placed) (p q : FunctionState) (seen : SeenAlike s world p q)
-      (at : AtPlace counts members s world block index old olds code p q) (in_order : IsInOrder left p old)
+      (stands : p.control ≡ At (old ∷ olds)) (at : AtPlace counts members s world block index old olds code p q) (in_order : IsInOrder left p old)
       (fits : (v : ℕ) → members v ≡ true → IsValue (s.before.value_type v) (p.values v)) where
     item : IsRewrittenItem counts s members (place_at block index) (AreRewritten counts s members block (suc index) olds) old code
     item = at.rewritten
@@ -159,8 +162,18 @@ module _ (counts : ℕ → ℕ → Bool) (members : ℕ → Bool) (s : Spilling)
     abbrev tail : List Placed
     tail = store_items s item.stores item.rest
 
+    -- on the way to a state
+    abbrev OnTheWay : FunctionState → FunctionState → Type 0
+    OnTheWay after = Between (HoldsNext counts members s world p) q.events after
+
     abbrev Passed : FunctionState → Type 0
-    Passed = Between q.events (run_placed left p old olds)
+    Passed = OnTheWay (run_placed left p old olds)
+
+    abbrev Quiet : List Event → (ℕ → Bits) → Memory → (code : List Placed) → BeginsQuietly code → Type 0
+    Quiet events values memory code quiet = HoldsNext counts members s world p (state_of values memory events (At code))
+
+    quietly : (events : List Event) (values : ℕ → Bits) (memory : Memory) (code : List Placed) (quiet : BeginsQuietly code) → Quiet events values memory code quiet
+    quietly events values memory code quiet = quietly_holds counts members s world p values memory events code quiet
 
     spilled_fits : (v : ℕ) → s.is_spilled v ≡ true → IsValue (s.before.value_type v) (p.values v)
     spilled_fits v spilled = let across = (c.spills.spilled v).0 spilled in fits v across.member
@@ -168,7 +181,7 @@ module _ (counts : ℕ → ℕ → Bool) (members : ℕ → Bool) (s : Spilling)
     ran : (f : ℕ → Bits) × AreReloaded s world item.reloads q.values q.memory f
         × Passes right Passed (state_of q.values q.memory q.events (At (reload_items s item.reloads (new ∷ tail)))) (state_of f q.memory q.events (At (new ∷ tail)))
     ran =
-        reloads_run s world c.pointers c.places (slots counts members s world c) Passed q.memory q.events (λ values rest. record { at = tt; shows = inl refl })
+        reloads_run s world c.pointers c.places (slots counts members s world c) Passed q.memory q.events (λ values rest quiet. record { at = tt; shows = inl refl; holds = quietly q.events values q.memory rest quiet })
         item.reloads (new ∷ tail) q.values item.are_reloads
 
     abbrev f : ℕ → Bits
@@ -273,30 +286,30 @@ module _ (counts : ℕ → ℕ → Bool) (members : ℕ → Bool) (s : Spilling)
     -- BY OUTCOME --------------------------------------------------------------------------------------------------------
 
     abbrev After : Outcome → Outcome → Type 0
-    After o o' = To (Between q.events (carry_out left p old olds o)) (carry_out left p old olds o) (carry_out right q1 new tail o')
+    After o o' = To (OnTheWay (carry_out left p old olds o)) (carry_out left p old olds o) (carry_out right q1 new tail o')
 
     gives : (values : List Bits) (m m' : Memory) → ChangeAlike ranges p.memory q.memory m m' → length old.results ≤ length values
         → After (Gives values m) (Gives values m')
     gives values m m' change each =
-        subst (λ (results : List ℕ). To (Between q.events (carry_out left p old olds (Gives values m))) (carry_out left p old olds (Gives values m))
+        subst (λ (results : List ℕ). To (OnTheWay (carry_out left p old olds (Gives values m))) (carry_out left p old olds (Gives values m))
         (state_of (assigned same_value results values f) m' q.events (At tail))) (sym item.is_kept.results)
-        (gave counts members s world c (Between q.events (carry_out left p old olds (Gives values m))) q.events
-        (λ values' memory rest. record { at = tt; shows = inl refl })
+        (gave counts members s world c (OnTheWay (carry_out left p old olds (Gives values m))) q.events
+        (λ values' memory rest quiet. record { at = tt; shows = inl refl; holds = quietly q.events values' memory rest quiet })
         block index old olds at.rest at.reachable (state_of p.values m p.events (At olds)) (state_of f m' q.events (At tail))
         (seen_with m m' change (At olds) (At tail)) refl (held_with m m' change) values each item.stores item.rest item.are_stores item.goes_on)
 
     goes : (k : ℕ) (given : List Bits) (m m' : Memory) → ChangeAlike ranges p.memory q.memory m m' → After (Goes k given m) (Goes k given m')
     goes k given m m' change =
-        along (Between q.events (carry_out left p old olds (Goes k given m))) block index old new there at.reachable match
+        along (OnTheWay (carry_out left p old olds (Goes k given m))) block index old new there at.reachable match
         item.reloads item.are_reloads item.is_kept.edges (record p { memory = m }) (record q1 { memory = m' })
         (seen_with m m' change p.control (At (new ∷ tail))) given (held_with m m' change) spilled_fits
         (λ none x h low live. copy_is x h (inr live)) k
-        (λ edge is values memory rest. record { at = tt; shows = inl refl })
+        (λ edge is values memory rest quiet. record { at = tt; shows = inl refl; holds = quietly q.events values memory rest quiet })
 
     -- it ends
     ended : (o : Outcome) (d d' : Control Placed) → Alike counts members s world (record p { control = d }) (record q1 { control = d' })
-        → To (Between q.events (record p { control = d })) (record p { control = d }) (record q1 { control = d' })
-    ended o d d' alike = (record q1 { control = d' }, passes_nothing right (Between q.events (record p { control = d })) (record q1 { control = d' }), alike)
+        → To (OnTheWay (record p { control = d })) (record p { control = d }) (record q1 { control = d' })
+    ended o d d' alike = (record q1 { control = d' }, passes_nothing right (OnTheWay (record p { control = d })) (record q1 { control = d' }), alike)
 
     still_seen : (d d' : Control Placed) → SeenAlike s world (record p { control = d }) (record q1 { control = d' })
     still_seen d d' = record { events = seen.events; memory = seen.memory }
@@ -344,13 +357,14 @@ module _ (counts : ℕ → ℕ → Bool) (members : ℕ → Bool) (s : Spilling)
           differ e = cc
 
       by_edge : (k : ℕ) (given : List Bits)
-          → To (Between q.events (follow_edge left pc given (slice_get old.instruction.edges k))) (follow_edge left pc given (slice_get old.instruction.edges k))
+          → To (OnTheWay (follow_edge left pc given (slice_get old.instruction.edges k))) (follow_edge left pc given (slice_get old.instruction.edges k))
           (follow_edge right qc given (slice_get new.instruction.edges k))
       by_edge k given =
-          along (Between q.events (follow_edge left pc given (slice_get old.instruction.edges k))) block index old new there at.reachable match
+          along (OnTheWay (follow_edge left pc given (slice_get old.instruction.edges k))) block index old new there at.reachable match
           item.reloads item.are_reloads item.is_kept.edges pc qc seen_then given held_then fits_then no_copies k
-          (λ edge is values memory rest. record {
+          (λ edge is values memory rest quiet. record {
             at = tt;
+            holds = quietly qc.events values memory rest quiet;
             shows = inr (
               events_same ∙ sym (follow_events left pc given (slice_get old.instruction.edges k)),
               follow_at left pc given (slice_get old.instruction.edges k) edge is,
@@ -359,7 +373,7 @@ module _ (counts : ℕ → ℕ → Bool) (members : ℕ → Bool) (s : Spilling)
 
       abbrev Answered : Answer → List (Edge ℕ ℕ) → List (Edge ℕ ℕ) → Type 0
       Answered answer es es' =
-          To (Between q.events (take_answer left pc es old.results olds answer)) (take_answer left pc es old.results olds answer) (take_answer right qc es' new.results tail answer)
+          To (OnTheWay (take_answer left pc es old.results olds answer)) (take_answer left pc es old.results olds answer) (take_answer right qc es' new.results tail answer)
 
       zipped : (es es' : List (Edge ℕ ℕ)) → old.instruction.edges ≡ es → new.instruction.edges ≡ es'
           → AllZip (IsLedOn counts s (call_shape old.instruction.operation) item.reloads) es es'
@@ -371,29 +385,29 @@ module _ (counts : ℕ → ℕ → Bool) (members : ℕ → Bool) (s : Spilling)
       answered answer [] (e' ∷ es') is is' each = absurd (zipped [] (e' ∷ es') is is')
       answered answer (e ∷ es) [] is is' each = absurd (zipped (e ∷ es) [] is is')
       answered (Results values) [] [] is is' each =
-          subst (λ (results : List ℕ). To (Between q.events (take_answer left pc [] old.results olds (Results values))) (take_answer left pc [] old.results olds (Results values))
+          subst (λ (results : List ℕ). To (OnTheWay (take_answer left pc [] old.results olds (Results values))) (take_answer left pc [] old.results olds (Results values))
           (state_of (assigned same_value results values qc.values) qc.memory qc.events (At tail))) (sym item.is_kept.results)
-          (gave counts members s world c (Between q.events (take_answer left pc [] old.results olds (Results values))) qc.events
-          (λ values' memory rest. record { at = tt; shows = inr (events_same, tt) })
+          (gave counts members s world c (OnTheWay (take_answer left pc [] old.results olds (Results values))) qc.events
+          (λ values' memory rest quiet. record { at = tt; shows = inr (events_same, tt); holds = quietly qc.events values' memory rest quiet })
           block index old olds at.rest at.reachable pc qc seen_then refl held_then values each item.stores item.rest item.are_stores item.goes_on)
       answered (Exception k payload) [] [] is is' each = (
         record qc { control = IsStuck },
-        passes_nothing right (Between q.events (record pc { control = IsStuck })) (record qc { control = IsStuck }),
+        passes_nothing right (OnTheWay (record pc { control = IsStuck })) (record qc { control = IsStuck }),
         record { seen = record { events = seen_then.events; memory = seen_then.memory }; control = tt },
       )
       answered (Results values) (e ∷ es) (e' ∷ es') is is' each =
-          subst (λ (xs : List (Edge ℕ ℕ)). To (Between q.events (follow_edge left pc values (slice_get xs 0))) (follow_edge left pc values (slice_get xs 0)) (follow_edge right qc values (Some e'))) is
-          (subst (λ (xs : List (Edge ℕ ℕ)). To (Between q.events (follow_edge left pc values (slice_get old.instruction.edges 0))) (follow_edge left pc values (slice_get old.instruction.edges 0))
+          subst (λ (xs : List (Edge ℕ ℕ)). To (OnTheWay (follow_edge left pc values (slice_get xs 0))) (follow_edge left pc values (slice_get xs 0)) (follow_edge right qc values (Some e'))) is
+          (subst (λ (xs : List (Edge ℕ ℕ)). To (OnTheWay (follow_edge left pc values (slice_get old.instruction.edges 0))) (follow_edge left pc values (slice_get old.instruction.edges 0))
           (follow_edge right qc values (slice_get xs 0))) is' (by_edge 0 values))
       answered (Exception k payload) (e ∷ es) (e' ∷ es') is is' each =
-          subst (λ (xs : List (Edge ℕ ℕ)). To (Between q.events (follow_edge left pc payload (slice_get xs (suc k)))) (follow_edge left pc payload (slice_get xs (suc k)))
+          subst (λ (xs : List (Edge ℕ ℕ)). To (OnTheWay (follow_edge left pc payload (slice_get xs (suc k)))) (follow_edge left pc payload (slice_get xs (suc k)))
           (follow_edge right qc payload (slice_get es' k))) is
-          (subst (λ (xs : List (Edge ℕ ℕ)). To (Between q.events (follow_edge left pc payload (slice_get old.instruction.edges (suc k))))
+          (subst (λ (xs : List (Edge ℕ ℕ)). To (OnTheWay (follow_edge left pc payload (slice_get old.instruction.edges (suc k))))
           (follow_edge left pc payload (slice_get old.instruction.edges (suc k))) (follow_edge right qc payload (slice_get xs (suc k)))) is' (by_edge (suc k) payload))
 
       calls : AnswersEach old.results (world.answer pc.events call) → After (Calls callee call arguments) (Calls callee call arguments)
       calls each =
-          subst (λ (answer : Answer). To (Between q.events (carry_out left p old olds (Calls callee call arguments))) (carry_out left p old olds (Calls callee call arguments))
+          subst (λ (answer : Answer). To (OnTheWay (carry_out left p old olds (Calls callee call arguments))) (carry_out left p old olds (Calls callee call arguments))
           (take_answer right qc new.instruction.edges new.results tail answer)) (ap (λ (events : List Event). world.answer events call) (sym events_same))
           (answered (world.answer pc.events call) old.instruction.edges new.instruction.edges refl refl each)
 
@@ -443,6 +457,61 @@ module _ (counts : ℕ → ℕ → Bool) (members : ℕ → Bool) (s : Spilling)
     carried NoStep (Traps reason') agreed each made = absurd agreed
     carried NoStep (Calls callee' call' arguments') agreed each made = absurd agreed
 
+    -- the slots that the map of a call names hold their values, before the call
+    holds_now : HoldsNext counts members s world p q1
+    holds_now call is = record {
+      place = place_at block index;
+      old = old;
+      olds = olds;
+      there = there;
+      before = stands;
+      operation = item.is_kept.operation;
+      events = seen.events;
+      slots = λ entry h. named entry (subst (λ (entries : List UserStackMapEntry). Contains entries entry) exact.entries_are h);
+    }
+      where
+        exact : IsExactMap counts members s (place_at block index) new.stack_map
+        exact =
+            subst (λ (o : Option CallShape). HasMap counts s members (place_at block index) o old.stack_map new.stack_map)
+            (ap call_shape (sym item.is_kept.operation) ∙ is) item.is_kept.stack_map
+
+        holds_value : (v : ℕ) → Contains exact.values v → HoldsValue counts members s world (place_at block index) p q1 (entry_of s v)
+        holds_value v h = record {
+          value = v;
+          entry_is = refl;
+          member = so.0;
+          spilled = spilled;
+          live = so.2;
+          bits = ap (λ (range : Range). value_of_bytes (bytes_in q.memory range)) (range_is s world c.places (λ ty bits. bits) v)
+              ∙ ap value_of_bytes (held.in_slot spilled)
+              ∙ spelled_back s world c.places v (slots counts members s world c v spilled) (p.values v) (fits v so.0);
+        }
+          where
+            so : (members v ≡ true) × (s.before.resolved v ≡ v) × IsLiveAcross (counted counts) s.before (place_at block index) v
+            so = (exact.all v).0 h
+
+            spilled : s.is_spilled v ≡ true
+            spilled =
+                (c.spills.spilled v).1 (record {
+                  place = place_at block index;
+                  reachable = at.reachable;
+                  placed = old;
+                  there = there;
+                  shape = call;
+                  call = ap call_shape (sym item.is_kept.operation) ∙ is;
+                  member = so.0;
+                  unaliased = so.1;
+                  live = so.2;
+                })
+
+            held : Held s world v p.values f q.memory
+            held = held_now v (low_if v (inr so.2)) (inr so.2)
+
+        named : (entry : UserStackMapEntry) → Contains (map (entry_of s) exact.values) entry → HoldsValue counts members s world (place_at block index) p q1 entry
+        named entry h =
+            let from = contained_in_map (entry_of s) exact.values entry h in
+            subst (λ (e : UserStackMapEntry). HoldsValue counts members s world (place_at block index) p q1 e) from.2 (holds_value from.0 from.1)
+
     -- The step is matched: reloads, the instruction, a landing block's code perhaps, and stores.
     pub matched : (q' : FunctionState) × PassesOn right Passed (state_of q.values q.memory q.events (At code)) q'
         × Alike counts members s world (run_placed left p old olds) q'
@@ -453,6 +522,6 @@ module _ (counts : ℕ → ℕ → Bool) (members : ℕ → Bool) (s : Spilling)
           rest.0,
           subst (λ (xs : List Placed). PassesOn right Passed (state_of q.values q.memory q.events (At xs)) rest.0) (sym item.code_is)
               (passes_then_on right Passed (state_of q.values q.memory q.events (At (reload_items s item.reloads (new ∷ tail)))) q1 rest.0 ran.2
-              (passes_step right Passed q1 (function_step right q1) rest.0 (record { at = tt; shows = inl refl }) refl rest.1)),
+              (passes_step right Passed q1 (function_step right q1) rest.0 (record { at = tt; shows = inl refl; holds = holds_now }) refl rest.1)),
           rest.2,
         )

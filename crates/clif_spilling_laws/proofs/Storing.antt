@@ -18,7 +18,7 @@ use Rattle.clif_spilling_laws.specs.Runs.{after_run, in_spill_slots, slot_range}
 use Rattle.clif_spilling_laws.specs.Spilling.{AreStores, IsStore, IsStoredIf, SlotAccess, Spilling, store_item, store_items}
 use Rattle.clif_spilling_laws.proofs.Accesses.{address_step, store_step}
 use Rattle.clif_spilling_laws.proofs.Lists.{assigned_one, contains_cases, contains_first, contains_more, contains_none, member_or_not, true_false}
-use Rattle.clif_spilling_laws.proofs.Passing.{Passes, passes_nothing, passes_some, passes_step}
+use Rattle.clif_spilling_laws.proofs.Passing.{BeginsQuietly, Passes, passes_nothing, passes_some, passes_step}
 use Rattle.clif_spilling_laws.proofs.Reloading.{assigned_apart}
 use Rattle.clif_spilling_laws.proofs.Slots.{other_stays, seen_outside, stored_is_there}
 
@@ -38,7 +38,7 @@ module _ (s : Spilling) (world : World) (pointers : world.pointer_width ≡ bits
     (slots : (v : ℕ) → s.is_spilled v ≡ true → IsSlotOf s v) (Needed : ℕ → Type 0) (apart : AreApart s Needed)
     (itself : (v : ℕ) → s.is_spilled v ≡ true → v < s.count → s.after.resolved v ≡ v)
     (P : FunctionState → Type 0) (events : List Event)
-    (through : (values : ℕ → Bits) (memory : Memory) (code : List Placed) → P (state_of values memory events (At code))) where
+    (through : (values : ℕ → Bits) (memory : Memory) (code : List Placed) → BeginsQuietly code → P (state_of values memory events (At code))) where
   abbrev R : FunctionRun
   R = after_run s world
 
@@ -133,11 +133,11 @@ module _ (s : Spilling) (world : World) (pointers : world.pointer_width ≡ bits
           facts more.0 more.1 more.2,
           passes_some R P (at values memory (store_items s (a ∷ stores) rest)) (at more.0 more.1 rest)
               (passes_step R P (at values memory (store_items s (a ∷ stores) rest)) (at with_address memory (store_item s a ∷ tail)) (at more.0 more.1 rest)
-              (through values memory (store_items s (a ∷ stores) rest))
+              (through values memory (store_items s (a ∷ stores) rest) refl)
               (address_step s world pointers places a (store_item s a ∷ tail) values memory events has)
               (passes_some R P (at with_address memory (store_item s a ∷ tail)) (at more.0 more.1 rest)
               (passes_step R P (at with_address memory (store_item s a ∷ tail)) (at with_address with_store tail) (at more.0 more.1 rest)
-              (through with_address memory (store_item s a ∷ tail))
+              (through with_address memory (store_item s a ∷ tail) refl)
               (store_step s world pointers places a tail with_address memory events has is.address (itself a.value spilled_too below_too)
               (assigned_one a.address place values))
               more.3))),

@@ -7,5 +7,6 @@ pub mod Accesses
 pub mod PartLaws
 pub mod Laws
 pub mod EdgeLaws
+pub mod SlotContents
 pub mod Examples
 pub mod MovedExample

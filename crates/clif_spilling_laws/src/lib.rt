@@ -10,12 +10,19 @@ ghost use Rattle.clif_spilling_laws.specs.GivesOnce.{ConsistentGivesOnce};
 ghost use Rattle.clif_spilling_laws.specs.Laws.{SpillingMeansTheSame};
 ghost use Rattle.clif_spilling_laws.specs.MovedExample.{MovedExample};
 ghost use Rattle.clif_spilling_laws.specs.PartLaws.{EachEntryMoves, LiveIsGiven, NothingLiveAtEntry, SpilledIsLive, TypedRunsFit};
+ghost use Rattle.clif_spilling_laws.specs.SlotContents.{SlotContents};
 
 /// A function with stores, reloads and exact maps means, under the collector by maps, what the function before means under the
 /// collector over the members: where each value is given once, edges match, aliases are typed, the function is well placed, no slot
 /// is shared, and the world places the slots and the run before spares the new ones.
 pub fn spilling_means_the_same()
     ensures { SpillingMeansTheSame }
+{}
+
+/// Under the same premises, at each call that the run after comes to, each slot that the call's stack map names holds the bits that the
+/// run before has for the entry's value then.
+pub fn slot_contents()
+    ensures { SlotContents }
 {}
 
 /// What was stored in a spilled value's slot is loaded from it, where the value fits its type.
