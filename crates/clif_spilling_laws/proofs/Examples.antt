@@ -1,4 +1,7 @@
 -- The worked examples.
 pub mod Parts
 pub mod Straight
+pub mod Worlds
 pub mod Moved
+pub mod SlotReuse
+pub mod Landings

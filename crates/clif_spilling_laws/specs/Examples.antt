@@ -15,12 +15,12 @@ use Rattle.clif_meaning.specs.CallExamples.{i64}
 use Rattle.clif_meaning.specs.Event.{CallShape, Default}
 use Rattle.clif_meaning.specs.Examples.{i32}
 use Rattle.clif_meaning.specs.FunctionView.{BlockView, FunctionView, Placed}
-use Rattle.clif_meaning.specs.Instruction.{Argument, Known, CallResult, Compute, Edge, Iconst, Jump, Load, Return, Stack, Store, Trap, TryCall, Call}
+use Rattle.clif_meaning.specs.Instruction.{Argument, Known, CallResult, Compute, Edge, Iconst, Load, Return, Stack, Store, Trap, TryCall, Call}
 use Rattle.clif_meaning.specs.Typing.{EdgesMatch}
 use Rattle.clif_spilling_laws.specs.GivesOnce.{GivesOnce}
 use Rattle.clif_spilling_laws.specs.Laws.{MaySpill}
 use Rattle.clif_spilling_laws.specs.Live.{IsLiveBefore, SharesNoSlot, place_at}
-use Rattle.clif_spilling_laws.specs.Rewriting.{IsExactMap, IsLedOn, IsRead, IsSpilling}
+use Rattle.clif_spilling_laws.specs.Rewriting.{IsExactMap, IsLedOn, IsRead, IsSpilling, jump_item}
 use Rattle.clif_spilling_laws.specs.Spilling.{AreStores, Reload, Spilling, plain_item, trusted}
 
 -- every argument counts
@@ -44,18 +44,15 @@ narrows = record {
 abbrev pub no_signature : SignatureShape
 no_signature = record { params = []; returns = []; call_conv = SystemV }
 
-abbrev pub tries : (operands : List ℕ) → Edge ℕ ℕ → List UserStackMapEntry → Placed
-tries operands normal entries = record {
-  instruction = record {
-    operation = TryCall callee narrows;
-    controlling = type.Invalid;
-    operands = operands;
-    contexts = [];
-    edges = normal ∷ record { target = 2; arguments = [] } ∷ [];
-  };
+abbrev pub tries_along : (operands : List ℕ) → List (Edge ℕ ℕ) → List UserStackMapEntry → Placed
+tries_along operands edges entries = record {
+  instruction = record { operation = TryCall callee narrows; controlling = type.Invalid; operands = operands; contexts = []; edges = edges };
   results = [];
   stack_map = entries;
 }
+
+abbrev pub tries : (operands : List ℕ) → Edge ℕ ℕ → List UserStackMapEntry → Placed
+tries operands normal entries = tries_along operands (normal ∷ record { target = 2; arguments = [] } ∷ []) entries
 
 abbrev pub empty_block : BlockView
 empty_block = record { parameters = []; items = [] }
@@ -105,6 +102,9 @@ view_with blocks slots = record {
 abbrev pub address_of_slot : ℕ → Placed
 address_of_slot address = plain_item (Stack StackAddr 0 (pos 0)) i64 [] (address ∷ [])
 
+abbrev pub store_in : (value address : ℕ) → Placed
+store_in value address = plain_item (Store (trusted None) (pos 0)) i64 (value ∷ address ∷ []) []
+
 abbrev pub load_from : (address copy : ℕ) → Placed
 load_from address copy = plain_item (Load (trusted None) (pos 0)) i64 (address ∷ []) (copy ∷ [])
 
@@ -117,24 +117,14 @@ landing_edge = record { target = 3; arguments = CallResult 0 ∷ [] }
 abbrev pub spilled_blocks : ℕ → BlockView
 spilled_blocks zero = record {
   parameters = 0 ∷ [];
-  items = address_of_slot 8 ∷ plain_item (Store (trusted None) (pos 0)) i64 (0 ∷ 8 ∷ []) [] ∷ address_of_slot 6 ∷ load_from 6 7
+  items = address_of_slot 8 ∷ store_in 0 8 ∷ address_of_slot 6 ∷ load_from 6 7
       ∷ tries (7 ∷ []) landing_edge (the_entry ∷ []) ∷ [];
 }
 spilled_blocks (suc zero) = returning
 spilled_blocks (suc (suc zero)) = trapping
 spilled_blocks (suc (suc (suc zero))) = record {
   parameters = 5 ∷ [];
-  items = address_of_slot 3 ∷ load_from 3 4 ∷ record {
-    instruction = record {
-      operation = Jump;
-      controlling = type.Invalid;
-      operands = [];
-      contexts = [];
-      edges = record { target = 1; arguments = Known 4 ∷ Known 5 ∷ [] } ∷ [];
-    };
-    results = [];
-    stack_map = [];
-  } ∷ [];
+  items = address_of_slot 3 ∷ load_from 3 4 ∷ jump_item 1 (Known 4 ∷ Known 5 ∷ []) ∷ [];
 }
 spilled_blocks (suc (suc (suc (suc n)))) = empty_block
 

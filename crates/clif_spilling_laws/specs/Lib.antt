@@ -10,3 +10,5 @@ pub mod EdgeLaws
 pub mod SlotContents
 pub mod Examples
 pub mod MovedExample
+pub mod SlotReuseExample
+pub mod LandingsExample

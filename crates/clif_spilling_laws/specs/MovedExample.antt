@@ -8,19 +8,20 @@ use Rattle.clif_types.specs.declared.types.«Type».{«Type»}
 use Rattle.clif_types.specs.declared.types.«Type».TheVariants as type
 use Rattle.clif_types.specs.Signature.{SignatureShape}
 use Rattle.clif_types.specs.StackSlot.{StackSlotShape}
-use Rattle.clif_meaning.specs.Bits.{Bits}
+use Rattle.clif_meaning.specs.Bits.{Bits, value_of_bytes}
 use Rattle.clif_meaning.specs.CallExamples.{i64}
 use Rattle.clif_meaning.specs.FunctionMachine.{function_machine}
 use Rattle.clif_meaning.specs.FunctionView.{BlockView, FunctionView, Placed}
-use Rattle.clif_meaning.specs.Instruction.{Call, Return, Store}
-use Rattle.clif_meaning.specs.Machine.{Ending, Returned, observed}
+use Rattle.clif_meaning.specs.Instruction.{Call, Return}
+use Rattle.clif_meaning.specs.Machine.{Ending, Returned, observed, state_after}
+use Rattle.clif_meaning.specs.Memory.{bytes_in}
 use Rattle.clif_meaning.specs.SameMeaning.{Behaviour, SameMeaning}
 use Rattle.clif_meaning.specs.World.{World}
-use Rattle.clif_spilling_laws.specs.Examples.{address_of_slot, callee, empty_block, every, load_from, no_signature, only_first, the_entry}
+use Rattle.clif_spilling_laws.specs.Examples.{address_of_slot, callee, empty_block, every, load_from, no_signature, only_first, store_in, the_entry}
 use Rattle.clif_spilling_laws.specs.Laws.{MaySpill}
 use Rattle.clif_spilling_laws.specs.Rewriting.{IsSpilling}
-use Rattle.clif_spilling_laws.specs.Runs.{IsMetBy, after_run, before_run}
-use Rattle.clif_spilling_laws.specs.Spilling.{Spilling, plain_item, trusted}
+use Rattle.clif_spilling_laws.specs.Runs.{IsMetBy, after_run, before_run, slot_range}
+use Rattle.clif_spilling_laws.specs.Spilling.{Spilling, plain_item}
 
 -- the function takes an `i64`, and returns one
 abbrev pub passes_one : SignatureShape
@@ -52,7 +53,7 @@ moved_blocks (suc n) = empty_block
 abbrev pub kept_blocks : List UserStackMapEntry → ℕ → BlockView
 kept_blocks entries zero = record {
   parameters = 0 ∷ [];
-  items = address_of_slot 1 ∷ plain_item (Store (trusted None) (pos 0)) i64 (0 ∷ 1 ∷ []) []
+  items = address_of_slot 1 ∷ store_in 0 1
       ∷ calls_with entries ∷ address_of_slot 2 ∷ load_from 2 3 ∷ returns_value 3 ∷ [];
 }
 kept_blocks entries (suc n) = empty_block
@@ -92,12 +93,20 @@ abbrev pub returned_bits : Ending → List Bits
 returned_bits (Returned results memory) = results
 returned_bits _ = []
 
+-- what the slot holds after some steps of the run after
+abbrev pub slot_after : World → ℕ → Bits
+slot_after world n =
+    value_of_bytes (bytes_in (state_after (function_machine (after_run moved_spilling world)) n).memory (slot_range moved_spilling world 0))
+
 -- In a world that passes 64, and whose collector adds 16, both runs return 80 after one outside call, the function before in two
 -- steps and the one after in six. Without the entry, 64 is returned, and the meaning is another.
 pub record MovesInSlot (world : World) : Type 0 where
   pub met : IsMetBy only_first moved_spilling world
   pub before : returned_bits (shown_before world 2).ending ≡ 80 ∷ []
   pub after : returned_bits (shown_after (the_entry ∷ []) world 6).ending ≡ 80 ∷ []
+  -- the slot holds the number before the call, and the moved one after it
+  pub held_before : slot_after world 2 ≡ 64
+  pub held_after : slot_after world 3 ≡ 80
   pub one_call : length (shown_after (the_entry ∷ []) world 6).events ≡ 1
   pub same : SameMeaning (shown_before world) (shown_after (the_entry ∷ []) world)
   pub unmoved : returned_bits (shown_after [] world 6).ending ≡ 64 ∷ []

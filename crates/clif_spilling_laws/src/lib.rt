@@ -7,10 +7,12 @@ ghost use Rattle.clif_spilling_laws.specs.Accesses.{ReloadsRun, StoredIsLoaded};
 ghost use Rattle.clif_spilling_laws.specs.EdgeLaws.{EdgesStayMatched};
 ghost use Rattle.clif_spilling_laws.specs.Examples.{SpillingExamples};
 ghost use Rattle.clif_spilling_laws.specs.GivesOnce.{ConsistentGivesOnce};
+ghost use Rattle.clif_spilling_laws.specs.LandingsExample.{LandingsExample};
 ghost use Rattle.clif_spilling_laws.specs.Laws.{SpillingMeansTheSame};
 ghost use Rattle.clif_spilling_laws.specs.MovedExample.{MovedExample};
 ghost use Rattle.clif_spilling_laws.specs.PartLaws.{EachEntryMoves, LiveIsGiven, NothingLiveAtEntry, SpilledIsLive, TypedRunsFit};
 ghost use Rattle.clif_spilling_laws.specs.SlotContents.{SlotContents};
+ghost use Rattle.clif_spilling_laws.specs.SlotReuseExample.{SlotReuseExample};
 
 /// A function with stores, reloads and exact maps means, under the collector by maps, what the function before means under the
 /// collector over the members: where each value is given once, edges match, aliases are typed, the function is well placed, no slot
@@ -81,4 +83,14 @@ pub fn spilling_examples()
 /// without the entry in the call's stack map the function is refused, and returns the number that was passed.
 pub fn moved_example()
     ensures { MovedExample }
+{}
+
+/// The row `slot_reuse` is a spilling, two values share its slot one after the other, and the law's premises hold at once.
+pub fn slot_reuse_example()
+    ensures { SlotReuseExample }
+{}
+
+/// A try call with two landing blocks is a spilling, its edges match, and the law's premises hold at once, whichever edge is taken.
+pub fn landings_example()
+    ensures { LandingsExample }
 {}

@@ -16,7 +16,6 @@ use Rattle.clif_meaning.specs.Typing.{EdgesMatch}
 use Rattle.clif_meaning.specs.WellPlaced.{WellPlaced, function_flow, placed_at, placed_gives, placed_names, placed_passes, placed_targets}
 use Rattle.clif_meaning.specs.World.{World, PlacesSlots}
 use Rattle.clif_meaning.proofs.Endings
-use Rattle.clif_meaning.proofs.SampleWorld
 use Rattle.clif_meaning.proofs.WorkedExamples.{other_ends}
 use Rattle.clif_safepoints.specs.Analysis.{IsReached}
 use Rattle.clif_safepoints.specs.Liveness.{IsLiveAcross}
@@ -26,16 +25,14 @@ use Rattle.clif_spilling_laws.specs.GivesOnce.{GivesOnce}
 use Rattle.clif_spilling_laws.specs.Laws.{MaySpill}
 use Rattle.clif_spilling_laws.specs.Live.{IsLiveAcrossCall, IsLiveBefore, IsSlotOf, SpillsLive, counted, place_at}
 use Rattle.clif_spilling_laws.specs.MovedExample.{MovedExample, MovesInSlot, calls_with, moved_blocks, moved_spilling, moved_with, returned_bits, returns_value, shown_after, shown_before}
-use Rattle.clif_spilling_laws.specs.PartLaws.{RunFits}
 use Rattle.clif_spilling_laws.specs.Rewriting.{AreRewritten, IsExactMap, IsLandingBlock, IsRewrittenBlock, IsRewrittenItem, IsSpilling, entry_of}
 use Rattle.clif_spilling_laws.specs.Runs.{GivesEach, IsInOrder, IsInOrderThroughout, IsMetBy, SparesHidden, before_run, outcome_in}
 use Rattle.clif_spilling_laws.specs.Spilling.{AreStores, IsStore, Reload, address_item, SlotAccess, Spilling, reload_items, store_items}
 use Rattle.clif_spilling_laws.proofs.Examples.Parts.{alone, exact_first, first_alone, first_member, no_way, not_exact, one_reload, reads_copy, some_number}
 use Rattle.clif_spilling_laws.proofs.Examples.Straight.{parameter_along}
-use Rattle.clif_spilling_laws.proofs.Left.{next_follows, next_is}
+use Rattle.clif_spilling_laws.proofs.Examples.Worlds.{met_by, passing, places_one}
 use Rattle.clif_spilling_laws.proofs.Lists.{contains_first, contains_none}
 use Rattle.clif_spilling_laws.proofs.Simulating.{means_the_same}
-use Rattle.clif_spilling_laws.proofs.Typed.{typed_runs_fit}
 
 abbrev s : Spilling
 s = moved_spilling
@@ -204,27 +201,11 @@ may_spill = record {
 -- THE WORLD -------------------------------------------------------------------------------------------------------------
 
 -- it passes 64, places the slot at 1000, and adds 16 to what moves
-abbrev passing : World
-passing = record SampleWorld.sample_world { arguments = 64 ∷ [] }
-
-abbrev the_slot : StackSlotShape
-the_slot = record { size = 8; align_shift = 3 }
-
-one_slot : (n : ℕ) (slot : StackSlotShape) → slice_get (the_slot ∷ []) n ≡ Some slot → (n ≡ 0) × (the_slot ≡ slot)
-one_slot zero slot is = (refl, (let e : the_slot ≡ slot = cc in e))
-one_slot (suc n) slot is = cc
-
-places : PlacesSlots passing (the_slot ∷ [])
-places = record {
-  aligned = λ n slot is. let only = one_slot n slot is in subst (λ (x : StackSlotShape). 1000 % 2 ^ x.align_shift ≡ 0) only.1 refl;
-  accessible = λ n slot k is few. refl;
-  within = λ n slot is. let only = one_slot n slot is in subst (λ (x : StackSlotShape). 1000 + x.size ≤ 2 ^ 64) only.1 (omega arith);
-  apart = λ n m slot other k l is is_other differ few fewer same.
-      let first = one_slot n slot is in let second = one_slot m other is_other in differ (first.0 ∙ sym second.0);
-}
+abbrev world : World
+world = passing (64 ∷ [])
 
 abbrev run : FunctionRun
-run = before_run s only_first passing
+run = before_run s only_first world
 
 typed : IsFunctionTyped run
 typed = record { aliases = λ v. refl; items = items; entry = ([], refl); arguments = (omega arith, tt) }
@@ -240,37 +221,28 @@ spares : (block : ℕ) → AllByRecursion (λ (placed : Placed). (state : Functi
 spares zero = (λ state. tt, (λ state. tt, tt))
 spares (suc n) = tt
 
-met : IsMetBy only_first s passing
-met = record { pointers = refl; places = places; in_order = in_order; fits = fit.fits }
-  where
-    fit : RunFits only_first run
-    fit = typed_runs_fit only_first run typed
-
-    in_order : IsInOrderThroughout run
-    in_order n =
-        let state : FunctionState = state_after (function_machine run) n in
-        next_follows (λ (placed : Placed). (state : FunctionState) → SparesHidden run state placed)
-        (λ (placed : Placed). GivesEach run state placed (outcome_in run state placed)) (IsInOrder run state) state.control
-        (λ placed all each. record { spares = all state; gives_each = each })
-        (next_is run (λ (placed : Placed). (state : FunctionState) → SparesHidden run state placed) spares n) (fit.gives_each n)
+met : IsMetBy only_first s world
+met = met_by only_first s world refl (places_one world _ (λ n. refl) (λ a. refl) refl refl (omega arith)) typed spares
 
 -- both runs end, with different bits
-differs : SameMeaning (shown_before passing) (shown_after [] passing) → ⊥
+differs : SameMeaning (shown_before world) (shown_after [] world) → ⊥
 differs same =
-    let shown : shown_before passing 2 ≡ shown_after [] passing 6 =
-    other_ends (shown_before passing) (shown_after [] passing) (Endings.function_stays run) 2 6 tt tt same in
+    let shown : shown_before world 2 ≡ shown_after [] world 6 =
+    other_ends (shown_before world) (shown_after [] world) (Endings.function_stays run) 2 6 tt tt same in
     apart (ap (λ (seen : Observation). returned_bits seen.ending) shown)
   where
     apart : ◌≡◌ {A = List Bits} (80 ∷ []) (64 ∷ []) → ⊥
     apart e = cc
 
-moves : MovesInSlot passing
+moves : MovesInSlot world
 moves = record {
   met = met;
   before = refl;
   after = refl;
   one_call = refl;
-  same = means_the_same every only_first s passing is_spilling may_spill met;
+  same = means_the_same every only_first s world is_spilling may_spill met;
+  held_before = refl;
+  held_after = refl;
   unmoved = refl;
   differs = differs;
 }
@@ -308,4 +280,4 @@ lacks_entry is = by block.items.stores block.items.are_stores block.items.rest b
     by stores (inr unneeded) rest e item = unneeded.0 (inr live_on)
 
 pub moved_example : MovedExample
-moved_example = record { spilling = is_spilling; may_spill = may_spill; a_world = (passing, moves); lacks_entry = lacks_entry }
+moved_example = record { spilling = is_spilling; may_spill = may_spill; a_world = (world, moves); lacks_entry = lacks_entry }

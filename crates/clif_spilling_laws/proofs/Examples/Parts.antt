@@ -8,7 +8,8 @@ use Rattle.clif_meaning.specs.Path.{Place}
 use Rattle.clif_safepoints.specs.Liveness.{IsLiveAcross}
 use Rattle.clif_spilling_laws.specs.Examples.{every, only_first, reload_of}
 use Rattle.clif_spilling_laws.specs.Live.{counted}
-use Rattle.clif_spilling_laws.specs.Rewriting.{IsExactMap, IsRead, entry_of}
+use Rattle.clif_spilling_laws.specs.MovedExample.{returns_value}
+use Rattle.clif_spilling_laws.specs.Rewriting.{IsExactMap, IsRead, IsRewrittenItem, entry_of}
 use Rattle.clif_spilling_laws.specs.Spilling.{AreReloads, IsNew, Spilling}
 use Rattle.clif_spilling_laws.proofs.Lists.{contains_cases, contains_first, contains_none}
 
@@ -60,21 +61,34 @@ reads_copy s value address copy spilled itself typed = record {
   );
 }
 
--- one entry is exact where the first value lives on
+module _ (s : Spilling) (members : ℕ → Bool) (p : Place ℕ) where
+  abbrev LivesOn : ℕ → Type 0
+  LivesOn v = (members v ≡ true) × (s.before.resolved v ≡ v) × IsLiveAcross (counted every) s.before p v
+
+  -- one entry is exact where its value alone lives on
+  pub exact_one : (v : ℕ) → LivesOn v → ((w : ℕ) → LivesOn w → v ≡ w) → IsExactMap every members s p (entry_of s v ∷ [])
+  exact_one v lives single = record {
+    values = v ∷ [];
+    rising = λ k inside. absurd (omega (arith, inside));
+    all = λ w. (
+      λ h. subst LivesOn (alone v w h) lives,
+      λ other. subst (λ (u : ℕ). Contains (v ∷ []) u) (single w other) (contains_first v []),
+    );
+    entries_are = refl;
+  }
+
+  -- no entry is, where no member does
+  pub exact_none : ((w : ℕ) → LivesOn w → ⊥) → IsExactMap every members s p []
+  exact_none none = record {
+    values = [];
+    rising = λ k inside. absurd (omega (arith, inside));
+    all = λ w. (λ h. absurd (contains_none w h), λ lives. absurd (none w lives));
+    entries_are = refl;
+  }
+
 pub exact_first : (s : Spilling) (p : Place ℕ) → s.before.resolved 0 ≡ 0 → IsLiveAcross (counted every) s.before p 0
     → IsExactMap every only_first s p (entry_of s 0 ∷ [])
-exact_first s p itself live = record {
-  values = 0 ∷ [];
-  rising = λ k inside. absurd (omega (arith, inside));
-  all = λ v. (
-    λ h. subst IsNamed (alone 0 v h) (refl, itself, live),
-    λ named. subst (λ (w : ℕ). Contains (0 ∷ []) w) (sym (first_alone v named.0)) (contains_first 0 []),
-  );
-  entries_are = refl;
-}
-  where
-    IsNamed : ℕ → Type 0
-    IsNamed v = (only_first v ≡ true) × (s.before.resolved v ≡ v) × IsLiveAcross (counted every) s.before p v
+exact_first s p itself live = exact_one s only_first p 0 (refl, itself, live) (λ w lives. sym (first_alone w lives.0))
 
 -- a map without entries isn't exact where a member lives on
 pub not_exact : (s : Spilling) (members : ℕ → Bool) (p : Place ℕ) (v : ℕ) → members v ≡ true → s.before.resolved v ≡ v
@@ -84,3 +98,27 @@ not_exact s members p v member itself live is = by is.values ((is.all v).1 (memb
     by : (vs : List ℕ) → Contains vs v → [] ≡ map (entry_of s) vs → ⊥
     by [] h e = contains_none v h
     by (w ∷ vs) h e = cc
+
+-- a block's `return` of a value that isn't spilled stays as it is
+pub kept_return : (s : Spilling) (members : ℕ → Bool) (p : Place ℕ) (v : ℕ) → s.is_spilled (s.before.resolved v) ≡ false
+    → s.after.resolved v ≡ s.before.resolved v → s.after.value_type v ≡ s.before.value_type v
+    → IsRewrittenItem every s members p (λ code. code ≡ []) (returns_value v) (returns_value v ∷ [])
+kept_return s members p v unspilled named typed = record {
+  reloads = [];
+  are_reloads = tt;
+  new = returns_value v;
+  is_kept = record {
+    operation = refl;
+    controlling = λ aliases. refl;
+    operands = (record { typed = λ aliases. typed; how = inr (unspilled, named) }, tt);
+    contexts = refl;
+    edges = tt;
+    results = refl;
+    stack_map = refl;
+  };
+  stores = [];
+  are_stores = refl;
+  rest = [];
+  code_is = refl;
+  goes_on = refl;
+}

@@ -1,8 +1,8 @@
 -- Functions of one block, which no instruction leaves by an edge: what is given before a place on every path to it.
-use Rattle.std.proofs.Common.{◌≡◌, ◌⊎◌, ◌<◌, ◌≤◌, ◌+◌, inl, inr, ℕ, zero, suc, List, [], ◌∷◌, refl, sym, ap, subst, ◌∙◌, arith, Option, Some}
+use Rattle.std.proofs.Common.{◌≡◌, ◌⊎◌, ◌<◌, ◌≤◌, ◌+◌, inl, inr, ℕ, zero, suc, List, [], ◌∷◌, length, refl, sym, ap, subst, ◌∙◌, arith, Option, Some}
 use Rattle.std.specs.Prelude.{Contains}
 use Rattle.clif_meaning.specs.FunctionView.{FunctionView}
-use Rattle.clif_meaning.specs.Path.{IsPath, Leads, Place}
+use Rattle.clif_meaning.specs.Path.{IsPath, IsReachable, Leads, Place}
 use Rattle.clif_meaning.specs.WellPlaced.{IsGivenAlong, function_code, function_flow, given_on_entry, placed_at, placed_gives, placed_targets}
 use Rattle.clif_spilling_laws.specs.Live.{place_at}
 use Rattle.clif_spilling_laws.proofs.Examples.Parts.{some_number}
@@ -45,3 +45,12 @@ module _ (function : FunctionView) (none : (p : Place ℕ) → placed_targets (p
           inr (inl (subst (λ (b : ℕ). Contains (given_on_entry (function_code function) b p.index) x) (sym (in_entry p path walk.1))
           (subst (λ (i : ℕ). Contains (given_on_entry (function_code function) 0 i) x) (sym is) h)))
       by (suc i) is along = inr (inr (along (omega (arith, is))))
+
+  -- each place of the block is reached
+  pub reach : (k : ℕ) → k < length (function.blocks 0).items → IsReachable (function_flow function) (place_at 0 k)
+  reach zero inside = ([], (entry, (refl, inside)))
+  reach (suc k) inside =
+      let before = reach k (omega (arith, inside)) in (place_at 0 k ∷ before.0, (inl (refl, one_on k, inside), before.1))
+    where
+      one_on : (k : ℕ) → suc k ≡ k + 1
+      one_on k = omega arith

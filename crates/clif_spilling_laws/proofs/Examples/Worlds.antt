@@ -1,0 +1,89 @@
+-- The worlds of the worked examples: slots are placed at 1000, and 16 is added to what moves. What the law asks of them.
+use Rattle.std.proofs.Common.{◌≡◌, ◌<◌, ◌≤◌, ◌+◌, ◌%◌, ◌^◌, ◌==◌, ℕ, zero, suc, Bool, true, false, if◌then◌else◌, List, [], ◌∷◌, map, refl, sym, ap, subst, ◌∙◌, arith, Some}
+use Rattle.std.specs.Prelude.{slice_get}
+use Rattle.std.specs.List.{AllByRecursion}
+use Rattle.std.proofs.lemmas.Bool.{eqb-false}
+use Rattle.clif_types.specs.StackSlot.{StackSlotShape}
+use Rattle.clif_types.specs.Types.{bits_of}
+use Rattle.clif_tables.specs.Callees.{types_of}
+use Rattle.clif_meaning.specs.Bits.{Bits}
+use Rattle.clif_meaning.specs.Event.{Answer, CallShape, Exception, IsAnswerTo, Results, edge_count}
+use Rattle.clif_meaning.specs.FunctionMachine.{FunctionState, function_machine}
+use Rattle.clif_meaning.specs.FunctionView.{Placed}
+use Rattle.clif_meaning.specs.Machine.{state_after}
+use Rattle.clif_meaning.specs.World.{World, PlacesSlots}
+use Rattle.clif_meaning.proofs.SampleWorld
+use Rattle.clif_typed_runs.specs.ValuesFit.{IsFunctionTyped}
+use Rattle.clif_spilling_laws.specs.PartLaws.{RunFits}
+use Rattle.clif_spilling_laws.specs.Runs.{GivesEach, IsInOrder, IsInOrderThroughout, IsMetBy, SparesHidden, before_run, outcome_in}
+use Rattle.clif_spilling_laws.specs.Spilling.{Spilling}
+use Rattle.clif_spilling_laws.proofs.Left.{next_follows, next_is}
+use Rattle.clif_spilling_laws.proofs.Typed.{typed_runs_fit}
+
+-- it passes these arguments, and calls return zeros
+abbrev pub passing : List Bits → World
+passing arguments = record SampleWorld.sample_world { arguments = arguments }
+
+-- a call that may throw does so
+abbrev pub thrown : CallShape → Answer
+thrown call = if edge_count call.items == 0 then Results (map (λ ty. 0) (types_of call.signature.returns)) else Exception 0 (0 ∷ 0 ∷ [])
+
+pub thrown_fits : (call : CallShape) → IsAnswerTo call (thrown call)
+thrown_fits call = by (edge_count call.items == 0) refl
+  where
+    some_edge : (n : ℕ) → (n ≡ 0 → ⊥) → 0 < n
+    some_edge zero none = absurd (none refl)
+    some_edge (suc n) none = omega arith
+
+    by : (c : Bool) → (edge_count call.items == 0) ≡ c
+        → IsAnswerTo call (if c then Results (map (λ ty. 0) (types_of call.signature.returns)) else Exception 0 (0 ∷ 0 ∷ []))
+    by true is = SampleWorld.zeros_fit (types_of call.signature.returns)
+    by false is = (some_edge (edge_count call.items) (eqb-false (edge_count call.items) 0 is), (omega arith, (omega arith, tt)))
+
+abbrev pub throwing : List Bits → World
+throwing arguments = record SampleWorld.sample_world {
+  arguments = arguments;
+  answer = λ events call. thrown call;
+  answers_fit = λ events call. thrown_fits call;
+}
+
+-- a single slot
+one_slot : (slot : StackSlotShape) (n : ℕ) (other : StackSlotShape) → slice_get (slot ∷ []) n ≡ Some other → (n ≡ 0) × (slot ≡ other)
+one_slot slot zero other is = (refl, (let e : slot ≡ other = cc in e))
+one_slot slot (suc n) other is = cc
+
+pub places_one : (world : World) (slot : StackSlotShape) → ((n : ℕ) → world.slot_place n ≡ 1000) → ((a : ℕ) → world.is_accessible a ≡ true)
+    → world.pointer_width ≡ 64 → 1000 % 2 ^ slot.align_shift ≡ 0 → 1000 + slot.size ≤ 2 ^ 64 → PlacesSlots world (slot ∷ [])
+places_one world slot place accessible wide aligned within = record {
+  aligned = λ n x is.
+      let only = one_slot slot n x is in
+      ap (λ (p : ℕ). p % 2 ^ x.align_shift) (place n) ∙ subst (λ (y : StackSlotShape). 1000 % 2 ^ y.align_shift ≡ 0) only.1 aligned;
+  accessible = λ n x k is few. accessible (world.slot_place n + k);
+  within = λ n x is.
+      let only = one_slot slot n x is in
+      subst (λ (w : ℕ). world.slot_place n + x.size ≤ 2 ^ w) (sym wide)
+      (subst (λ (p : ℕ). p + x.size ≤ 2 ^ 64) (sym (place n)) (subst (λ (y : StackSlotShape). 1000 + y.size ≤ 2 ^ 64) only.1 within));
+  apart = λ n m x other k l is is_other differ few fewer same.
+      let first = one_slot slot n x is in let second = one_slot slot m other is_other in differ (first.0 ∙ sym second.0);
+}
+
+-- A typed run whose instructions touch no hidden address is as the law asks.
+pub met_by : (members : ℕ → Bool) (s : Spilling) (world : World) → world.pointer_width ≡ bits_of s.pointer → PlacesSlots world s.after.slots
+    → IsFunctionTyped (before_run s members world)
+    → ((block : ℕ) → AllByRecursion (λ (placed : Placed). (state : FunctionState) → SparesHidden (before_run s members world) state placed)
+    (s.before.blocks block).items)
+    → IsMetBy members s world
+met_by members s world pointers places typed spares = record { pointers = pointers; places = places; in_order = in_order; fits = fit.fits }
+  where
+    fit : RunFits members (before_run s members world)
+    fit = typed_runs_fit members (before_run s members world) typed
+
+    in_order : IsInOrderThroughout (before_run s members world)
+    in_order n =
+        let state : FunctionState = state_after (function_machine (before_run s members world)) n in
+        next_follows (λ (placed : Placed). (state : FunctionState) → SparesHidden (before_run s members world) state placed)
+        (λ (placed : Placed). GivesEach (before_run s members world) state placed (outcome_in (before_run s members world) state placed))
+        (IsInOrder (before_run s members world) state) state.control
+        (λ placed all each. record { spares = all state; gives_each = each })
+        (next_is (before_run s members world) (λ (placed : Placed). (state : FunctionState) → SparesHidden (before_run s members world) state placed) spares n)
+        (fit.gives_each n)
