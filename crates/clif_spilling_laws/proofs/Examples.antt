@@ -2,6 +2,7 @@
 pub mod Parts
 pub mod Straight
 pub mod Worlds
+pub mod TryCall
 pub mod Moved
 pub mod SlotReuse
 pub mod Landings

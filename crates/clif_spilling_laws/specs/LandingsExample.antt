@@ -1,9 +1,8 @@
 -- The try call with two landing blocks: its recorded argument is also passed along both edges, so that each of them leads to a landing
 -- block that reloads it. All premises of the law hold at once, whichever edge is taken, and the edges of the function after match. The
 -- text is that of the project's worked rows.
-use Rattle.std.specs.Prelude.{◌≡◌, ◌||◌, ◌==◌, ℕ, suc, zero, if◌then◌else◌, Bool, List, [], ◌∷◌, None, Some}
+use Rattle.std.specs.Prelude.{◌≡◌, ◌||◌, ◌==◌, ℕ, suc, zero, if◌then◌else◌, List, [], ◌∷◌, Some}
 use Rattle.clif_types.specs.declared.types.«Type».{«Type»}
-use Rattle.clif_types.specs.declared.types.«Type».TheVariants as type
 use Rattle.clif_types.specs.StackSlot.{StackSlotShape}
 use Rattle.clif_meaning.specs.CallExamples.{i64}
 use Rattle.clif_meaning.specs.Examples.{i32}
@@ -14,10 +13,10 @@ use Rattle.clif_meaning.specs.Machine.{observed}
 use Rattle.clif_meaning.specs.SameMeaning.{Behaviour, SameMeaning}
 use Rattle.clif_meaning.specs.Typing.{EdgesMatch}
 use Rattle.clif_meaning.specs.World.{World}
+use Rattle.clif_spilling_laws.specs.ExampleParts.{address_of_slot, empty_block, every, load_from, only_first, passes_one, returned_bits, returns_value, store_in, the_entry}
 use Rattle.clif_spilling_laws.specs.EdgeLaws.{LeadsInside}
-use Rattle.clif_spilling_laws.specs.Examples.{address_of_slot, empty_block, every, load_from, normal_edge, only_first, returning, store_in, the_entry, tries_along}
+use Rattle.clif_spilling_laws.specs.Examples.{normal_edge, returning, tries_along}
 use Rattle.clif_spilling_laws.specs.Laws.{MaySpill}
-use Rattle.clif_spilling_laws.specs.MovedExample.{passes_one, returned_bits, returns_value}
 use Rattle.clif_spilling_laws.specs.Rewriting.{IsSpilling, jump_item}
 use Rattle.clif_spilling_laws.specs.Runs.{IsMetBy, after_run, before_run}
 use Rattle.clif_spilling_laws.specs.Spilling.{Spilling}

@@ -8,6 +8,7 @@ pub mod PartLaws
 pub mod Laws
 pub mod EdgeLaws
 pub mod SlotContents
+pub mod ExampleParts
 pub mod Examples
 pub mod MovedExample
 pub mod SlotReuseExample

@@ -1,38 +1,28 @@
 -- A worked world of the law of spilling: a parameter that is recorded lives across one outside call, which moves it. All premises of
 -- the law hold at once, and both runs return the moved number. Where the call's stack map lacks the entry, the function is no
 -- spilling, and returns the number that was passed. Own; the collector is that of the worked calls: it adds 16.
-use Rattle.std.specs.Prelude.{◌≡◌, ◌||◌, ◌==◌, ℕ, suc, zero, if◌then◌else◌, Bool, List, [], ◌∷◌, length, None, Some, pos}
-use Rattle.clif_types.specs.declared.call_conv.CallConv.TheVariants.{SystemV}
+use Rattle.std.specs.Prelude.{◌≡◌, ℕ, suc, zero, List, [], ◌∷◌, length, Some}
 use Rattle.clif_types.specs.declared.stackmap.UserStackMapEntry.{UserStackMapEntry}
-use Rattle.clif_types.specs.declared.types.«Type».{«Type»}
 use Rattle.clif_types.specs.declared.types.«Type».TheVariants as type
-use Rattle.clif_types.specs.Signature.{SignatureShape}
 use Rattle.clif_types.specs.StackSlot.{StackSlotShape}
 use Rattle.clif_meaning.specs.Bits.{Bits, value_of_bytes}
 use Rattle.clif_meaning.specs.CallExamples.{i64}
 use Rattle.clif_meaning.specs.FunctionMachine.{function_machine}
 use Rattle.clif_meaning.specs.FunctionView.{BlockView, FunctionView, Placed}
-use Rattle.clif_meaning.specs.Instruction.{Call, Return}
-use Rattle.clif_meaning.specs.Machine.{Ending, Returned, observed, state_after}
+use Rattle.clif_meaning.specs.Instruction.{Call}
+use Rattle.clif_meaning.specs.Machine.{observed, state_after}
 use Rattle.clif_meaning.specs.Memory.{bytes_in}
 use Rattle.clif_meaning.specs.SameMeaning.{Behaviour, SameMeaning}
 use Rattle.clif_meaning.specs.World.{World}
-use Rattle.clif_spilling_laws.specs.Examples.{address_of_slot, callee, empty_block, every, load_from, no_signature, only_first, store_in, the_entry}
+use Rattle.clif_spilling_laws.specs.ExampleParts.{address_of_slot, callee, empty_block, every, load_from, no_signature, only_first, passes_one, returned_bits, returns_value, store_in, the_entry}
 use Rattle.clif_spilling_laws.specs.Laws.{MaySpill}
 use Rattle.clif_spilling_laws.specs.Rewriting.{IsSpilling}
 use Rattle.clif_spilling_laws.specs.Runs.{IsMetBy, after_run, before_run, slot_range}
 use Rattle.clif_spilling_laws.specs.Spilling.{Spilling, plain_item}
 
--- the function takes an `i64`, and returns one
-abbrev pub passes_one : SignatureShape
-passes_one = record { params = record { value_type = i64 } ∷ []; returns = record { value_type = i64 } ∷ []; call_conv = SystemV }
-
 -- the call `fn0()`, with its stack map
 abbrev pub calls_with : List UserStackMapEntry → Placed
 calls_with entries = record (plain_item (Call callee no_signature) type.Invalid [] []) { stack_map = entries }
-
-abbrev pub returns_value : ℕ → Placed
-returns_value value = plain_item Return type.Invalid (value ∷ []) []
 
 -- The function before:
 --     block0(v0: i64):
@@ -87,11 +77,6 @@ shown_before world = observed (function_machine (before_run moved_spilling only_
 
 abbrev pub shown_after : List UserStackMapEntry → World → Behaviour
 shown_after entries world = observed (function_machine (after_run (moved_with entries) world))
-
--- the bits that a run returned
-abbrev pub returned_bits : Ending → List Bits
-returned_bits (Returned results memory) = results
-returned_bits _ = []
 
 -- what the slot holds after some steps of the run after
 abbrev pub slot_after : World → ℕ → Bits

@@ -18,9 +18,8 @@ use Rattle.clif_meaning.specs.Instruction.{Call, Compute, Iconst, Load, Return, 
 use Rattle.clif_meaning.specs.Machine.{observed}
 use Rattle.clif_meaning.specs.SameMeaning.{Behaviour, SameMeaning}
 use Rattle.clif_meaning.specs.World.{World}
-use Rattle.clif_spilling_laws.specs.Examples.{address_of_slot, callee, empty_block, every, no_signature}
+use Rattle.clif_spilling_laws.specs.ExampleParts.{address_of_slot, callee, empty_block, every, no_signature}
 use Rattle.clif_spilling_laws.specs.Laws.{MaySpill}
-use Rattle.clif_spilling_laws.specs.Live.{SharesNoSlot}
 use Rattle.clif_spilling_laws.specs.Rewriting.{IsSpilling}
 use Rattle.clif_spilling_laws.specs.Runs.{IsMetBy, after_run, before_run}
 use Rattle.clif_spilling_laws.specs.Spilling.{Spilling, plain_item, trusted}

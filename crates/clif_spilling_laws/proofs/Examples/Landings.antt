@@ -1,12 +1,12 @@
 -- The try call with two landing blocks.
-use Rattle.std.proofs.Common.{◌≡◌, ◌⊎◌, ◌<◌, ◌≤◌, inl, inr, ℕ, zero, suc, Bool, true, false, List, [], ◌∷◌, refl, sym, ap, subst, ◌∙◌, arith, Option, Some, None}
+use Rattle.std.proofs.Common.{◌≡◌, ◌⊎◌, ◌<◌, ◌≤◌, inl, inr, ℕ, zero, suc, true, List, [], ◌∷◌, refl, sym, ap, subst, ◌∙◌, arith, Option, None}
 use Rattle.std.specs.Prelude.{Contains, slice_get}
 use Rattle.std.specs.List.{AllByRecursion}
 use Rattle.clif_meaning.specs.Bits.{AreValues, Bits}
 use Rattle.clif_meaning.specs.CallExamples.{i64}
 use Rattle.clif_meaning.specs.FunctionMachine.{FunctionState}
 use Rattle.clif_meaning.specs.FunctionView.{Placed}
-use Rattle.clif_meaning.specs.Instruction.{Argument, Known, CallResult, Edge}
+use Rattle.clif_meaning.specs.Instruction.{Known, Edge}
 use Rattle.clif_meaning.specs.Path.{IsReachable, Place}
 use Rattle.clif_meaning.specs.Typing.{EdgesMatch}
 use Rattle.clif_meaning.specs.WellPlaced.{WellPlaced, function_code, function_flow, given_on_entry, placed_at, placed_gives, placed_names, placed_passes, placed_targets}
@@ -14,20 +14,20 @@ use Rattle.clif_meaning.specs.World.{World}
 use Rattle.clif_safepoints.specs.Analysis.{IsReached}
 use Rattle.clif_safepoints.specs.Liveness.{IsLiveAcross}
 use Rattle.clif_typed_runs.specs.ValuesFit.{IsFunctionTyped, IsPlacedTyped}
+use Rattle.clif_spilling_laws.specs.ExampleParts.{every, only_first, reload_of, returns_value, the_entry}
 use Rattle.clif_spilling_laws.specs.EdgeLaws.{LeadsInside}
-use Rattle.clif_spilling_laws.specs.Examples.{every, narrows, normal_edge, only_first, reload_of, the_entry, tries_along}
+use Rattle.clif_spilling_laws.specs.Examples.{narrows, normal_edge, tries_along}
 use Rattle.clif_spilling_laws.specs.LandingsExample.{LandingsExample, LandsInBoth, default_edge, default_landing, forked, forked_blocks, normal_landing}
 use Rattle.clif_spilling_laws.specs.Laws.{MaySpill}
 use Rattle.clif_spilling_laws.specs.Live.{IsLiveAcrossCall, IsSlotOf, counted, place_at}
-use Rattle.clif_spilling_laws.specs.MovedExample.{returns_value}
 use Rattle.clif_spilling_laws.specs.Rewriting.{IsLandingBlock, IsRewrittenBlock, IsSpilling, Lands}
 use Rattle.clif_spilling_laws.specs.Runs.{IsMetBy, SparesHidden, before_run}
 use Rattle.clif_spilling_laws.specs.Spilling.{IsNew, Reload, Spilling}
 use Rattle.clif_spilling_laws.proofs.Examples.Parts.{alone, exact_first, first_alone, kept_return, no_way, one_of_two, one_reload, reads_copy, some_number}
 use Rattle.clif_spilling_laws.proofs.Examples.Worlds.{met_by, passing, places_one, throwing}
-use Rattle.clif_spilling_laws.proofs.Lists.{contains_first, contains_more, contains_none}
-use Rattle.clif_spilling_laws.proofs.Matching.{edges_stay_matched}
-use Rattle.clif_spilling_laws.proofs.Simulating.{means_the_same}
+use Rattle.clif_spilling_laws.proofs.Basics.Lists.{contains_first, contains_more, contains_none}
+use Rattle.clif_spilling_laws.proofs.Functions.Matching.{edges_stay_matched}
+use Rattle.clif_spilling_laws.proofs.Forward.Simulating.{means_the_same}
 
 abbrev s : Spilling
 s = forked

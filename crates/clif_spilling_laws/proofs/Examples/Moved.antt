@@ -1,38 +1,35 @@
 -- The worked world: a parameter that an outside call moves.
-use Rattle.std.proofs.Common.{◌≡◌, ◌⊎◌, ◌<◌, ◌≤◌, ◌+◌, ◌%◌, ◌^◌, inl, inr, ℕ, zero, suc, Bool, true, false, List, [], ◌∷◌, drop, refl, sym, ap, subst, ◌∙◌, arith, Option, Some, None}
+use Rattle.std.proofs.Common.{◌≡◌, ◌⊎◌, ◌<◌, inl, inr, ℕ, zero, suc, List, [], ◌∷◌, drop, refl, sym, ap, subst, ◌∙◌, arith, None}
 use Rattle.std.specs.Prelude.{Contains, pos, slice_get}
 use Rattle.std.specs.List.{AllByRecursion}
 use Rattle.clif_opcodes.specs.declared.opcodes.StackOpcode.TheVariants.{StackAddr}
-use Rattle.clif_types.specs.StackSlot.{StackSlotShape}
-use Rattle.clif_types.specs.declared.stackmap.UserStackMapEntry.{UserStackMapEntry}
 use Rattle.clif_meaning.specs.Bits.{Bits}
-use Rattle.clif_meaning.specs.FunctionMachine.{FunctionRun, FunctionState, function_machine}
+use Rattle.clif_meaning.specs.FunctionMachine.{FunctionRun, FunctionState}
 use Rattle.clif_meaning.specs.FunctionView.{Placed}
 use Rattle.clif_meaning.specs.Instruction.{Call, Stack}
-use Rattle.clif_meaning.specs.Machine.{Observation, state_after}
+use Rattle.clif_meaning.specs.Machine.{Observation}
 use Rattle.clif_meaning.specs.Path.{IsReachable, Place}
 use Rattle.clif_meaning.specs.SameMeaning.{SameMeaning}
 use Rattle.clif_meaning.specs.Typing.{EdgesMatch}
 use Rattle.clif_meaning.specs.WellPlaced.{WellPlaced, function_flow, placed_at, placed_gives, placed_names, placed_passes, placed_targets}
-use Rattle.clif_meaning.specs.World.{World, PlacesSlots}
+use Rattle.clif_meaning.specs.World.{World}
 use Rattle.clif_meaning.proofs.Endings
 use Rattle.clif_meaning.proofs.WorkedExamples.{other_ends}
 use Rattle.clif_safepoints.specs.Analysis.{IsReached}
 use Rattle.clif_safepoints.specs.Liveness.{IsLiveAcross}
 use Rattle.clif_typed_runs.specs.ValuesFit.{IsFunctionTyped, IsPlacedTyped}
-use Rattle.clif_spilling_laws.specs.Examples.{address_of_slot, callee, every, load_from, no_signature, only_first, reload_of, the_entry}
-use Rattle.clif_spilling_laws.specs.GivesOnce.{GivesOnce}
+use Rattle.clif_spilling_laws.specs.ExampleParts.{address_of_slot, callee, every, load_from, no_signature, only_first, reload_of, returned_bits, returns_value, the_entry}
 use Rattle.clif_spilling_laws.specs.Laws.{MaySpill}
-use Rattle.clif_spilling_laws.specs.Live.{IsLiveAcrossCall, IsLiveBefore, IsSlotOf, SpillsLive, counted, place_at}
-use Rattle.clif_spilling_laws.specs.MovedExample.{MovedExample, MovesInSlot, calls_with, moved_blocks, moved_spilling, moved_with, returned_bits, returns_value, shown_after, shown_before}
-use Rattle.clif_spilling_laws.specs.Rewriting.{AreRewritten, IsExactMap, IsLandingBlock, IsRewrittenBlock, IsRewrittenItem, IsSpilling, entry_of}
-use Rattle.clif_spilling_laws.specs.Runs.{GivesEach, IsInOrder, IsInOrderThroughout, IsMetBy, SparesHidden, before_run, outcome_in}
-use Rattle.clif_spilling_laws.specs.Spilling.{AreStores, IsStore, Reload, address_item, SlotAccess, Spilling, reload_items, store_items}
-use Rattle.clif_spilling_laws.proofs.Examples.Parts.{alone, exact_first, first_alone, first_member, no_way, not_exact, one_reload, reads_copy, some_number}
+use Rattle.clif_spilling_laws.specs.Live.{IsLiveAcrossCall, IsLiveBefore, IsSlotOf, counted, place_at}
+use Rattle.clif_spilling_laws.specs.MovedExample.{MovedExample, MovesInSlot, calls_with, moved_blocks, moved_spilling, moved_with, shown_after, shown_before}
+use Rattle.clif_spilling_laws.specs.Rewriting.{AreRewritten, IsExactMap, IsLandingBlock, IsRewrittenBlock, IsRewrittenItem, IsSpilling}
+use Rattle.clif_spilling_laws.specs.Runs.{IsMetBy, SparesHidden, before_run}
+use Rattle.clif_spilling_laws.specs.Spilling.{AreStores, Reload, address_item, SlotAccess, Spilling, reload_items, store_items}
+use Rattle.clif_spilling_laws.proofs.Examples.Parts.{alone, exact_first, first_alone, first_member, no_way, not_exact, one_reload, reads_copy}
 use Rattle.clif_spilling_laws.proofs.Examples.Straight.{parameter_along}
 use Rattle.clif_spilling_laws.proofs.Examples.Worlds.{met_by, passing, places_one}
-use Rattle.clif_spilling_laws.proofs.Lists.{contains_first, contains_none}
-use Rattle.clif_spilling_laws.proofs.Simulating.{means_the_same}
+use Rattle.clif_spilling_laws.proofs.Basics.Lists.{contains_first, contains_none}
+use Rattle.clif_spilling_laws.proofs.Forward.Simulating.{means_the_same}
 
 abbrev s : Spilling
 s = moved_spilling

@@ -1,17 +1,15 @@
 -- What the worked examples share: lists of one or two members, a reload of a value, an exact map with one entry or none, and what is
 -- left as it is.
-use Rattle.std.proofs.Common.{◌≡◌, ◌⊎◌, ◌<◌, ◌≤◌, inl, inr, ℕ, Bool, true, false, List, [], ◌∷◌, map, refl, sym, ap, subst, ◌∙◌, arith, Option, Some, None}
+use Rattle.std.proofs.Common.{◌≡◌, ◌⊎◌, inl, inr, ℕ, Bool, true, false, List, [], ◌∷◌, map, refl, sym, subst, arith, Option, Some}
 use Rattle.std.specs.Prelude.{Contains}
 use Rattle.std.proofs.lemmas.Bool.{eqb-true}
-use Rattle.clif_types.specs.declared.stackmap.UserStackMapEntry.{UserStackMapEntry}
 use Rattle.clif_meaning.specs.Path.{Place}
 use Rattle.clif_safepoints.specs.Liveness.{IsLiveAcross}
-use Rattle.clif_spilling_laws.specs.Examples.{every, only_first, reload_of}
+use Rattle.clif_spilling_laws.specs.ExampleParts.{every, only_first, reload_of, returns_value}
 use Rattle.clif_spilling_laws.specs.Live.{counted}
-use Rattle.clif_spilling_laws.specs.MovedExample.{returns_value}
 use Rattle.clif_spilling_laws.specs.Rewriting.{IsExactMap, IsRead, IsRewrittenItem, entry_of}
 use Rattle.clif_spilling_laws.specs.Spilling.{AreReloads, IsNew, Spilling}
-use Rattle.clif_spilling_laws.proofs.Lists.{contains_cases, contains_first, contains_none}
+use Rattle.clif_spilling_laws.proofs.Basics.Lists.{contains_cases, contains_first, contains_none}
 
 pub no_way : true ≡ false → ⊥
 no_way e = cc

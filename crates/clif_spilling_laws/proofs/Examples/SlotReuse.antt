@@ -1,9 +1,9 @@
 -- The row `slot_reuse`: it is a spilling, its two values live one after the other, and there is a world.
-use Rattle.std.proofs.Common.{◌≡◌, ◌⊎◌, ◌<◌, ◌≤◌, ◌+◌, inl, inr, ℕ, zero, suc, Bool, true, false, List, [], ◌∷◌, length, refl, sym, ap, subst, ◌∙◌, arith, Option, Some, None}
+use Rattle.std.proofs.Common.{◌≡◌, ◌⊎◌, ◌<◌, ◌≤◌, ◌+◌, inl, inr, ℕ, zero, suc, Bool, true, false, List, [], ◌∷◌, length, refl, sym, subst, ◌∙◌, arith, Option, None}
 use Rattle.std.specs.Prelude.{Contains, slice_get}
 use Rattle.std.specs.List.{AllByRecursion}
 use Rattle.clif_types.specs.declared.stackmap.UserStackMapEntry.{UserStackMapEntry}
-use Rattle.clif_meaning.specs.FunctionMachine.{FunctionRun, FunctionState}
+use Rattle.clif_meaning.specs.FunctionMachine.{FunctionState}
 use Rattle.clif_meaning.specs.FunctionView.{Placed}
 use Rattle.clif_meaning.specs.Path.{IsPath, Leads, Place}
 use Rattle.clif_meaning.specs.Typing.{EdgesMatch}
@@ -12,18 +12,18 @@ use Rattle.clif_meaning.specs.World.{World}
 use Rattle.clif_safepoints.specs.Analysis.{IsReached}
 use Rattle.clif_safepoints.specs.Liveness.{IsLiveAcross, IsPassed, IsUsedAhead, used_operands}
 use Rattle.clif_typed_runs.specs.ValuesFit.{IsFunctionTyped, IsPlacedTyped}
-use Rattle.clif_spilling_laws.specs.Examples.{every, reload_of}
+use Rattle.clif_spilling_laws.specs.ExampleParts.{every, reload_of}
 use Rattle.clif_spilling_laws.specs.Laws.{MaySpill}
 use Rattle.clif_spilling_laws.specs.Live.{IsLiveAcrossCall, IsLiveAfter, IsLiveBefore, IsSlotOf, counted, place_at}
-use Rattle.clif_spilling_laws.specs.Rewriting.{AreRewritten, IsExactMap, IsLandingBlock, IsRewrittenBlock, IsRewrittenItem, IsSpilling, entry_of}
+use Rattle.clif_spilling_laws.specs.Rewriting.{AreRewritten, IsExactMap, IsLandingBlock, IsRewrittenBlock, IsRewrittenItem, IsSpilling}
 use Rattle.clif_spilling_laws.specs.Runs.{IsMetBy, SparesHidden, before_run}
 use Rattle.clif_spilling_laws.specs.SlotReuseExample.{SlotIsReused, SlotReuseExample, calls_on, first_two, gives_number, number_entry, pairs_of_calls, returns_nothing, reuse}
-use Rattle.clif_spilling_laws.specs.Spilling.{IsNew, IsStore, IsStoredIf, SlotAccess, Spilling, reload_items, store_items}
+use Rattle.clif_spilling_laws.specs.Spilling.{IsNew, IsStore, IsStoredIf, Spilling, reload_items, store_items}
 use Rattle.clif_spilling_laws.proofs.Examples.Parts.{alone, exact_none, exact_one, no_way, one_reload, reads_copy}
 use Rattle.clif_spilling_laws.proofs.Examples.Straight.{given_along, goes_next, in_entry, reach}
 use Rattle.clif_spilling_laws.proofs.Examples.Worlds.{met_by, passing, places_one}
-use Rattle.clif_spilling_laws.proofs.Lists.{contains_first, contains_none}
-use Rattle.clif_spilling_laws.proofs.Simulating.{means_the_same}
+use Rattle.clif_spilling_laws.proofs.Basics.Lists.{contains_first, contains_none}
+use Rattle.clif_spilling_laws.proofs.Forward.Simulating.{means_the_same}
 
 abbrev s : Spilling
 s = reuse

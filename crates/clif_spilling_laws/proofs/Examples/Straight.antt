@@ -1,12 +1,12 @@
 -- Functions of one block, which no instruction leaves by an edge: what is given before a place on every path to it.
-use Rattle.std.proofs.Common.{◌≡◌, ◌⊎◌, ◌<◌, ◌≤◌, ◌+◌, inl, inr, ℕ, zero, suc, List, [], ◌∷◌, length, refl, sym, ap, subst, ◌∙◌, arith, Option, Some}
+use Rattle.std.proofs.Common.{◌≡◌, ◌⊎◌, ◌<◌, ◌+◌, inl, inr, ℕ, zero, suc, List, [], ◌∷◌, length, refl, sym, subst, ◌∙◌, arith, Some}
 use Rattle.std.specs.Prelude.{Contains}
 use Rattle.clif_meaning.specs.FunctionView.{FunctionView}
 use Rattle.clif_meaning.specs.Path.{IsPath, IsReachable, Leads, Place}
 use Rattle.clif_meaning.specs.WellPlaced.{IsGivenAlong, function_code, function_flow, given_on_entry, placed_at, placed_gives, placed_targets}
 use Rattle.clif_spilling_laws.specs.Live.{place_at}
 use Rattle.clif_spilling_laws.proofs.Examples.Parts.{some_number}
-use Rattle.clif_spilling_laws.proofs.Lists.{contains_none}
+use Rattle.clif_spilling_laws.proofs.Basics.Lists.{contains_none}
 
 module _ (function : FunctionView) (none : (p : Place ℕ) → placed_targets (placed_at function p) ≡ []) (entry : function.entry ≡ Some 0) where
   -- control goes to the next place of the block alone

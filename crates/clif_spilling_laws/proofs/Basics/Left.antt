@@ -69,11 +69,18 @@ module _ (run : FunctionRun) (P : Placed → Type 0) (each : (block : ℕ) → A
   pub next_is : (n : ℕ) → OfNextPlaced P (state_after (function_machine run) n).control
   next_is n = left_next (state_after (function_machine run) n).control (all_left n)
 
--- what follows from two things said of the next instruction
-pub next_follows : (P Q R : Placed → Type 0) (control : Control Placed) → ((placed : Placed) → P placed → Q placed → R placed)
-    → OfNextPlaced P control → OfNextPlaced Q control → OfNextPlaced R control
-next_follows P Q R (At []) follows first second = tt
-next_follows P Q R (At (placed ∷ rest)) follows first second = follows placed first second
-next_follows P Q R (HasReturned results) follows first second = tt
-next_follows P Q R (HasTrapped reason) follows first second = tt
-next_follows P Q R IsStuck follows first second = tt
+-- what follows from what is said of the next instruction
+pub next_follows : (P Q : Placed → Type 0) (control : Control Placed) → ((placed : Placed) → P placed → Q placed) → OfNextPlaced P control → OfNextPlaced Q control
+next_follows P Q (At []) follows is = tt
+next_follows P Q (At (placed ∷ rest)) follows is = follows placed is
+next_follows P Q (HasReturned results) follows is = tt
+next_follows P Q (HasTrapped reason) follows is = tt
+next_follows P Q IsStuck follows is = tt
+
+pub next_both : (P Q : Placed → Type 0) (control : Control Placed) → OfNextPlaced P control → OfNextPlaced Q control
+    → OfNextPlaced (λ placed. P placed × Q placed) control
+next_both P Q (At []) first second = tt
+next_both P Q (At (placed ∷ rest)) first second = (first, second)
+next_both P Q (HasReturned results) first second = tt
+next_both P Q (HasTrapped reason) first second = tt
+next_both P Q IsStuck first second = tt

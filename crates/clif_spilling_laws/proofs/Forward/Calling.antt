@@ -1,6 +1,6 @@
 -- An outside call: both runs show the same event, what is live across it moves in the slots as it moves in the values, and memory
 -- outside spill slots is the world's.
-use Rattle.std.proofs.Common.{◌≡◌, ◌⊎◌, ◌<◌, ◌==◌, ◌&&◌, inl, inr, ℕ, Bool, true, false, List, [], ◌∷◌, map, refl, sym, ap, subst, ◌∙◌, Option, Some, None}
+use Rattle.std.proofs.Common.{◌≡◌, ◌⊎◌, ◌<◌, ◌==◌, ◌&&◌, inl, inr, ℕ, Bool, true, false, List, ◌∷◌, refl, sym, ap, ◌∙◌, Some}
 use Rattle.std.specs.Prelude.{Contains, if◌then◌else◌}
 use Rattle.std.proofs.Math.Path.{fun_ext}
 use Rattle.std.proofs.lemmas.Bool.{and_parts, eqb-true, eq-eqb}
@@ -9,7 +9,7 @@ use Rattle.clif_types.specs.declared.stackmap.UserStackMapEntry.{UserStackMapEnt
 use Rattle.clif_types.specs.declared.types.«Type».{«Type»}
 use Rattle.clif_meaning.specs.Bits.{Bits, IsValue, value_bytes, value_of_bytes}
 use Rattle.clif_meaning.specs.Event.{CallShape, Callee, Event}
-use Rattle.clif_meaning.specs.FunctionMachine.{FunctionRun, FunctionState, call_outside, entries_moved}
+use Rattle.clif_meaning.specs.FunctionMachine.{FunctionState, call_outside, entries_moved}
 use Rattle.clif_meaning.specs.FunctionView.{Placed}
 use Rattle.clif_meaning.specs.Memory.{Memory, bytes_in}
 use Rattle.clif_meaning.specs.Path.{IsReachable}
@@ -19,15 +19,15 @@ use Rattle.clif_meaning.specs.WellPlaced.{function_flow, placed_at}
 use Rattle.clif_meaning.specs.World.{World}
 use Rattle.clif_safepoints.specs.Liveness.{IsLiveAcross}
 use Rattle.clif_spilling_laws.specs.Live.{IsLiveAcrossCall, IsSlotOf, counted, place_at}
-use Rattle.clif_spilling_laws.specs.Rewriting.{IsExactMap, entry_of}
+use Rattle.clif_spilling_laws.specs.Rewriting.{IsExactMap}
 use Rattle.clif_spilling_laws.specs.Runs.{in_spill_slots, slot_range}
 use Rattle.clif_spilling_laws.specs.Spilling.{Spilling}
-use Rattle.clif_spilling_laws.proofs.Entering.{L, R, slots}
-use Rattle.clif_spilling_laws.proofs.Lists.{true_false, true_or_false}
-use Rattle.clif_spilling_laws.proofs.Maps.{each_moved}
-use Rattle.clif_spilling_laws.proofs.Relation.{Held, SeenAlike, Setting}
-use Rattle.clif_spilling_laws.proofs.Slots.{same_in_slot, spelled_back}
-use Rattle.clif_spilling_laws.proofs.Storing.{HoldsIn}
+use Rattle.clif_spilling_laws.proofs.Forward.Entering.{L, R, slots}
+use Rattle.clif_spilling_laws.proofs.Basics.Lists.{true_false, true_or_false}
+use Rattle.clif_spilling_laws.proofs.Memory.Maps.{each_moved}
+use Rattle.clif_spilling_laws.proofs.Forward.Relation.{Held, SeenAlike, Setting}
+use Rattle.clif_spilling_laws.proofs.Memory.Slots.{same_in_slot, spelled_back}
+use Rattle.clif_spilling_laws.proofs.Memory.Storing.{HoldsIn}
 
 -- what is shown of two memories that are alike outside hidden addresses
 pub shown_alike : (hidden : ℕ → Bool) (left right : Memory) → ((a : ℕ) → hidden a ≡ false → left a ≡ right a) → shown_memory hidden left ≡ shown_memory hidden right

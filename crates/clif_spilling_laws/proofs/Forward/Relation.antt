@@ -1,10 +1,9 @@
 -- States of the two runs that agree: the simulation's relation, and what it gives of single values.
-use Rattle.std.proofs.Common.{◌≡◌, ◌⊎◌, ◌<◌, inl, inr, ℕ, Bool, true, false, List, [], ◌∷◌, drop, refl, sym, ap, subst, ◌∙◌, Option, Some, None}
-use Rattle.std.specs.Prelude.{Contains}
-use Rattle.clif_types.specs.Types.{bits_of, bytes_of}
-use Rattle.clif_meaning.specs.Bits.{Bits, value_bytes}
+use Rattle.std.proofs.Common.{◌≡◌, ◌⊎◌, ◌<◌, ℕ, Bool, true, false, List, [], ◌∷◌, drop, sym, ◌∙◌, Option, Some, None}
+use Rattle.clif_types.specs.Types.{bits_of}
+use Rattle.clif_meaning.specs.Bits.{Bits}
 use Rattle.clif_meaning.specs.Event.{CallShape, Event}
-use Rattle.clif_meaning.specs.FunctionMachine.{FunctionRun, FunctionState}
+use Rattle.clif_meaning.specs.FunctionMachine.{FunctionState}
 use Rattle.clif_meaning.specs.FunctionView.{Placed}
 use Rattle.clif_meaning.specs.Machine.{Control, At, HasReturned, HasTrapped, IsStuck}
 use Rattle.clif_meaning.specs.Memory.{Memory}
@@ -15,13 +14,13 @@ use Rattle.clif_meaning.specs.World.{World, PlacesSlots}
 use Rattle.clif_typed_runs.specs.Laws.{OfNextPlaced}
 use Rattle.clif_spilling_laws.specs.Accesses.{state_of}
 use Rattle.clif_spilling_laws.specs.Laws.{MaySpill}
-use Rattle.clif_spilling_laws.specs.Live.{IsLiveBefore, IsSlotOf, place_at}
+use Rattle.clif_spilling_laws.specs.Live.{IsLiveBefore, place_at}
 use Rattle.clif_spilling_laws.specs.Rewriting.{AreRewritten, IsSpilling}
-use Rattle.clif_spilling_laws.specs.Runs.{after_run, before_run, in_spill_slots, slot_range}
+use Rattle.clif_spilling_laws.specs.Runs.{in_spill_slots}
 use Rattle.clif_spilling_laws.specs.SlotContents.{HoldsAtCall}
 use Rattle.clif_spilling_laws.specs.Spilling.{Spilling}
-use Rattle.clif_spilling_laws.proofs.Passing.{BeginsQuietly}
-use Rattle.clif_spilling_laws.proofs.Storing.{HoldsIn}
+use Rattle.clif_spilling_laws.proofs.Basics.Passing.{BeginsQuietly}
+use Rattle.clif_spilling_laws.proofs.Memory.Storing.{HoldsIn}
 
 -- what the law asks, but for the runs
 pub record Setting (counts : ℕ → ℕ → Bool) (members : ℕ → Bool) (s : Spilling) (world : World) : Type 0 where

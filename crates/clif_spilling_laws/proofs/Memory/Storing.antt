@@ -1,6 +1,6 @@
 -- The stores of values that are just given run: the slot of each one that is needed holds it, and the slots of the others that are
 -- needed, all old values, and memory outside spill slots stay.
-use Rattle.std.proofs.Common.{◌≡◌, ◌⊎◌, ◌<◌, ◌≤◌, inl, inr, ℕ, Bool, true, false, List, [], ◌∷◌, refl, sym, ap, subst, ◌∙◌, arith}
+use Rattle.std.proofs.Common.{◌≡◌, ◌⊎◌, ◌<◌, inl, inr, ℕ, Bool, true, false, List, [], ◌∷◌, refl, sym, ap, subst, ◌∙◌, arith}
 use Rattle.std.specs.Prelude.{Contains}
 use Rattle.clif_types.specs.Types.{bits_of, bytes_of}
 use Rattle.clif_meaning.specs.Bits.{Bits, value_bytes}
@@ -16,11 +16,11 @@ use Rattle.clif_spilling_laws.specs.Accesses.{state_of, stored}
 use Rattle.clif_spilling_laws.specs.Live.{AreApart, IsSlotOf}
 use Rattle.clif_spilling_laws.specs.Runs.{after_run, in_spill_slots, slot_range}
 use Rattle.clif_spilling_laws.specs.Spilling.{AreStores, IsStore, IsStoredIf, SlotAccess, Spilling, store_item, store_items}
-use Rattle.clif_spilling_laws.proofs.Accesses.{address_step, store_step}
-use Rattle.clif_spilling_laws.proofs.Lists.{assigned_one, contains_cases, contains_first, contains_more, contains_none, member_or_not, true_false}
-use Rattle.clif_spilling_laws.proofs.Passing.{BeginsQuietly, Passes, passes_nothing, passes_some, passes_step}
-use Rattle.clif_spilling_laws.proofs.Reloading.{assigned_apart}
-use Rattle.clif_spilling_laws.proofs.Slots.{other_stays, seen_outside, stored_is_there}
+use Rattle.clif_spilling_laws.proofs.Memory.Accesses.{address_step, store_step}
+use Rattle.clif_spilling_laws.proofs.Basics.Lists.{assigned_one, contains_cases, contains_first, contains_more, contains_none, member_or_not, true_false}
+use Rattle.clif_spilling_laws.proofs.Basics.Passing.{BeginsQuietly, Passes, passes_nothing, passes_some, passes_step}
+use Rattle.clif_spilling_laws.proofs.Memory.Reloading.{assigned_apart}
+use Rattle.clif_spilling_laws.proofs.Memory.Slots.{other_stays, seen_outside, stored_is_there}
 
 -- the slot of a value holds these bits
 abbrev pub HoldsIn : Spilling → World → Memory → ℕ → Bits → Type 0

@@ -1,32 +1,24 @@
 -- The worked examples of spilling, and the wrong ones that are refused.
-use Rattle.std.proofs.Common.{◌≡◌, ◌⊎◌, ◌<◌, ◌≤◌, inl, inr, ℕ, zero, suc, Bool, true, false, List, [], ◌∷◌, map, refl, sym, ap, subst, ◌∙◌, arith, Option, None, Some}
+use Rattle.std.proofs.Common.{◌≡◌, ◌⊎◌, ◌<◌, ◌≤◌, inl, inr, ℕ, zero, suc, false, List, [], ◌∷◌, refl, sym, ap, subst, ◌∙◌, arith, None, Some}
 use Rattle.std.specs.Prelude.{Contains, slice_get}
-use Rattle.std.specs.List.{AllByRecursion}
-use Rattle.std.proofs.lemmas.Bool.{eqb-true}
-use Rattle.clif_types.specs.declared.stackmap.UserStackMapEntry.{UserStackMapEntry}
-use Rattle.clif_meaning.specs.FunctionView.{FunctionView}
-use Rattle.clif_meaning.specs.Instruction.{Argument, Known, CallResult, Edge}
+use Rattle.clif_meaning.specs.Instruction.{Argument, Known, CallResult}
 use Rattle.clif_meaning.specs.Path.{IsReachable, Place}
-use Rattle.clif_meaning.specs.Typing.{EachEdgeMatches, EdgesMatch, call_shape, value_types_at}
+use Rattle.clif_meaning.specs.Typing.{EdgesMatch}
 use Rattle.clif_meaning.specs.WellPlaced.{WellPlaced, function_code, function_flow, given_on_entry, placed_gives, placed_names, placed_passes, placed_targets}
 use Rattle.clif_safepoints.specs.Analysis.{IsReached}
 use Rattle.clif_safepoints.specs.Liveness.{IsLiveAcross}
-use Rattle.clif_spilling_laws.specs.Examples.{SpillingExamples, every, given_twice, landing_edge, narrows, normal_edge, one_slot, only_first, reload_of, spilled_blocks, the_entry, tries, try_blocks, try_spilling, two_live, view_with}
+use Rattle.clif_spilling_laws.specs.ExampleParts.{every, only_first, reload_of, the_entry}
+use Rattle.clif_spilling_laws.specs.Examples.{SpillingExamples, given_twice, landing_edge, narrows, normal_edge, one_slot, tries, try_blocks, try_spilling, view_with}
 use Rattle.clif_spilling_laws.specs.GivesOnce.{GivesOnce}
 use Rattle.clif_spilling_laws.specs.Laws.{MaySpill}
 use Rattle.clif_spilling_laws.specs.Live.{IsLiveAcrossCall, IsLiveAfter, IsLiveBefore, IsSlotOf, SharesNoSlot, SpillsLive, counted, place_at}
-use Rattle.clif_spilling_laws.specs.Rewriting.{AreRewritten, IsCopied, IsExactMap, IsKept, IsLandingBlock, IsLedOn, IsLeft, IsNamed, IsRead, IsRewritten, IsRewrittenBlock, IsRewrittenItem, IsSpilling, Lands, LeadsStraight, entry_of}
-use Rattle.clif_spilling_laws.specs.Spilling.{AreReloads, IsReload, IsStore, Reload, SlotAccess, Spilling}
-use Rattle.clif_spilling_laws.proofs.Lists.{contains_cases, contains_first, contains_more, contains_none, true_false}
+use Rattle.clif_spilling_laws.specs.Rewriting.{IsCopied, IsExactMap, IsKept, IsLandingBlock, IsLedOn, IsLeft, IsNamed, IsRead, IsRewrittenBlock, IsSpilling, Lands}
+use Rattle.clif_spilling_laws.specs.Spilling.{IsNew, Reload, SlotAccess, Spilling}
+use Rattle.clif_spilling_laws.proofs.Examples.Parts.{alone, exact_first, first_alone, kept_return, no_way, not_exact, one_of_two, one_reload, reads_copy, some_number}
+use Rattle.clif_spilling_laws.proofs.Basics.Lists.{contains_first, contains_more, contains_none}
 
 abbrev s : Spilling
 s = try_spilling
-
-no_way : true ≡ false → ⊥
-no_way e = cc
-
-first_alone : (v : ℕ) → only_first v ≡ true → v ≡ 0
-first_alone v is = eqb-true v 0 is
 
 reached_entry : IsReachable (function_flow s.before) (place_at 0 0)
 reached_entry = ([], (refl, (refl, omega arith)))
@@ -51,84 +43,40 @@ across_first = record {
 spilled : SpillsLive every only_first s
 spilled v = (λ is. subst (λ (w : ℕ). IsLiveAcrossCall every only_first s.before w) (sym (first_alone v is)) across_first, λ across. across.member)
 
--- RELOADS AND STORES ----------------------------------------------------------------------------------------------------
+-- RELOADS ------------------------------------------------------------------------------------------------------------
 
-before_call : AreReloads s (reload_of 0 6 7 ∷ [])
-before_call = (
-  record {
-    spilled = refl;
-    address = record { beyond = omega arith; typed = refl; itself = refl };
-    copy = record { beyond = omega arith; typed = refl; itself = refl };
-  },
-  λ y h. absurd (contains_none y h),
-  tt,
-)
-
-when_landed : AreReloads s (reload_of 0 3 4 ∷ [])
-when_landed = (
-  record {
-    spilled = refl;
-    address = record { beyond = omega arith; typed = refl; itself = refl };
-    copy = record { beyond = omega arith; typed = refl; itself = refl };
-  },
-  λ y h. absurd (contains_none y h),
-  tt,
-)
-
-reads_copy : (address copy : ℕ) → s.after.value_type copy ≡ s.before.value_type 0 → IsRead s (reload_of 0 address copy ∷ []) 0 copy
-reads_copy address copy typed = record {
-  typed = λ aliases. typed;
-  how = inl (refl, reload_of 0 address copy, contains_first (reload_of 0 address copy) [], refl, refl);
-}
+new_value : (v : ℕ) → 3 ≤ v → IsNew s (s.after.value_type v) v
+new_value v beyond = record { beyond = beyond; typed = refl; itself = refl }
 
 -- the landing block's parameter is neither the copy nor the address of its reload
 parameter_apart : (x : Reload) → Contains (reload_of 0 3 4 ∷ []) x → (5 ≡ x.copy → ⊥) × (5 ≡ x.access.address → ⊥)
-parameter_apart x h = by (contains_cases (reload_of 0 3 4) x [] h)
-  where
-    by : (reload_of 0 3 4 ≡ x) ⊎ Contains [] x → (5 ≡ x.copy → ⊥) × (5 ≡ x.access.address → ⊥)
-    by (inl same) = (
+parameter_apart x h =
+    let same = alone (reload_of 0 3 4) x h in (
       λ e. let g : 5 ≡ 4 = e ∙ sym (ap (λ (z : Reload). z.copy) same) in absurd (omega (arith, g)),
       λ e. let g : 5 ≡ 3 = e ∙ sym (ap (λ (z : Reload). z.access.address) same) in absurd (omega (arith, g)),
     )
-    by (inr none) = absurd (contains_none x none)
 
 lands : Lands every s narrows normal_edge landing_edge
 lands = record {
   reloads = reload_of 0 3 4 ∷ [];
-  are_reloads = when_landed;
+  are_reloads = one_reload s 0 3 4 refl (new_value 3 (omega arith)) (new_value 4 (omega arith));
   passed = Known 4 ∷ Known 5 ∷ [];
   arguments = refl;
   fresh = ((omega arith, refl, contains_none 5, parameter_apart), tt);
   types = refl;
-  landed = (inl (reads_copy 3 4 refl), (refl, refl));
+  landed = (inl (reads_copy s 0 3 4 refl refl refl), (refl, refl));
   items = refl;
 }
-
-exact : IsExactMap every only_first s (place_at 0 0) (the_entry ∷ [])
-exact = record {
-  values = 0 ∷ [];
-  rising = λ k inside. absurd (omega (arith, inside));
-  all = λ v. (there v, λ live. subst (λ (w : ℕ). Contains (0 ∷ []) w) (sym (first_alone v live.0)) (contains_first 0 []));
-  entries_are = refl;
-}
-  where
-    there : (v : ℕ) → Contains (0 ∷ []) v → (only_first v ≡ true) × (v ≡ v) × IsLiveAcross (counted every) s.before (place_at 0 0) v
-    there v h = by (contains_cases 0 v [] h)
-      where
-        by : (0 ≡ v) ⊎ Contains [] v → (only_first v ≡ true) × (v ≡ v) × IsLiveAcross (counted every) s.before (place_at 0 0) v
-        by (inl same) =
-            subst (λ (w : ℕ). (only_first w ≡ true) × (w ≡ w) × IsLiveAcross (counted every) s.before (place_at 0 0) w) same (refl, refl, live_first)
-        by (inr none) = absurd (contains_none v none)
 
 call_kept : IsKept every s only_first (place_at 0 0) (reload_of 0 6 7 ∷ []) (tries (0 ∷ []) normal_edge []) (tries (7 ∷ []) landing_edge (the_entry ∷ []))
 call_kept = record {
   operation = refl;
   controlling = λ aliases. refl;
-  operands = (reads_copy 6 7 refl, tt);
+  operands = (reads_copy s 0 6 7 refl refl refl, tt);
   contexts = refl;
   edges = (inr lands, (inl (record { target = refl; arguments = tt }), tt));
   results = refl;
-  stack_map = exact;
+  stack_map = exact_first s (place_at 0 0) refl live_first;
 }
 
 -- BLOCKS ----------------------------------------------------------------------------------------------------------------
@@ -138,12 +86,12 @@ call_block = record {
   parameters = refl;
   items = record {
     stores = record { value = 0; address = 8; region = None } ∷ [];
-    are_stores = inl (record { value = refl; address = record { beyond = omega arith; typed = refl; itself = refl } }, refl);
+    are_stores = inl (record { value = refl; address = new_value 8 (omega arith) }, refl);
     rest = _;
     code_is = refl;
     rewritten = record {
       reloads = reload_of 0 6 7 ∷ [];
-      are_reloads = before_call;
+      are_reloads = one_reload s 0 6 7 refl (new_value 6 (omega arith)) (new_value 7 (omega arith));
       new = tries (7 ∷ []) landing_edge (the_entry ∷ []);
       is_kept = call_kept;
       stores = [];
@@ -158,31 +106,7 @@ call_block = record {
 return_block : IsRewrittenBlock every s only_first 1
 return_block = record {
   parameters = refl;
-  items = record {
-    stores = [];
-    are_stores = refl;
-    rest = _;
-    code_is = refl;
-    rewritten = record {
-      reloads = [];
-      are_reloads = tt;
-      new = _;
-      is_kept = record {
-        operation = refl;
-        controlling = λ aliases. refl;
-        operands = (record { typed = λ aliases. refl; how = inr (refl, refl) }, tt);
-        contexts = refl;
-        edges = tt;
-        results = refl;
-        stack_map = refl;
-      };
-      stores = [];
-      are_stores = refl;
-      rest = [];
-      code_is = refl;
-      goes_on = refl;
-    };
-  };
+  items = record { stores = []; are_stores = refl; rest = _; code_is = refl; rewritten = kept_return s only_first (place_at 1 0) 1 refl refl refl };
 }
 
 trap_block : IsRewrittenBlock every s only_first 2
@@ -209,24 +133,17 @@ trap_block = record {
 
 -- no edge leads to block 3
 no_target : (b k : ℕ) → Contains (placed_targets (slice_get (try_blocks normal_edge b).items k)) 3 → ⊥
-no_target zero zero h = by (contains_cases 1 3 (2 ∷ []) h)
+no_target zero zero h = by (one_of_two 1 2 3 h)
   where
-    last : (◌≡◌ {A = ℕ} 2 3) ⊎ Contains {X = ℕ} [] 3 → ⊥
-    last (inl e) = absurd (omega (arith, e))
-    last (inr none) = contains_none 3 none
-
-    by : (◌≡◌ {A = ℕ} 1 3) ⊎ Contains {X = ℕ} (2 ∷ []) 3 → ⊥
+    by : (◌≡◌ {A = ℕ} 1 3) ⊎ (◌≡◌ {A = ℕ} 2 3) → ⊥
     by (inl e) = absurd (omega (arith, e))
-    by (inr more) = last (contains_cases 2 3 [] more)
+    by (inr e) = absurd (omega (arith, e))
 no_target zero (suc k) h = contains_none 3 h
 no_target (suc zero) zero h = contains_none 3 h
 no_target (suc zero) (suc k) h = contains_none 3 h
 no_target (suc (suc zero)) zero h = contains_none 3 h
 no_target (suc (suc zero)) (suc k) h = contains_none 3 h
 no_target (suc (suc (suc n))) k h = contains_none 3 h
-
-some_number : (a b : ℕ) → ◌≡◌ {A = Option ℕ} (Some a) (Some b) → a ≡ b
-some_number a b e = cc
 
 not_reached : IsReached s.before 3 → ⊥
 not_reached (inl entry) = let e : 0 ≡ 3 = some_number 0 3 entry in absurd (omega (arith, e))
@@ -284,20 +201,12 @@ owned : (b v w : ℕ) → b ≡ owner v → v < 3 → v ≡ w → (b ≡ owner w
 owned b v w is low same = (subst (λ (u : ℕ). b ≡ owner u) same is, subst (λ (u : ℕ). u < 3) same low)
 
 parameter_owner : (b v : ℕ) → Contains (try_blocks normal_edge b).parameters v → (b ≡ owner v) × (v < 3)
-parameter_owner zero v h = by (contains_cases 0 v [] h)
+parameter_owner zero v h = owned 0 0 v refl (omega arith) (alone 0 v h)
+parameter_owner (suc zero) v h = by (one_of_two 1 2 v h)
   where
-    by : (0 ≡ v) ⊎ Contains [] v → (0 ≡ owner v) × (v < 3)
-    by (inl same) = owned 0 0 v refl (omega arith) same
-    by (inr none) = absurd (contains_none v none)
-parameter_owner (suc zero) v h = by (contains_cases 1 v (2 ∷ []) h)
-  where
-    last : (2 ≡ v) ⊎ Contains [] v → (1 ≡ owner v) × (v < 3)
-    last (inl same) = owned 1 2 v refl (omega arith) same
-    last (inr none) = absurd (contains_none v none)
-
-    by : (1 ≡ v) ⊎ Contains (2 ∷ []) v → (1 ≡ owner v) × (v < 3)
+    by : (1 ≡ v) ⊎ (2 ≡ v) → (1 ≡ owner v) × (v < 3)
     by (inl same) = owned 1 1 v refl (omega arith) same
-    by (inr more) = last (contains_cases 2 v [] more)
+    by (inr same) = owned 1 2 v refl (omega arith) same
 parameter_owner (suc (suc zero)) v h = absurd (contains_none v h)
 parameter_owner (suc (suc (suc n))) v h = absurd (contains_none v h)
 
@@ -338,11 +247,7 @@ edges_match (suc (suc (suc n))) = tt
 named_at : (b k x : ℕ) → Contains (placed_names (λ v. v) (slice_get (try_blocks normal_edge b).items k)) x → Contains (given_on_entry (function_code s.before) b k) x
 named_at zero zero x h = h
 named_at zero (suc k) x h = absurd (contains_none x h)
-named_at (suc zero) zero x h = by (contains_cases 1 x [] h)
-  where
-    by : (1 ≡ x) ⊎ Contains [] x → Contains (1 ∷ 2 ∷ []) x
-    by (inl same) = subst (λ (w : ℕ). Contains (1 ∷ 2 ∷ []) w) same (contains_first 1 (2 ∷ []))
-    by (inr none) = absurd (contains_none x none)
+named_at (suc zero) zero x h = subst (λ (w : ℕ). Contains (1 ∷ 2 ∷ []) w) (alone 1 x h) (contains_first 1 (2 ∷ []))
 named_at (suc zero) (suc k) x h = absurd (contains_none x h)
 named_at (suc (suc zero)) zero x h = absurd (contains_none x h)
 named_at (suc (suc zero)) (suc k) x h = absurd (contains_none x h)
@@ -379,10 +284,7 @@ may_spill = record {
 -- WRONG ONES ------------------------------------------------------------------------------------------------------------
 
 two_after : (v : ℕ) → Contains (0 ∷ 1 ∷ []) v → IsLiveAfter every one_slot.before (place_at 0 0) v
-two_after v h = (place_at 0 1 ∷ [], (inl (refl, refl, omega arith), contains_none v, inl (map_same v h)))
-  where
-    map_same : (v : ℕ) → Contains (0 ∷ 1 ∷ []) v → Contains (map (λ (x : ℕ). x) (0 ∷ 1 ∷ [])) v
-    map_same v h = h
+two_after v h = (place_at 0 1 ∷ [], (inl (refl, refl, omega arith), contains_none v, inl h))
 
 shared : SharesNoSlot every one_slot → ⊥
 shared none =
@@ -406,21 +308,15 @@ reload_first (inl straight) = by straight.arguments.0
     by (inr left) = no_way left.0
 
 lacks_entry : IsExactMap every only_first s (place_at 0 0) [] → ⊥
-lacks_entry is = by is.values ((is.all 0).1 (refl, refl, live_first)) is.entries_are
-  where
-    by : (vs : List ℕ) → Contains vs 0 → [] ≡ map (entry_of s) vs → ⊥
-    by [] h e = contains_none 0 h
-    by (v ∷ vs) h e = cc
+lacks_entry is = not_exact s only_first (place_at 0 0) 0 refl refl live_first is
 
 other_slot : IsRead s (reload_of 1 6 7 ∷ []) 0 7 → ⊥
 other_slot read = by read.how
   where
-    of : (x : Reload) → x.access.value ≡ 0 → (reload_of 1 6 7 ≡ x) ⊎ Contains [] x → ⊥
-    of x zero_is (inl same) = let e : 1 ≡ 0 = ap (λ (z : Reload). z.access.value) same ∙ zero_is in absurd (omega (arith, e))
-    of x zero_is (inr none) = contains_none x none
-
     by : IsCopied s (reload_of 1 6 7 ∷ []) 0 7 ⊎ IsNamed s 0 7 → ⊥
-    by (inl copied) = of copied.1 copied.3 (contains_cases (reload_of 1 6 7) copied.1 [] copied.2)
+    by (inl copied) =
+        let e : 1 ≡ 0 = ap (λ (z : Reload). z.access.value) (alone (reload_of 1 6 7) copied.1 copied.2) ∙ copied.3 in
+        absurd (omega (arith, e))
     by (inr named) = no_way named.0
 
 one_or_two : {A : Type 0} (a b c : A) → (a ∷ []) ≡ (b ∷ c ∷ []) → ⊥

@@ -1,37 +1,25 @@
 -- Edges: what they pass has the same bits in both runs, where it counts as a use; straight, or through a landing block.
-use Rattle.std.proofs.Common.{◌≡◌, ◌⊎◌, ◌<◌, ◌≤◌, ◌+◌, inl, inr, ℕ, zero, suc, Bool, true, false, List, [], ◌∷◌, length, map, refl, sym, ap, subst, ◌∙◌, arith, Option, Some, None}
-use Rattle.std.specs.Prelude.{Contains, slice_get, slice_index, if◌then◌else◌, IsTrue}
+use Rattle.std.proofs.Common.{◌≡◌, ◌⊎◌, ◌<◌, ◌+◌, inl, inr, ℕ, zero, suc, Bool, true, false, List, [], ◌∷◌, length, map, refl, sym, ap, subst, ◌∙◌, arith, Option, Some, None}
+use Rattle.std.specs.Prelude.{Contains, slice_get, slice_index, if◌then◌else◌}
 use Rattle.std.specs.List.{AllByRecursion}
 use Rattle.std.proofs.lemmas.Bool.{eqb-true, eq-eqb}
 use Rattle.std.proofs.lemmas.List.{length-map}
 use Rattle.clif_types.specs.declared.types.«Type».{«Type»}
-use Rattle.clif_meaning.specs.Bits.{Bits, IsValue}
+use Rattle.clif_meaning.specs.Bits.{Bits}
 use Rattle.clif_tables.specs.Callees.{types_of}
-use Rattle.clif_meaning.specs.Event.{CallShape, Event, payload_types}
-use Rattle.clif_meaning.specs.FunctionMachine.{FunctionRun, FunctionState, enter_block, follow_edge, same_value, value_bits}
+use Rattle.clif_meaning.specs.Event.{CallShape, payload_types}
+use Rattle.clif_meaning.specs.FunctionMachine.{same_value}
 use Rattle.clif_meaning.specs.FunctionView.{FunctionView, Placed}
 use Rattle.clif_meaning.specs.Instruction.{Argument, Known, CallResult, CallPayload, Edge}
-use Rattle.clif_meaning.specs.Machine.{At}
-use Rattle.clif_meaning.specs.Memory.{Memory}
-use Rattle.clif_meaning.specs.Path.{IsReachable, Leads, Place}
+use Rattle.clif_meaning.specs.Path.{Leads, Place}
 use Rattle.clif_meaning.specs.Store.{argument_bits, assigned}
-use Rattle.clif_meaning.specs.Typing.{EachEdgeMatches, EdgeMatches, argument_type, call_shape, value_types_at}
-use Rattle.clif_meaning.specs.WellPlaced.{edge_targets, function_flow, placed_at, placed_gives, placed_targets}
-use Rattle.clif_meaning.specs.World.{World}
-use Rattle.clif_safepoints.specs.Analysis.{IsReached}
-use Rattle.clif_safepoints.specs.Liveness.{IsLiveAcross, IsPassed, IsUsedAhead, used_operands}
-use Rattle.clif_safepoints.proofs.Paths.{contains_map}
-use Rattle.clif_spilling_laws.specs.Accesses.{loaded, state_of}
-use Rattle.clif_spilling_laws.specs.Live.{IsLiveBefore, IsSlotOf, counted, place_at}
-use Rattle.clif_spilling_laws.specs.Rewriting.{AreArguments, AreFresh, AreLanded, IsArgument, IsLedOn, IsPassedOn, IsRead, Lands, LeadsStraight, jump_item, own_arguments}
-use Rattle.clif_spilling_laws.specs.Spilling.{AreReloads, IsKeptBy, Reload, Spilling, reload_items}
-use Rattle.clif_spilling_laws.proofs.Entering.{Arrives, entered, slots}
-use Rattle.clif_spilling_laws.proofs.Lists.{assigned_alike, assigned_other, contains_cases, contains_first, contains_more, contains_none, true_false, true_or_false}
-use Rattle.clif_spilling_laws.proofs.LivePaths.{live_after_below}
-use Rattle.clif_spilling_laws.proofs.Passing.{Passes, passes_some, passes_step, passes_then}
-use Rattle.clif_spilling_laws.proofs.Relation.{Alike, Held, SeenAlike, Setting}
-use Rattle.clif_spilling_laws.proofs.Reloading.{AreReloaded, each_reload, old_is_kept, reloads_run}
-use Rattle.clif_spilling_laws.proofs.Slots.{there_is_loaded}
+use Rattle.clif_meaning.specs.Typing.{EachEdgeMatches, EdgeMatches, argument_type, value_types_at}
+use Rattle.clif_meaning.specs.WellPlaced.{function_flow, placed_at, placed_targets}
+use Rattle.clif_safepoints.specs.Liveness.{IsPassed, IsUsedAhead, used_operands}
+use Rattle.clif_spilling_laws.specs.Live.{IsLiveBefore, counted, place_at}
+use Rattle.clif_spilling_laws.specs.Rewriting.{AreArguments, AreFresh, AreLanded, IsPassedOn, IsRead, own_arguments}
+use Rattle.clif_spilling_laws.specs.Spilling.{Reload, Spilling}
+use Rattle.clif_spilling_laws.proofs.Basics.Lists.{contains_cases, contains_first, contains_more, contains_none, true_false}
 
 -- MATCHING EDGES --------------------------------------------------------------------------------------------------------
 

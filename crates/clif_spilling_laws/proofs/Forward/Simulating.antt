@@ -1,12 +1,10 @@
 -- The run with stores and reloads simulates the one before: each step of the one is matched by some steps of the other.
-use Rattle.std.proofs.Common.{◌≡◌, ◌⊎◌, ◌<◌, ◌≤◌, ◌+◌, ◌-◌, inl, inr, ℕ, zero, suc, Bool, true, false, List, [], ◌∷◌, refl, sym, ap, subst, ◌∙◌, arith, Option, Some, None}
-use Rattle.std.specs.Prelude.{Contains}
-use Rattle.clif_types.specs.declared.trapcode.TrapCode.{TrapCode}
-use Rattle.clif_meaning.specs.Bits.{Bits, IsValue}
-use Rattle.clif_meaning.specs.Event.{CallShape, Event}
-use Rattle.clif_meaning.specs.FunctionMachine.{FunctionRun, FunctionState, blank_state, enter_block, function_machine, function_shown, function_step, start_at}
+use Rattle.std.proofs.Common.{◌≡◌, ◌⊎◌, ◌<◌, ◌≤◌, ◌+◌, ◌-◌, inl, inr, ℕ, zero, suc, Bool, true, List, [], ◌∷◌, refl, sym, ap, subst, ◌∙◌, arith, Option, Some, None}
+use Rattle.clif_meaning.specs.Bits.{IsValue}
+use Rattle.clif_meaning.specs.Event.{CallShape}
+use Rattle.clif_meaning.specs.FunctionMachine.{FunctionRun, FunctionState, blank_state, function_machine, function_shown, function_step, start_at}
 use Rattle.clif_meaning.specs.FunctionView.{Placed}
-use Rattle.clif_meaning.specs.Machine.{Control, At, HasReturned, HasTrapped, IsStuck, Ending, NotYet, Returned, Trapped, Machine, Observation, ending_of, observed, state_after}
+use Rattle.clif_meaning.specs.Machine.{Control, At, HasReturned, HasTrapped, IsStuck, NotYet, Returned, Trapped, Machine, Observation, ending_of, observed, state_after}
 use Rattle.clif_meaning.specs.Memory.{Memory}
 use Rattle.clif_meaning.specs.SameMeaning.{SameMeaning}
 use Rattle.clif_meaning.specs.Store.{shown_memory}
@@ -16,20 +14,19 @@ use Rattle.clif_meaning.proofs.Stuttering
 use Rattle.clif_meaning.proofs.Stuttering.{Matched, ShowsOnlyEnds, Simulates, state_after-+, steps_from}
 use Rattle.clif_safepoints.specs.Analysis.{IsReached}
 use Rattle.clif_typed_runs.specs.Laws.{OfNextPlaced}
-use Rattle.clif_spilling_laws.specs.Accesses.{state_of}
 use Rattle.clif_spilling_laws.specs.Laws.{MaySpill, SpillingMeansTheSame}
-use Rattle.clif_spilling_laws.specs.Live.{IsLiveBefore, place_at}
+use Rattle.clif_spilling_laws.specs.Live.{place_at}
 use Rattle.clif_spilling_laws.specs.Rewriting.{IsSpilling}
 use Rattle.clif_spilling_laws.specs.Runs.{IsInOrder, IsMetBy, after_run, before_run, in_spill_slots}
 use Rattle.clif_spilling_laws.specs.SlotContents.{HoldsAtCall, SlotContents}
 use Rattle.clif_spilling_laws.specs.Spilling.{Spilling}
-use Rattle.clif_spilling_laws.proofs.Calling.{shown_alike}
-use Rattle.clif_spilling_laws.proofs.Edges.{front_filled}
-use Rattle.clif_spilling_laws.proofs.Entering.{Arrives, entered}
-use Rattle.clif_spilling_laws.proofs.LivePaths.{entry_is_live}
-use Rattle.clif_spilling_laws.proofs.Passing.{BeginsQuietly, Passes, PassesOn, Walks}
-use Rattle.clif_spilling_laws.proofs.Relation.{Alike, Between, ControlAlike, HoldsNext, IsAt, SeenAlike, Setting}
-use Rattle.clif_spilling_laws.proofs.Stepping.{matched}
+use Rattle.clif_spilling_laws.proofs.Forward.Calling.{shown_alike}
+use Rattle.clif_spilling_laws.proofs.Forward.Edges.{front_filled}
+use Rattle.clif_spilling_laws.proofs.Forward.Entering.{Arrives, entered}
+use Rattle.clif_spilling_laws.proofs.Liveness.LivePaths.{entry_is_live}
+use Rattle.clif_spilling_laws.proofs.Basics.Passing.{BeginsQuietly, Passes, PassesOn, Walks}
+use Rattle.clif_spilling_laws.proofs.Forward.Relation.{Alike, Between, ControlAlike, HoldsNext, IsAt, Setting}
+use Rattle.clif_spilling_laws.proofs.Forward.Stepping.{matched}
 
 -- WALKS -----------------------------------------------------------------------------------------------------------------
 

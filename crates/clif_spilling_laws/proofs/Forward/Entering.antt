@@ -1,30 +1,29 @@
 -- The runs go on at the next instruction of a block, or enter a block: stores of what was just given run, and the states agree.
-use Rattle.std.proofs.Common.{◌≡◌, ◌⊎◌, ◌<◌, ◌≤◌, ◌+◌, inl, inr, ℕ, zero, suc, Bool, true, false, List, [], ◌∷◌, length, drop, refl, sym, ap, subst, ◌∙◌, arith, Some}
+use Rattle.std.proofs.Common.{◌≡◌, ◌⊎◌, ◌<◌, ◌≤◌, ◌+◌, inl, inr, ℕ, suc, Bool, true, List, [], ◌∷◌, length, drop, refl, sym, ap, subst, ◌∙◌, arith, Some}
 use Rattle.std.specs.Prelude.{Contains, slice_get}
 use Rattle.clif_types.specs.Types.{bytes_of}
 use Rattle.clif_meaning.specs.Bits.{Bits, value_bytes}
 use Rattle.clif_meaning.specs.Event.{Event}
-use Rattle.clif_meaning.specs.FunctionMachine.{FunctionRun, FunctionState, enter_block, give_results, same_value}
-use Rattle.clif_meaning.specs.FunctionView.{BlockView, Placed}
+use Rattle.clif_meaning.specs.FunctionMachine.{FunctionRun, FunctionState, same_value}
+use Rattle.clif_meaning.specs.FunctionView.{Placed}
 use Rattle.clif_meaning.specs.Machine.{At}
 use Rattle.clif_meaning.specs.Memory.{Memory}
-use Rattle.clif_meaning.specs.Path.{IsNextInBlock, IsReachable, Leads}
+use Rattle.clif_meaning.specs.Path.{IsReachable, Leads}
 use Rattle.clif_meaning.specs.Store.{assigned}
 use Rattle.clif_meaning.specs.WellPlaced.{function_flow, placed_at, placed_gives}
 use Rattle.clif_meaning.specs.World.{World}
 use Rattle.clif_safepoints.specs.Analysis.{IsReached}
-use Rattle.clif_safepoints.specs.Liveness.{IsLiveAcross, IsUsedAhead}
+use Rattle.clif_safepoints.specs.Liveness.{IsLiveAcross}
 use Rattle.clif_spilling_laws.specs.Accesses.{state_of}
 use Rattle.clif_spilling_laws.specs.Live.{IsLiveAfter, IsLiveBefore, IsSlotOf, counted, place_at}
 use Rattle.clif_spilling_laws.specs.Rewriting.{AreItemsOf, AreRewritten, IsRewrittenBlock}
 use Rattle.clif_spilling_laws.specs.Runs.{after_run, before_run}
 use Rattle.clif_spilling_laws.specs.Spilling.{AreStores, SlotAccess, Spilling, store_items}
-use Rattle.clif_spilling_laws.proofs.Lists.{assigned_alike, assigned_other, contains_none, dropped, member_or_not}
-use Rattle.clif_spilling_laws.proofs.LivePaths.{live_below}
-use Rattle.clif_spilling_laws.proofs.Passing.{BeginsQuietly, Passes, passes_nothing}
-use Rattle.clif_spilling_laws.proofs.Relation.{Alike, AtPlace, ControlAlike, Held, SeenAlike, Setting}
-use Rattle.clif_spilling_laws.proofs.SpilledLive.{parameter_is_live, result_is_live}
-use Rattle.clif_spilling_laws.proofs.Storing.{AreStored, HoldsIn, stores_run}
+use Rattle.clif_spilling_laws.proofs.Basics.Lists.{assigned_alike, assigned_other, contains_none, dropped, member_or_not}
+use Rattle.clif_spilling_laws.proofs.Basics.Passing.{BeginsQuietly, Passes, passes_nothing}
+use Rattle.clif_spilling_laws.proofs.Forward.Relation.{Alike, ControlAlike, Held, SeenAlike, Setting}
+use Rattle.clif_spilling_laws.proofs.Liveness.SpilledLive.{parameter_is_live, result_is_live}
+use Rattle.clif_spilling_laws.proofs.Memory.Storing.{AreStored, stores_run}
 
 -- a value is held, too, where the new one stays
 pub still_held : (s : Spilling) (world : World) (v : ℕ) (old new new' : ℕ → Bits) (memory : Memory) → new' v ≡ new v

@@ -1,5 +1,5 @@
 -- A step of the run before at an instruction, and the steps of the run after that match it.
-use Rattle.std.proofs.Common.{◌≡◌, ◌⊎◌, ◌<◌, ◌≤◌, ◌||◌, inl, inr, ℕ, zero, suc, Bool, true, false, List, [], ◌∷◌, length, map, drop, refl, sym, ap, subst, ◌∙◌, Option, Some, None}
+use Rattle.std.proofs.Common.{◌≡◌, ◌⊎◌, ◌<◌, ◌≤◌, ◌||◌, inl, inr, ℕ, zero, suc, Bool, true, false, List, [], ◌∷◌, length, map, refl, sym, ap, subst, ◌∙◌, Option, Some, None}
 use Rattle.std.specs.Prelude.{Contains, slice_get}
 use Rattle.std.specs.List.{AllByRecursion, AllZip}
 use Rattle.clif_types.specs.declared.stackmap.UserStackMapEntry.{UserStackMapEntry}
@@ -26,20 +26,20 @@ use Rattle.clif_spilling_laws.specs.Accesses.{state_of}
 use Rattle.clif_spilling_laws.specs.Live.{IsLiveBefore, counted, place_at}
 use Rattle.clif_spilling_laws.specs.Rewriting.{AreRewritten, HasMap, IsCopied, IsExactMap, IsLedOn, IsNamed, IsRead, IsRewrittenItem, entry_of}
 use Rattle.clif_spilling_laws.specs.Runs.{AnswersEach, GivesEach, IsInOrder, in_spill_slots, outcome_in}
-use Rattle.clif_spilling_laws.specs.SlotContents.{HoldsAtCall, HoldsValue}
+use Rattle.clif_spilling_laws.specs.SlotContents.{HoldsValue}
 use Rattle.clif_spilling_laws.specs.Spilling.{AreReloads, IsReload, Reload, Spilling, reload_items, store_items}
-use Rattle.clif_spilling_laws.proofs.CallShapes.{Makes, outcome_makes}
-use Rattle.clif_spilling_laws.proofs.Calling.{events_are, fits_after, held_after, seen_after}
-use Rattle.clif_spilling_laws.proofs.Edges.{member_holds}
-use Rattle.clif_spilling_laws.proofs.Entering.{Arrives, L, R, gave, slots}
-use Rattle.clif_spilling_laws.proofs.Following.{followed_landing, followed_straight}
-use Rattle.clif_spilling_laws.proofs.Lists.{contains_first, contains_more, contains_none, dropped, true_false, true_or_false, zip_map}
-use Rattle.clif_spilling_laws.proofs.LivePaths.{live_below}
-use Rattle.clif_spilling_laws.proofs.Maps.{range_is}
-use Rattle.clif_spilling_laws.proofs.Passing.{BeginsQuietly, Passes, PassesOn, passes_nothing, passes_step, passes_then_on}
-use Rattle.clif_spilling_laws.proofs.Relation.{Alike, AtPlace, Between, Held, HoldsNext, IsAt, SeenAlike, Setting, quietly_holds}
-use Rattle.clif_spilling_laws.proofs.Reloading.{AreReloaded, each_reload, old_is_kept, reloads_run}
-use Rattle.clif_spilling_laws.proofs.Slots.{same_in_slot, spelled_back, there_is_loaded}
+use Rattle.clif_spilling_laws.proofs.Forward.CallShapes.{Makes, outcome_makes}
+use Rattle.clif_spilling_laws.proofs.Forward.Calling.{events_are, fits_after, held_after, seen_after}
+use Rattle.clif_spilling_laws.proofs.Forward.Edges.{member_holds}
+use Rattle.clif_spilling_laws.proofs.Forward.Entering.{Arrives, L, R, gave, slots}
+use Rattle.clif_spilling_laws.proofs.Forward.Following.{followed_landing, followed_straight}
+use Rattle.clif_spilling_laws.proofs.Basics.Lists.{contains_first, contains_more, contains_none, dropped, true_false, true_or_false, zip_map}
+use Rattle.clif_spilling_laws.proofs.Liveness.LivePaths.{live_below}
+use Rattle.clif_spilling_laws.proofs.Memory.Maps.{range_is}
+use Rattle.clif_spilling_laws.proofs.Basics.Passing.{BeginsQuietly, Passes, PassesOn, passes_nothing, passes_step, passes_then_on}
+use Rattle.clif_spilling_laws.proofs.Forward.Relation.{Alike, AtPlace, Between, Held, HoldsNext, IsAt, SeenAlike, Setting, quietly_holds}
+use Rattle.clif_spilling_laws.proofs.Memory.Reloading.{AreReloaded, each_reload, old_is_kept, reloads_run}
+use Rattle.clif_spilling_laws.proofs.Memory.Slots.{same_in_slot, spelled_back, there_is_loaded}
 
 -- two lists side by side, at a place
 abbrev ZipAt : {X Y : Type 0} → (X → Y → Type 0) → List X → List Y → ℕ → Type 0

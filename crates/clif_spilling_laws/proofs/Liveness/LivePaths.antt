@@ -1,17 +1,17 @@
 -- Liveness in a well placed function in which each value is given once, over any test that says which arguments count: what is live
 -- was given before; nothing is live at the entry but its parameters; and a spilled value is live right after it is given.
-use Rattle.std.proofs.Common.{◌≡◌, ◌⊎◌, ◌<◌, inl, inr, ℕ, zero, suc, List, [], ◌∷◌, map, flat_map, refl, sym, ap, subst, ◌∙◌, arith, Option, Some, None, Bool}
-use Rattle.std.specs.Prelude.{Contains, slice_get}
+use Rattle.std.proofs.Common.{◌≡◌, ◌⊎◌, ◌<◌, inl, inr, ℕ, zero, suc, List, [], ◌∷◌, map, flat_map, sym, subst, Option, Some, None, Bool}
+use Rattle.std.specs.Prelude.{Contains}
 use Rattle.std.proofs.lemmas.List.Elements.{Contains-append_left, Contains-append_right}
 use Rattle.clif_meaning.specs.FunctionView.{FunctionView, Placed}
-use Rattle.clif_meaning.specs.Instruction.{Argument, Known, CallResult, CallPayload, Edge, named_operands}
-use Rattle.clif_meaning.specs.Path.{Place, IsPath, IsReachable, Leads}
+use Rattle.clif_meaning.specs.Instruction.{Known, Edge, named_operands}
+use Rattle.clif_meaning.specs.Path.{Place, IsPath, IsReachable}
 use Rattle.clif_meaning.specs.WellPlaced.{IsGivenAlong, WellPlaced, function_code, function_flow, given_on_entry, known_argument, passed_operands, placed_at, placed_gives, placed_names, placed_passes}
-use Rattle.clif_safepoints.specs.Liveness.{IsLiveAcross, IsPassed, IsUsedAhead, used_operands}
+use Rattle.clif_safepoints.specs.Liveness.{IsPassed, IsUsedAhead, used_operands}
 use Rattle.clif_safepoints.proofs.Paths.{contains_map, contained_in_map, contains_at}
 use Rattle.clif_spilling_laws.specs.GivesOnce.{GivesOnce}
-use Rattle.clif_spilling_laws.specs.Live.{IsLiveAcrossCall, IsLiveAfter, IsLiveBefore, counted, place_at}
-use Rattle.clif_spilling_laws.proofs.Lists.{contains_cases, contains_first, contains_more, contains_none, member_or_not}
+use Rattle.clif_spilling_laws.specs.Live.{IsLiveAfter, IsLiveBefore, counted}
+use Rattle.clif_spilling_laws.proofs.Basics.Lists.{contains_cases, contains_first, contains_none}
 
 -- WHAT IS NAMED ---------------------------------------------------------------------------------------------------------
 

@@ -1,5 +1,5 @@
 -- A list of reloads runs: each copy holds what was in the slot, and the other values and memory stay.
-use Rattle.std.proofs.Common.{◌≡◌, ◌⊎◌, ◌<◌, ◌≤◌, inl, inr, ℕ, Bool, true, List, [], ◌∷◌, refl, sym, ap, subst, ◌∙◌, arith}
+use Rattle.std.proofs.Common.{◌≡◌, ◌⊎◌, ◌<◌, inl, inr, ℕ, true, List, [], ◌∷◌, refl, sym, subst, ◌∙◌, arith}
 use Rattle.std.specs.Prelude.{Contains}
 use Rattle.clif_types.specs.Types.{bits_of}
 use Rattle.clif_meaning.specs.Bits.{Bits}
@@ -14,9 +14,9 @@ use Rattle.clif_spilling_laws.specs.Accesses.{loaded, reloaded, state_of}
 use Rattle.clif_spilling_laws.specs.Live.{IsSlotOf}
 use Rattle.clif_spilling_laws.specs.Runs.{after_run}
 use Rattle.clif_spilling_laws.specs.Spilling.{AreReloads, IsKeptBy, IsReload, Reload, Spilling, load_item, reload_items}
-use Rattle.clif_spilling_laws.proofs.Accesses.{address_step, load_step}
-use Rattle.clif_spilling_laws.proofs.Lists.{assigned_one, assigned_other, contains_cases, contains_first, contains_more, contains_none}
-use Rattle.clif_spilling_laws.proofs.Passing.{BeginsQuietly, Passes, passes_nothing, passes_some, passes_step}
+use Rattle.clif_spilling_laws.proofs.Memory.Accesses.{address_step, load_step}
+use Rattle.clif_spilling_laws.proofs.Basics.Lists.{assigned_one, assigned_other, contains_cases, contains_first, contains_more, contains_none}
+use Rattle.clif_spilling_laws.proofs.Basics.Passing.{BeginsQuietly, Passes, passes_nothing, passes_some, passes_step}
 
 pub assigned_apart : (p : ℕ) (x : Bits) (old : ℕ → Bits) (v : ℕ) → (v ≡ p → ⊥) → assigned same_value (p ∷ []) (x ∷ []) old v ≡ old v
 assigned_apart p x old v apart = assigned_other (p ∷ []) (x ∷ []) old v (λ h. by (contains_cases p v [] h))

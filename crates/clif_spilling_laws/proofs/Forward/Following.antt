@@ -1,10 +1,10 @@
 -- Both runs go along an edge of an instruction: straight, or through a landing block.
-use Rattle.std.proofs.Common.{◌≡◌, ◌⊎◌, ◌<◌, ◌≤◌, ◌+◌, inl, inr, ℕ, zero, suc, Bool, true, false, List, [], ◌∷◌, length, map, refl, sym, ap, subst, ◌∙◌, arith, Option, Some, None}
+use Rattle.std.proofs.Common.{◌≡◌, ◌⊎◌, ◌<◌, ◌≤◌, ◌+◌, inl, inr, ℕ, Bool, true, false, List, [], ◌∷◌, length, map, refl, sym, ap, subst, ◌∙◌, arith, Some}
 use Rattle.std.specs.Prelude.{Contains, slice_get}
 use Rattle.std.proofs.lemmas.List.{length-map}
 use Rattle.clif_meaning.specs.Bits.{Bits, IsValue}
 use Rattle.clif_meaning.specs.Event.{CallShape}
-use Rattle.clif_meaning.specs.FunctionMachine.{FunctionRun, FunctionState, enter_block, follow_edge, same_value, value_bits}
+use Rattle.clif_meaning.specs.FunctionMachine.{FunctionRun, FunctionState, enter_block, follow_edge, same_value}
 use Rattle.clif_meaning.specs.FunctionView.{Placed}
 use Rattle.clif_meaning.specs.Instruction.{Argument, Known, CallResult, CallPayload, Edge}
 use Rattle.clif_meaning.specs.Machine.{At}
@@ -17,18 +17,18 @@ use Rattle.clif_meaning.specs.World.{World}
 use Rattle.clif_safepoints.specs.Analysis.{IsReached}
 use Rattle.clif_safepoints.specs.Liveness.{IsLiveAcross, IsPassed}
 use Rattle.clif_safepoints.proofs.Paths.{contains_map}
-use Rattle.clif_spilling_laws.specs.Accesses.{loaded, state_of}
+use Rattle.clif_spilling_laws.specs.Accesses.{state_of}
 use Rattle.clif_spilling_laws.specs.Live.{IsLiveBefore, counted, place_at}
-use Rattle.clif_spilling_laws.specs.Rewriting.{AreFresh, IsCopied, IsNamed, IsRead, Lands, LeadsStraight, jump_item, own_arguments}
+use Rattle.clif_spilling_laws.specs.Rewriting.{AreFresh, IsCopied, IsNamed, Lands, LeadsStraight, jump_item, own_arguments}
 use Rattle.clif_spilling_laws.specs.Spilling.{AreReloads, IsKeptBy, IsReload, Reload, Spilling, reload_items}
-use Rattle.clif_spilling_laws.proofs.Edges.{OwnHeld, ReadAlike, edge_as_many, front_filled, landed_alike, landed_long, own_held, straight_alike, straight_long}
-use Rattle.clif_spilling_laws.proofs.Entering.{Arrives, L, R, entered, slots, still_held}
-use Rattle.clif_spilling_laws.proofs.Lists.{assigned_alike, assigned_other, contains_cases, contains_none, true_or_false}
-use Rattle.clif_spilling_laws.proofs.LivePaths.{live_after_below}
-use Rattle.clif_spilling_laws.proofs.Passing.{BeginsQuietly, Passes, passes_some, passes_step, passes_then}
-use Rattle.clif_spilling_laws.proofs.Relation.{Alike, Held, SeenAlike, Setting}
-use Rattle.clif_spilling_laws.proofs.Reloading.{AreReloaded, each_reload, old_is_kept, reloads_run}
-use Rattle.clif_spilling_laws.proofs.Slots.{there_is_loaded}
+use Rattle.clif_spilling_laws.proofs.Forward.Edges.{OwnHeld, ReadAlike, edge_as_many, front_filled, landed_alike, landed_long, own_held, straight_alike, straight_long}
+use Rattle.clif_spilling_laws.proofs.Forward.Entering.{Arrives, L, R, entered, slots, still_held}
+use Rattle.clif_spilling_laws.proofs.Basics.Lists.{assigned_alike, assigned_other, contains_cases, contains_none, true_or_false}
+use Rattle.clif_spilling_laws.proofs.Liveness.LivePaths.{live_after_below}
+use Rattle.clif_spilling_laws.proofs.Basics.Passing.{BeginsQuietly, Passes, passes_some, passes_step, passes_then}
+use Rattle.clif_spilling_laws.proofs.Forward.Relation.{Held, SeenAlike, Setting}
+use Rattle.clif_spilling_laws.proofs.Memory.Reloading.{AreReloaded, each_reload, old_is_kept, reloads_run}
+use Rattle.clif_spilling_laws.proofs.Memory.Slots.{there_is_loaded}
 
 -- each parameter of a landing block is new, no alias, and kept by the reloads
 pub each_fresh : (s : Spilling) (reloads : List Reload) (params : List ℕ) (v : ℕ) → AreFresh s reloads params → Contains params v

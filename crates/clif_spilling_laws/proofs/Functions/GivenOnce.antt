@@ -1,8 +1,7 @@
 -- A consistent function gives each value once: a value knows the block or the instruction that gives it, and that stands at one place.
-use Rattle.std.proofs.Common.{◌≡◌, ◌≢◌, ◌⊎◌, ◌<◌, inl, inr, ℕ, List, [], ◌∷◌, length, map, refl, sym, ap, subst, ◌∙◌, arith, Option, Some, None}
+use Rattle.std.proofs.Common.{◌≡◌, ◌≢◌, ◌⊎◌, ◌<◌, inl, inr, ℕ, List, [], length, map, refl, sym, ap, subst, ◌∙◌, arith, Option, Some, None}
 use Rattle.std.specs.Prelude.{Contains, slice_get, slice_index}
 use Rattle.std.proofs.lemmas.Option.{get_or_from_slice_get, slice_get_within}
-use Rattle.clif_instructions.specs.Instruction.{destinations}
 use Rattle.clif_instructions.specs.Members.{Once}
 use Rattle.clif_instructions.specs.declared.block_call.BlockCall.{BlockCall}
 use Rattle.clif_nodes.specs.declared.nodes.ValueOrigin.{ValueOrigin}
@@ -16,8 +15,8 @@ use Rattle.clif_meaning.specs.WellPlaced.{placed_at, placed_gives, placed_target
 use Rattle.clif_safepoints.specs.Transfer.{insts_of}
 use Rattle.clif_safepoints.proofs.Paths.{place_of_member, placed_is, placed_none}
 use Rattle.clif_safepoints.proofs.Recording.{inst_home, insts_once}
-use Rattle.clif_spilling_laws.specs.GivesOnce.{ConsistentGivesOnce, GivesOnce}
-use Rattle.clif_spilling_laws.proofs.Lists.{contains_none}
+use Rattle.clif_spilling_laws.specs.GivesOnce.{ConsistentGivesOnce}
+use Rattle.clif_spilling_laws.proofs.Basics.Lists.{contains_none}
 
 same_block : (b d : ℕ) → ◌≡◌ {A = ValueOrigin} (Param b) (Param d) → b ≡ d
 same_block b d e = cc

@@ -1,5 +1,5 @@
 -- A reload and a store run, in two steps of the function's machine each.
-use Rattle.std.proofs.Common.{◌≡◌, ◌<◌, ◌+◌, ◌%◌, ◌^◌, ◌==◌, ℕ, Bool, true, false, List, [], ◌∷◌, map, refl, sym, ap, subst, ◌∙◌, arith, Option}
+use Rattle.std.proofs.Common.{◌≡◌, ◌<◌, ◌+◌, ◌%◌, ◌^◌, ◌==◌, ℕ, true, List, [], ◌∷◌, refl, sym, ap, subst, ◌∙◌, arith, Option}
 use Rattle.std.specs.Prelude.{pos}
 use Rattle.std.proofs.Math.Nat.{mod-eq_of_lt}
 use Rattle.clif_types.specs.Types.{bits_of, bytes_of}
@@ -18,8 +18,8 @@ use Rattle.clif_spilling_laws.specs.Accesses.{loaded, reloaded, state_of, stored
 use Rattle.clif_spilling_laws.specs.Live.{IsSlotOf}
 use Rattle.clif_spilling_laws.specs.Runs.{after_run, slot_range}
 use Rattle.clif_spilling_laws.specs.Spilling.{IsNew, Reload, SlotAccess, Spilling, address_item, load_item, store_item, trusted}
-use Rattle.clif_spilling_laws.proofs.Lists.{assigned_one}
-use Rattle.clif_spilling_laws.proofs.Slots.{slot_accessible, slot_aligned, slot_starts}
+use Rattle.clif_spilling_laws.proofs.Basics.Lists.{assigned_one}
+use Rattle.clif_spilling_laws.proofs.Memory.Slots.{slot_accessible, slot_aligned, slot_starts}
 
 -- an access that is aligned and whose bytes are accessible does what it does
 access_runs : (world : World) (region : Option ℕ) (range : Range) (outcome : Outcome) → (range.start % range.size == 0) ≡ true

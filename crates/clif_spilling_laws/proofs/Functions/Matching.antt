@@ -1,6 +1,6 @@
 -- Matching edges stay matching through a spilling.
-use Rattle.std.proofs.Common.{◌≡◌, ◌⊎◌, ◌<◌, ◌≤◌, ◌+◌, inl, inr, ℕ, zero, suc, Bool, true, false, List, [], ◌∷◌, length, map, drop, refl, sym, ap, subst, ◌∙◌, arith, Option, Some, None}
-use Rattle.std.specs.Prelude.{Contains, slice_get, slice_index_or}
+use Rattle.std.proofs.Common.{◌≡◌, ◌⊎◌, ◌<◌, ◌+◌, inl, inr, ℕ, zero, suc, Bool, true, false, List, [], ◌∷◌, length, map, drop, refl, sym, ap, subst, ◌∙◌, arith, Option, Some, None}
+use Rattle.std.specs.Prelude.{Contains, slice_get}
 use Rattle.std.specs.List.{AllByRecursion, AllZip}
 use Rattle.std.proofs.lemmas.Option.{get_or_from_slice_get}
 use Rattle.clif_types.specs.declared.types.LaneType.TheVariants as lane
@@ -23,8 +23,8 @@ use Rattle.clif_spilling_laws.specs.GivesOnce.{GivesOnce}
 use Rattle.clif_spilling_laws.specs.Live.{place_at}
 use Rattle.clif_spilling_laws.specs.Rewriting.{AreArguments, AreItemsOf, AreLanded, AreRewritten, IsLandingBlock, IsLedOn, IsPassedOn, IsRewrittenBlock, IsSpilling, Lands, LeadsStraight, jump_item, own_arguments, own_type}
 use Rattle.clif_spilling_laws.specs.Spilling.{Reload, SlotAccess, Spilling, reload_items, store_items}
-use Rattle.clif_spilling_laws.proofs.Edges.{member_holds}
-use Rattle.clif_spilling_laws.proofs.Lists.{contains_cases, contains_first, contains_more, contains_none, dropped, true_false}
+use Rattle.clif_spilling_laws.proofs.Forward.Edges.{member_holds}
+use Rattle.clif_spilling_laws.proofs.Basics.Lists.{contains_cases, contains_first, contains_more, contains_none, dropped, true_false}
 
 -- LISTS -----------------------------------------------------------------------------------------------------------------
 

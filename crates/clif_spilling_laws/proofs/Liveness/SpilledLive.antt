@@ -1,15 +1,15 @@
 -- In a well placed function in which each value is given once, what is live across a call that is reached is live right after it is
 -- given: after the instruction whose result it is, or before the first instruction of the block whose parameter it is.
-use Rattle.std.proofs.Common.{◌≡◌, ◌⊎◌, inl, inr, ℕ, zero, suc, Bool, List, [], ◌∷◌, refl, sym, subst}
+use Rattle.std.proofs.Common.{◌≡◌, ◌⊎◌, inl, inr, ℕ, zero, suc, Bool, List, [], ◌∷◌, refl, subst}
 use Rattle.std.specs.Prelude.{Contains}
 use Rattle.clif_meaning.specs.FunctionView.{FunctionView}
 use Rattle.clif_meaning.specs.Path.{Place, IsPath}
 use Rattle.clif_meaning.specs.WellPlaced.{IsGivenAlong, WellPlaced, function_code, function_flow, given_on_entry, placed_at, placed_gives}
-use Rattle.clif_safepoints.specs.Liveness.{IsLiveAcross, IsUsedAhead, used_operands}
+use Rattle.clif_safepoints.specs.Liveness.{IsLiveAcross, IsUsedAhead}
 use Rattle.clif_spilling_laws.specs.GivesOnce.{GivesOnce}
 use Rattle.clif_spilling_laws.specs.Live.{IsLiveAcrossCall, IsLiveAfter, IsLiveBefore, counted, place_at}
-use Rattle.clif_spilling_laws.proofs.Lists.{contains_none, member_or_not}
-use Rattle.clif_spilling_laws.proofs.LivePaths.{used_is_given}
+use Rattle.clif_spilling_laws.proofs.Basics.Lists.{contains_none, member_or_not}
+use Rattle.clif_spilling_laws.proofs.Liveness.LivePaths.{used_is_given}
 
 module _ (counts : ℕ → ℕ → Bool) (function : FunctionView) (well : WellPlaced function) (count : ℕ) (once : GivesOnce function count) (v : ℕ) where
   abbrev Given : List (Place ℕ) → Type 0

@@ -13,8 +13,8 @@ use Rattle.clif_spilling_laws.specs.Live.{IsSlotOf}
 use Rattle.clif_spilling_laws.specs.Rewriting.{entry_of}
 use Rattle.clif_spilling_laws.specs.Runs.{after_run, slot_range}
 use Rattle.clif_spilling_laws.specs.Spilling.{Spilling}
-use Rattle.clif_spilling_laws.proofs.Lists.{contains_cases, contains_first, contains_more, contains_none, first_is_below, rises_on}
-use Rattle.clif_spilling_laws.proofs.Slots.{other_stays, stored_is_there}
+use Rattle.clif_spilling_laws.proofs.Basics.Lists.{contains_cases, contains_first, contains_more, contains_none, first_is_below, rises_on}
+use Rattle.clif_spilling_laws.proofs.Memory.Slots.{other_stays, stored_is_there}
 
 module _ (s : Spilling) (world : World) (places : PlacesSlots world s.after.slots) (moved : «Type» → Bits → Bits) where
   abbrev R : FunctionRun

@@ -1,0 +1,3 @@
+-- What is live at the places of a well placed function.
+pub mod LivePaths
+pub mod SpilledLive
