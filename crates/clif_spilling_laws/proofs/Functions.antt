@@ -2,3 +2,4 @@
 pub mod Typed
 pub mod GivenOnce
 pub mod Matching
+pub mod Inside

@@ -1,4 +1,4 @@
--- What the worked examples of spilling share: what is recorded, what is called, and single instructions and blocks.
+-- What the worked examples of spilling share: what is recorded, what is called, and single instructions and blocks. Own.
 use Rattle.std.specs.Prelude.{◌==◌, ℕ, Bool, true, List, [], ◌∷◌, None, pos}
 use Rattle.clif_opcodes.specs.declared.opcodes.StackOpcode.TheVariants.{StackAddr}
 use Rattle.clif_types.specs.declared.call_conv.CallConv.TheVariants.{SystemV}

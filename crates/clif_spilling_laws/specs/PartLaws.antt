@@ -1,6 +1,6 @@
 -- Laws that the law of spilling rests on, as the contracts of this crate's functions state them: what is live in a well placed
 -- function in which each value is given once, over any test that says which arguments of edges count; and what the collector by
--- maps does to spill slots; and what typed runs keep.
+-- maps does to spill slots; and what typed runs keep. Own.
 use Rattle.std.specs.Prelude.{◌≡◌, ◌<◌, ℕ, Bool, List, map, Contains}
 use Rattle.std.specs.List.Sorted.{IsStrictlyIncreasing}
 use Rattle.clif_types.specs.Types.{bytes_of}

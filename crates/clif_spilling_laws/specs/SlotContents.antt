@@ -7,14 +7,14 @@ use Rattle.clif_meaning.specs.FunctionMachine.{FunctionState, entry_range, funct
 use Rattle.clif_meaning.specs.FunctionView.{Placed}
 use Rattle.clif_meaning.specs.Machine.{At, state_after}
 use Rattle.clif_meaning.specs.Memory.{bytes_in}
-use Rattle.clif_meaning.specs.Path.{Place}
+use Rattle.clif_meaning.specs.Path.{IsReachable, Place}
 use Rattle.clif_meaning.specs.Typing.{call_shape}
-use Rattle.clif_meaning.specs.WellPlaced.{placed_at}
+use Rattle.clif_meaning.specs.WellPlaced.{function_flow, placed_at}
 use Rattle.clif_meaning.specs.World.{World}
 use Rattle.clif_safepoints.specs.Liveness.{IsLiveAcross}
 use Rattle.clif_spilling_laws.specs.Laws.{MaySpill}
 use Rattle.clif_spilling_laws.specs.Live.{counted}
-use Rattle.clif_spilling_laws.specs.Rewriting.{IsSpilling, entry_of}
+use Rattle.clif_spilling_laws.specs.Rewriting.{IsExactMap, IsSpilling, entry_of}
 use Rattle.clif_spilling_laws.specs.Runs.{IsMetBy, after_run, before_run}
 use Rattle.clif_spilling_laws.specs.Spilling.{Spilling}
 
@@ -29,16 +29,18 @@ module _ (counts : ℕ → ℕ → Bool) (members : ℕ → Bool) (s : Spilling)
     pub live : IsLiveAcross (counted counts) s.before place value
     pub bits : value_of_bytes (bytes_in q.memory (entry_range (after_run s world) entry)) ≡ p.values value
 
-  -- The run before is about to carry out the call that this one became, both have shown the same, and each slot that the map names holds
-  -- its value.
+  -- The run before is about to carry out the call that this one became, both have shown the same, the map is exact there, and each slot
+  -- that it names holds its value.
   pub record HoldsAtCall (new : Placed) (p q : FunctionState) : Type 0 where
     pub place : Place ℕ
     pub old : Placed
     pub olds : List Placed
     pub there : placed_at s.before place ≡ Some old
+    pub reachable : IsReachable (function_flow s.before) place
     pub before : p.control ≡ At (old ∷ olds)
     pub operation : new.instruction.operation ≡ old.instruction.operation
     pub events : q.events ≡ p.events
+    pub exact : IsExactMap counts members s place new.stack_map
     pub slots : (entry : UserStackMapEntry) → Contains new.stack_map entry → HoldsValue place p q entry
 
 -- At each call that the run after comes to, each slot that the call's map names holds what the run before has there, under the premises

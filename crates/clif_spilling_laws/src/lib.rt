@@ -4,7 +4,7 @@
 #![tactic(auto)]
 
 ghost use Rattle.clif_spilling_laws.specs.Accesses.{ReloadsRun, StoredIsLoaded};
-ghost use Rattle.clif_spilling_laws.specs.EdgeLaws.{EdgesStayMatched};
+ghost use Rattle.clif_spilling_laws.specs.EdgeLaws.{ConsistentLeadsInside, EdgesStayMatched};
 ghost use Rattle.clif_spilling_laws.specs.Examples.{SpillingExamples};
 ghost use Rattle.clif_spilling_laws.specs.GivesOnce.{ConsistentGivesOnce};
 ghost use Rattle.clif_spilling_laws.specs.LandingsExample.{LandingsExample};
@@ -66,6 +66,11 @@ pub fn typed_runs_fit()
 /// its blocks that aren't reached lead to no landing block.
 pub fn edges_stay_matched()
     ensures { EdgesStayMatched }
+{}
+
+/// The edges of a consistent function lead to no landing block, and pass its own values, where landing blocks come after its blocks.
+pub fn consistent_leads_inside()
+    ensures { ConsistentLeadsInside }
 {}
 
 /// A consistent function gives each value once.

@@ -59,7 +59,7 @@ module _ (counts : ℕ → ℕ → Bool) (members : ℕ → Bool) (s : Spilling)
     pub seen : SeenAlike s world p q
     pub control : ControlAlike p q p.control q.control
 
--- it stands before an instruction, or at the end of a block without a terminator
+-- it is before an instruction, or at the end of a block without a terminator
 abbrev pub IsAt : Control Placed → Type 0
 IsAt (At rest) = Unit {0}
 IsAt (HasReturned results) = ⊥

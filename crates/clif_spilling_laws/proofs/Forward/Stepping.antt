@@ -140,7 +140,7 @@ module _ (counts : ℕ → ℕ → Bool) (members : ℕ → Bool) (s : Spilling)
   -- AN INSTRUCTION ------------------------------------------------------------------------------------------------------
 
   module _ (block index : ℕ) (old : Placed) (olds code : List Placed) (p q : FunctionState) (seen : SeenAlike s world p q)
-      (stands : p.control ≡ At (old ∷ olds)) (at : AtPlace counts members s world block index old olds code p q) (in_order : IsInOrder left p old)
+      (comes_to : p.control ≡ At (old ∷ olds)) (at : AtPlace counts members s world block index old olds code p q) (in_order : IsInOrder left p old)
       (fits : (v : ℕ) → members v ≡ true → IsValue (s.before.value_type v) (p.values v)) where
     item : IsRewrittenItem counts s members (place_at block index) (AreRewritten counts s members block (suc index) olds) old code
     item = at.rewritten
@@ -464,7 +464,9 @@ module _ (counts : ℕ → ℕ → Bool) (members : ℕ → Bool) (s : Spilling)
       old = old;
       olds = olds;
       there = there;
-      before = stands;
+      before = comes_to;
+      reachable = at.reachable;
+      exact = exact;
       operation = item.is_kept.operation;
       events = seen.events;
       slots = λ entry h. named entry (subst (λ (entries : List UserStackMapEntry). Contains entries entry) exact.entries_are h);

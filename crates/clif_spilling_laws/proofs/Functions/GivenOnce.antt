@@ -1,4 +1,4 @@
--- A consistent function gives each value once: a value knows the block or the instruction that gives it, and that stands at one place.
+-- A consistent function gives each value once: a value knows the block or the instruction that gives it, and that is in one place.
 use Rattle.std.proofs.Common.{◌≡◌, ◌≢◌, ◌⊎◌, ◌<◌, inl, inr, ℕ, List, [], length, map, refl, sym, ap, subst, ◌∙◌, arith, Option, Some, None}
 use Rattle.std.specs.Prelude.{Contains, slice_get, slice_index}
 use Rattle.std.proofs.lemmas.Option.{get_or_from_slice_get, slice_get_within}
@@ -33,7 +33,7 @@ same_some i j e = cc
 order : (j k : ℕ) → (j ≡ k) ⊎ (j < k) ⊎ (k < j)
 order j k = grind arith
 
--- what stands once stands at one place
+-- what a list has once is at one place of it
 one_index : (xs : List ℕ) (x j k : ℕ) → Once xs → slice_get xs j ≡ Some x → slice_get xs k ≡ Some x → j ≡ k
 one_index xs x j k once first second = by (order j k)
   where
