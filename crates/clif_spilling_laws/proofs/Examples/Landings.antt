@@ -23,9 +23,9 @@ use Rattle.clif_spilling_laws.specs.Live.{IsLiveAcrossCall, IsSlotOf, counted, p
 use Rattle.clif_spilling_laws.specs.Rewriting.{IsLandingBlock, IsRewrittenBlock, IsSpilling, Lands}
 use Rattle.clif_spilling_laws.specs.Runs.{IsMetBy, SparesHidden, before_run}
 use Rattle.clif_spilling_laws.specs.Spilling.{IsNew, Reload, Spilling}
-use Rattle.clif_spilling_laws.proofs.Examples.Parts.{alone, exact_first, first_alone, kept_return, no_way, one_of_two, one_reload, reads_copy, some_number}
+use Rattle.clif_spilling_laws.proofs.Examples.Parts.{alone, exact_first, first_alone, kept_return, no_way, one_of_two, one_reload, reads_copy}
 use Rattle.clif_spilling_laws.proofs.Examples.Worlds.{met_by, passing, places_one, throwing}
-use Rattle.clif_spilling_laws.proofs.Basics.Lists.{contains_first, contains_more, contains_none}
+use Rattle.clif_spilling_laws.proofs.Basics.Lists.{contains_first, contains_more, contains_none, some_same}
 use Rattle.clif_spilling_laws.proofs.Functions.Matching.{edges_stay_matched}
 use Rattle.clif_spilling_laws.proofs.Forward.Simulating.{means_the_same}
 
@@ -171,7 +171,7 @@ leads_low (suc (suc zero)) (suc k) t h = absurd (contains_none t h)
 leads_low (suc (suc (suc n))) k t h = absurd (contains_none t h)
 
 not_reached : (block : ℕ) → 3 ≤ block → IsReached s.before block → ⊥
-not_reached block high (inl entry) = let e : 0 ≡ block = some_number 0 block entry in omega (arith, high, e)
+not_reached block high (inl entry) = let e : 0 ≡ block = some_same 0 block entry in omega (arith, high, e)
 not_reached block high (inr from) = let low = (leads_low from.0.block from.0.index block from.2).1 in omega (arith, high, low)
 
 rewritten_block : (block : ℕ) → IsReached s.before block → IsRewrittenBlock every s only_first block

@@ -25,10 +25,10 @@ use Rattle.clif_spilling_laws.specs.MovedExample.{MovedExample, MovesInSlot, cal
 use Rattle.clif_spilling_laws.specs.Rewriting.{AreRewritten, IsExactMap, IsLandingBlock, IsRewrittenBlock, IsRewrittenItem, IsSpilling}
 use Rattle.clif_spilling_laws.specs.Runs.{IsMetBy, SparesHidden, before_run}
 use Rattle.clif_spilling_laws.specs.Spilling.{AreStores, Reload, address_item, SlotAccess, Spilling, reload_items, store_items}
-use Rattle.clif_spilling_laws.proofs.Examples.Parts.{alone, exact_first, first_alone, first_member, no_way, not_exact, one_reload, reads_copy}
+use Rattle.clif_spilling_laws.proofs.Examples.Parts.{alone, exact_first, first_alone, no_way, not_exact, one_reload, reads_copy}
 use Rattle.clif_spilling_laws.proofs.Examples.Straight.{parameter_along}
 use Rattle.clif_spilling_laws.proofs.Examples.Worlds.{met_by, passing, places_one}
-use Rattle.clif_spilling_laws.proofs.Basics.Lists.{contains_first, contains_none}
+use Rattle.clif_spilling_laws.proofs.Basics.Lists.{contains_first, contains_none, first_is}
 use Rattle.clif_spilling_laws.proofs.Forward.Simulating.{means_the_same}
 
 abbrev s : Spilling
@@ -264,10 +264,10 @@ lacks_entry is = by block.items.stores block.items.are_stores block.items.rest b
       where
         here : (reloads : List Reload) → calls_with [] ∷ code ≡ reload_items bare reloads (item.new ∷ store_items bare item.stores item.rest) → ⊥
         here [] e =
-            let new : calls_with [] ≡ item.new = first_member (calls_with []) item.new code (store_items bare item.stores item.rest) e in
+            let new : calls_with [] ≡ item.new = first_is (calls_with []) item.new code (store_items bare item.stores item.rest) e in
             not_exact bare only_first (place_at 0 0) 0 refl refl live_on
             (subst (λ (placed : Placed). IsExactMap every only_first bare (place_at 0 0) placed.stack_map) (sym new) item.is_kept.stack_map)
-        here (x ∷ more) e = other_operation (ap (λ (placed : Placed). placed.instruction.operation) (first_member (calls_with []) (address_item bare x.access) code _ e))
+        here (x ∷ more) e = other_operation (ap (λ (placed : Placed). placed.instruction.operation) (first_is (calls_with []) (address_item bare x.access) code _ e))
 
     by : (stores : List SlotAccess) → AreStores bare (IsLiveBefore every bare.before (place_at 0 0)) (0 ∷ []) stores → (rest : List Placed)
         → (bare.after.blocks 0).items ≡ store_items bare stores rest → AreRewritten every bare only_first 0 0 (moved_blocks 0).items rest → ⊥

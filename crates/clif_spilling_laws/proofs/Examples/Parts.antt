@@ -1,6 +1,6 @@
 -- What the worked examples share: lists of one or two members, a reload of a value, an exact map with one entry or none, and what is
 -- left as it is.
-use Rattle.std.proofs.Common.{◌≡◌, ◌⊎◌, inl, inr, ℕ, Bool, true, false, List, [], ◌∷◌, map, refl, sym, subst, arith, Option, Some}
+use Rattle.std.proofs.Common.{◌≡◌, ◌⊎◌, inl, inr, ℕ, Bool, true, false, List, [], ◌∷◌, map, refl, sym, subst, arith}
 use Rattle.std.specs.Prelude.{Contains}
 use Rattle.std.proofs.lemmas.Bool.{eqb-true}
 use Rattle.clif_meaning.specs.Path.{Place}
@@ -16,12 +16,6 @@ no_way e = cc
 
 pub first_alone : (v : ℕ) → only_first v ≡ true → v ≡ 0
 first_alone v is = eqb-true v 0 is
-
-pub some_number : (a b : ℕ) → ◌≡◌ {A = Option ℕ} (Some a) (Some b) → a ≡ b
-some_number a b e = cc
-
-pub first_member : {X : Type 0} (x y : X) (xs ys : List X) → (x ∷ xs) ≡ (y ∷ ys) → x ≡ y
-first_member x y xs ys e = cc
 
 -- the one member of a list
 pub alone : {X : Type 0} (x y : X) → Contains (x ∷ []) y → x ≡ y

@@ -5,8 +5,8 @@ use Rattle.clif_meaning.specs.FunctionView.{FunctionView}
 use Rattle.clif_meaning.specs.Path.{IsPath, IsReachable, Leads, Place}
 use Rattle.clif_meaning.specs.WellPlaced.{IsGivenAlong, function_code, function_flow, given_on_entry, placed_at, placed_gives, placed_targets}
 use Rattle.clif_spilling_laws.specs.Live.{place_at}
-use Rattle.clif_spilling_laws.proofs.Examples.Parts.{some_number}
-use Rattle.clif_spilling_laws.proofs.Basics.Lists.{contains_none}
+use Rattle.clif_spilling_laws.proofs.Liveness.Reached.{in_reached}
+use Rattle.clif_spilling_laws.proofs.Basics.Lists.{contains_none, some_same}
 
 module _ (function : FunctionView) (none : (p : Place ℕ) → placed_targets (placed_at function p) ≡ []) (entry : function.entry ≡ Some 0) where
   -- control goes to the next place of the block alone
@@ -15,7 +15,7 @@ module _ (function : FunctionView) (none : (p : Place ℕ) → placed_targets (p
   goes_next p q (inr other) = absurd (contains_none q.block (subst (λ (xs : List ℕ). Contains xs q.block) (none p) other.0))
 
   pub in_entry : (p : Place ℕ) (path : List (Place ℕ)) → IsPath (function_flow function) (p ∷ path) → p.block ≡ 0
-  in_entry p [] start = some_number p.block 0 (sym start.0 ∙ entry)
+  in_entry p [] start = some_same p.block 0 (sym start.0 ∙ entry)
   in_entry p (q ∷ path) walk = let next = goes_next q p walk.0 in next.0 ∙ in_entry q path walk.1
 
   last_or_before : (j k : ℕ) → j < k + 1 → (k ≡ j) ⊎ (j < k)
@@ -48,9 +48,4 @@ module _ (function : FunctionView) (none : (p : Place ℕ) → placed_targets (p
 
   -- each place of the block is reached
   pub reach : (k : ℕ) → k < length (function.blocks 0).items → IsReachable (function_flow function) (place_at 0 k)
-  reach zero inside = ([], (entry, (refl, inside)))
-  reach (suc k) inside =
-      let before = reach k (omega (arith, inside)) in (place_at 0 k ∷ before.0, (inl (refl, one_on k, inside), before.1))
-    where
-      one_on : (k : ℕ) → suc k ≡ k + 1
-      one_on k = omega arith
+  reach k inside = in_reached function 0 (inl entry) k inside

@@ -14,8 +14,8 @@ use Rattle.clif_spilling_laws.specs.Laws.{MaySpill}
 use Rattle.clif_spilling_laws.specs.Live.{IsLiveAcrossCall, IsLiveAfter, IsLiveBefore, IsSlotOf, SharesNoSlot, SpillsLive, counted, place_at}
 use Rattle.clif_spilling_laws.specs.Rewriting.{IsCopied, IsExactMap, IsKept, IsLandingBlock, IsLedOn, IsLeft, IsNamed, IsRead, IsRewrittenBlock, IsSpilling, Lands}
 use Rattle.clif_spilling_laws.specs.Spilling.{IsNew, Reload, SlotAccess, Spilling}
-use Rattle.clif_spilling_laws.proofs.Examples.Parts.{alone, exact_first, first_alone, kept_return, no_way, not_exact, one_of_two, one_reload, reads_copy, some_number}
-use Rattle.clif_spilling_laws.proofs.Basics.Lists.{contains_first, contains_more, contains_none}
+use Rattle.clif_spilling_laws.proofs.Examples.Parts.{alone, exact_first, first_alone, kept_return, no_way, not_exact, one_of_two, one_reload, reads_copy}
+use Rattle.clif_spilling_laws.proofs.Basics.Lists.{contains_first, contains_more, contains_none, some_same}
 
 abbrev s : Spilling
 s = try_spilling
@@ -146,7 +146,7 @@ no_target (suc (suc zero)) (suc k) h = contains_none 3 h
 no_target (suc (suc (suc n))) k h = contains_none 3 h
 
 not_reached : IsReached s.before 3 → ⊥
-not_reached (inl entry) = let e : 0 ≡ 3 = some_number 0 3 entry in absurd (omega (arith, e))
+not_reached (inl entry) = let e : 0 ≡ 3 = some_same 0 3 entry in absurd (omega (arith, e))
 not_reached (inr from) = no_target from.0.block from.0.index from.2
 
 rewritten_block : (block : ℕ) → IsReached s.before block → IsRewrittenBlock every s only_first block

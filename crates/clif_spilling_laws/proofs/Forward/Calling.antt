@@ -22,7 +22,7 @@ use Rattle.clif_spilling_laws.specs.Live.{IsLiveAcrossCall, IsSlotOf, counted, p
 use Rattle.clif_spilling_laws.specs.Rewriting.{IsExactMap}
 use Rattle.clif_spilling_laws.specs.Runs.{in_spill_slots, slot_range}
 use Rattle.clif_spilling_laws.specs.Spilling.{Spilling}
-use Rattle.clif_spilling_laws.proofs.Forward.Entering.{L, R, slots}
+use Rattle.clif_spilling_laws.proofs.Forward.Entering.{old_run, new_run, slots}
 use Rattle.clif_spilling_laws.proofs.Basics.Lists.{true_false, true_or_false}
 use Rattle.clif_spilling_laws.proofs.Memory.Maps.{each_moved}
 use Rattle.clif_spilling_laws.proofs.Forward.Relation.{Held, SeenAlike, Setting}
@@ -56,10 +56,10 @@ module _ (counts : ℕ → ℕ → Bool) (members : ℕ → Bool) (s : Spilling)
     (fits : (v : ℕ) → members v ≡ true → IsValue (s.before.value_type v) (p.values v))
     (across : (v : ℕ) → v < s.count → IsLiveAcross (counted counts) s.before (place_at block index) v → Held s world v p.values q.values q.memory) where
   abbrev pub p' : FunctionState
-  p' = call_outside (L counts members s world c) p old.stack_map callee shape arguments
+  p' = call_outside (old_run counts members s world c) p old.stack_map callee shape arguments
 
   abbrev pub q' : FunctionState
-  q' = call_outside (R counts members s world c) q entries callee shape arguments
+  q' = call_outside (new_run counts members s world c) q entries callee shape arguments
 
   abbrev moved : «Type» → Bits → Bits
   moved = world.moved q'.events shape
@@ -71,7 +71,7 @@ module _ (counts : ℕ → ℕ → Bool) (members : ℕ → Bool) (s : Spilling)
   seen_after = record {
     events = events_are;
     memory = λ a h.
-        beside_seen (in_spill_slots s world) (entries_moved (R counts members s world c) moved entries q.memory) (world.memory_after q'.events shape) a h
+        beside_seen (in_spill_slots s world) (entries_moved (new_run counts members s world c) moved entries q.memory) (world.memory_after q'.events shape) a h
         ∙ ap (λ (events : List Event). world.memory_after events shape a) events_are
         ∙ sym (beside_seen (in_spill_slots s world) p.memory (world.memory_after p'.events shape) a h);
   }
@@ -123,7 +123,7 @@ module _ (counts : ℕ → ℕ → Bool) (members : ℕ → Bool) (s : Spilling)
   in_slot : (v : ℕ) → v < s.count → IsLiveAcross (counted counts) s.before (place_at block index) v → s.is_spilled v ≡ true → HoldsIn s world q'.memory v (p'.values v)
   in_slot v low live spilled =
       same_in_slot s world c.places v has q'.memory kept (λ a h. beside_hidden (in_spill_slots s world) kept (world.memory_after q'.events shape) a h)
-      ∙ ap (λ (es : List UserStackMapEntry). bytes_in (entries_moved (R counts members s world c) moved es q.memory) (slot_range s world v)) exact.entries_are
+      ∙ ap (λ (es : List UserStackMapEntry). bytes_in (entries_moved (new_run counts members s world c) moved es q.memory) (slot_range s world v)) exact.entries_are
       ∙ each_moved s world c.places moved exact.values v q.memory exact.rising (λ u h. slots counts members s world c u (named_spilled u h)) named_apart named
       ∙ ap (λ (x : Bits). value_bytes (bytes_of (s.before.value_type v)) x) bits
     where
@@ -134,7 +134,7 @@ module _ (counts : ℕ → ℕ → Bool) (members : ℕ → Bool) (s : Spilling)
       spill = (c.spills.spilled v).0 spilled
 
       kept : Memory
-      kept = entries_moved (R counts members s world c) moved entries q.memory
+      kept = entries_moved (new_run counts members s world c) moved entries q.memory
 
       named : Contains exact.values v
       named = (exact.all v).1 (spill.member, spill.unaliased, live)

@@ -19,7 +19,8 @@ use Rattle.clif_spilling_laws.specs.Live.{IsLiveAfter, IsLiveBefore, IsSlotOf, c
 use Rattle.clif_spilling_laws.specs.Rewriting.{AreItemsOf, AreRewritten, IsRewrittenBlock}
 use Rattle.clif_spilling_laws.specs.Runs.{after_run, before_run}
 use Rattle.clif_spilling_laws.specs.Spilling.{AreStores, SlotAccess, Spilling, store_items}
-use Rattle.clif_spilling_laws.proofs.Basics.Lists.{assigned_alike, assigned_other, contains_none, dropped, member_or_not}
+use Rattle.clif_spilling_laws.proofs.Liveness.Reached.{in_reached}
+use Rattle.clif_spilling_laws.proofs.Basics.Lists.{assigned_alike, assigned_other, contains_none, drop_none, dropped, member_or_not}
 use Rattle.clif_spilling_laws.proofs.Basics.Passing.{BeginsQuietly, Passes, passes_nothing}
 use Rattle.clif_spilling_laws.proofs.Forward.Relation.{Alike, ControlAlike, Held, SeenAlike, Setting}
 use Rattle.clif_spilling_laws.proofs.Liveness.SpilledLive.{parameter_is_live, result_is_live}
@@ -34,11 +35,11 @@ still_held s world v old new new' memory same held = record {
 }
 
 module _ (counts : ℕ → ℕ → Bool) (members : ℕ → Bool) (s : Spilling) (world : World) (c : Setting counts members s world) where
-  abbrev pub L : FunctionRun
-  L = before_run s members world
+  abbrev pub old_run : FunctionRun
+  old_run = before_run s members world
 
-  abbrev pub R : FunctionRun
-  R = after_run s world
+  abbrev pub new_run : FunctionRun
+  new_run = after_run s world
 
   pub slots : (v : ℕ) → s.is_spilled v ≡ true → IsSlotOf s v
   slots v spilled = c.spills.slots v spilled
@@ -48,7 +49,7 @@ module _ (counts : ℕ → ℕ → Bool) (members : ℕ → Bool) (s : Spilling)
 
   -- from states before the stores to agreeing states
   abbrev pub Arrives : (FunctionState → Type 0) → FunctionState → FunctionState → Type 0
-  Arrives P p q = (q' : FunctionState) × Passes R P q q' × Alike counts members s world p q'
+  Arrives P p q = (q' : FunctionState) × Passes new_run P q q' × Alike counts members s world p q'
 
   module _ (P : FunctionState → Type 0) (events : List Event)
       (through : (values : ℕ → Bits) (memory : Memory) (code : List Placed) → BeginsQuietly code → P (state_of values memory events (At code))) where
@@ -119,7 +120,7 @@ module _ (counts : ℕ → ℕ → Bool) (members : ℕ → Bool) (s : Spilling)
 
         stored : (new : ℕ → Bits) × (after : Memory)
             × AreStored s world (IsLiveAfter counts s.before (place_at block index)) old.results new_values q.memory new after
-            × Passes R P (state_of new_values q.memory events (At (store_items s stores tail))) (state_of new after events (At tail))
+            × Passes new_run P (state_of new_values q.memory events (At (store_items s stores tail))) (state_of new after events (At tail))
         stored =
             stores_run s world c.pointers c.places slots (IsLiveAfter counts s.before (place_at block index))
             (c.may.shares_no_slot.after (place_at block index) reachable) itself P events through
@@ -183,24 +184,14 @@ module _ (counts : ℕ → ℕ → Bool) (members : ℕ → Bool) (s : Spilling)
       entered_new = assigned same_value params right q.values
 
       reachable : (first : Placed) (more : List Placed) → (s.before.blocks block).items ≡ first ∷ more → IsReachable (function_flow s.before) (place_at block 0)
-      reachable first more is = by reached
-        where
-          some : 0 < length (s.before.blocks block).items
-          some = subst (λ (xs : List Placed). 0 < length xs) (sym is) (omega arith)
-
-          by : IsReached s.before block → IsReachable (function_flow s.before) (place_at block 0)
-          by (inl entry) = ([], (entry, (refl, some)))
-          by (inr from) = (from.0 ∷ from.1.0, (inr (from.2, (refl, some)), from.1.1))
-
-      whole : (xs : List Placed) → drop 0 xs ≡ xs
-      whole [] = refl
-      whole (x ∷ xs) = refl
+      reachable first more is =
+          in_reached s.before block reached 0 (subst (λ (xs : List Placed). 0 < length xs) (sym is) (omega arith))
 
       arrive : (items code : List Placed) → (s.before.blocks block).items ≡ items → AreItemsOf counts s members block items code
           → Arrives P (state_of entered_old p.memory p.events (At items)) (state_of entered_new q.memory events (At code))
       arrive [] code is none = (
         state_of entered_new q.memory events (At code),
-        passes_nothing R P (state_of entered_new q.memory events (At code)),
+        passes_nothing new_run P (state_of entered_new q.memory events (At code)),
         record { seen = record { events = sym q_events ∙ seen.events; memory = seen.memory }; control = none },
       )
       arrive (first ∷ more) code is written =
@@ -214,7 +205,7 @@ module _ (counts : ℕ → ℕ → Bool) (members : ℕ → Bool) (s : Spilling)
                 block,
                 0,
                 record {
-                  rest = whole (s.before.blocks block).items ∙ is;
+                  rest = drop_none (s.before.blocks block).items ∙ is;
                   reachable = there;
                   rewritten = written.rewritten;
                   held = λ v low live. held v low live;
@@ -228,7 +219,7 @@ module _ (counts : ℕ → ℕ → Bool) (members : ℕ → Bool) (s : Spilling)
 
           stored : (new : ℕ → Bits) × (after : Memory)
               × AreStored s world (IsLiveBefore counts s.before (place_at block 0)) params entered_new q.memory new after
-              × Passes R P (state_of entered_new q.memory events (At (store_items s written.stores written.rest))) (state_of new after events (At written.rest))
+              × Passes new_run P (state_of entered_new q.memory events (At (store_items s written.stores written.rest))) (state_of new after events (At written.rest))
           stored =
               stores_run s world c.pointers c.places slots (IsLiveBefore counts s.before (place_at block 0))
               (c.may.shares_no_slot.before (place_at block 0) there) itself P events through

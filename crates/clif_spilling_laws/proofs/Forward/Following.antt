@@ -22,7 +22,7 @@ use Rattle.clif_spilling_laws.specs.Live.{IsLiveBefore, counted, place_at}
 use Rattle.clif_spilling_laws.specs.Rewriting.{AreFresh, IsCopied, IsNamed, Lands, LeadsStraight, jump_item, own_arguments}
 use Rattle.clif_spilling_laws.specs.Spilling.{AreReloads, IsKeptBy, IsReload, Reload, Spilling, reload_items}
 use Rattle.clif_spilling_laws.proofs.Forward.Edges.{OwnHeld, ReadAlike, edge_as_many, front_filled, landed_alike, landed_long, own_held, straight_alike, straight_long}
-use Rattle.clif_spilling_laws.proofs.Forward.Entering.{Arrives, L, R, entered, slots, still_held}
+use Rattle.clif_spilling_laws.proofs.Forward.Entering.{Arrives, old_run, new_run, entered, slots, still_held}
 use Rattle.clif_spilling_laws.proofs.Basics.Lists.{assigned_alike, assigned_other, contains_cases, contains_none, true_or_false}
 use Rattle.clif_spilling_laws.proofs.Liveness.LivePaths.{live_after_below}
 use Rattle.clif_spilling_laws.proofs.Basics.Passing.{BeginsQuietly, Passes, passes_some, passes_step, passes_then}
@@ -60,7 +60,7 @@ module _ (counts : ℕ → ℕ → Bool) (members : ℕ → Bool) (s : Spilling)
     (across : (v : ℕ) → v < s.count → IsLiveAcross (counted counts) s.before (place_at block index) v → Held s world v p.values q.values q.memory)
     (fits : (v : ℕ) → s.is_spilled v ≡ true → IsValue (s.before.value_type v) (p.values v)) where
   abbrev run : FunctionRun
-  run = R counts members s world c
+  run = new_run counts members s world c
 
   abbrev target : ℕ
   target = edge.target
@@ -164,9 +164,9 @@ module _ (counts : ℕ → ℕ → Bool) (members : ℕ → Bool) (s : Spilling)
   pub followed_straight : (reloads : List Reload) (new : Edge ℕ ℕ) → AreReloads s reloads → LeadsStraight counts s reloads edge new
       → ((x : Reload) → Contains reloads x → x.access.value < s.count → IsLiveAcross (counted counts) s.before (place_at block index) x.access.value
       → q.values x.copy ≡ p.values x.access.value)
-      → Arrives counts members s world c P (follow_edge (L counts members s world c) p given (Some edge)) (follow_edge (R counts members s world c) q given (Some new))
+      → Arrives counts members s world c P (follow_edge (old_run counts members s world c) p given (Some edge)) (follow_edge (new_run counts members s world c) q given (Some new))
   followed_straight reloads new are led copies =
-      subst (λ (t : ℕ). Arrives counts members s world c P (follow_edge (L counts members s world c) p given (Some edge)) (enter_block run q t new_bits))
+      subst (λ (t : ℕ). Arrives counts members s world c P (follow_edge (old_run counts members s world c) p given (Some edge)) (enter_block run q t new_bits))
       (sym led.target)
       (entered counts members s world c P q.events through edge.target reached p q seen refl old_bits new_bits same
       (λ v low live none. across v low (front_across v live none)))
@@ -254,15 +254,15 @@ module _ (counts : ℕ → ℕ → Bool) (members : ℕ → Bool) (s : Spilling)
     abbrev at_jump : FunctionState
     at_jump = state_of g q.memory q.events (At (jump_item edge.target lands.passed ∷ []))
 
-    arrived : Arrives counts members s world c P (follow_edge (L counts members s world c) p given (Some edge)) (enter_block run at_jump edge.target new_bits)
+    arrived : Arrives counts members s world c P (follow_edge (old_run counts members s world c) p given (Some edge)) (enter_block run at_jump edge.target new_bits)
     arrived =
         entered counts members s world c P q.events through edge.target reached p at_jump (record { events = seen.events; memory = seen.memory }) refl
         old_bits new_bits same
         (λ v low live none. still_held s world v p.values q.values g q.memory (old_stays v low) (across v low (front_across v live none)))
 
-    pub followed_landing : Arrives counts members s world c P (follow_edge (L counts members s world c) p given (Some edge)) (follow_edge (R counts members s world c) q given (Some new))
+    pub followed_landing : Arrives counts members s world c P (follow_edge (old_run counts members s world c) p given (Some edge)) (follow_edge (new_run counts members s world c) q given (Some new))
     followed_landing =
-        subst (λ (xs : List Placed). Arrives counts members s world c P (follow_edge (L counts members s world c) p given (Some edge)) (state_of base q.memory q.events (At xs)))
+        subst (λ (xs : List Placed). Arrives counts members s world c P (follow_edge (old_run counts members s world c) p given (Some edge)) (state_of base q.memory q.events (At xs)))
         (sym lands.items) (
           arrived.0,
           passes_then run P (state_of base q.memory q.events (At (reload_items s lands.reloads (jump_item edge.target lands.passed ∷ [])))) at_jump arrived.0 ran.2

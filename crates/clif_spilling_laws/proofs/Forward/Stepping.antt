@@ -31,7 +31,7 @@ use Rattle.clif_spilling_laws.specs.Spilling.{AreReloads, IsReload, Reload, Spil
 use Rattle.clif_spilling_laws.proofs.Forward.CallShapes.{Makes, outcome_makes}
 use Rattle.clif_spilling_laws.proofs.Forward.Calling.{events_are, fits_after, held_after, seen_after}
 use Rattle.clif_spilling_laws.proofs.Forward.Edges.{member_holds}
-use Rattle.clif_spilling_laws.proofs.Forward.Entering.{Arrives, L, R, gave, slots}
+use Rattle.clif_spilling_laws.proofs.Forward.Entering.{Arrives, gave, new_run, old_run, slots}
 use Rattle.clif_spilling_laws.proofs.Forward.Following.{followed_landing, followed_straight}
 use Rattle.clif_spilling_laws.proofs.Basics.Lists.{contains_first, contains_more, contains_none, dropped, true_false, true_or_false, zip_map}
 use Rattle.clif_spilling_laws.proofs.Liveness.LivePaths.{live_below}
@@ -83,10 +83,10 @@ follow_at run state given edge some is = subst (λ (o : Option (Edge ℕ ℕ)). 
 
 module _ (counts : ℕ → ℕ → Bool) (members : ℕ → Bool) (s : Spilling) (world : World) (c : Setting counts members s world) where
   abbrev left : FunctionRun
-  left = L counts members s world c
+  left = old_run counts members s world c
 
   abbrev right : FunctionRun
-  right = R counts members s world c
+  right = new_run counts members s world c
 
   abbrev To : (FunctionState → Type 0) → FunctionState → FunctionState → Type 0
   To P p q = Arrives counts members s world c P p q

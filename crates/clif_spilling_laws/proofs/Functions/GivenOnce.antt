@@ -27,9 +27,6 @@ same_inst i j k l e = cc
 no_parameter : (b i k : ℕ) → ◌≡◌ {A = ValueOrigin} (Param b) (Result i k) → ⊥
 no_parameter b i k e = cc
 
-same_some : (i j : ℕ) → ◌≡◌ {A = Option ℕ} (Some i) (Some j) → i ≡ j
-same_some i j e = cc
-
 order : (j k : ℕ) → (j ≡ k) ⊎ (j < k) ⊎ (k < j)
 order j k = grind arith
 

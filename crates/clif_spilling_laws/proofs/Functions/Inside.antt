@@ -1,5 +1,5 @@
 -- A consistent function's edges lead to its own blocks, and pass its own values.
-use Rattle.std.proofs.Common.{◌≡◌, ◌<◌, ◌≤◌, ℕ, Bool, List, [], ◌∷◌, length, map, refl, sym, ap, subst, arith}
+use Rattle.std.proofs.Common.{◌≡◌, ◌<◌, ℕ, List, length, sym, subst, arith}
 use Rattle.std.specs.Prelude.{Contains}
 use Rattle.std.proofs.lemmas.List.Elements.{All-contains}
 use Rattle.clif_instructions.specs.Instruction.{destinations}
@@ -9,13 +9,11 @@ use Rattle.clif_instructions.specs.declared.block_call.BlockCall.{BlockCall}
 use Rattle.clif_ir.specs.Body.{Body, inst_at}
 use Rattle.clif_ir.specs.Consistent.{EdgeExists, IsConsistent, PassedExists}
 use Rattle.clif_meaning.specs.FunctionView.{FunctionView, Placed}
-use Rattle.clif_meaning.specs.Instruction.{Argument, Known, Edge}
+use Rattle.clif_meaning.specs.Instruction.{Known, Edge}
 use Rattle.clif_meaning.specs.View.{argument_of, edge_of, placed_of, view_of}
 use Rattle.clif_safepoints.specs.Transfer.{insts_of}
 use Rattle.clif_safepoints.proofs.Paths.{contained_in_map, items_are}
-use Rattle.clif_spilling_laws.specs.EdgeLaws.{ConsistentLeadsInside, LeadsInside}
-use Rattle.clif_spilling_laws.specs.Rewriting.{IsLandingBlock}
-use Rattle.clif_spilling_laws.specs.Spilling.{Spilling}
+use Rattle.clif_spilling_laws.specs.EdgeLaws.{ConsistentLeadsInside}
 
 -- the branch target that an edge of the view is made of
 record IsMadeOf (f : Body) (edge : Edge ℕ ℕ) : Type 0 where

@@ -1,5 +1,5 @@
 -- Matching edges stay matching through a spilling.
-use Rattle.std.proofs.Common.{◌≡◌, ◌⊎◌, ◌<◌, ◌+◌, inl, inr, ℕ, zero, suc, Bool, true, false, List, [], ◌∷◌, length, map, drop, refl, sym, ap, subst, ◌∙◌, arith, Option, Some, None}
+use Rattle.std.proofs.Common.{◌≡◌, ◌⊎◌, ◌<◌, inl, inr, ℕ, zero, suc, Bool, true, false, List, [], ◌∷◌, length, map, drop, refl, sym, ap, subst, ◌∙◌, Option, Some, None}
 use Rattle.std.specs.Prelude.{Contains, slice_get}
 use Rattle.std.specs.List.{AllByRecursion, AllZip}
 use Rattle.std.proofs.lemmas.Option.{get_or_from_slice_get}
@@ -24,28 +24,14 @@ use Rattle.clif_spilling_laws.specs.Live.{place_at}
 use Rattle.clif_spilling_laws.specs.Rewriting.{AreArguments, AreItemsOf, AreLanded, AreRewritten, IsLandingBlock, IsLedOn, IsPassedOn, IsRewrittenBlock, IsSpilling, Lands, LeadsStraight, jump_item, own_arguments, own_type}
 use Rattle.clif_spilling_laws.specs.Spilling.{Reload, SlotAccess, Spilling, reload_items, store_items}
 use Rattle.clif_spilling_laws.proofs.Forward.Edges.{member_holds}
-use Rattle.clif_spilling_laws.proofs.Basics.Lists.{contains_cases, contains_first, contains_more, contains_none, dropped, true_false}
+use Rattle.clif_spilling_laws.proofs.Basics.Lists.{contains_cases, contains_first, contains_more, contains_none, drop_none, dropped, first_is, none_some, not_empty, rest_is, some_same, true_false}
+use Rattle.clif_spilling_laws.proofs.Liveness.Reached.{in_reached}
 
 -- LISTS -----------------------------------------------------------------------------------------------------------------
 
 map_alike : {X Y : Type 0} (f g : X → Y) (xs : List X) → ((x : X) → Contains xs x → f x ≡ g x) → map f xs ≡ map g xs
 map_alike f g [] same = refl
 map_alike f g (x ∷ xs) same = λ i. same x (contains_first x xs) i ∷ map_alike f g xs (λ y h. same y (contains_more x y xs h)) i
-
-first_is : {X : Type 0} (x y : X) (xs ys : List X) → (x ∷ xs) ≡ (y ∷ ys) → x ≡ y
-first_is x y xs ys e = cc
-
-rest_is : {X : Type 0} (x y : X) (xs ys : List X) → (x ∷ xs) ≡ (y ∷ ys) → xs ≡ ys
-rest_is x y xs ys e = cc
-
-not_empty : {X : Type 0} (x : X) (xs : List X) → (x ∷ xs) ≡ [] → ⊥
-not_empty x xs e = cc
-
-none_some : (ty : «Type») → ◌≡◌ {A = Option «Type»} None (Some ty) → ⊥
-none_some ty e = cc
-
-some_type : (a b : «Type») → ◌≡◌ {A = Option «Type»} (Some a) (Some b) → a ≡ b
-some_type a b e = cc
 
 -- WHAT ISN'T FALSE IS TRUE ----------------------------------------------------------------------------------------------
 
@@ -64,7 +50,7 @@ stable_option : (a b : Option «Type») → Stable (a ≡ b)
 stable_option None None not_false = refl
 stable_option None (Some b) not_false = absurd (not_false (λ e. none_some b e))
 stable_option (Some a) None not_false = absurd (not_false (λ e. none_some a (sym e)))
-stable_option (Some a) (Some b) not_false = ap (λ (ty : «Type»). Some ty) (stable_type a b (λ no. not_false (λ e. no (some_type a b e))))
+stable_option (Some a) (Some b) not_false = ap (λ (ty : «Type»). Some ty) (stable_type a b (λ no. not_false (λ e. no (some_same a b e))))
 
 stable_list : (xs ys : List (Option «Type»)) → Stable (xs ≡ ys)
 stable_list [] [] not_false = refl
@@ -344,17 +330,6 @@ module _ (counts : ℕ → ℕ → Bool) (members : ℕ → Bool) (s : Spilling)
   abbrev items_at : ℕ → List Placed
   items_at block = (s.before.blocks block).items
 
-  -- each place of a block that is reached is
-  in_reached : (block : ℕ) → IsReached s.before block → (k : ℕ) → k < length (items_at block) → IsReachable (function_flow s.before) (place_at block k)
-  in_reached block (inl entry) zero inside = ([], (entry, (refl, inside)))
-  in_reached block (inr from) zero inside = (from.0 ∷ from.1.0, (inr (from.2, (refl, inside)), from.1.1))
-  in_reached block reached (suc k) inside =
-      let before = in_reached block reached k (omega (arith, inside)) in
-      (place_at block k ∷ before.0, (inl (refl, one_on k, inside), before.1))
-    where
-      one_on : (k : ℕ) → suc k ≡ k + 1
-      one_on k = omega arith
-
   leads_to : (p : Place ℕ) (placed : Placed) (edge : Edge ℕ ℕ) → IsReachable (function_flow s.before) p → placed_at s.before p ≡ Some placed
       → Contains placed.instruction.edges edge → IsReached s.before edge.target
   leads_to p placed edge reachable there h =
@@ -376,16 +351,12 @@ module _ (counts : ℕ → ℕ → Bool) (members : ℕ → Bool) (s : Spilling)
         subst (λ (operation : Operation). EachEdgeMatches new_type (value_types_at s.after) (call_shape operation) item.new.instruction.edges)
             (sym item.is_kept.operation)
             (edges_match (call_shape old.instruction.operation) item.reloads old.instruction.edges item.new.instruction.edges
-            (λ edge h. leads_to (place_at block index) old edge (in_reached block reached index here.0) here.1 h) item.is_kept.edges match.0),
+            (λ edge h. leads_to (place_at block index) old edge (in_reached s.before block reached index here.0) here.1 h) item.is_kept.edges match.0),
         stores_match item.stores item.rest (rewritten_match block reached (suc index) olds item.rest here.2 item.goes_on match.1),
       ))
     where
       here : (index < length (items_at block)) × (slice_get (items_at block) index ≡ Some old) × (drop (suc index) (items_at block) ≡ olds)
       here = dropped (items_at block) index old olds rest
-
-  whole : (xs : List Placed) → drop 0 xs ≡ xs
-  whole [] = refl
-  whole (x ∷ xs) = refl
 
   reached_match : EdgesMatch s.before → (block : ℕ) → IsReached s.before block → AllMatch (s.after.blocks block).items
   reached_match match block reached = by (items_at block) refl (match block) (is.items)
@@ -400,7 +371,7 @@ module _ (counts : ℕ → ℕ → Bool) (members : ℕ → Bool) (s : Spilling)
       by (first ∷ more) same matched written =
           subst AllMatch (sym written.code_is)
           (stores_match written.stores written.rest
-          (rewritten_match block reached 0 (first ∷ more) written.rest (whole (items_at block) ∙ same) written.rewritten matched))
+          (rewritten_match block reached 0 (first ∷ more) written.rest (drop_none (items_at block) ∙ same) written.rewritten matched))
 
   -- OTHER BLOCKS --------------------------------------------------------------------------------------------------------
 

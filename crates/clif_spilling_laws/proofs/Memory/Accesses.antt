@@ -34,8 +34,8 @@ zero_added n width below =
     ap (λ (m : ℕ). (n + m) % 2 ^ width) (mod-eq_of_lt (pow_pos width)) ∙ ap (λ (m : ℕ). m % 2 ^ width) (plus_zero n) ∙ mod-eq_of_lt below
 
 module _ (s : Spilling) (world : World) (pointers : world.pointer_width ≡ bits_of s.pointer) (places : PlacesSlots world s.after.slots) where
-  abbrev R : FunctionRun
-  R = after_run s world
+  abbrev run : FunctionRun
+  run = after_run s world
 
   abbrev place : ℕ → ℕ
   place v = world.slot_place (s.slot_of v)
@@ -69,14 +69,14 @@ module _ (s : Spilling) (world : World) (pointers : world.pointer_width ≡ bits
         access_runs world region (slot_range s world v) outcome (slot_aligned s world places v has) (slot_accessible s world places v has)
 
   pub address_step : (a : SlotAccess) (rest : List Placed) (values : ℕ → Bits) (memory : Memory) (events : List Event) → IsSlotOf s a.value
-      → function_step R (state_of values memory events (At (address_item s a ∷ rest)))
+      → function_step run (state_of values memory events (At (address_item s a ∷ rest)))
       ≡ state_of (assigned same_value (a.address ∷ []) (place a.value ∷ []) values) memory events (At rest)
   address_step a rest values memory events has =
       ap (λ (x : Bits). state_of (assigned same_value (a.address ∷ []) (x ∷ []) values) memory events (At rest)) (place_is a.value has)
 
   pub load_step : (x : Reload) (rest : List Placed) (values : ℕ → Bits) (memory : Memory) (events : List Event) → IsSlotOf s x.access.value
       → IsNew s s.pointer x.access.address → values x.access.address ≡ place x.access.value
-      → function_step R (state_of values memory events (At (load_item s x ∷ rest)))
+      → function_step run (state_of values memory events (At (load_item s x ∷ rest)))
       ≡ state_of (assigned same_value (x.copy ∷ []) (loaded s world memory x.access.value ∷ []) values) memory events (At rest)
   load_step x rest values memory events has new holds =
       ap (λ (r : Range). does (access_outcome world (trusted x.access.region) r (Gives (low_bits_at ty (value_of_bytes (bytes_in memory r)) ∷ []) memory)))
@@ -87,11 +87,11 @@ module _ (s : Spilling) (world : World) (pointers : world.pointer_width ≡ bits
       ty = s.before.value_type x.access.value
 
       does : Outcome → FunctionState
-      does outcome = carry_out R (state_of values memory events (At (load_item s x ∷ rest))) (load_item s x) rest outcome
+      does outcome = carry_out run (state_of values memory events (At (load_item s x ∷ rest))) (load_item s x) rest outcome
 
   pub store_step : (a : SlotAccess) (rest : List Placed) (values : ℕ → Bits) (memory : Memory) (events : List Event) → IsSlotOf s a.value
       → IsNew s s.pointer a.address → s.after.resolved a.value ≡ a.value → values a.address ≡ place a.value
-      → function_step R (state_of values memory events (At (store_item s a ∷ rest)))
+      → function_step run (state_of values memory events (At (store_item s a ∷ rest)))
       ≡ state_of values (stored s world memory a.value (values a.value)) events (At rest)
   store_step a rest values memory events has new itself holds =
       ap (λ (r : Range). does (access_outcome world (trusted a.region) r (Gives [] (written memory r (value_bytes r.size (values (s.after.resolved a.value)))))))
@@ -100,14 +100,14 @@ module _ (s : Spilling) (world : World) (pointers : world.pointer_width ≡ bits
       ∙ ap (λ (w : ℕ). state_of values (stored s world memory a.value (values w)) events (At rest)) itself
     where
       does : Outcome → FunctionState
-      does outcome = carry_out R (state_of values memory events (At (store_item s a ∷ rest))) (store_item s a) rest outcome
+      does outcome = carry_out run (state_of values memory events (At (store_item s a ∷ rest))) (store_item s a) rest outcome
 
   -- a reload: the address, and the copy
   pub reload_runs : (x : Reload) (rest : List Placed) (values : ℕ → Bits) (memory : Memory) (events : List Event) → IsSlotOf s x.access.value
       → IsNew s s.pointer x.access.address
-      → function_step R (function_step R (state_of values memory events (At (address_item s x.access ∷ load_item s x ∷ rest))))
+      → function_step run (function_step run (state_of values memory events (At (address_item s x.access ∷ load_item s x ∷ rest))))
       ≡ state_of (reloaded s world memory x values) memory events (At rest)
   reload_runs x rest values memory events has new =
-      ap (function_step R) (address_step x.access (load_item s x ∷ rest) values memory events has)
+      ap (function_step run) (address_step x.access (load_item s x ∷ rest) values memory events has)
       ∙ load_step x rest (assigned same_value (x.access.address ∷ []) (place x.access.value ∷ []) values) memory events has new
       (assigned_one x.access.address (place x.access.value) values)

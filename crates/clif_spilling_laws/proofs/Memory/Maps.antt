@@ -17,8 +17,8 @@ use Rattle.clif_spilling_laws.proofs.Basics.Lists.{contains_cases, contains_firs
 use Rattle.clif_spilling_laws.proofs.Memory.Slots.{other_stays, stored_is_there}
 
 module _ (s : Spilling) (world : World) (places : PlacesSlots world s.after.slots) (moved : «Type» → Bits → Bits) where
-  abbrev R : FunctionRun
-  R = after_run s world
+  abbrev run : FunctionRun
+  run = after_run s world
 
   abbrev held : Memory → ℕ → List ℕ
   held memory v = bytes_in memory (slot_range s world v)
@@ -27,13 +27,13 @@ module _ (s : Spilling) (world : World) (places : PlacesSlots world s.after.slot
   abbrev moved_bits : Memory → ℕ → Bits
   moved_bits memory v = moved (s.before.value_type v) (value_of_bytes (held memory v))
 
-  pub range_is : (v : ℕ) → entry_range R (entry_of s v) ≡ slot_range s world v
+  pub range_is : (v : ℕ) → entry_range run (entry_of s v) ≡ slot_range s world v
   range_is v = λ i. record { width = world.pointer_width; start = plus_zero (world.slot_place (s.slot_of v)) i; size = bytes_of (s.before.value_type v) }
     where
       plus_zero : (n : ℕ) → n + 0 ≡ n
       plus_zero n = omega arith
 
-  moved_one : (v : ℕ) (memory : Memory) → entry_moved R moved (entry_of s v) memory ≡ stored s world memory v (moved_bits memory v)
+  moved_one : (v : ℕ) (memory : Memory) → entry_moved run moved (entry_of s v) memory ≡ stored s world memory v (moved_bits memory v)
   moved_one v memory =
       ap (λ (r : Range). written memory r
       (value_bytes (bytes_of (s.before.value_type v)) (moved (s.before.value_type v) (value_of_bytes (bytes_in memory r))))) (range_is v)
@@ -41,10 +41,10 @@ module _ (s : Spilling) (world : World) (places : PlacesSlots world s.after.slot
   -- entries for other slots leave a slot
   others_leave : (vs : List ℕ) (w : ℕ) (memory : Memory) → IsSlotOf s w
       → ((v : ℕ) → Contains vs v → IsSlotOf s v × (s.slot_of v ≡ s.slot_of w → ⊥))
-      → held (entries_moved R moved (map (entry_of s) vs) memory) w ≡ held memory w
+      → held (entries_moved run moved (map (entry_of s) vs) memory) w ≡ held memory w
   others_leave [] w memory has each = refl
   others_leave (v ∷ vs) w memory has each =
-      others_leave vs w (entry_moved R moved (entry_of s v) memory) has (λ u h. each u (contains_more v u vs h))
+      others_leave vs w (entry_moved run moved (entry_of s v) memory) has (λ u h. each u (contains_more v u vs h))
       ∙ ap (λ (m : Memory). held m w) (moved_one v memory)
       ∙ (let first = each v (contains_first v vs) in
       other_stays s world places v w first.0 has first.1 memory (value_bytes (bytes_of (s.before.value_type v)) (moved_bits memory v)))
@@ -52,11 +52,11 @@ module _ (s : Spilling) (world : World) (places : PlacesSlots world s.after.slot
   -- each slot that is named once is moved once
   pub each_moved : (vs : List ℕ) (w : ℕ) (memory : Memory) → IsStrictlyIncreasing vs → ((v : ℕ) → Contains vs v → IsSlotOf s v)
       → ((v u : ℕ) → Contains vs v → Contains vs u → s.slot_of v ≡ s.slot_of u → v ≡ u) → Contains vs w
-      → held (entries_moved R moved (map (entry_of s) vs) memory) w ≡ value_bytes (bytes_of (s.before.value_type w)) (moved_bits memory w)
+      → held (entries_moved run moved (map (entry_of s) vs) memory) w ≡ value_bytes (bytes_of (s.before.value_type w)) (moved_bits memory w)
   each_moved [] w memory rising have apart h = absurd (contains_none w h)
   each_moved (v ∷ vs) w memory rising have apart h =
       by (contains_cases v w vs h)
-      (each_moved vs w (entry_moved R moved (entry_of s v) memory) (rises_on v vs rising) (λ u g. have u (contains_more v u vs g))
+      (each_moved vs w (entry_moved run moved (entry_of s v) memory) (rises_on v vs rising) (λ u g. have u (contains_more v u vs g))
       (λ u t g f. apart u t (contains_more v u vs g) (contains_more v t vs f)))
     where
       below : (u : ℕ) → Contains vs u → v < u
@@ -67,21 +67,21 @@ module _ (s : Spilling) (world : World) (places : PlacesSlots world s.after.slot
           let one : v ≡ u = apart v u (contains_first v vs) (contains_more v u vs g) same in
           absurd (omega (arith, one, below u g))
 
-      first : held (entries_moved R moved (map (entry_of s) vs) (entry_moved R moved (entry_of s v) memory)) v
+      first : held (entries_moved run moved (map (entry_of s) vs) (entry_moved run moved (entry_of s v) memory)) v
           ≡ value_bytes (bytes_of (s.before.value_type v)) (moved_bits memory v)
       first =
-          others_leave vs v (entry_moved R moved (entry_of s v) memory) (have v (contains_first v vs))
+          others_leave vs v (entry_moved run moved (entry_of s v) memory) (have v (contains_first v vs))
           (λ u g. (have u (contains_more v u vs g), λ same. first_differs u g (sym same)))
           ∙ ap (λ (m : Memory). held m v) (moved_one v memory)
           ∙ stored_is_there s world places v (have v (contains_first v vs)) memory (moved_bits memory v)
 
       by : (v ≡ w) ⊎ Contains vs w
-          → (Contains vs w → held (entries_moved R moved (map (entry_of s) vs) (entry_moved R moved (entry_of s v) memory)) w
-          ≡ value_bytes (bytes_of (s.before.value_type w)) (moved_bits (entry_moved R moved (entry_of s v) memory) w))
-          → held (entries_moved R moved (map (entry_of s) vs) (entry_moved R moved (entry_of s v) memory)) w
+          → (Contains vs w → held (entries_moved run moved (map (entry_of s) vs) (entry_moved run moved (entry_of s v) memory)) w
+          ≡ value_bytes (bytes_of (s.before.value_type w)) (moved_bits (entry_moved run moved (entry_of s v) memory) w))
+          → held (entries_moved run moved (map (entry_of s) vs) (entry_moved run moved (entry_of s v) memory)) w
           ≡ value_bytes (bytes_of (s.before.value_type w)) (moved_bits memory w)
       by (inl same) later =
-          subst (λ (u : ℕ). held (entries_moved R moved (map (entry_of s) vs) (entry_moved R moved (entry_of s v) memory)) u
+          subst (λ (u : ℕ). held (entries_moved run moved (map (entry_of s) vs) (entry_moved run moved (entry_of s v) memory)) u
           ≡ value_bytes (bytes_of (s.before.value_type u)) (moved_bits memory u)) same first
       by (inr more) later =
           later more

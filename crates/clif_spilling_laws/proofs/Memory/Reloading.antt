@@ -49,16 +49,16 @@ pub record AreReloaded (s : Spilling) (world : World) (reloads : List Reload) (v
 module _ (s : Spilling) (world : World) (pointers : world.pointer_width ≡ bits_of s.pointer) (places : PlacesSlots world s.after.slots)
     (slots : (v : ℕ) → s.is_spilled v ≡ true → IsSlotOf s v) (P : FunctionState → Type 0) (memory : Memory) (events : List Event)
     (through : (values : ℕ → Bits) (code : List Placed) → BeginsQuietly code → P (state_of values memory events (At code))) where
-  abbrev R : FunctionRun
-  R = after_run s world
+  abbrev run : FunctionRun
+  run = after_run s world
 
   abbrev at : (ℕ → Bits) → List Placed → FunctionState
   at values code = state_of values memory events (At code)
 
   pub reloads_run : (reloads : List Reload) (rest : List Placed) (values : ℕ → Bits) → AreReloads s reloads
-      → (new : ℕ → Bits) × AreReloaded s world reloads values memory new × Passes R P (at values (reload_items s reloads rest)) (at new rest)
+      → (new : ℕ → Bits) × AreReloaded s world reloads values memory new × Passes run P (at values (reload_items s reloads rest)) (at new rest)
   reloads_run [] rest values are =
-      (values, record { copies = λ x h. absurd (contains_none x h); others = λ v kept. refl }, passes_nothing R P (at values rest))
+      (values, record { copies = λ x h. absurd (contains_none x h); others = λ v kept. refl }, passes_nothing run P (at values rest))
   reloads_run (x ∷ reloads) rest values are =
       let more = reloads_run reloads rest second are.2 in (more.0, facts more.0 more.1, walk more.0 more.2)
     where
@@ -89,16 +89,16 @@ module _ (s : Spilling) (world : World) (pointers : world.pointer_width ≡ bits
               (are_reloaded.others x.copy are.1 ∙ assigned_one x.copy (loaded s world memory x.access.value) first)
           by y (inr more) = are_reloaded.copies y more
 
-      walk : (new : ℕ → Bits) → Passes R P (at second (reload_items s reloads rest)) (at new rest)
-          → Passes R P (at values (reload_items s (x ∷ reloads) rest)) (at new rest)
+      walk : (new : ℕ → Bits) → Passes run P (at second (reload_items s reloads rest)) (at new rest)
+          → Passes run P (at values (reload_items s (x ∷ reloads) rest)) (at new rest)
       walk new more =
           let tail : List Placed = reload_items s reloads rest in
-          passes_some R P (at values (reload_items s (x ∷ reloads) rest)) (at new rest)
-          (passes_step R P (at values (reload_items s (x ∷ reloads) rest)) (at first (load_item s x ∷ tail)) (at new rest)
+          passes_some run P (at values (reload_items s (x ∷ reloads) rest)) (at new rest)
+          (passes_step run P (at values (reload_items s (x ∷ reloads) rest)) (at first (load_item s x ∷ tail)) (at new rest)
           (through values (reload_items s (x ∷ reloads) rest) refl)
           (address_step s world pointers places x.access (load_item s x ∷ tail) values memory events has)
-          (passes_some R P (at first (load_item s x ∷ tail)) (at new rest)
-          (passes_step R P (at first (load_item s x ∷ tail)) (at second tail) (at new rest)
+          (passes_some run P (at first (load_item s x ∷ tail)) (at new rest)
+          (passes_step run P (at first (load_item s x ∷ tail)) (at second tail) (at new rest)
           (through first (load_item s x ∷ tail) refl)
           (load_step s world pointers places x tail first memory events has are.0.address
           (assigned_one x.access.address (world.slot_place (s.slot_of x.access.value)) values))

@@ -39,8 +39,8 @@ module _ (s : Spilling) (world : World) (pointers : world.pointer_width ≡ bits
     (itself : (v : ℕ) → s.is_spilled v ≡ true → v < s.count → s.after.resolved v ≡ v)
     (P : FunctionState → Type 0) (events : List Event)
     (through : (values : ℕ → Bits) (memory : Memory) (code : List Placed) → BeginsQuietly code → P (state_of values memory events (At code))) where
-  abbrev R : FunctionRun
-  R = after_run s world
+  abbrev run : FunctionRun
+  run = after_run s world
 
   abbrev at : (ℕ → Bits) → Memory → List Placed → FunctionState
   at values memory code = state_of values memory events (At code)
@@ -48,14 +48,14 @@ module _ (s : Spilling) (world : World) (pointers : world.pointer_width ≡ bits
   abbrev Stores : List ℕ → (ℕ → Bits) → Memory → List SlotAccess → List Placed → Type 0
   Stores given values memory stores rest =
       (new : ℕ → Bits) × (after : Memory) × AreStored s world Needed given values memory new after
-      × Passes R P (at values memory (store_items s stores rest)) (at new after rest)
+      × Passes run P (at values memory (store_items s stores rest)) (at new after rest)
 
   nothing_stored : (values : ℕ → Bits) (memory : Memory) (rest : List Placed) → Stores [] values memory [] rest
   nothing_stored values memory rest = (
     values,
     memory,
     record { old = λ v below. refl; seen = λ a h. refl; stays = λ w bits is needed none holds. holds; puts = λ w is h below. absurd (contains_none w h) },
-    passes_nothing R P (at values memory rest),
+    passes_nothing run P (at values memory rest),
   )
 
   -- one store, and then those of the others
@@ -131,12 +131,12 @@ module _ (s : Spilling) (world : World) (pointers : world.pointer_width ≡ bits
           more.0,
           more.1,
           facts more.0 more.1 more.2,
-          passes_some R P (at values memory (store_items s (a ∷ stores) rest)) (at more.0 more.1 rest)
-              (passes_step R P (at values memory (store_items s (a ∷ stores) rest)) (at with_address memory (store_item s a ∷ tail)) (at more.0 more.1 rest)
+          passes_some run P (at values memory (store_items s (a ∷ stores) rest)) (at more.0 more.1 rest)
+              (passes_step run P (at values memory (store_items s (a ∷ stores) rest)) (at with_address memory (store_item s a ∷ tail)) (at more.0 more.1 rest)
               (through values memory (store_items s (a ∷ stores) rest) refl)
               (address_step s world pointers places a (store_item s a ∷ tail) values memory events has)
-              (passes_some R P (at with_address memory (store_item s a ∷ tail)) (at more.0 more.1 rest)
-              (passes_step R P (at with_address memory (store_item s a ∷ tail)) (at with_address with_store tail) (at more.0 more.1 rest)
+              (passes_some run P (at with_address memory (store_item s a ∷ tail)) (at more.0 more.1 rest)
+              (passes_step run P (at with_address memory (store_item s a ∷ tail)) (at with_address with_store tail) (at more.0 more.1 rest)
               (through with_address memory (store_item s a ∷ tail) refl)
               (store_step s world pointers places a tail with_address memory events has is.address (itself a.value spilled_too below_too)
               (assigned_one a.address place values))
