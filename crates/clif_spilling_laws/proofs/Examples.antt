@@ -6,3 +6,4 @@ pub mod TryCall
 pub mod Moved
 pub mod SlotReuse
 pub mod Landings
+pub mod TableItems

@@ -13,3 +13,4 @@ pub mod Examples
 pub mod MovedExample
 pub mod SlotReuseExample
 pub mod LandingsExample
+pub mod TableItemsExample

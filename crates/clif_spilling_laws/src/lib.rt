@@ -13,6 +13,7 @@ ghost use Rattle.clif_spilling_laws.specs.MovedExample.{MovedExample};
 ghost use Rattle.clif_spilling_laws.specs.PartLaws.{EachEntryMoves, LiveIsGiven, NothingLiveAtEntry, SpilledIsLive, TypedRunsFit};
 ghost use Rattle.clif_spilling_laws.specs.SlotContents.{SlotContents};
 ghost use Rattle.clif_spilling_laws.specs.SlotReuseExample.{SlotReuseExample};
+ghost use Rattle.clif_spilling_laws.specs.TableItemsExample.{TableItemsExample};
 
 /// A function with stores, reloads and exact maps means, under the collector by maps, what the function before means under the
 /// collector over the members: where each value is given once, edges match, aliases are typed, the function is well placed, no slot
@@ -98,4 +99,10 @@ pub fn slot_reuse_example()
 /// A try call with two landing blocks is a spilling, its edges match, and the law's premises hold at once, whichever edge is taken.
 pub fn landings_example()
     ensures { LandingsExample }
+{}
+
+/// A try call with two items in its table, whose edges pass a spilled value to one block, is a spilling with two landing blocks, and the
+/// law's premises hold at once, whichever item is thrown to.
+pub fn table_items_example()
+    ensures { TableItemsExample }
 {}

@@ -19,11 +19,11 @@ use Rattle.clif_spilling_laws.specs.EdgeLaws.{LeadsInside}
 use Rattle.clif_spilling_laws.specs.Examples.{narrows, normal_edge, tries_along}
 use Rattle.clif_spilling_laws.specs.LandingsExample.{LandingsExample, LandsInBoth, default_edge, default_landing, forked, forked_blocks, normal_landing}
 use Rattle.clif_spilling_laws.specs.Laws.{MaySpill}
-use Rattle.clif_spilling_laws.specs.Live.{IsLiveAcrossCall, IsSlotOf, counted, place_at}
+use Rattle.clif_spilling_laws.specs.Live.{IsLiveAcrossCall, counted, place_at}
 use Rattle.clif_spilling_laws.specs.Rewriting.{IsLandingBlock, IsRewrittenBlock, IsSpilling, Lands}
 use Rattle.clif_spilling_laws.specs.Runs.{IsMetBy, SparesHidden, before_run}
 use Rattle.clif_spilling_laws.specs.Spilling.{IsNew, Reload, Spilling}
-use Rattle.clif_spilling_laws.proofs.Examples.Parts.{alone, exact_first, first_alone, kept_return, no_way, one_of_two, one_reload, reads_copy}
+use Rattle.clif_spilling_laws.proofs.Examples.Parts.{alone, exact_first, kept_return, lands_with, no_way, one_of_two, one_reload, reads_copy, shares_nothing, slot_of_first, spills_first}
 use Rattle.clif_spilling_laws.proofs.Examples.Worlds.{met_by, passing, places_one, throwing}
 use Rattle.clif_spilling_laws.proofs.Basics.Lists.{contains_first, contains_more, contains_none, some_same}
 use Rattle.clif_spilling_laws.proofs.Functions.Matching.{edges_stay_matched}
@@ -83,16 +83,8 @@ lands_normally = record {
 }
 
 lands_by_default : Lands every s narrows default_edge default_landing
-lands_by_default = record {
-  reloads = reload_of 0 4 5 ∷ [];
-  are_reloads = one_reload s 0 4 5 refl (new_value 4 (omega arith)) (new_value 5 (omega arith));
-  passed = Known 5 ∷ [];
-  arguments = refl;
-  fresh = tt;
-  types = refl;
-  landed = (inl (reads_copy s 0 4 5 refl refl refl), refl);
-  items = refl;
-}
+lands_by_default =
+    lands_with s (λ v. refl) narrows 2 3 4 5 refl refl (new_value 4 (omega arith)) (new_value 5 (omega arith)) refl refl
 
 abbrev landing : (block : ℕ) (old new : Edge ℕ ℕ) → (s.before.blocks block).parameters ≡ [] → (s.before.blocks block).items ≡ []
     → Contains (normal_edge ∷ default_edge ∷ []) old → new.target ≡ block → Lands every s narrows old new → IsLandingBlock every s block
@@ -193,11 +185,8 @@ other_block (suc (suc (suc (suc (suc n))))) none = inl refl
 is_spilling : IsSpilling every s only_first
 is_spilling = record {
   text = record { entry = refl; signature = refl; reached = rewritten_block; others = other_block };
-  spilled = λ v. (
-    λ is. subst (λ (w : ℕ). IsLiveAcrossCall every only_first s.before w) (sym (first_alone v is)) across_first,
-    λ across. across.member,
-  );
-  slots = λ v is. subst (λ (w : ℕ). IsSlotOf s w) (sym (first_alone v is)) (record { slot = _; there = refl; beyond = omega arith; size = refl; align = refl });
+  spilled = spills_first s (λ v. refl) across_first;
+  slots = slot_of_first s (λ v. refl) (record { slot = _; there = refl; beyond = omega arith; size = refl; align = refl });
   old_slots = (_, refl);
   types = λ v low. refl;
   aliases = λ v low. refl;
@@ -286,10 +275,7 @@ may_spill = record {
   aliases_typed = λ v. refl;
   well_placed = well_placed;
   counts_enough = λ target place param reached uncounted is. absurd (no_way uncounted);
-  shares_no_slot = record {
-    before = λ p reachable v w first second live_v live_w same. first_alone v first ∙ sym (first_alone w second);
-    after = λ p reachable v w first second live_v live_w same. first_alone v first ∙ sym (first_alone w second);
-  };
+  shares_no_slot = shares_nothing s (λ v. refl);
 }
 
 -- EDGES -----------------------------------------------------------------------------------------------------------------
@@ -343,14 +329,14 @@ module _ (world : World) (passes : world.arguments ≡ 64 ∷ []) where
 returned : IsMetBy only_first s (passing (64 ∷ []))
 returned = met (passing (64 ∷ [])) refl (λ n. refl) (λ a. refl) refl
 
-thrown_there : IsMetBy only_first s (throwing (64 ∷ []))
-thrown_there = met (throwing (64 ∷ [])) refl (λ n. refl) (λ a. refl) refl
+thrown_there : IsMetBy only_first s (throwing 0 (64 ∷ []))
+thrown_there = met (throwing 0 (64 ∷ [])) refl (λ n. refl) (λ a. refl) refl
 
 normally : LandsInBoth (passing (64 ∷ []))
 normally = record { met = returned; before = refl; after = refl; same = means_the_same every only_first s (passing (64 ∷ [])) is_spilling may_spill returned }
 
-by_default : LandsInBoth (throwing (64 ∷ []))
-by_default = record { met = thrown_there; before = refl; after = refl; same = means_the_same every only_first s (throwing (64 ∷ [])) is_spilling may_spill thrown_there }
+by_default : LandsInBoth (throwing 0 (64 ∷ []))
+by_default = record { met = thrown_there; before = refl; after = refl; same = means_the_same every only_first s (throwing 0 (64 ∷ [])) is_spilling may_spill thrown_there }
 
 pub landings_example : LandingsExample
 landings_example = record {
@@ -359,5 +345,5 @@ landings_example = record {
   leads_inside = leads_inside;
   edges_match = edges_match;
   returns = (passing (64 ∷ []), normally);
-  throws = (throwing (64 ∷ []), by_default);
+  throws = (throwing 0 (64 ∷ []), by_default);
 }

@@ -20,12 +20,12 @@ use Rattle.clif_safepoints.specs.Liveness.{IsLiveAcross}
 use Rattle.clif_typed_runs.specs.ValuesFit.{IsFunctionTyped, IsPlacedTyped}
 use Rattle.clif_spilling_laws.specs.ExampleParts.{address_of_slot, callee, every, load_from, no_signature, only_first, reload_of, returned_bits, returns_value, the_entry}
 use Rattle.clif_spilling_laws.specs.Laws.{MaySpill}
-use Rattle.clif_spilling_laws.specs.Live.{IsLiveAcrossCall, IsLiveBefore, IsSlotOf, counted, place_at}
+use Rattle.clif_spilling_laws.specs.Live.{IsLiveAcrossCall, IsLiveBefore, counted, place_at}
 use Rattle.clif_spilling_laws.specs.MovedExample.{MovedExample, MovesInSlot, calls_with, moved_blocks, moved_spilling, moved_with, shown_after, shown_before}
 use Rattle.clif_spilling_laws.specs.Rewriting.{AreRewritten, IsExactMap, IsLandingBlock, IsRewrittenBlock, IsRewrittenItem, IsSpilling}
 use Rattle.clif_spilling_laws.specs.Runs.{IsMetBy, SparesHidden, before_run}
 use Rattle.clif_spilling_laws.specs.Spilling.{AreStores, Reload, address_item, SlotAccess, Spilling, reload_items, store_items}
-use Rattle.clif_spilling_laws.proofs.Examples.Parts.{alone, exact_first, first_alone, no_way, not_exact, one_reload, reads_copy}
+use Rattle.clif_spilling_laws.proofs.Examples.Parts.{alone, exact_first, no_way, not_exact, one_reload, reads_copy, shares_nothing, slot_of_first, spills_first}
 use Rattle.clif_spilling_laws.proofs.Examples.Straight.{parameter_along}
 use Rattle.clif_spilling_laws.proofs.Examples.Worlds.{met_by, passing, places_one}
 use Rattle.clif_spilling_laws.proofs.Basics.Lists.{contains_first, contains_none, first_is}
@@ -116,11 +116,8 @@ other_block (suc n) none = inl refl
 is_spilling : IsSpilling every s only_first
 is_spilling = record {
   text = record { entry = refl; signature = refl; reached = rewritten_block; others = other_block };
-  spilled = λ v. (
-    λ is. subst (λ (w : ℕ). IsLiveAcrossCall every only_first s.before w) (sym (first_alone v is)) across_call,
-    λ across. across.member,
-  );
-  slots = λ v is. subst (λ (w : ℕ). IsSlotOf s w) (sym (first_alone v is)) (record { slot = _; there = refl; beyond = omega arith; size = refl; align = refl });
+  spilled = spills_first s (λ v. refl) across_call;
+  slots = slot_of_first s (λ v. refl) (record { slot = _; there = refl; beyond = omega arith; size = refl; align = refl });
   old_slots = (_, refl);
   types = λ v low. refl;
   aliases = λ v low. refl;
@@ -185,10 +182,7 @@ may_spill = record {
   aliases_typed = λ v. refl;
   well_placed = well_placed;
   counts_enough = λ target place param reached uncounted is. absurd (no_way uncounted);
-  shares_no_slot = record {
-    before = λ p reachable v w first second live_v live_w same. first_alone v first ∙ sym (first_alone w second);
-    after = λ p reachable v w first second live_v live_w same. first_alone v first ∙ sym (first_alone w second);
-  };
+  shares_no_slot = shares_nothing s (λ v. refl);
 }
   where
     edges_match : EdgesMatch s.before

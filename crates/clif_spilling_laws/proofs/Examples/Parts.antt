@@ -1,14 +1,16 @@
 -- What the worked examples share: lists of one or two members, a reload of a value, an exact map with one entry or none, and what is
 -- left as it is.
-use Rattle.std.proofs.Common.{◌≡◌, ◌⊎◌, inl, inr, ℕ, Bool, true, false, List, [], ◌∷◌, map, refl, sym, subst, arith}
+use Rattle.std.proofs.Common.{◌≡◌, ◌⊎◌, inl, inr, ℕ, Bool, true, false, List, [], ◌∷◌, map, refl, sym, ap, subst, ◌∙◌, arith}
 use Rattle.std.specs.Prelude.{Contains}
 use Rattle.std.proofs.lemmas.Bool.{eqb-true}
+use Rattle.clif_meaning.specs.Event.{CallShape}
+use Rattle.clif_meaning.specs.Instruction.{Known}
 use Rattle.clif_meaning.specs.Path.{Place}
 use Rattle.clif_safepoints.specs.Liveness.{IsLiveAcross}
 use Rattle.clif_spilling_laws.specs.ExampleParts.{every, only_first, reload_of, returns_value}
-use Rattle.clif_spilling_laws.specs.Live.{counted}
-use Rattle.clif_spilling_laws.specs.Rewriting.{IsExactMap, IsRead, IsRewrittenItem, entry_of}
-use Rattle.clif_spilling_laws.specs.Spilling.{AreReloads, IsNew, Spilling}
+use Rattle.clif_spilling_laws.specs.Live.{IsLiveAcrossCall, IsSlotOf, SharesNoSlot, SpillsLive, counted}
+use Rattle.clif_spilling_laws.specs.Rewriting.{AreFresh, IsExactMap, IsRead, IsRewrittenItem, Lands, entry_of, jump_item}
+use Rattle.clif_spilling_laws.specs.Spilling.{AreReloads, IsNew, Spilling, reload_items}
 use Rattle.clif_spilling_laws.proofs.Basics.Lists.{contains_cases, contains_first, contains_none}
 
 pub no_way : true ≡ false → ⊥
@@ -114,3 +116,40 @@ kept_return s members p v unspilled named typed = record {
   code_is = refl;
   goes_on = refl;
 }
+
+-- THE FIRST VALUE ALONE IS SPILLED --------------------------------------------------------------------------------------
+
+module _ (s : Spilling) (same : (v : ℕ) → s.is_spilled v ≡ only_first v) where
+  first_spilled : (v : ℕ) → s.is_spilled v ≡ true → v ≡ 0
+  first_spilled v is = first_alone v (sym (same v) ∙ is)
+
+  pub spills_first : IsLiveAcrossCall every only_first s.before 0 → SpillsLive every only_first s
+  spills_first across v = (
+    λ is. subst (λ (w : ℕ). IsLiveAcrossCall every only_first s.before w) (sym (first_spilled v is)) across,
+    λ live. same v ∙ live.member,
+  )
+
+  pub slot_of_first : IsSlotOf s 0 → (v : ℕ) → s.is_spilled v ≡ true → IsSlotOf s v
+  slot_of_first has v is = subst (λ (w : ℕ). IsSlotOf s w) (sym (first_spilled v is)) has
+
+  pub shares_nothing : SharesNoSlot every s
+  shares_nothing = record {
+    before = λ p reachable v w first second live_v live_w one. first_spilled v first ∙ sym (first_spilled w second);
+    after = λ p reachable v w first second live_v live_w one. first_spilled v first ∙ sym (first_spilled w second);
+  }
+
+  -- an edge of a call that passes the first value alone, to its landing block
+  pub lands_with : (call : CallShape) (target block address copy : ℕ) → s.is_spilled 0 ≡ true → s.before.resolved 0 ≡ 0
+      → IsNew s s.pointer address → IsNew s (s.before.value_type 0) copy → (s.after.blocks block).parameters ≡ []
+      → (s.after.blocks block).items ≡ reload_items s (reload_of 0 address copy ∷ []) (jump_item target (Known copy ∷ []) ∷ [])
+      → Lands every s call (record { target = target; arguments = Known 0 ∷ [] }) (record { target = block; arguments = [] })
+  lands_with call target block address copy spilled itself new_address new_copy no_parameters items = record {
+    reloads = reload_of 0 address copy ∷ [];
+    are_reloads = one_reload s 0 address copy spilled new_address new_copy;
+    passed = Known copy ∷ [];
+    arguments = refl;
+    fresh = subst (AreFresh s (reload_of 0 address copy ∷ [])) (sym no_parameters) tt;
+    types = ap (λ (vs : List ℕ). map s.after.value_type vs) no_parameters;
+    landed = (inl (reads_copy s 0 address copy spilled itself new_copy.typed), refl);
+    items = items;
+  }

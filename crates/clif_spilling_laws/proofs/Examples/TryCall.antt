@@ -11,10 +11,10 @@ use Rattle.clif_spilling_laws.specs.ExampleParts.{every, only_first, reload_of, 
 use Rattle.clif_spilling_laws.specs.Examples.{SpillingExamples, given_twice, landing_edge, narrows, normal_edge, one_slot, tries, try_blocks, try_spilling, view_with}
 use Rattle.clif_spilling_laws.specs.GivesOnce.{GivesOnce}
 use Rattle.clif_spilling_laws.specs.Laws.{MaySpill}
-use Rattle.clif_spilling_laws.specs.Live.{IsLiveAcrossCall, IsLiveAfter, IsLiveBefore, IsSlotOf, SharesNoSlot, SpillsLive, counted, place_at}
+use Rattle.clif_spilling_laws.specs.Live.{IsLiveAcrossCall, IsLiveAfter, IsLiveBefore, SharesNoSlot, counted, place_at}
 use Rattle.clif_spilling_laws.specs.Rewriting.{IsCopied, IsExactMap, IsKept, IsLandingBlock, IsLedOn, IsLeft, IsNamed, IsRead, IsRewrittenBlock, IsSpilling, Lands}
 use Rattle.clif_spilling_laws.specs.Spilling.{IsNew, Reload, SlotAccess, Spilling}
-use Rattle.clif_spilling_laws.proofs.Examples.Parts.{alone, exact_first, first_alone, kept_return, no_way, not_exact, one_of_two, one_reload, reads_copy}
+use Rattle.clif_spilling_laws.proofs.Examples.Parts.{alone, exact_first, kept_return, no_way, not_exact, one_of_two, one_reload, reads_copy, shares_nothing, slot_of_first, spills_first}
 use Rattle.clif_spilling_laws.proofs.Basics.Lists.{contains_first, contains_more, contains_none, some_same}
 
 abbrev s : Spilling
@@ -39,9 +39,6 @@ across_first = record {
   unaliased = refl;
   live = live_first;
 }
-
-spilled : SpillsLive every only_first s
-spilled v = (λ is. subst (λ (w : ℕ). IsLiveAcrossCall every only_first s.before w) (sym (first_alone v is)) across_first, λ across. across.member)
 
 -- RELOADS ------------------------------------------------------------------------------------------------------------
 
@@ -183,8 +180,8 @@ other_block (suc (suc (suc (suc n)))) none = inl refl
 is_spilling : IsSpilling every s only_first
 is_spilling = record {
   text = record { entry = refl; signature = refl; reached = rewritten_block; others = other_block };
-  spilled = spilled;
-  slots = λ v is. subst (λ (w : ℕ). IsSlotOf s w) (sym (first_alone v is)) (record { slot = _; there = refl; beyond = omega arith; size = refl; align = refl });
+  spilled = spills_first s (λ v. refl) across_first;
+  slots = slot_of_first s (λ v. refl) (record { slot = _; there = refl; beyond = omega arith; size = refl; align = refl });
   old_slots = (_, refl);
   types = λ v low. refl;
   aliases = λ v low. refl;
@@ -275,10 +272,7 @@ may_spill = record {
   aliases_typed = λ v. refl;
   well_placed = well_placed;
   counts_enough = λ target place param reached uncounted is. absurd (no_way uncounted);
-  shares_no_slot = record {
-    before = λ p reachable v w first second live_v live_w same. first_alone v first ∙ sym (first_alone w second);
-    after = λ p reachable v w first second live_v live_w same. first_alone v first ∙ sym (first_alone w second);
-  };
+  shares_no_slot = shares_nothing s (λ v. refl);
 }
 
 -- WRONG ONES ------------------------------------------------------------------------------------------------------------

@@ -1,8 +1,7 @@
 -- The worlds of the worked examples: slots are placed at 1000, and 16 is added to what moves. What the law asks of them.
-use Rattle.std.proofs.Common.{◌≡◌, ◌<◌, ◌≤◌, ◌+◌, ◌%◌, ◌^◌, ◌==◌, ℕ, zero, suc, Bool, true, false, if◌then◌else◌, List, [], ◌∷◌, map, refl, sym, ap, subst, ◌∙◌, arith, Some}
+use Rattle.std.proofs.Common.{◌≡◌, ◌<◌, ◌≤◌, ◌+◌, ◌%◌, ◌^◌, ℕ, zero, suc, Bool, true, false, if◌then◌else◌, List, [], ◌∷◌, map, refl, sym, ap, subst, ◌∙◌, arith, Some}
 use Rattle.std.specs.Prelude.{slice_get}
 use Rattle.std.specs.List.{AllByRecursion}
-use Rattle.std.proofs.lemmas.Bool.{eqb-false}
 use Rattle.clif_types.specs.StackSlot.{StackSlotShape}
 use Rattle.clif_types.specs.Types.{bits_of}
 use Rattle.clif_tables.specs.Callees.{types_of}
@@ -24,27 +23,33 @@ use Rattle.clif_spilling_laws.proofs.Functions.Typed.{typed_runs_fit}
 abbrev pub passing : List Bits → World
 passing arguments = record SampleWorld.sample_world { arguments = arguments }
 
--- a call that may throw does so
-abbrev pub thrown : CallShape → Answer
-thrown call = if edge_count call.items == 0 then Results (map (λ ty. 0) (types_of call.signature.returns)) else Exception 0 (0 ∷ 0 ∷ [])
+-- a call throws to this item, if its table has so many edges, and else it returns zeros
+abbrev pub below : ℕ → ℕ → Bool
+below k zero = false
+below zero (suc n) = true
+below (suc k) (suc n) = below k n
 
-pub thrown_fits : (call : CallShape) → IsAnswerTo call (thrown call)
-thrown_fits call = by (edge_count call.items == 0) refl
+below_is : (k n : ℕ) → below k n ≡ true → k < n
+below_is k zero is = cc
+below_is zero (suc n) is = omega arith
+below_is (suc k) (suc n) is = let less = below_is k n is in omega (arith, less)
+
+abbrev pub thrown : ℕ → CallShape → Answer
+thrown item call = if below item (edge_count call.items) then Exception item (0 ∷ 0 ∷ []) else Results (map (λ ty. 0) (types_of call.signature.returns))
+
+pub thrown_fits : (item : ℕ) (call : CallShape) → IsAnswerTo call (thrown item call)
+thrown_fits item call = by (below item (edge_count call.items)) refl
   where
-    some_edge : (n : ℕ) → (n ≡ 0 → ⊥) → 0 < n
-    some_edge zero none = absurd (none refl)
-    some_edge (suc n) none = omega arith
+    by : (c : Bool) → below item (edge_count call.items) ≡ c
+        → IsAnswerTo call (if c then Exception item (0 ∷ 0 ∷ []) else Results (map (λ ty. 0) (types_of call.signature.returns)))
+    by true is = (below_is item (edge_count call.items) is, (omega arith, (omega arith, tt)))
+    by false is = SampleWorld.zeros_fit (types_of call.signature.returns)
 
-    by : (c : Bool) → (edge_count call.items == 0) ≡ c
-        → IsAnswerTo call (if c then Results (map (λ ty. 0) (types_of call.signature.returns)) else Exception 0 (0 ∷ 0 ∷ []))
-    by true is = SampleWorld.zeros_fit (types_of call.signature.returns)
-    by false is = (some_edge (edge_count call.items) (eqb-false (edge_count call.items) 0 is), (omega arith, (omega arith, tt)))
-
-abbrev pub throwing : List Bits → World
-throwing arguments = record SampleWorld.sample_world {
+abbrev pub throwing : ℕ → List Bits → World
+throwing item arguments = record SampleWorld.sample_world {
   arguments = arguments;
-  answer = λ events call. thrown call;
-  answers_fit = λ events call. thrown_fits call;
+  answer = λ events call. thrown item call;
+  answers_fit = λ events call. thrown_fits item call;
 }
 
 -- a single slot
