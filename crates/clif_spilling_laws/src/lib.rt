@@ -10,7 +10,7 @@ ghost use Rattle.clif_spilling_laws.specs.GivesOnce.{ConsistentGivesOnce};
 ghost use Rattle.clif_spilling_laws.specs.LandingsExample.{LandingsExample};
 ghost use Rattle.clif_spilling_laws.specs.Laws.{SpillingMeansTheSame};
 ghost use Rattle.clif_spilling_laws.specs.MovedExample.{MovedExample};
-ghost use Rattle.clif_spilling_laws.specs.PartLaws.{EachEntryMoves, LiveIsGiven, NothingLiveAtEntry, SpilledIsLive, TypedRunsFit};
+ghost use Rattle.clif_spilling_laws.specs.PartLaws.{EachEntryMoves, LiveIsGiven, NothingLiveAtEntry, SpilledIsLive, TypedRunsFit, TypedRunsMeet};
 ghost use Rattle.clif_spilling_laws.specs.SlotContents.{SlotContents};
 ghost use Rattle.clif_spilling_laws.specs.SlotReuseExample.{SlotReuseExample};
 ghost use Rattle.clif_spilling_laws.specs.TableItemsExample.{TableItemsExample};
@@ -61,6 +61,11 @@ pub fn each_entry_moves()
 /// In the run of a typed function each instruction gives bits to each of its results, and the members fit their types.
 pub fn typed_runs_fit()
     ensures { TypedRunsFit }
+{}
+
+/// A typed run that spares hidden addresses is one that the law of spilling is about, where pointers and slots are the world's.
+pub fn typed_runs_meet()
+    ensures { TypedRunsMeet }
 {}
 
 /// Matching edges stay matching, landing blocks included: where the function before gives each value once, its aliases are typed, and

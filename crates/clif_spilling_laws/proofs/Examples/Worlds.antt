@@ -13,11 +13,10 @@ use Rattle.clif_meaning.specs.Machine.{state_after}
 use Rattle.clif_meaning.specs.World.{World, PlacesSlots}
 use Rattle.clif_meaning.proofs.SampleWorld
 use Rattle.clif_typed_runs.specs.ValuesFit.{IsFunctionTyped}
-use Rattle.clif_spilling_laws.specs.PartLaws.{RunFits}
-use Rattle.clif_spilling_laws.specs.Runs.{GivesEach, IsInOrder, IsInOrderThroughout, IsMetBy, SparesHidden, before_run, outcome_in}
+use Rattle.clif_spilling_laws.specs.Runs.{IsMetBy, SparesHidden, before_run}
 use Rattle.clif_spilling_laws.specs.Spilling.{Spilling}
-use Rattle.clif_spilling_laws.proofs.Basics.Left.{next_both, next_follows, next_is}
-use Rattle.clif_spilling_laws.proofs.Functions.Typed.{typed_runs_fit}
+use Rattle.clif_spilling_laws.proofs.Basics.Left.{next_follows, next_is}
+use Rattle.clif_spilling_laws.proofs.Functions.Typed.{typed_runs_meet}
 
 -- it passes these arguments, and calls return zeros
 abbrev pub passing : List Bits → World
@@ -72,27 +71,15 @@ places_one world slot place accessible wide aligned within = record {
       let first = one_slot slot n x is in let second = one_slot slot m other is_other in differ (first.0 ∙ sym second.0);
 }
 
--- A typed run whose instructions touch no hidden address is as the law asks.
-module _ (members : ℕ → Bool) (s : Spilling) (world : World) where
-  abbrev run : FunctionRun
-  run = before_run s members world
-
-  abbrev Spares : Placed → Type 0
-  Spares placed = (state : FunctionState) → SparesHidden run state placed
-
-  pub met_by : world.pointer_width ≡ bits_of s.pointer → PlacesSlots world s.after.slots → IsFunctionTyped (before_run s members world)
-      → ((block : ℕ) → AllByRecursion (λ (placed : Placed). (state : FunctionState) → SparesHidden (before_run s members world) state placed)
-      (s.before.blocks block).items)
-      → IsMetBy members s world
-  met_by pointers places typed spares = record { pointers = pointers; places = places; in_order = in_order; fits = fit.fits }
-    where
-      fit : RunFits members run
-      fit = typed_runs_fit members run typed
-
-      in_order : IsInOrderThroughout run
-      in_order n =
-          let state : FunctionState = state_after (function_machine run) n in
-          let Gives : Placed → Type 0 = λ placed. GivesEach run state placed (outcome_in run state placed) in
-          next_follows (λ (placed : Placed). Spares placed × Gives placed) (IsInOrder run state) state.control
-          (λ placed is. record { spares = is.0 state; gives_each = is.1 })
-          (next_both Spares Gives state.control (next_is run Spares spares n) (fit.gives_each n))
+-- A typed run whose instructions touch no hidden address, in whatever state, is as the law asks.
+pub met_by : (members : ℕ → Bool) (s : Spilling) (world : World) → world.pointer_width ≡ bits_of s.pointer → PlacesSlots world s.after.slots
+    → IsFunctionTyped (before_run s members world)
+    → ((block : ℕ) → AllByRecursion (λ (placed : Placed). (state : FunctionState) → SparesHidden (before_run s members world) state placed)
+    (s.before.blocks block).items)
+    → IsMetBy members s world
+met_by members s world pointers places typed spares =
+    typed_runs_meet members s world pointers places typed (λ n.
+    let run : FunctionRun = before_run s members world in
+    let state : FunctionState = state_after (function_machine run) n in
+    next_follows (λ (placed : Placed). (state : FunctionState) → SparesHidden run state placed) (SparesHidden run state) state.control
+    (λ placed is. is state) (next_is run (λ (placed : Placed). (state : FunctionState) → SparesHidden run state placed) spares n))

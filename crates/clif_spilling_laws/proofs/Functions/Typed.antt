@@ -14,9 +14,9 @@ use Rattle.clif_typed_runs.specs.Laws.{OfNextPlaced}
 use Rattle.clif_typed_runs.specs.ValuesFit.{FunctionFits, HoldValues, IsFunctionTyped, IsPlacedTyped}
 use Rattle.clif_typed_runs.proofs.FunctionSteps.{runs_fit}
 use Rattle.clif_typed_runs.proofs.Outcomes.{GivesValues, typed_gives}
-use Rattle.clif_spilling_laws.specs.PartLaws.{TypedRunsFit}
-use Rattle.clif_spilling_laws.specs.Runs.{AnswersEach, GivesEach, outcome_in}
-use Rattle.clif_spilling_laws.proofs.Basics.Left.{next_follows, next_is}
+use Rattle.clif_spilling_laws.specs.PartLaws.{RunFits, TypedRunsFit, TypedRunsMeet}
+use Rattle.clif_spilling_laws.specs.Runs.{AnswersEach, GivesEach, IsInOrder, IsInOrderThroughout, SparesHidden, before_run, outcome_in}
+use Rattle.clif_spilling_laws.proofs.Basics.Left.{next_both, next_follows, next_is}
 
 -- as many values as types
 are_long : (types : List «Type») (values : List Bits) → AreValues types values → length types ≡ length values
@@ -79,3 +79,18 @@ typed_runs_fit members run typed = record {
   gives_each = given_next run typed;
   fits = λ n v member. let state_fits = runs_fit run typed n in state_fits.values v;
 }
+
+pub typed_runs_meet : TypedRunsMeet
+typed_runs_meet members s world pointers places typed spares = record { pointers = pointers; places = places; in_order = in_order; fits = fit.fits }
+  where
+    fit : RunFits members (before_run s members world)
+    fit = typed_runs_fit members (before_run s members world) typed
+
+    in_order : IsInOrderThroughout (before_run s members world)
+    in_order n =
+        let run : FunctionRun = before_run s members world in
+        let state : FunctionState = state_after (function_machine run) n in
+        let Gives : Placed → Type 0 = λ placed. GivesEach run state placed (outcome_in run state placed) in
+        next_follows (λ (placed : Placed). SparesHidden run state placed × Gives placed) (IsInOrder run state) state.control
+        (λ placed is. record { spares = is.0; gives_each = is.1 })
+        (next_both (SparesHidden run state) Gives state.control (spares n) (fit.gives_each n))
