@@ -7,3 +7,4 @@ pub mod Moved
 pub mod SlotReuse
 pub mod Landings
 pub mod TableItems
+pub mod Uncounted

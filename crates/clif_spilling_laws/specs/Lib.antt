@@ -14,3 +14,4 @@ pub mod MovedExample
 pub mod SlotReuseExample
 pub mod LandingsExample
 pub mod TableItemsExample
+pub mod UncountedExample

@@ -14,6 +14,7 @@ ghost use Rattle.clif_spilling_laws.specs.PartLaws.{EachEntryMoves, LiveIsGiven,
 ghost use Rattle.clif_spilling_laws.specs.SlotContents.{SlotContents};
 ghost use Rattle.clif_spilling_laws.specs.SlotReuseExample.{SlotReuseExample};
 ghost use Rattle.clif_spilling_laws.specs.TableItemsExample.{TableItemsExample};
+ghost use Rattle.clif_spilling_laws.specs.UncountedExample.{UncountedExample};
 
 /// A function with stores, reloads and exact maps means, under the collector by maps, what the function before means under the
 /// collector over the members: where each value is given once, edges match, aliases are typed, the function is well placed, no slot
@@ -110,4 +111,10 @@ pub fn landings_example()
 /// law's premises hold at once, whichever item is thrown to.
 pub fn table_items_example()
     ensures { TableItemsExample }
+{}
+
+/// A recorded value that is passed to a recorded parameter which nothing needs is spilled where its argument counts as a use, and isn't
+/// where it doesn't; the law's premises hold at once in both cases, but not where the parameter isn't recorded.
+pub fn uncounted_example()
+    ensures { UncountedExample }
 {}

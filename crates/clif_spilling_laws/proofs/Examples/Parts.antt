@@ -55,12 +55,12 @@ reads_copy s value address copy spilled itself typed = record {
   );
 }
 
-module _ (s : Spilling) (members : ℕ → Bool) (p : Place ℕ) where
+module _ (counts : ℕ → ℕ → Bool) (s : Spilling) (members : ℕ → Bool) (p : Place ℕ) where
   abbrev LivesOn : ℕ → Type 0
-  LivesOn v = (members v ≡ true) × (s.before.resolved v ≡ v) × IsLiveAcross (counted every) s.before p v
+  LivesOn v = (members v ≡ true) × (s.before.resolved v ≡ v) × IsLiveAcross (counted counts) s.before p v
 
   -- one entry is exact where its value alone lives on
-  pub exact_one : (v : ℕ) → LivesOn v → ((w : ℕ) → LivesOn w → v ≡ w) → IsExactMap every members s p (entry_of s v ∷ [])
+  pub exact_one : (v : ℕ) → LivesOn v → ((w : ℕ) → LivesOn w → v ≡ w) → IsExactMap counts members s p (entry_of s v ∷ [])
   exact_one v lives single = record {
     values = v ∷ [];
     rising = λ k inside. absurd (omega (arith, inside));
@@ -72,7 +72,7 @@ module _ (s : Spilling) (members : ℕ → Bool) (p : Place ℕ) where
   }
 
   -- no entry is, where no member does
-  pub exact_none : ((w : ℕ) → LivesOn w → ⊥) → IsExactMap every members s p []
+  pub exact_none : ((w : ℕ) → LivesOn w → ⊥) → IsExactMap counts members s p []
   exact_none none = record {
     values = [];
     rising = λ k inside. absurd (omega (arith, inside));
@@ -82,7 +82,7 @@ module _ (s : Spilling) (members : ℕ → Bool) (p : Place ℕ) where
 
 pub exact_first : (s : Spilling) (p : Place ℕ) → s.before.resolved 0 ≡ 0 → IsLiveAcross (counted every) s.before p 0
     → IsExactMap every only_first s p (entry_of s 0 ∷ [])
-exact_first s p itself live = exact_one s only_first p 0 (refl, itself, live) (λ w lives. sym (first_alone w lives.0))
+exact_first s p itself live = exact_one every s only_first p 0 (refl, itself, live) (λ w lives. sym (first_alone w lives.0))
 
 -- a map without entries isn't exact where a member lives on
 pub not_exact : (s : Spilling) (members : ℕ → Bool) (p : Place ℕ) (v : ℕ) → members v ≡ true → s.before.resolved v ≡ v

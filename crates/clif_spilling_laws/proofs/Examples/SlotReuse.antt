@@ -219,28 +219,28 @@ across k v live = ahead v live.1 (place_at 0 k) live.2
 -- STACK MAPS ------------------------------------------------------------------------------------------------------------
 
 first_map : IsExactMap every first_two s (place_at 0 1) (number_entry ∷ [])
-first_map = exact_one s first_two (place_at 0 1) 0 (refl, refl, first_lives) (λ w lives. by w (across 1 w lives.2))
+first_map = exact_one every s first_two (place_at 0 1) 0 (refl, refl, first_lives) (λ w lives. by w (across 1 w lives.2))
   where
     by : (w : ℕ) → LivesAfter 1 w → 0 ≡ w
     by w (inl first) = first.0
     by w (inr second) = absurd (let a = second.1 in omega (arith, a))
 
 second_map : IsExactMap every first_two s (place_at 0 2) []
-second_map = exact_none s first_two (place_at 0 2) (λ w lives. by w (across 2 w lives.2))
+second_map = exact_none every s first_two (place_at 0 2) (λ w lives. by w (across 2 w lives.2))
   where
     by : (w : ℕ) → LivesAfter 2 w → ⊥
     by w (inl first) = let a = first.1 in omega (arith, a)
     by w (inr second) = let a = second.1 in omega (arith, a)
 
 third_map : IsExactMap every first_two s (place_at 0 4) (number_entry ∷ [])
-third_map = exact_one s first_two (place_at 0 4) 1 (refl, refl, second_lives) (λ w lives. by w (across 4 w lives.2))
+third_map = exact_one every s first_two (place_at 0 4) 1 (refl, refl, second_lives) (λ w lives. by w (across 4 w lives.2))
   where
     by : (w : ℕ) → LivesAfter 4 w → 1 ≡ w
     by w (inl first) = absurd (let a = first.1 in omega (arith, a))
     by w (inr second) = second.0
 
 fourth_map : IsExactMap every first_two s (place_at 0 5) []
-fourth_map = exact_none s first_two (place_at 0 5) (λ w lives. by w (across 5 w lives.2))
+fourth_map = exact_none every s first_two (place_at 0 5) (λ w lives. by w (across 5 w lives.2))
   where
     by : (w : ℕ) → LivesAfter 5 w → ⊥
     by w (inl first) = let a = first.1 in omega (arith, a)
