@@ -8,3 +8,4 @@ pub mod SlotReuse
 pub mod Landings
 pub mod TableItems
 pub mod Uncounted
+pub mod Loop

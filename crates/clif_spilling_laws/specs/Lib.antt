@@ -15,3 +15,4 @@ pub mod SlotReuseExample
 pub mod LandingsExample
 pub mod TableItemsExample
 pub mod UncountedExample
+pub mod LoopExample

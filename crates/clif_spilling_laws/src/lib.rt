@@ -9,6 +9,7 @@ ghost use Rattle.clif_spilling_laws.specs.Examples.{SpillingExamples};
 ghost use Rattle.clif_spilling_laws.specs.GivesOnce.{ConsistentGivesOnce};
 ghost use Rattle.clif_spilling_laws.specs.LandingsExample.{LandingsExample};
 ghost use Rattle.clif_spilling_laws.specs.Laws.{SpillingMeansTheSame};
+ghost use Rattle.clif_spilling_laws.specs.LoopExample.{LoopExample};
 ghost use Rattle.clif_spilling_laws.specs.MovedExample.{MovedExample};
 ghost use Rattle.clif_spilling_laws.specs.PartLaws.{EachEntryMoves, LiveIsGiven, NothingLiveAtEntry, SpilledIsLive, TypedRunsFit, TypedRunsMeet};
 ghost use Rattle.clif_spilling_laws.specs.SlotContents.{SlotContents};
@@ -117,4 +118,10 @@ pub fn table_items_example()
 /// where it doesn't; the law's premises hold at once in both cases, but not where the parameter isn't recorded.
 pub fn uncounted_example()
     ensures { UncountedExample }
+{}
+
+/// The row `loop` is a spilling, with an alias, two slots and a call with two entries, and the law's premises hold at once; with one slot
+/// for both values they don't.
+pub fn loop_example()
+    ensures { LoopExample }
 {}

@@ -1,7 +1,8 @@
 -- What the worked examples share: lists of one or two members, a reload of a value, an exact map with one entry or none, and what is
 -- left as it is.
 use Rattle.std.proofs.Common.{◌≡◌, ◌⊎◌, inl, inr, ℕ, Bool, true, false, List, [], ◌∷◌, map, refl, sym, ap, subst, ◌∙◌, arith}
-use Rattle.std.specs.Prelude.{Contains}
+use Rattle.std.specs.Prelude.{◌<◌, zero, suc, Contains}
+use Rattle.std.specs.List.Sorted.{IsStrictlyIncreasing}
 use Rattle.std.proofs.lemmas.Bool.{eqb-true}
 use Rattle.clif_meaning.specs.Event.{CallShape}
 use Rattle.clif_meaning.specs.Instruction.{Known}
@@ -11,7 +12,7 @@ use Rattle.clif_spilling_laws.specs.ExampleParts.{every, only_first, reload_of, 
 use Rattle.clif_spilling_laws.specs.Live.{IsLiveAcrossCall, IsSlotOf, SharesNoSlot, SpillsLive, counted}
 use Rattle.clif_spilling_laws.specs.Rewriting.{AreFresh, IsExactMap, IsRead, IsRewrittenItem, Lands, entry_of, jump_item}
 use Rattle.clif_spilling_laws.specs.Spilling.{AreReloads, IsNew, Spilling, reload_items}
-use Rattle.clif_spilling_laws.proofs.Basics.Lists.{contains_cases, contains_first, contains_none}
+use Rattle.clif_spilling_laws.proofs.Basics.Lists.{contains_cases, contains_first, contains_more, contains_none}
 
 pub no_way : true ≡ false → ⊥
 no_way e = cc
@@ -41,19 +42,23 @@ pub one_reload : (s : Spilling) (value address copy : ℕ) → s.is_spilled valu
 one_reload s value address copy spilled new_address new_copy =
     (record { spilled = spilled; address = new_address; copy = new_copy }, λ y h. absurd (contains_none y h), tt)
 
--- the value is read by its reload's copy
-pub reads_copy : (s : Spilling) (value address copy : ℕ) → s.is_spilled value ≡ true → s.before.resolved value ≡ value
-    → s.after.value_type copy ≡ s.before.value_type value → IsRead s (reload_of value address copy ∷ []) value copy
-reads_copy s value address copy spilled itself typed = record {
+-- a value, or an alias of it, is read by its reload's copy
+pub reads_alias : (s : Spilling) (old value address copy : ℕ) → s.is_spilled value ≡ true → s.before.resolved old ≡ value
+    → s.after.value_type copy ≡ s.before.value_type old → IsRead s (reload_of value address copy ∷ []) old copy
+reads_alias s old value address copy spilled named typed = record {
   typed = λ aliases. typed;
   how = inl (
-    subst (λ (v : ℕ). s.is_spilled v ≡ true) (sym itself) spilled,
+    subst (λ (v : ℕ). s.is_spilled v ≡ true) (sym named) spilled,
     reload_of value address copy,
     contains_first (reload_of value address copy) [],
-    sym itself,
+    sym named,
     refl,
   );
 }
+
+pub reads_copy : (s : Spilling) (value address copy : ℕ) → s.is_spilled value ≡ true → s.before.resolved value ≡ value
+    → s.after.value_type copy ≡ s.before.value_type value → IsRead s (reload_of value address copy ∷ []) value copy
+reads_copy s value address copy spilled itself typed = reads_alias s value value address copy spilled itself typed
 
 module _ (counts : ℕ → ℕ → Bool) (s : Spilling) (members : ℕ → Bool) (p : Place ℕ) where
   abbrev LivesOn : ℕ → Type 0
@@ -79,6 +84,27 @@ module _ (counts : ℕ → ℕ → Bool) (s : Spilling) (members : ℕ → Bool)
     all = λ w. (λ h. absurd (contains_none w h), λ lives. absurd (none w lives));
     entries_are = refl;
   }
+
+  -- two entries are exact where these two values alone live on
+  pub exact_two : (v u : ℕ) → v < u → LivesOn v → LivesOn u → ((w : ℕ) → LivesOn w → (v ≡ w) ⊎ (u ≡ w)) → IsExactMap counts members s p (entry_of s v ∷ entry_of s u ∷ [])
+  exact_two v u before first second both = record {
+    values = v ∷ u ∷ [];
+    rising = rising;
+    all = λ w. (λ h. each w (one_of_two v u w h), λ lives. among w (both w lives));
+    entries_are = refl;
+  }
+    where
+      rising : IsStrictlyIncreasing (v ∷ u ∷ [])
+      rising zero inside = before
+      rising (suc k) inside = absurd (omega (arith, inside))
+
+      each : (w : ℕ) → (v ≡ w) ⊎ (u ≡ w) → LivesOn w
+      each w (inl same) = subst LivesOn same first
+      each w (inr same) = subst LivesOn same second
+
+      among : (w : ℕ) → (v ≡ w) ⊎ (u ≡ w) → Contains (v ∷ u ∷ []) w
+      among w (inl same) = subst (λ (x : ℕ). Contains (v ∷ u ∷ []) x) same (contains_first v (u ∷ []))
+      among w (inr same) = subst (λ (x : ℕ). Contains (v ∷ u ∷ []) x) same (contains_more v u (u ∷ []) (contains_first u []))
 
 pub exact_first : (s : Spilling) (p : Place ℕ) → s.before.resolved 0 ≡ 0 → IsLiveAcross (counted every) s.before p 0
     → IsExactMap every only_first s p (entry_of s 0 ∷ [])

@@ -1,11 +1,13 @@
 -- The worlds of the worked examples: slots are placed at 1000, and 16 is added to what moves. What the law asks of them.
-use Rattle.std.proofs.Common.{◌≡◌, ◌<◌, ◌≤◌, ◌+◌, ◌%◌, ◌^◌, ℕ, zero, suc, Bool, true, false, if◌then◌else◌, List, [], ◌∷◌, map, refl, sym, ap, subst, ◌∙◌, arith, Some}
+use Rattle.std.proofs.Common.{◌≡◌, ◌<◌, ◌≤◌, ◌+◌, ◌*◌, ◌%◌, ◌^◌, ℕ, zero, suc, Bool, true, false, if◌then◌else◌, List, [], ◌∷◌, map, refl, sym, ap, subst, ◌∙◌, arith, Some}
 use Rattle.std.specs.Prelude.{slice_get}
 use Rattle.std.specs.List.{AllByRecursion}
 use Rattle.clif_types.specs.StackSlot.{StackSlotShape}
 use Rattle.clif_types.specs.Types.{bits_of}
+use Rattle.clif_types.specs.declared.types.«Type».{«Type»}
+use Rattle.std.proofs.Math.Nat.{mod-lt}
 use Rattle.clif_tables.specs.Callees.{types_of}
-use Rattle.clif_meaning.specs.Bits.{Bits}
+use Rattle.clif_meaning.specs.Bits.{AreValues, Bits}
 use Rattle.clif_meaning.specs.Event.{Answer, CallShape, Exception, IsAnswerTo, Results, edge_count}
 use Rattle.clif_meaning.specs.FunctionMachine.{FunctionRun, FunctionState, function_machine}
 use Rattle.clif_meaning.specs.FunctionView.{Placed}
@@ -21,6 +23,22 @@ use Rattle.clif_spilling_laws.proofs.Functions.Typed.{typed_runs_meet}
 -- it passes these arguments, and calls return zeros
 abbrev pub passing : List Bits → World
 passing arguments = record SampleWorld.sample_world { arguments = arguments }
+
+-- calls return this number, cut to the type, and slots of four bytes are placed one after another
+abbrev pub cut_to : ℕ → «Type» → Bits
+cut_to number ty = number % 2 ^ bits_of ty
+
+pub cut_fits : (number : ℕ) (types : List «Type») → AreValues types (map (cut_to number) types)
+cut_fits number [] = tt
+cut_fits number (ty ∷ types) = (mod-lt number (SampleWorld.pow_pos (bits_of ty)), cut_fits number types)
+
+abbrev pub answering : ℕ → List Bits → World
+answering number arguments = record SampleWorld.sample_world {
+  arguments = arguments;
+  slot_place = λ slot. 1000 + 4 * slot;
+  answer = λ events call. Results (map (cut_to number) (types_of call.signature.returns));
+  answers_fit = λ events call. cut_fits number (types_of call.signature.returns);
+}
 
 -- a call throws to this item, if its table has so many edges, and else it returns zeros
 abbrev pub below : ℕ → ℕ → Bool
