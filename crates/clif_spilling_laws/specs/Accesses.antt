@@ -1,4 +1,4 @@
--- What reloads and stores do: the machine's states around them, and that what was stored is loaded.
+-- What reloads and stores do: the machine's states around them, and that what was stored is loaded. Own.
 use Rattle.std.specs.Prelude.{◌≡◌, ℕ, List, [], ◌∷◌}
 use Rattle.clif_types.specs.Types.{bits_of, bytes_of}
 use Rattle.clif_meaning.specs.Bits.{Bits, IsValue, value_bytes, value_of_bytes}

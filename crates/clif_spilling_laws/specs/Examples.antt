@@ -1,39 +1,24 @@
 -- Worked examples: the function of the row `try_call` before and after, with its landing block, is a spilling, and meets what the law
 -- asks of functions; and wrong ones are refused. The text is that of the project's worked rows.
-use Rattle.std.specs.Prelude.{◌≡◌, ℕ, zero, suc, ◌==◌, ◌||◌, if◌then◌else◌, Bool, true, List, [], ◌∷◌, Option, None, Some, pos}
-use Rattle.clif_opcodes.specs.declared.opcodes.StackOpcode.TheVariants.{StackAddr}
+use Rattle.std.specs.Prelude.{ℕ, zero, suc, ◌==◌, ◌||◌, if◌then◌else◌, true, List, [], ◌∷◌, Some, pos}
 use Rattle.clif_types.specs.declared.call_conv.CallConv.TheVariants.{SystemV}
-use Rattle.clif_types.specs.declared.extname.ExternalName.{ExternalName}
-use Rattle.clif_types.specs.declared.extname.ExternalName.TheVariants as name
 use Rattle.clif_types.specs.declared.stackmap.UserStackMapEntry.{UserStackMapEntry}
 use Rattle.clif_types.specs.declared.trapcode.TrapCode.TheVariants.{HeapOutOfBounds}
 use Rattle.clif_types.specs.declared.types.«Type».{«Type»}
 use Rattle.clif_types.specs.declared.types.«Type».TheVariants as type
-use Rattle.clif_types.specs.Signature.{SignatureShape}
 use Rattle.clif_types.specs.StackSlot.{StackSlotShape}
 use Rattle.clif_meaning.specs.CallExamples.{i64}
 use Rattle.clif_meaning.specs.Event.{CallShape, Default}
 use Rattle.clif_meaning.specs.Examples.{i32}
 use Rattle.clif_meaning.specs.FunctionView.{BlockView, FunctionView, Placed}
-use Rattle.clif_meaning.specs.Instruction.{Argument, Known, CallResult, Compute, Edge, Iconst, Jump, Load, Return, Stack, Store, Trap, TryCall, Call}
+use Rattle.clif_meaning.specs.Instruction.{Known, CallResult, Compute, Edge, Iconst, Return, Trap, TryCall, Call}
 use Rattle.clif_meaning.specs.Typing.{EdgesMatch}
+use Rattle.clif_spilling_laws.specs.ExampleParts.{address_of_slot, callee, empty_block, every, load_from, no_signature, only_first, reload_of, returns_value, store_in, the_entry}
 use Rattle.clif_spilling_laws.specs.GivesOnce.{GivesOnce}
 use Rattle.clif_spilling_laws.specs.Laws.{MaySpill}
 use Rattle.clif_spilling_laws.specs.Live.{IsLiveBefore, SharesNoSlot, place_at}
-use Rattle.clif_spilling_laws.specs.Rewriting.{IsExactMap, IsLedOn, IsRead, IsSpilling}
-use Rattle.clif_spilling_laws.specs.Spilling.{AreStores, Reload, Spilling, plain_item, trusted}
-
--- every argument counts
-abbrev pub every : ℕ → ℕ → Bool
-every target place = true
-
--- value 0 alone is recorded
-abbrev pub only_first : ℕ → Bool
-only_first v = v == 0
-
--- the call of `%try`
-abbrev pub callee : ExternalName
-callee = name.User (record { namespace = 0; index = 1 })
+use Rattle.clif_spilling_laws.specs.Rewriting.{IsExactMap, IsLedOn, IsRead, IsSpilling, jump_item}
+use Rattle.clif_spilling_laws.specs.Spilling.{AreStores, Spilling, plain_item}
 
 abbrev pub narrows : CallShape
 narrows = record {
@@ -41,28 +26,19 @@ narrows = record {
   items = Default ∷ [];
 }
 
-abbrev pub no_signature : SignatureShape
-no_signature = record { params = []; returns = []; call_conv = SystemV }
-
-abbrev pub tries : (operands : List ℕ) → Edge ℕ ℕ → List UserStackMapEntry → Placed
-tries operands normal entries = record {
-  instruction = record {
-    operation = TryCall callee narrows;
-    controlling = type.Invalid;
-    operands = operands;
-    contexts = [];
-    edges = normal ∷ record { target = 2; arguments = [] } ∷ [];
-  };
+abbrev pub tries_along : (operands : List ℕ) → List (Edge ℕ ℕ) → List UserStackMapEntry → Placed
+tries_along operands edges entries = record {
+  instruction = record { operation = TryCall callee narrows; controlling = type.Invalid; operands = operands; contexts = []; edges = edges };
   results = [];
   stack_map = entries;
 }
 
-abbrev pub empty_block : BlockView
-empty_block = record { parameters = []; items = [] }
+abbrev pub tries : (operands : List ℕ) → Edge ℕ ℕ → List UserStackMapEntry → Placed
+tries operands normal entries = tries_along operands (normal ∷ record { target = 2; arguments = [] } ∷ []) entries
 
 -- block1 returns its first parameter, and block2 traps
 abbrev pub returning : BlockView
-returning = record { parameters = 1 ∷ 2 ∷ []; items = plain_item Return type.Invalid (1 ∷ []) [] ∷ [] }
+returning = record { parameters = 1 ∷ 2 ∷ []; items = returns_value 1 ∷ [] }
 
 abbrev pub trapping : BlockView
 trapping = record { parameters = []; items = plain_item (Trap HeapOutOfBounds) type.Invalid [] [] ∷ [] }
@@ -102,39 +78,20 @@ view_with blocks slots = record {
 --         v3 = stack_addr.i64 ss0
 --         v4 = load.i64 notrap aligned v3
 --         jump block1(v4, v5)
-abbrev pub address_of_slot : ℕ → Placed
-address_of_slot address = plain_item (Stack StackAddr 0 (pos 0)) i64 [] (address ∷ [])
-
-abbrev pub load_from : (address copy : ℕ) → Placed
-load_from address copy = plain_item (Load (trusted None) (pos 0)) i64 (address ∷ []) (copy ∷ [])
-
-abbrev pub the_entry : UserStackMapEntry
-the_entry = record { ty = i64; slot = 0; offset = 0 }
-
 abbrev pub landing_edge : Edge ℕ ℕ
 landing_edge = record { target = 3; arguments = CallResult 0 ∷ [] }
 
 abbrev pub spilled_blocks : ℕ → BlockView
 spilled_blocks zero = record {
   parameters = 0 ∷ [];
-  items = address_of_slot 8 ∷ plain_item (Store (trusted None) (pos 0)) i64 (0 ∷ 8 ∷ []) [] ∷ address_of_slot 6 ∷ load_from 6 7
+  items = address_of_slot 8 ∷ store_in 0 8 ∷ address_of_slot 6 ∷ load_from 6 7
       ∷ tries (7 ∷ []) landing_edge (the_entry ∷ []) ∷ [];
 }
 spilled_blocks (suc zero) = returning
 spilled_blocks (suc (suc zero)) = trapping
 spilled_blocks (suc (suc (suc zero))) = record {
   parameters = 5 ∷ [];
-  items = address_of_slot 3 ∷ load_from 3 4 ∷ record {
-    instruction = record {
-      operation = Jump;
-      controlling = type.Invalid;
-      operands = [];
-      contexts = [];
-      edges = record { target = 1; arguments = Known 4 ∷ Known 5 ∷ [] } ∷ [];
-    };
-    results = [];
-    stack_map = [];
-  } ∷ [];
+  items = address_of_slot 3 ∷ load_from 3 4 ∷ jump_item 1 (Known 4 ∷ Known 5 ∷ []) ∷ [];
 }
 spilled_blocks (suc (suc (suc (suc n)))) = empty_block
 
@@ -149,10 +106,6 @@ try_spilling = record {
 }
 
 -- WRONG ONES ------------------------------------------------------------------------------------------------------------
-
--- a reload of a value
-abbrev pub reload_of : (value address copy : ℕ) → Reload
-reload_of value address copy = record { access = record { value = value; address = address; region = None }; copy = copy }
 
 -- two values that are live across one call
 abbrev pub two_live : ℕ → BlockView

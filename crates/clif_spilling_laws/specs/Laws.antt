@@ -1,4 +1,4 @@
--- The law of spilling, as the contract of this crate's function states it.
+-- The law of spilling, as the contract of this crate's function states it. Own.
 use Rattle.std.specs.Prelude.{ℕ, Bool}
 use Rattle.clif_meaning.specs.FunctionMachine.{function_machine}
 use Rattle.clif_meaning.specs.Machine.{observed}

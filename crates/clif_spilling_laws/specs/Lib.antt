@@ -6,4 +6,13 @@ pub mod Runs
 pub mod Accesses
 pub mod PartLaws
 pub mod Laws
+pub mod EdgeLaws
+pub mod SlotContents
+pub mod ExampleParts
 pub mod Examples
+pub mod MovedExample
+pub mod SlotReuseExample
+pub mod LandingsExample
+pub mod TableItemsExample
+pub mod UncountedExample
+pub mod LoopExample

@@ -1,9 +1,9 @@
 -- Laws that the law of spilling rests on, as the contracts of this crate's functions state them: what is live in a well placed
 -- function in which each value is given once, over any test that says which arguments of edges count; and what the collector by
--- maps does to spill slots; and what typed runs keep.
+-- maps does to spill slots; and what typed runs keep. Own.
 use Rattle.std.specs.Prelude.{◌≡◌, ◌<◌, ℕ, Bool, List, map, Contains}
 use Rattle.std.specs.List.Sorted.{IsStrictlyIncreasing}
-use Rattle.clif_types.specs.Types.{bytes_of}
+use Rattle.clif_types.specs.Types.{bits_of, bytes_of}
 use Rattle.clif_types.specs.declared.types.«Type».{«Type»}
 use Rattle.clif_meaning.specs.Bits.{Bits, value_bytes, value_of_bytes}
 use Rattle.clif_meaning.specs.FunctionMachine.{FunctionRun, entries_moved, function_machine}
@@ -18,7 +18,7 @@ use Rattle.clif_spilling_laws.specs.Live.{IsLiveAcrossCall, IsLiveAfter, IsLiveB
 use Rattle.clif_spilling_laws.specs.Rewriting.{entry_of}
 use Rattle.clif_typed_runs.specs.Laws.{OfNextPlaced}
 use Rattle.clif_typed_runs.specs.ValuesFit.{IsFunctionTyped}
-use Rattle.clif_spilling_laws.specs.Runs.{GivesEach, MembersFit, after_run, outcome_in, slot_range}
+use Rattle.clif_spilling_laws.specs.Runs.{GivesEach, IsMetBy, MembersFit, SparesHidden, after_run, before_run, outcome_in, slot_range}
 use Rattle.clif_spilling_laws.specs.Spilling.{Spilling}
 
 -- Nothing is live before the first instruction of the entry but the entry's parameters.
@@ -72,3 +72,16 @@ pub record RunFits (members : ℕ → Bool) (run : FunctionRun) : Type 0 where
 -- A typed run does.
 abbrev pub TypedRunsFit : Type 0
 TypedRunsFit = (members : ℕ → Bool) (run : FunctionRun) → IsFunctionTyped run → RunFits members run
+
+-- what each instruction touches that the run comes to, by itself, are no hidden addresses
+abbrev pub SparesThroughout : FunctionRun → Type 0
+SparesThroughout run =
+    (n : ℕ) → OfNextPlaced (SparesHidden run (state_after (function_machine run) n)) (state_after (function_machine run) n).control
+
+-- A typed run that spares hidden addresses is one that the law of spilling is about, where pointers and slots are the world's.
+abbrev pub TypedRunsMeet : Type 0
+TypedRunsMeet =
+    (members : ℕ → Bool) (s : Spilling) (world : World)
+    → world.pointer_width ≡ bits_of s.pointer → PlacesSlots world s.after.slots
+    → IsFunctionTyped (before_run s members world) → SparesThroughout (before_run s members world)
+    → IsMetBy members s world

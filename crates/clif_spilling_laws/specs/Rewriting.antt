@@ -19,7 +19,7 @@ use Rattle.clif_safepoints.specs.Analysis.{IsReached}
 use Rattle.clif_safepoints.specs.Liveness.{IsLiveAcross}
 use Rattle.clif_typed_runs.specs.ValuesFit.{AliasesTyped}
 use Rattle.clif_spilling_laws.specs.Live.{IsLiveAfter, IsLiveBefore, IsSlotOf, SpillsLive, counted, place_at}
-use Rattle.clif_spilling_laws.specs.Spilling.{AreReloads, AreStores, IsNew, Reload, SlotAccess, Spilling, reload_items, store_items}
+use Rattle.clif_spilling_laws.specs.Spilling.{AreReloads, AreStores, Reload, SlotAccess, Spilling, reload_items, store_items}
 
 -- READING ---------------------------------------------------------------------------------------------------------------
 

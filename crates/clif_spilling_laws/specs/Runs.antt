@@ -1,5 +1,5 @@
--- The runs of a function and of the one with stores and reloads, and what a world has to be for them to mean the same.
-use Rattle.std.specs.Prelude.{◌≡◌, ◌≤◌, ℕ, Bool, true, false, List, [], ◌∷◌, length, map, drop, Some, slice_get}
+-- The runs of a function and of the one with stores and reloads, and what a world has to be for them to mean the same. Own.
+use Rattle.std.specs.Prelude.{◌≡◌, ◌≤◌, ℕ, Bool, true, false, List, length, map, drop, Some, slice_get}
 use Rattle.std.specs.List.{AllByRecursion}
 use Rattle.clif_types.specs.Types.{bits_of, bytes_of}
 use Rattle.clif_meaning.specs.Access.{touched_ranges}

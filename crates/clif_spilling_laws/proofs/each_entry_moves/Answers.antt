@@ -1,4 +1,4 @@
-use Rattle.clif_spilling_laws.proofs.Maps.{each_moved}
+use Rattle.clif_spilling_laws.proofs.Memory.Maps.{each_moved}
 use Rattle.clif_spilling_laws.proofs.each_entry_moves.Goals as goal
 
 pub returns : goal.returns

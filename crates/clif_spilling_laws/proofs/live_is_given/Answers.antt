@@ -1,4 +1,4 @@
-use Rattle.clif_spilling_laws.proofs.LivePaths.{live_after_below, live_below}
+use Rattle.clif_spilling_laws.proofs.Liveness.LivePaths.{live_after_below, live_below}
 use Rattle.clif_spilling_laws.proofs.live_is_given.Goals as goal
 
 pub returns : goal.returns

@@ -1,4 +1,4 @@
-use Rattle.clif_spilling_laws.proofs.LivePaths.{entry_is_live}
+use Rattle.clif_spilling_laws.proofs.Liveness.LivePaths.{entry_is_live}
 use Rattle.clif_spilling_laws.proofs.nothing_live_at_entry.Goals as goal
 
 pub returns : goal.returns

@@ -1,4 +1,4 @@
-use Rattle.clif_spilling_laws.proofs.Accesses.{reload_runs}
+use Rattle.clif_spilling_laws.proofs.Memory.Accesses.{reload_runs}
 use Rattle.clif_spilling_laws.proofs.reloads_run.Goals as goal
 
 pub returns : goal.returns

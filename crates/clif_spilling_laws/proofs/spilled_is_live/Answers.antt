@@ -1,4 +1,4 @@
-use Rattle.clif_spilling_laws.proofs.SpilledLive.{parameter_is_live, result_is_live}
+use Rattle.clif_spilling_laws.proofs.Liveness.SpilledLive.{parameter_is_live, result_is_live}
 use Rattle.clif_spilling_laws.proofs.spilled_is_live.Goals as goal
 
 pub returns : goal.returns

@@ -1,4 +1,4 @@
-use Rattle.clif_spilling_laws.proofs.Worked.{examples}
+use Rattle.clif_spilling_laws.proofs.Examples.TryCall.{examples}
 use Rattle.clif_spilling_laws.proofs.spilling_examples.Goals as goal
 
 pub returns : goal.returns

@@ -1,4 +1,4 @@
-use Rattle.clif_spilling_laws.proofs.Simulating.{means_the_same}
+use Rattle.clif_spilling_laws.proofs.Forward.Simulating.{means_the_same}
 use Rattle.clif_spilling_laws.proofs.spilling_means_the_same.Goals as goal
 
 pub returns : goal.returns

@@ -1,7 +1,5 @@
-use Rattle.clif_types.specs.Types.{bytes_of}
-use Rattle.clif_meaning.specs.Bits.{value_bytes}
 use Rattle.clif_spilling_laws.specs.Accesses.{stored}
-use Rattle.clif_spilling_laws.proofs.Slots.{stored_is_there, there_is_loaded}
+use Rattle.clif_spilling_laws.proofs.Memory.Slots.{stored_is_there, there_is_loaded}
 use Rattle.clif_spilling_laws.proofs.stored_is_loaded.Goals as goal
 
 pub returns : goal.returns

@@ -1,4 +1,4 @@
-use Rattle.clif_spilling_laws.proofs.Typed.{typed_runs_fit}
+use Rattle.clif_spilling_laws.proofs.Functions.Typed.{typed_runs_fit}
 use Rattle.clif_spilling_laws.proofs.typed_runs_fit.Goals as goal
 
 pub returns : goal.returns
