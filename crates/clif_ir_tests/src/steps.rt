@@ -4,10 +4,10 @@
 use crate::facts::{Fact, holds};
 use crate::instructions::{Plain, shape_of};
 use crate::support::{
-    PLACE, b, below_1000, block_of, has_slots, inst_of, is_param, is_place_of, map_of,
-    names_what_exists, prints, signature_of, value_of,
+    PLACE, b, below_1000, block_of, has_edge, has_item, has_slots, inst_of, is_param, is_place_of,
+    map_of, names_what_exists, prints, signature_of, value_of,
 };
-use crate::transfers::{Transfer, transfer_of};
+use crate::transfers::{To, Transfer, edge_of, transfer_of};
 use clif_instructions::insert_at::InsertAt;
 use clif_instructions::instructions::InstructionData;
 use clif_ir::ValueLabelStart;
@@ -86,6 +86,10 @@ pub enum Step<'a> {
     Operand(u32, usize, u32),
     /// Replaces what an edge of an instruction passes at a place by a value.
     Argument(u32, usize, usize, u32),
+    /// Replaces an edge of an instruction.
+    Edge(u32, usize, To<'a>),
+    /// Replaces an item of the exception table of an instruction by this context.
+    ReplaceContext(u32, usize, u32),
     /// Gives an instruction a stack map: for each entry its type, its slot, and the distance from the slot's begin.
     StackMap(u32, &'static [(Type, u32, u32)]),
     /// Collects labels of values from here on.
@@ -240,6 +244,28 @@ fn argument(
     func.replace_branch_argument(inst, edge, place, value);
 }
 
+fn edge(
+    rt: &impl Abort,
+    func: &mut Function,
+    inst: u32,
+    edge: usize,
+    to: To<'_>,
+) -> Result<(), Fail> {
+    let inst = inst_of(rt, func, inst);
+    let call = edge_of(rt, func.allocator(), to)?;
+    assert!(rt; edge < func.inst_data(inst).branch_destination().len());
+    assert!(rt; has_edge(func, &call));
+    func.replace_edge(inst, edge, call);
+    Ok(())
+}
+
+fn context(rt: &impl Abort, func: &mut Function, inst: u32, item: usize, value: u32) {
+    let inst = inst_of(rt, func, inst);
+    let value = value_of(rt, func, value);
+    assert!(rt; has_item(func.inst_data(inst), item));
+    func.replace_context(inst, item, value);
+}
+
 fn stack_map(
     rt: &impl Abort,
     func: &mut Function,
@@ -326,6 +352,7 @@ fn make_surely(rt: &impl Abort, func: &mut Function, step: Step<'_>, name: &str)
         Step::Target(inst, from, to) => target(rt, func, inst, from, to),
         Step::Operand(inst, place, value) => operand(rt, func, inst, place, value),
         Step::Argument(inst, edge, place, value) => argument(rt, func, inst, edge, place, value),
+        Step::ReplaceContext(inst, item, value) => context(rt, func, inst, item, value),
         Step::Collect => func.collect_debug_info(),
         Step::Is(fact) => assert!(rt; holds(rt, func, fact), "{name}"),
         _ => assert!(rt; false, "{name}"),
@@ -360,6 +387,7 @@ fn make(rt: &impl Abort, func: &mut Function, step: Step<'_>, name: &str) -> Res
         Step::After(inst, ty, plain) => beside(rt, func, inst, ty, shape_of(rt, plain), true),
         Step::Go(block, transfer) => go(rt, func, block, transfer),
         Step::Append(inst, block, value) => append(rt, func, inst, block, value),
+        Step::Edge(inst, number, to) => edge(rt, func, inst, number, to),
         Step::StackMap(inst, entries) => stack_map(rt, func, inst, entries),
         Step::Label(value, from, number) => label(rt, func, value, from, number),
         Step::Entries(transfer, exist) => has_entries(rt, func, transfer, exist, name),
@@ -369,6 +397,7 @@ fn make(rt: &impl Abort, func: &mut Function, step: Step<'_>, name: &str) -> Res
         | Step::Target(..)
         | Step::Operand(..)
         | Step::Argument(..)
+        | Step::ReplaceContext(..)
         | Step::Collect
         | Step::Is(_) => {
             make_surely(rt, func, step, name);

@@ -3,7 +3,7 @@
 
 ghost use Rattle.std.specs.Prelude.{◌≡◌, ◌<◌, length, IsTrue, EachIndex, All, slice_index};
 ghost use Rattle.clif_tables.specs.Entries.{NamesSlots};
-ghost use Rattle.clif_instructions.specs.Instruction.{contexts, destinations, entries_of, operands};
+ghost use Rattle.clif_instructions.specs.Instruction.{contexts, destinations, entries_of, items_of, operands};
 ghost use Rattle.clif_instructions.specs.Members.{IsPlaceOf};
 ghost use Rattle.clif_ir.specs.Body.{value_at};
 ghost use Rattle.clif_ir.specs.Changes.{home_of};
@@ -123,8 +123,8 @@ fn has_argument(func: &Function, arg: BlockArg) -> bool
     }
 }
 
-// Whether the target of an edge exists, and what it passes.
-fn has_edge(func: &Function, edge: &BlockCall) -> bool
+/// Whether the target of an edge exists, and what it passes.
+pub fn has_edge(func: &Function, edge: &BlockCall) -> bool
     ensures { IsTrue result → EdgeExists func.now edge.now }
 {
     let args = edge.args.as_slice();
@@ -150,6 +150,17 @@ pub fn names_what_exists(rt: &impl Abort, func: &Function, shape: &InstructionDa
     assert!(rt; has_edges(func, shape.branch_destination()));
     assert!(rt; func.has_contexts(shape));
     assert!(rt; func.has_entries(shape));
+}
+
+/// Whether an instruction has an exception table with such an item.
+pub fn has_item(shape: &InstructionData, item: usize) -> bool
+    ensures { IsTrue result → item < length (items_of shape.now) }
+{
+    match shape {
+        InstructionData::TryCall { exception, .. }
+        | InstructionData::TryCallIndirect { exception, .. } => item < exception.items().len(),
+        _ => false,
+    }
 }
 
 /// Whether the slots exist that the entries of a stack map name.

@@ -80,7 +80,8 @@ fn arg_of(rt: &impl Abort, arg: Arg) -> BlockArg {
     }
 }
 
-fn edge_of(rt: &impl Abort, alloc: Global, to: To<'_>) -> Result<BlockCall, Fail> {
+/// An edge.
+pub fn edge_of(rt: &impl Abort, alloc: Global, to: To<'_>) -> Result<BlockCall, Fail> {
     let mut call = BlockCall::new(alloc, b(rt, to.0), &[])?;
     for arg in to.1 {
         call.args.push(arg_of(rt, *arg))?;

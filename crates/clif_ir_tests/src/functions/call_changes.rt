@@ -3,7 +3,8 @@
 
 use crate::facts::Fact::Leads;
 use crate::steps::Step::{
-    Append, Argument, Create, Go, Import, Is, LayOut, Operand, Param, Prints, Target,
+    Append, Argument, Create, Edge, Go, Import, Is, LayOut, Operand, Param, Prints, ReplaceContext,
+    Target,
 };
 use crate::steps::{Case, SAMPLE, Step, make_all};
 use crate::transfers::Arg::{Exn, Known, Ret};
@@ -205,6 +206,13 @@ static CASES: [Case; 4] = [
             Argument(1, 0, 0, 1),
             Prints(
                 "function %sample() system_v {\n    sig0 = () -> i32 system_v\n    fn0 = %g sig0\n\nblock0(v0: i64, v1: i64):\n    try_call fn0(), sig0, block1(ret0, v1), [ context v0, tag0: block1(exn0, v0), context v0, default: block1(v1, exn1) ]\n\nblock1:\n    try_call_indirect v0(), sig0, block1(v1, v0), [ context v0, tag0: block1(exn0, v1), context v0, default: block1(v0, exn1) ]\n\nblock2:\n\nblock3:\n}\n",
+            ),
+            Edge(0, 1, To(2, &[])),
+            Edge(1, 0, To(3, &[Ret(0)])),
+            ReplaceContext(0, 0, 1),
+            ReplaceContext(1, 2, 1),
+            Prints(
+                "function %sample() system_v {\n    sig0 = () -> i32 system_v\n    fn0 = %g sig0\n\nblock0(v0: i64, v1: i64):\n    try_call fn0(), sig0, block1(ret0, v1), [ context v1, tag0: block2, context v0, default: block1(v1, exn1) ]\n\nblock1:\n    try_call_indirect v0(), sig0, block3(ret0), [ context v0, tag0: block1(exn0, v1), context v1, default: block1(v0, exn1) ]\n\nblock2:\n\nblock3:\n}\n",
             ),
         ],
     },

@@ -6,9 +6,11 @@ use crate::instructions::Plain::{
     Binary, Concat, CondTrap, Convert, Icmp, Iconst, Load, Select, Split, StackStore, Store, Unary,
 };
 use crate::steps::Step::{
-    After, Append, Argument, Before, Create, Go, LayOut, Operand, Param, Prints, Put, Slot, Target,
+    After, Append, Argument, Before, Create, Edge, Go, LayOut, Operand, Param, Prints, Put, Slot,
+    Target,
 };
 use crate::steps::{Case, SAMPLE, make_all};
+use crate::transfers::Arg::Known;
 use crate::transfers::To;
 use crate::transfers::Transfer::{BranchTable, Brif, Jump, Return};
 use clif_opcodes::BinaryOpcode::Iadd;
@@ -150,6 +152,12 @@ static CASES: [Case; 5] = [
             Argument(2, 0, 0, 1),
             Prints(
                 "function %sample() system_v {\nblock0(v0: i32, v1: i32):\n    br_table v0, block1(v0, v0), [block2, block1(v0, v1)]\n\nblock1(v2: i32, v3: i32):\n    brif v2, block3(v2), block3(v3)\n\nblock2:\n    jump block3(v1)\n\nblock3(v4: i32):\n    return\n}\n",
+            ),
+            Edge(0, 1, To(3, &[Known(0)])),
+            Edge(1, 0, To(2, &[])),
+            Edge(2, 0, To(1, &[Known(0), Known(1)])),
+            Prints(
+                "function %sample() system_v {\nblock0(v0: i32, v1: i32):\n    br_table v0, block1(v0, v0), [block3(v0), block1(v0, v1)]\n\nblock1(v2: i32, v3: i32):\n    brif v2, block2, block3(v3)\n\nblock2:\n    jump block1(v0, v1)\n\nblock3(v4: i32):\n    return\n}\n",
             ),
         ],
     },
