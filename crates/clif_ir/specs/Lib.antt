@@ -4,3 +4,4 @@ pub mod Entries
 pub mod Consistent
 pub mod Whole
 pub mod Reading
+pub mod Lends

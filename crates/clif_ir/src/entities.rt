@@ -4,6 +4,7 @@
 //! Each call that makes an entry gives it the next number of its table. Its errors are `Memory`, and `Full`
 //! exactly where the table holds 2^32 - 1 entries; the function is then as it was.
 ghost use Rattle.std.specs.Prelude.{◌≡◌, ◌<◌, ◌↔◌, length, slice_get, All, IsTrue};
+ghost use Rattle.std.specs.Borrow.{sem};
 ghost use Rattle.clif_tables.specs.Entries.{AStackSlot, ADynamicStackSlot, AGlobalValue, ASignature, AFunction};
 ghost use Rattle.clif_instructions.specs.ExceptionTables.{exception_shape};
 ghost use Rattle.clif_tables.specs.Lists.{unserved, with_constant, with_exception_table, with_exception_table_served, with_jump_table, with_table_served};
@@ -12,14 +13,15 @@ ghost use Rattle.clif_instructions.specs.Instruction.{entries_of};
 ghost use Rattle.clif_ir.specs.Changes.{with_tables};
 ghost use Rattle.clif_ir.specs.Consistent.{EntryExists};
 ghost use Rattle.clif_ir.specs.Entries.{MakesIn};
+ghost use Rattle.clif_ir.specs.Lends.{lends_regions};
 
 use crate::function::Function;
 use clif_instructions::instructions::InstructionData;
 use clif_tables::{ExceptionTableData, ExceptionTargets, JumpTableData, Tables};
 use clif_types::{
-    BuildError, Constant, DynamicStackSlot, DynamicStackSlotData, EntityRef, ExceptionTable,
-    ExtFuncData, FuncRef, GlobalValue, GlobalValueData, JumpTable, SigRef, Signature, StackSlot,
-    StackSlotData,
+    AliasRegionSet, BuildError, Constant, DynamicStackSlot, DynamicStackSlotData, EntityRef,
+    ExceptionTable, ExtFuncData, FuncRef, GlobalValue, GlobalValueData, JumpTable, SigRef,
+    Signature, StackSlot, StackSlotData,
 };
 
 impl Function {
@@ -67,6 +69,14 @@ impl Function {
         ensures { IsTrue result ↔ (sig < length self.now.tables.signatures) }
     {
         sig.index() < self.tables.signature_count()
+    }
+
+    /// The set of alias regions, which may be changed.
+    pub fn alias_regions_mut(&mut self) -> &mut AliasRegionSet
+        ensures* writes_back { sem 𝓛 (lends_regions self.entry result) }
+        ensures value { result.now ≡ self.old.tables.alias_regions }
+    {
+        self.tables.alias_regions_mut()
     }
 
     /// Makes a stack slot.

@@ -13,8 +13,8 @@ use clif_instructions::instructions::InstructionData;
 use clif_ir::ValueLabelStart;
 use clif_ir::function::Function;
 use clif_types::{
-    CallConv, EntityRef, ExtFuncData, ExternalName, SourceLoc, StackSlotData, Type, UserFuncName,
-    ValueLabel,
+    AliasRegionData, CallConv, EntityRef, ExtFuncData, ExternalName, SourceLoc, StackSlotData,
+    Type, UserFuncName, ValueLabel,
 };
 use std::alloc::Global;
 use std::process::Abort;
@@ -65,6 +65,8 @@ pub enum Step<'a> {
     Slot(u32, u8),
     /// Pools so many bytes, each of which is this one.
     Pool(u8, u8),
+    /// Interns an alias region of this data.
+    Region(u32),
     /// Imports a signature of these parameters and returned values, and a function of it by this name. Both get the
     /// next number.
     Import(&'static str, &'static [Type], &'static [Type]),
@@ -244,6 +246,12 @@ fn argument(
     func.replace_branch_argument(inst, edge, place, value);
 }
 
+fn region(func: &mut Function, user_id: u32) -> Result<(), Fail> {
+    func.alias_regions_mut()
+        .insert(AliasRegionData { user_id })?;
+    Ok(())
+}
+
 fn edge(
     rt: &impl Abort,
     func: &mut Function,
@@ -369,6 +377,7 @@ fn make(rt: &impl Abort, func: &mut Function, step: Step<'_>, name: &str) -> Res
         Step::Alias(param, original) => alias(rt, func, param, original),
         Step::Slot(size, align_shift) => slot(rt, func, size, align_shift),
         Step::Pool(byte, count) => pool(func, byte, count),
+        Step::Region(user_id) => region(func, user_id),
         Step::Import(name, params, returns) => import(func, name, params, returns),
         Step::Put(block, ty, plain) => {
             put(rt, func, block, InsertAt::Back, ty, shape_of(rt, plain))

@@ -1,13 +1,21 @@
 -- The table of the regions of memory (own).
-use Rattle.std.specs.Prelude.{ℕ, ◌==◌, ◌++◌, ◌∷◌, [], List, Bool, length, Option, Some, unwrap_or, is_some, if◌then◌else◌}
+use Rattle.std.specs.Prelude.{ℕ, ◌≡◌, ◌-◌, ◌^◌, ◌==◌, ◌++◌, ◌∷◌, [], List, Bool, length, Option, None, Some, unwrap_or, is_some, if◌then◌else◌}
 use Rattle.std.specs.List.{position}
 use Rattle.clif_types.specs.declared.alias_region.AliasRegionData.{AliasRegionData}
 use Rattle.clif_types.specs.declared.error.BuildError.{BuildError}
+use Rattle.clif_types.specs.declared.error.BuildError.TheVariants as error
 
 -- the regions by their numbers, and the first refusal of an `insert`
 pub record AliasRegionTable : Type 0 where
   pub regions : List AliasRegionData
   pub refusal : Option BuildError
+
+-- a refusal that these regions may have met: memory, or, where there are 2^32 - 1 of them, that they are full
+abbrev pub MayRefuse : List AliasRegionData → Option BuildError → Type 0
+MayRefuse regions None = Unit {0}
+MayRefuse regions (Some error.Memory) = Unit {0}
+MayRefuse regions (Some error.Full) = length regions ≡ 2 ^ 32 - 1
+MayRefuse regions (Some error.Failed) = ⊥
 
 -- equal data
 abbrev pub same_region : AliasRegionData → AliasRegionData → Bool

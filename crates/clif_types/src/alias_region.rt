@@ -46,18 +46,18 @@ pub struct AliasRegionSet {
 
 impl Model for AliasRegionSet {
     ghost use Rattle.std.specs.Prelude.{◌-◌, ◌^◌, ◌≤◌, length};
-    ghost use Rattle.clif_types.specs.AliasRegions.{AliasRegionTable};
+    ghost use Rattle.clif_types.specs.AliasRegions.{AliasRegionTable, MayRefuse};
 
     ghost Value = { AliasRegionTable };
 
     ghost view = { λ s. record { regions = s.regions.items; refusal = s.refusal } };
 
-    ghost invariant = { λ s. length s.regions.items ≤ 2 ^ 32 - 1 };
+    ghost invariant = { λ s. (length s.regions.items ≤ 2 ^ 32 - 1) × MayRefuse s.regions.items s.refusal };
 }
 
 impl AliasRegionSet {
     ghost use Rattle.std.specs.Prelude.{◌≡◌, ◌-◌, ◌^◌, ◌<◌, ◌≤◌, ◌↔◌, [], None, Some, false, length, slice_get, IfOk, IfErr, IsErrOf, IsOk, IsTrue, OnOk};
-    ghost use Rattle.clif_types.specs.AliasRegions.{has_region, region_of, with_region, with_refusal};
+    ghost use Rattle.clif_types.specs.AliasRegions.{has_region, region_of, with_region, with_refusal, MayRefuse};
 
     /// The set with no region.
     pub fn new(alloc: Global) -> AliasRegionSet
@@ -70,8 +70,6 @@ impl AliasRegionSet {
     }
 
     /// The region of this data, which is added if it isn't there.
-    ///
-    /// Then no region is added, and the set keeps the first such refusal (`refusal`).
     ///
     /// # Errors
     ///
@@ -100,6 +98,7 @@ impl AliasRegionSet {
 
     /// Keeps the first refusal, and answers this one.
     fn refuse(&mut self, refusal: BuildError) -> BuildError
+        requires { MayRefuse self.now.regions (Some refusal) }
         ensures kept { self.new ≡ with_refusal self.old refusal }
         ensures answer { result ≡ refusal }
     {
@@ -107,6 +106,13 @@ impl AliasRegionSet {
             self.refusal = Some(refusal);
         }
         refusal
+    }
+
+    /// The law that the first refusal is `Memory`, or `Full` with 2^32 - 1 regions.
+    pub fn law_refusal(&self)
+        ensures { MayRefuse self.now.regions self.now.refusal }
+    {
+        let _ = &self.refusal;
     }
 
     /// The first refusal of an `insert`, if there was one.

@@ -60,8 +60,6 @@ impl<K: EntityRef> EntitySet<K> {
 
     /// Makes the number a member, and answers whether it was none before.
     ///
-    /// Then nothing changes.
-    ///
     /// # Errors
     ///
     /// `Memory`, only for a number that is no member. Nothing changes then.

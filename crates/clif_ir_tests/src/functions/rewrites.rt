@@ -6,8 +6,8 @@ use crate::instructions::Plain::{
     Binary, Concat, CondTrap, Convert, Icmp, Iconst, Load, Select, Split, StackStore, Store, Unary,
 };
 use crate::steps::Step::{
-    After, Append, Argument, Before, Create, Edge, Go, LayOut, Operand, Param, Prints, Put, Slot,
-    Target,
+    After, Append, Argument, Before, Create, Edge, Go, LayOut, Operand, Param, Prints, Put, Region,
+    Slot, Target,
 };
 use crate::steps::{Case, SAMPLE, make_all};
 use crate::transfers::Arg::Known;
@@ -22,7 +22,7 @@ use clif_types::TrapCode::User;
 use clif_types::types::{I32, I64, I128, INVALID};
 use std::test::Fail;
 
-static CASES: [Case; 5] = [
+static CASES: [Case; 6] = [
     // All edges to the block change, and no other edge does. What they pass stays.
     Case {
         name: "targets",
@@ -158,6 +158,19 @@ static CASES: [Case; 5] = [
             Edge(2, 0, To(1, &[Known(0), Known(1)])),
             Prints(
                 "function %sample() system_v {\nblock0(v0: i32, v1: i32):\n    br_table v0, block1(v0, v0), [block3(v0), block1(v0, v1)]\n\nblock1(v2: i32, v3: i32):\n    brif v2, block2, block3(v3)\n\nblock2:\n    jump block1(v0, v1)\n\nblock3(v4: i32):\n    return\n}\n",
+            ),
+        ],
+    },
+    // Equal data is one region.
+    Case {
+        name: "regions",
+        head: SAMPLE,
+        steps: &[
+            Region(7),
+            Region(9),
+            Region(7),
+            Prints(
+                "function %sample() system_v {\n    region0 = user 7\n    region1 = user 9\n\n}\n",
             ),
         ],
     },
