@@ -2,8 +2,8 @@
 ghost use Rattle.std.specs.Prelude.{◌≡◌, ◌<◌, ◌↔◌, length, string_bytes, slice_get, IfOk, IfSome, IsSome};
 ghost use Rattle.clif_script.specs.Rows.{IsHelperRow, IsOtherRow, IsRowName, IsSwitchRow};
 
-use crate::helper_rows::{COPY12, COPY40, MEMCMP_ODD, MEMCPY};
 use crate::command::Form;
+use crate::helper_rows::{COPY12, COPY40, MEMCMP_ODD, MEMCPY};
 use crate::program::build_text;
 use crate::row_texts::{
     BOTH_ARMS, CHANGE_BOTH, CHANGE_ONE, EMPTY, FIRST, REORDERING, SAMPLE, SAMPLE_LATE,
