@@ -7,8 +7,8 @@ use clif_types::{Block, EntityRef};
 use std::alloc::{AllocError, Global};
 use std::fmt;
 
-/// A function whose graph prints as a text in DOT. Each block of the layout is a box with its parameters, and each edge of a branch an
-/// arrow with what it passes. A cold block is filled, and one that isn't reached from the entry has a dashed frame.
+/// A function whose graph prints as a text in DOT. Its name stands above. Each block of the layout is a box with its parameters, and
+/// each edge of a branch an arrow with what it passes. A cold block is filled, and one that isn't reached from the entry has a dashed frame.
 #[derive(Drop)]
 pub struct Graph<'a> {
     func: &'a Function,
@@ -92,9 +92,9 @@ impl<'a> Graph<'a> {
 
 impl fmt::Display for Graph<'_> {
     fn fmt<W: fmt::Write>(&self, f: &mut fmt::Formatter<W>) -> fmt::Result {
-        f.write_str("digraph \"")?;
+        f.write_str("digraph {\n    graph [labelloc=t, label=\"")?;
         write_quoted(f, self.name.as_str())?;
-        f.write_str("\" {\n    node [shape=box]\n")?;
+        f.write_str("\"]\n    node [shape=box]\n")?;
         let mut next = self.func.entry_block();
         for _ in 0..self.func.block_count() {
             let Some(block) = next else {
@@ -107,13 +107,15 @@ impl fmt::Display for Graph<'_> {
     }
 }
 
-// A text between quotes: a quote and a backslash have a backslash before them.
+// What stands between the quotes of a label for a text: in a label a quote ends it, and a backslash and `&` begin an escape.
 fn write_quoted<W: fmt::Write>(f: &mut fmt::Formatter<W>, text: &str) -> fmt::Result {
     for character in text.chars() {
-        if let '"' | '\\' = character {
-            f.write_str("\\")?;
+        match character {
+            '"' => f.write_str("\\\"")?,
+            '\\' => f.write_str("\\\\")?,
+            '&' => f.write_str("&amp;")?,
+            other => f.write_char(other)?,
         }
-        f.write_char(character)?;
     }
     Ok(())
 }
