@@ -7,7 +7,7 @@ use clif_types::{PointerWidth, TrapCode, Type};
 use std::alloc::{AllocError, Global};
 
 /// How many steps a run has at most if nobody says it.
-pub const STEPS: u64 = 1_000_000;
+pub const STEPS: u64 = 100_000;
 
 /// What a run is given.
 #[derive(Clone, Copy)]

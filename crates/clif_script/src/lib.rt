@@ -14,6 +14,7 @@ pub use clif_calls::{
     Plan, SwitchEntry, TableEdge, TableItem, ThrowingCall,
 };
 pub use clif_conditions::{Condition, broken_condition};
+pub use clif_graph::Graph;
 pub use clif_interpreter::STEPS;
 pub use clif_replay::{ReplayError, replay};
 pub use clif_runs::Options;
