@@ -47,15 +47,20 @@ impl fmt::Display for Trace<'_> {
         for number in self.function {
             left = self.write_step(f, left, *number)?;
         }
+        self.write_left(f, left)
+    }
+}
+
+impl<'a> Trace<'a> {
+    // The lines of the blocks that the script alone passes at the end.
+    fn write_left<W: fmt::Write>(&self, f: &mut fmt::Formatter<W>, left: &[usize]) -> fmt::Result {
         for place in left {
             self.write_block(f, *place)?;
             f.write_str("  -\n")?;
         }
         Ok(())
     }
-}
 
-impl<'a> Trace<'a> {
     // The line of a block that the function passed, where the script has these to pass; answers what it has then.
     fn write_step<W: fmt::Write>(
         &self,
