@@ -7,7 +7,7 @@ use clif_ir::Function;
 use clif_runs::{
     ArgumentError, Comparison, Given, Numbering, Report, Verdict, arguments_of, compare,
 };
-use clif_types::PointerWidth;
+use clif_types::{AbiParam, PointerWidth};
 use std::alloc::Global;
 use std::{io, str};
 use toy_compiler::{CompiledFunction, Program, ToyError, compile};
@@ -111,24 +111,26 @@ fn execute_function<O: io::Write, E: io::Write>(
     };
     let calls = function.calls.as_slice();
     match compare(alloc, calls, signature, built, &given) {
-        Ok(runs) => {
-            let returns = signature.returns.as_slice();
-            let report = Report {
-                runs: &runs,
-                returns,
-                numbering: Numbering::InOrder,
-            };
-            write!(out, "{report}")?;
-            tell_verdict(&runs, err)
-        }
+        Ok(runs) => tell_runs(&runs, signature.returns.as_slice(), out, err),
         Err(error) => tell_unrun(error, err),
     }
 }
 
-// Tells it where the runs aren't equal.
-fn tell_verdict<E: io::Write>(runs: &Comparison, err: &mut E) -> io::Result<u8>
+// Prints what both runs show, and tells it where they aren't equal.
+fn tell_runs<'r, O: io::Write, E: io::Write>(
+    runs: &'r Comparison,
+    returns: &'r [AbiParam],
+    out: &mut O,
+    err: &mut E,
+) -> io::Result<u8>
     ensures { IfOk result (λ status. status < 6) }
 {
+    let report = Report {
+        runs,
+        returns,
+        numbering: Numbering::InOrder,
+    };
+    write!(out, "{report}")?;
     let verdict = runs.verdict();
     if let Verdict::Equal = verdict {
         return Ok(0);
