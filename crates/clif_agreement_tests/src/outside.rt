@@ -356,6 +356,7 @@ fn runs_so(
         events: events(alloc, case.calls)?,
         end: returned(alloc, values)?,
         memory: memory_of(alloc, 4096, SIZE, &[counted])?,
+        passed: Vec::new(alloc),
     };
     let before = zeros(alloc)?;
     let world = world_of(&pair.script, case.arguments, &before, answering);

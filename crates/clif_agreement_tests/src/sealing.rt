@@ -95,6 +95,7 @@ fn nest_answers(rt: &impl Abort, alloc: Global, text: &Script) -> Result<(), Fai
         events: Vec::new(alloc),
         end: returned(alloc, &[6])?,
         memory: zeros(alloc)?,
+        passed: Vec::new(alloc),
     };
     let world = world_of(text, &[], &memory, &Zeros);
     both_end(rt, alloc, text, &func, &world, STEPS, &ending)

@@ -60,6 +60,7 @@ pub fn world_of<'a, O: Outside>(
         pointer_width: text.config.pointer_width,
         slots: memory.start(),
         outside,
+        is_traced: false,
     }
 }
 
@@ -110,6 +111,7 @@ impl Pair {
             events: Vec::new(alloc),
             end,
             memory: after,
+            passed: Vec::new(alloc),
         };
         let world = world_of(&self.script, arguments, before, &Zeros);
         both_end(rt, alloc, &self.script, &self.func, &world, STEPS, &ending)

@@ -1,8 +1,9 @@
-//! `clif_build FILE` builds the function of a script and prints it; `clif_build --run FILE ARGUMENTS` builds it and runs
-//! the script and the function. Where the file is `-`, the script is read from standard input.
+//! `clif_build FILE` builds the function of a script and prints it; `clif_build --cfg FILE` prints its control-flow graph;
+//! `clif_build --run FILE ARGUMENTS` builds it and runs the script and the function. Where the file is `-`, the script is read from
+//! standard input.
 #![tactic(auto)]
 
-use clif_command_line::{bytes_of, words};
+use clif_command_line::{Question, bytes_of, words};
 use clif_script::{Command, USAGE, build, execute};
 use std::io;
 use std::process::ExitCode;
@@ -12,6 +13,10 @@ fn main(rt: HostRuntime) -> ExitCode {
         let _ = rt.eprintln("no memory");
         return ExitCode::from(1);
     };
+    if let Some(question) = Question::of(words.as_slice()) {
+        let printed = rt.println(question.answer(USAGE));
+        return ExitCode::from(u8::from(printed.is_err()));
+    }
     let Some(command) = Command::of(words.as_slice()) else {
         let _ = rt.eprintln(USAGE);
         return ExitCode::from(2);
@@ -30,7 +35,7 @@ fn carry_out(rt: &HostRuntime, command: &Command<'_>, bytes: &[u8]) -> u8 {
     let mut out = io::writer(rt);
     let mut err = rt.stderr();
     match command {
-        Command::Build { .. } => build(rt.alloc(), bytes, &mut out, &mut err),
+        Command::Build { form, .. } => build(rt.alloc(), bytes, *form, &mut out, &mut err),
         Command::Run { run, .. } => execute(rt.alloc(), bytes, run, &mut out, &mut err),
     }
 }

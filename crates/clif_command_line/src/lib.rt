@@ -1,4 +1,5 @@
-//! What a program gets from its command line: the words, and the bytes of the file that one of them names.
+//! What a program gets from its command line: the words, and the bytes of the file that one of them names. And what each
+//! program tells of itself.
 #![tactic(auto)]
 
 use std::io::Read;
@@ -30,4 +31,39 @@ pub fn bytes_of<R: Files + Input + AllocGlobal>(rt: &R, path: &str) -> io::Resul
     let mut bytes = Vec::new(rt.alloc());
     rt.reader().read_to_end(&mut bytes)?;
     Ok(bytes)
+}
+
+/// What `--version` prints.
+pub const VERSION: &str = "cranelift-frontend 0.137.1, in Rattle";
+
+/// What a program is asked about itself.
+#[derive(Clone, Copy)]
+pub enum Question {
+    /// How it is used.
+    Usage,
+    /// Which version it is.
+    Version,
+}
+
+impl Question {
+    /// The question that the only word asks: `--help` or `-h`, or `--version`.
+    pub fn of(words: &[String]) -> Option<Question> {
+        let (word, others) = words.split_first()?;
+        if !others.is_empty() {
+            return None;
+        }
+        match word.as_str() {
+            "--help" | "-h" => Some(Question::Usage),
+            "--version" => Some(Question::Version),
+            _ => None,
+        }
+    }
+
+    /// The answer of a program that is used so.
+    pub fn answer<'a>(self, usage: &'a str) -> &'a str {
+        match self {
+            Question::Usage => usage,
+            Question::Version => VERSION,
+        }
+    }
 }

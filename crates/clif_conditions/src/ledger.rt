@@ -151,6 +151,10 @@ impl<'a> Ledger<'a> {
         declared.ok_or(Condition::NoVariable(number))
     }
 
+    pub(crate) fn block_count(&self) -> usize {
+        self.blocks.len()
+    }
+
     pub(crate) fn state(&self, number: usize) -> BlockState {
         self.blocks.get(number).copied().unwrap_or(NEW_BLOCK)
     }

@@ -1,7 +1,7 @@
 //! The interpreter of functions, written from the function machine. It has the bits of values, and follows aliases.
 use crate::error::{Cause, Operand, Place, RunError};
 use crate::outside::{Callee, Event, Outside, Payload, call_library, cut, show};
-use crate::run::{Choices, End, Ending, World};
+use crate::run::{Choices, End, Ending, Trace, World};
 use clif_ir::{BlockArg, BlockCall, ExceptionTargets, Function, InstructionData};
 use clif_operations::arithmetic::bits_of_bytes;
 use clif_operations::{Fault, Operation, Outcome, Store, Typed, bits_of, carry_out, kept};
@@ -34,6 +34,7 @@ struct State<'a, O> {
     // what the last function of the C library gave to a try call
     given: Option<Typed>,
     choices: Choices,
+    trace: Trace,
 }
 
 // By hand: a derived one is proved anew at each way out of a function that holds such a value.
@@ -49,6 +50,7 @@ impl<O> Drop for State<'_, O> {
             events: _,
             given: _,
             choices: _,
+            trace: _,
         } = self;
     }
 }
@@ -230,6 +232,7 @@ impl<'a, O: Outside> State<'a, O> {
         if block.index() >= self.func.block_count() {
             return Err(Cause::NoTarget);
         }
+        self.trace.pass(block.index())?;
         Ok(self.func.first_inst(block))
     }
 
@@ -449,12 +452,13 @@ impl<'a, O: Outside> State<'a, O> {
             events,
             given: _,
             choices,
+            trace,
         } = self;
-        let memory = store.memory;
         let ending = Ending {
             events,
             end,
-            memory,
+            memory: store.memory,
+            passed: trace.blocks,
         };
         (ending, choices)
     }
@@ -597,5 +601,6 @@ fn begin<'a, O: Outside>(
         events: Vec::new(alloc),
         given: None,
         choices: Choices::NONE,
+        trace: world.trace(alloc),
     })
 }

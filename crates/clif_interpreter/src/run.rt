@@ -4,10 +4,10 @@ use crate::outside::Event;
 use clif_operations::arithmetic::greatest;
 use clif_operations::{Memory, Slots, Store, Typed, kept};
 use clif_types::{PointerWidth, TrapCode, Type};
-use std::alloc::Global;
+use std::alloc::{AllocError, Global};
 
 /// How many steps a run has at most if nobody says it.
-pub const STEPS: u64 = 1_000_000;
+pub const STEPS: u64 = 100_000;
 
 /// What a run is given.
 #[derive(Clone, Copy)]
@@ -23,6 +23,8 @@ pub struct World<'a, O> {
     pub slots: u64,
     /// Who answers outside calls.
     pub outside: &'a O,
+    /// Whether the blocks that are passed are kept.
+    pub is_traced: bool,
 }
 
 impl<O> World<'_, O> {
@@ -40,6 +42,31 @@ impl<O> World<'_, O> {
             memory: self.memory.clone()?,
             slots: Slots::new(alloc, self.pointer_width, self.slots),
         })
+    }
+
+    /// No block, as the run begins.
+    pub(crate) fn trace(&self, alloc: Global) -> Trace {
+        Trace {
+            is_kept: self.is_traced,
+            blocks: Vec::new(alloc),
+        }
+    }
+}
+
+/// The blocks that a run passed so far, if they are kept.
+#[derive(Drop)]
+pub(crate) struct Trace {
+    is_kept: bool,
+    pub(crate) blocks: Vec<usize>,
+}
+
+impl Trace {
+    /// The run enters the block with this number.
+    pub(crate) fn pass(&mut self, number: usize) -> Result<(), AllocError> {
+        if self.is_kept {
+            self.blocks.push(number)?;
+        }
+        Ok(())
     }
 }
 
@@ -73,7 +100,7 @@ impl Choices {
     };
 }
 
-/// What a run showed: its outside calls, how it ended, and what is in memory then.
+/// What a run showed: its outside calls, how it ended, what is in memory then, and which blocks it passed.
 #[derive(PartialEq, Eq, Drop)]
 pub struct Ending {
     /// Its outside calls, in order.
@@ -82,4 +109,6 @@ pub struct Ending {
     pub end: End,
     /// What is in memory then.
     pub memory: Memory,
+    /// The numbers of the blocks that it passed, in order; none unless the world is traced.
+    pub passed: Vec<usize>,
 }

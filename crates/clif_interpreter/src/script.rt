@@ -2,7 +2,7 @@
 //! variables and names of answers, and no aliases and no parameters of variables.
 use crate::error::{Cause, Operand, Place, RunError};
 use crate::outside::{Callee, Event, Outside, Payload, call_library, cut, show};
-use crate::run::{End, Ending, World};
+use crate::run::{End, Ending, Trace, World};
 use clif_calls::{
     Call, Edge, ImmediateCall, MemoryCall, Name, OutsideCall, Passed, TableEdge, ThrowingCall,
 };
@@ -43,6 +43,7 @@ struct State<'s, 'p, 'o, O> {
     events: Vec<Event>,
     // what a function of the C library gave a try call, for its normal edge
     given: Option<Typed>,
+    trace: Trace,
 }
 
 // By hand: a derived one is proved anew at each way out of a function that holds such a value.
@@ -60,6 +61,7 @@ impl<O> Drop for State<'_, '_, '_, O> {
             outside: _,
             events: _,
             given: _,
+            trace: _,
         } = self;
     }
 }
@@ -132,6 +134,7 @@ impl<O: Outside> State<'_, '_, '_, O> {
             }
             self.give(name, *value)?;
         }
+        self.trace.pass(number)?;
         Ok(())
     }
 
@@ -280,11 +283,13 @@ impl<O: Outside> State<'_, '_, '_, O> {
             outside: _,
             events,
             given: _,
+            trace,
         } = self;
         Ending {
             events,
             end,
             memory: store.memory,
+            passed: trace.blocks,
         }
     }
 
@@ -712,5 +717,6 @@ fn begin<'s, 'p, 'o, O: Outside>(
         outside: world.outside,
         events: Vec::new(alloc),
         given: None,
+        trace: world.trace(alloc),
     })
 }

@@ -1,8 +1,10 @@
 //! A script and the function that is built of it run side by side.
 ghost use Rattle.std.specs.Prelude.{◌<◌};
 
+use crate::options::Options;
 use crate::shown::Shown;
 use crate::table::Answers;
+use crate::trace::{Numbering, Trace};
 use clif_calls::{Call, OutsideAnswer};
 use clif_interpreter::{End, Ending, Memory, RunError, World, function, script};
 use clif_ir::Function;
@@ -28,8 +30,8 @@ pub struct Given<'a> {
     pub answers: &'a [OutsideAnswer],
     /// The width of a pointer.
     pub pointer_width: PointerWidth,
-    /// The bound on the steps of each.
-    pub steps: u64,
+    /// How they are made.
+    pub options: Options,
 }
 
 /// What both runs show.
@@ -118,10 +120,11 @@ pub fn compare(
         pointer_width: given.pointer_width,
         slots: SLOTS,
         outside: &Answers(given.answers),
+        is_traced: given.options.is_traced,
     };
-    let script = script::run(alloc, calls, signature, &world, given.steps)?;
-    let function = function::run(alloc, func, &world, given.steps);
-    let steps = given.steps;
+    let steps = given.options.steps;
+    let script = script::run(alloc, calls, signature, &world, steps)?;
+    let function = function::run(alloc, func, &world, steps);
     Ok(Comparison {
         script,
         function,
@@ -151,17 +154,21 @@ impl Comparison {
 
 /// Two runs of a function that returns these types. It prints a line for each outside call and one for
 /// the end of each run: `script: called %f(64)`, `script: returned 7`, and the same of the function. A function that can't go on
-/// has its reason in place of them.
+/// has its reason in place of them. Before these lines stands the [`Trace`] of the blocks, if they were kept.
 #[derive(Clone, Copy)]
 pub struct Report<'a> {
     /// The runs.
     pub runs: &'a Comparison,
     /// What the function returns.
     pub returns: &'a [AbiParam],
+    /// How the function numbers the script's blocks.
+    pub numbering: Numbering<'a>,
 }
 
 impl fmt::Display for Report<'_> {
     fn fmt<W: fmt::Write>(&self, f: &mut fmt::Formatter<W>) -> fmt::Result {
+        let trace = self.trace();
+        write!(f, "{trace}")?;
         self.write_run(f, "script", &self.runs.script)?;
         match &self.runs.function {
             Ok(ending) => self.write_run(f, "function", ending),
@@ -171,6 +178,18 @@ impl fmt::Display for Report<'_> {
 }
 
 impl Report<'_> {
+    // The blocks that were passed. Of a function that can't go on none are kept.
+    fn trace(&self) -> Trace<'_> {
+        Trace {
+            script: self.runs.script.passed.as_slice(),
+            function: match &self.runs.function {
+                Ok(ending) => ending.passed.as_slice(),
+                Err(_) => &[],
+            },
+            numbering: self.numbering,
+        }
+    }
+
     // What one of them shows.
     fn write_run<W: fmt::Write>(
         &self,

@@ -5,10 +5,14 @@
 
 pub mod arguments;
 pub mod comparison;
+pub mod options;
 pub mod shown;
 pub mod table;
+pub mod trace;
 
 pub use arguments::{ArgumentError, arguments_of};
 pub use comparison::{Comparison, Given, Report, Verdict, compare};
+pub use options::Options;
 pub use shown::Shown;
 pub use table::Answers;
+pub use trace::{Numbering, Trace};

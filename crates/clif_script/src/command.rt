@@ -1,14 +1,23 @@
 //! What the program `clif_build` is asked for.
-use clif_interpreter::STEPS;
+use clif_runs::Options;
 
-/// A run: the words of its arguments, and how many steps it has at most.
+/// A run: the words of its arguments, and how it is made.
 #[derive(Clone, Copy)]
 pub struct Run<'a> {
     /// One word for each parameter of the function's signature: a number, decimal or hexadecimal after `0x`, and `-`
     /// before it if it is negative. For a float or a vector it is the bits.
     pub arguments: &'a [String],
-    /// The bound on steps.
-    pub steps: u64,
+    /// How it is made.
+    pub options: Options,
+}
+
+/// As what a function is printed.
+#[derive(Clone, Copy, PartialEq, Eq)]
+pub enum Form {
+    /// As its text.
+    Text,
+    /// As its control-flow graph, in the language DOT (`clif_graph`).
+    Graph,
 }
 
 /// What the program is asked for, for the script of a file.
@@ -18,6 +27,8 @@ pub enum Command<'a> {
     Build {
         /// The file, or `-` for standard input.
         path: &'a str,
+        /// As what it is printed.
+        form: Form,
     },
     /// To build the function and to run the script and the function.
     Run {
@@ -29,42 +40,42 @@ pub enum Command<'a> {
 }
 
 /// What the program answers to words that ask for nothing.
-pub const USAGE: &str =
-    "usage: clif_build FILE\n       clif_build --run [--steps N] FILE [ARGUMENT ..]";
+pub const USAGE: &str = "usage: clif_build FILE
+       clif_build --cfg FILE
+       clif_build --run [--trace] [--steps N] FILE [ARGUMENT ..]
+       clif_build --help
+       clif_build --version";
 
 impl<'a> Command<'a> {
-    /// What the words after the program's name ask for: `FILE`, or `--run [--steps N] FILE [ARGUMENT ..]`.
+    /// What the words after the program's name ask for: `FILE`, `--cfg FILE`, or `--run [--trace] [--steps N] FILE [ARGUMENT ..]`.
     pub fn of(words: &'a [String]) -> Option<Command<'a>> {
         let (first, rest) = words.split_first()?;
         match first.as_str() {
             "--run" => Command::run(rest),
-            path if rest.is_empty() => Some(Command::Build { path }),
-            _ => None,
+            "--cfg" => {
+                let (path, others) = rest.split_first()?;
+                Command::build(path.as_str(), others, Form::Graph)
+            }
+            path => Command::build(path, rest, Form::Text),
         }
+    }
+
+    // Nothing is asked for by words after the file.
+    fn build(path: &'a str, others: &'a [String], form: Form) -> Option<Command<'a>> {
+        others.is_empty().then_some(Command::Build { path, form })
     }
 
     // What the words after `--run` ask for.
     fn run(words: &'a [String]) -> Option<Command<'a>> {
-        let (first, rest) = words.split_first()?;
-        if first.as_str() != "--steps" {
-            return Some(run_of(first.as_str(), rest, STEPS));
-        }
-        let (steps, rest) = rest.split_first()?;
-        let (path, rest) = rest.split_first()?;
-        Some(run_of(path.as_str(), rest, steps.as_str().parse().ok()?))
+        let (options, path, arguments) = Options::of(words)?;
+        let run = Run { arguments, options };
+        Some(Command::Run { path, run })
     }
 
     /// The file of the script.
     pub fn path(&self) -> &'a str {
         match *self {
-            Command::Build { path } | Command::Run { path, .. } => path,
+            Command::Build { path, .. } | Command::Run { path, .. } => path,
         }
-    }
-}
-
-fn run_of<'a>(path: &'a str, arguments: &'a [String], steps: u64) -> Command<'a> {
-    Command::Run {
-        path,
-        run: Run { arguments, steps },
     }
 }

@@ -5,9 +5,12 @@ ghost use Rattle.std.specs.Prelude.{◌<◌, IfOk};
 use crate::command::Run;
 use crate::program::{tell_call, tell_no_text, tell_unbuilt, tell_unread};
 use clif_builder::FunctionBuilderContext;
+use clif_conditions::block_numbers;
 use clif_interpreter::{Place, RunError, Told};
 use clif_replay::{ReplayError, replay};
-use clif_runs::{ArgumentError, Comparison, Given, Report, Verdict, arguments_of, compare};
+use clif_runs::{
+    ArgumentError, Comparison, Given, Numbering, Options, Report, Verdict, arguments_of, compare,
+};
 use clif_text::{ReadError, Script, read};
 use clif_types::AbiParam;
 use std::alloc::{AllocError, Global};
@@ -15,7 +18,8 @@ use std::{io, str};
 
 /// Builds the function of a script, for the bytes of a file, runs the script's variable program and the function with
 /// the same arguments and the same memory, and prints to `out` what each calls and how it ends, as `script: called %f(64)`,
-/// `script: returned 7` and `function: returned 7` (see [`Report`]). Answers the exit status.
+/// `script: returned 7` and `function: returned 7`; before them the blocks that both pass, if the run is traced (see
+/// [`Report`]). Answers the exit status.
 ///
 /// The bytes from address 0x1000 up to 0xffff are accessible, and no others. Each is the low byte of its address at
 /// first. Stack slots lie from 0x8000 on, in order, each at the next address that its alignment allows. Outside calls
@@ -92,8 +96,8 @@ fn execute_script<O: io::Write, E: io::Write>(
         Ok(arguments) => arguments,
         Err(error) => return tell_arguments(error, err),
     };
-    match both_run(alloc, script, arguments.as_slice(), run.steps) {
-        Ok(runs) => tell_runs(&runs, script.signature.returns.as_slice(), out, err),
+    match both_run(alloc, script, arguments.as_slice(), run.options) {
+        Ok(both) => tell_runs(&both, script.signature.returns.as_slice(), out, err),
         Err(Unrun::Unbuilt(error)) => tell_unbuilt(
             alloc,
             error,
@@ -132,13 +136,21 @@ impl From<RunError> for Unrun {
     }
 }
 
+/// Two runs, and how the blocks are numbered.
+#[derive(Drop)]
+struct Both {
+    runs: Comparison,
+    // the numbers in the function of the script's blocks, if these are shown
+    numbers: Vec<usize>,
+}
+
 // Builds the function of a script and runs both.
 fn both_run(
     alloc: Global,
     script: &Script,
     arguments: &[u128],
-    steps: u64,
-) -> Result<Comparison, Unrun> {
+    options: Options,
+) -> Result<Both, Unrun> {
     let mut ctx = FunctionBuilderContext::new(alloc);
     let name = script.name.clone()?;
     let signature = script.signature.clone()?;
@@ -149,21 +161,32 @@ fn both_run(
         arguments,
         answers: script.answers.as_slice(),
         pointer_width: config.pointer_width,
-        steps,
+        options,
     };
-    Ok(compare(alloc, calls, &script.signature, &func, &given)?)
+    let numbers = if options.is_traced {
+        block_numbers(alloc, calls, &script.signature, config)?
+    } else {
+        Vec::new(alloc)
+    };
+    let runs = compare(alloc, calls, &script.signature, &func, &given)?;
+    Ok(Both { runs, numbers })
 }
 
 // Prints what both runs show, and tells it where they aren't equal.
 fn tell_runs<O: io::Write, E: io::Write>(
-    runs: &Comparison,
+    both: &Both,
     returns: &[AbiParam],
     out: &mut O,
     err: &mut E,
 ) -> io::Result<u8>
     ensures { IfOk result (λ status. status < 6) }
 {
-    let report = Report { runs, returns };
+    let runs = &both.runs;
+    let report = Report {
+        runs,
+        returns,
+        numbering: Numbering::Listed(both.numbers.as_slice()),
+    };
     write!(out, "{report}")?;
     let verdict = runs.verdict();
     if let Verdict::Equal = verdict {

@@ -14,9 +14,11 @@ pub use clif_calls::{
     Plan, SwitchEntry, TableEdge, TableItem, ThrowingCall,
 };
 pub use clif_conditions::{Condition, broken_condition};
+pub use clif_graph::Graph;
 pub use clif_interpreter::STEPS;
 pub use clif_replay::{ReplayError, replay};
-pub use command::{Command, Run, USAGE};
+pub use clif_runs::Options;
+pub use command::{Command, Form, Run, USAGE};
 pub use execution::execute;
 pub use program::build;
 pub use rows::{row_text, run};

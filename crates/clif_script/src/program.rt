@@ -2,19 +2,22 @@
 ghost use Rattle.std.specs.Prelude.{◌≡◌, ◌<◌, IfOk};
 ghost use Rattle.clif_script.specs.Program.{IsAccepted, MakesFunction};
 
+use crate::command::Form;
 use clif_builder::FunctionBuilderContext;
 use clif_conditions::{Condition, broken_condition};
+use clif_graph::Graph;
+use clif_ir::Function;
 use clif_replay::{ReplayError, replay};
 use clif_text::{Expected, Fault, ReadError, Script, read};
-use std::alloc::Global;
+use std::alloc::{AllocError, Global};
 use std::{io, str};
 
-/// Builds the function of a script, for the bytes of a file, and prints its text to `out`. Answers the exit
+/// Builds the function of a script, for the bytes of a file, and prints it to `out` in this form. Answers the exit
 /// status.
 ///
 /// | Status | When |
 /// |---|---|
-/// | 0 | the function was finished and its text printed to `out`, and nothing to `err` |
+/// | 0 | the function was finished and printed to `out`, and nothing to `err` |
 /// | 1 | the function couldn't be built, and `err` has the reason, as `misuse at call 3` and then `line 12: jump b1: block1 is sealed`, or `refused at call 4` and `at the end`; or memory or a write was refused |
 /// | 2 | the bytes are no script, and `err` has the reason, as `script error at line 12: expected a block` |
 ///
@@ -23,13 +26,14 @@ use std::{io, str};
 pub fn build<O: io::Write, E: io::Write>(
     alloc: Global,
     bytes: &[u8],
+    form: Form,
     out: &mut O,
     err: &mut E,
 ) -> u8
     ensures status { result < 3 }
     ensures accepted { result ≡ 0 → IsAccepted bytes.now }
 {
-    match build_bytes(alloc, bytes, out, err) {
+    match build_bytes(alloc, bytes, form, out, err) {
         Ok(status) => status,
         Err(_) => 1,
     }
@@ -38,6 +42,7 @@ pub fn build<O: io::Write, E: io::Write>(
 fn build_bytes<O: io::Write, E: io::Write>(
     alloc: Global,
     bytes: &[u8],
+    form: Form,
     out: &mut O,
     err: &mut E,
 ) -> io::Result<u8>
@@ -45,7 +50,7 @@ fn build_bytes<O: io::Write, E: io::Write>(
     ensures accepted { IfOk result (λ status. status ≡ 0 → IsAccepted bytes.now) }
 {
     match str::from_utf8(bytes) {
-        Ok(text) => build_text(alloc, text, out, err),
+        Ok(text) => build_text(alloc, text, form, out, err),
         Err(error) => tell_no_text(&bytes[..error.valid_up_to()], err),
     }
 }
@@ -78,6 +83,7 @@ pub(crate) fn tell_unread<E: io::Write>(error: ReadError<'_>, err: &mut E) -> io
 pub(crate) fn build_text<O: io::Write, E: io::Write>(
     alloc: Global,
     text: &str,
+    form: Form,
     out: &mut O,
     err: &mut E,
 ) -> io::Result<u8>
@@ -85,7 +91,7 @@ pub(crate) fn build_text<O: io::Write, E: io::Write>(
     ensures accepted { IfOk result (λ status. status ≡ 0 → IsAccepted text.now) }
 {
     match read(alloc, text) {
-        Ok(script) => build_script(alloc, text, script, out, err),
+        Ok(script) => build_script(alloc, text, script, form, out, err),
         Err(error) => tell_unread(error, err),
     }
 }
@@ -94,6 +100,7 @@ fn build_script<O: io::Write, E: io::Write>(
     alloc: Global,
     text: &str,
     script: Script,
+    form: Form,
     out: &mut O,
     err: &mut E,
 ) -> io::Result<u8>
@@ -113,12 +120,25 @@ fn build_script<O: io::Write, E: io::Write>(
         Ok(func) => func,
         Err(error) => return tell_unbuilt(alloc, error, text, lines.as_slice(), err),
     };
-    let shown = func.display();
-    let Ok(printed) = format!(in alloc; "{shown}") else {
+    let Ok(printed) = printed(alloc, &func, form) else {
         return tell_unread(ReadError::Memory, err);
     };
     out.write_all(printed.as_bytes())?;
     Ok(0)
+}
+
+// What is printed of a function.
+fn printed(alloc: Global, func: &Function, form: Form) -> Result<String, AllocError> {
+    match form {
+        Form::Text => {
+            let shown = func.display();
+            format!(in alloc; "{shown}")
+        }
+        Form::Graph => {
+            let graph = Graph::of(alloc, func)?;
+            format!(in alloc; "{graph}")
+        }
+    }
 }
 
 // Tells why a function couldn't be built, and the line of the call.

@@ -2,6 +2,7 @@
 ghost use Rattle.std.specs.Prelude.{◌≡◌, ◌<◌, ◌↔◌, length, string_bytes, slice_get, IfOk, IfSome, IsSome};
 ghost use Rattle.clif_script.specs.Rows.{IsHelperRow, IsOtherRow, IsRowName, IsSwitchRow};
 
+use crate::command::Form;
 use crate::helper_rows::{COPY12, COPY40, MEMCMP_ODD, MEMCPY};
 use crate::program::build_text;
 use crate::row_texts::{
@@ -152,7 +153,7 @@ fn print_row<O: io::Write, E: io::Write>(
         writeln!(err, "unknown row: {name}")?;
         return Ok(2);
     };
-    match build_text(alloc, text, out, err)? {
+    match build_text(alloc, text, Form::Text, out, err)? {
         0 => Ok(0),
         _ => Ok(1),
     }

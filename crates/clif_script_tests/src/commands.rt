@@ -2,23 +2,59 @@
 #![tactic(auto)]
 
 use crate::support::words_of;
-use clif_script::Command;
+use clif_script::{Command, Form, Options};
 use std::test::Fail;
-use toy_runner::STEPS;
+
+const SEVEN: Options = Options {
+    steps: 7,
+    is_traced: false,
+};
+
+const SEVEN_TRACED: Options = Options {
+    steps: 7,
+    is_traced: true,
+};
+
+/// What is to be done with a file.
+#[derive(Clone, Copy, PartialEq, Eq)]
+enum Task {
+    /// To print its function.
+    Print(Form),
+    /// To run it with so many arguments.
+    Run(usize, Options),
+}
 
 /// What the words of a command line ask for.
-const COMMANDS: &[(&str, Option<(&str, Option<(usize, u64)>)>)] = &[
-    ("a.script", Some(("a.script", None))),
-    ("-", Some(("-", None))),
-    ("--run a.script", Some(("a.script", Some((0, 1_000_000))))),
-    ("--run - -1 --steps", Some(("-", Some((2, 1_000_000))))),
+const COMMANDS: &[(&str, Option<(&str, Task)>)] = &[
+    ("a.script", Some(("a.script", Task::Print(Form::Text)))),
+    ("-", Some(("-", Task::Print(Form::Text)))),
+    ("--cfg -", Some(("-", Task::Print(Form::Graph)))),
+    (
+        "--run a.script",
+        Some(("a.script", Task::Run(0, Options::NONE))),
+    ),
+    (
+        "--run - -1 --steps",
+        Some(("-", Task::Run(2, Options::NONE))),
+    ),
     (
         "--run --steps 7 a.script 1",
-        Some(("a.script", Some((1, 7)))),
+        Some(("a.script", Task::Run(1, SEVEN))),
+    ),
+    (
+        "--run --trace --steps 7 -",
+        Some(("-", Task::Run(0, SEVEN_TRACED))),
+    ),
+    (
+        "--run --steps 7 --trace -",
+        Some(("-", Task::Run(0, SEVEN_TRACED))),
     ),
     ("", None),
     ("a.script 1", None),
+    ("--cfg", None),
+    ("--cfg a.script 1", None),
     ("--run", None),
+    ("--run --trace", None),
     ("--run --steps 7", None),
     ("--run --steps x a.script", None),
 ];
@@ -27,29 +63,38 @@ const COMMANDS: &[(&str, Option<(&str, Option<(usize, u64)>)>)] = &[
 fn commands(rt: HostRuntime) -> Result<(), Fail> {
     for (text, expected) in COMMANDS {
         let words = words_of(rt.alloc(), text)?;
-        // the file, and for a run the number of arguments and the bound on steps
         let asked = match Command::of(words.as_slice()) {
             None => None,
-            Some(Command::Build { path }) => Some((path, None)),
-            Some(Command::Run { path, run }) => Some((
-                path,
-                Some((run.arguments.len(), run.steps)),
-            )),
+            Some(Command::Build { path, form }) => Some((path, Task::Print(form))),
+            Some(Command::Run { path, run }) => {
+                let task = Task::Run(run.arguments.len(), run.options);
+                Some((path, task))
+            }
         };
         assert!(rt; asked == *expected);
     }
     Ok(())
 }
 
-/// The same of `toy`: the file, and for a run the function, the number of arguments and the bound on steps.
-const TOY_COMMANDS: &[(&str, Option<(&str, Option<(&str, usize, u64)>)>)] = &[
+/// The same of `toy`: the file, and for a run the function, the number of arguments and the options.
+const TOY_COMMANDS: &[(&str, Option<(&str, Option<(&str, usize, Options)>)>)] = &[
     ("a.toy", Some(("a.toy", None))),
     ("-", Some(("-", None))),
-    ("--run a.toy f", Some(("a.toy", Some(("f", 0, STEPS))))),
-    ("--run a.toy f 1 -2", Some(("a.toy", Some(("f", 2, STEPS))))),
+    (
+        "--run a.toy f",
+        Some(("a.toy", Some(("f", 0, Options::NONE)))),
+    ),
+    (
+        "--run a.toy f 1 -2",
+        Some(("a.toy", Some(("f", 2, Options::NONE)))),
+    ),
     (
         "--run --steps 7 a.toy f 1",
-        Some(("a.toy", Some(("f", 1, 7)))),
+        Some(("a.toy", Some(("f", 1, SEVEN)))),
+    ),
+    (
+        "--run --steps 7 --trace a.toy f",
+        Some(("a.toy", Some(("f", 0, SEVEN_TRACED)))),
     ),
     ("", None),
     ("--run a.toy", None),
@@ -64,10 +109,10 @@ fn toy_commands(rt: HostRuntime) -> Result<(), Fail> {
         let asked = match toy_runner::Command::of(words.as_slice()) {
             None => None,
             Some(toy_runner::Command::Print { path }) => Some((path, None)),
-            Some(toy_runner::Command::Run { path, run }) => Some((
-                path,
-                Some((run.function, run.arguments.len(), run.steps)),
-            )),
+            Some(toy_runner::Command::Run { path, run }) => {
+                let runs = (run.function, run.arguments.len(), run.options);
+                Some((path, Some(runs)))
+            }
         };
         assert!(rt; asked == *expected);
     }

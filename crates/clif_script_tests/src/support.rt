@@ -3,7 +3,7 @@
 
 use clif_builder::FunctionBuilderContext;
 use clif_ir::Function;
-use clif_script::{Run, build, execute, replay, row_text, run};
+use clif_script::{Form, Options, Run, build, execute, replay, row_text, run};
 use clif_text::{Script, read, write};
 use std::alloc::{AllocError, Global};
 use std::io;
@@ -91,9 +91,13 @@ impl Program<'_> {
         }
         let arguments = arguments.as_slice();
         Ok(match self {
-            Program::Build(script) => build(alloc, script, out, err),
+            Program::Build(script) => build(alloc, script, Form::Text, out, err),
             Program::Execute(script, _, steps) => {
-                let run = Run { arguments, steps };
+                let options = Options {
+                    steps,
+                    is_traced: false,
+                };
+                let run = Run { arguments, options };
                 execute(alloc, script, &run, out, err)
             }
             Program::Rows(_) => run(alloc, arguments, out, err),

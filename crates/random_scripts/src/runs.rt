@@ -174,6 +174,7 @@ fn run(
         pointer_width: CONFIG.pointer_width,
         slots: START,
         outside: &outside,
+        is_traced: false,
     };
     let expected = ended(script::run(alloc, calls, signature, &world, STEPS))?;
     let ending = ended(function::run(alloc, func, &world, STEPS))?;

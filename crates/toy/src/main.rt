@@ -2,7 +2,7 @@
 //! them. Where the file is `-`, the program is read from standard input.
 #![tactic(auto)]
 
-use clif_command_line::{bytes_of, words};
+use clif_command_line::{Question, bytes_of, words};
 use std::io;
 use std::process::ExitCode;
 use toy_runner::{Command, USAGE, execute};
@@ -12,6 +12,10 @@ fn main(rt: HostRuntime) -> ExitCode {
         let _ = rt.eprintln("no memory");
         return ExitCode::from(1);
     };
+    if let Some(question) = Question::of(words.as_slice()) {
+        let printed = rt.println(question.answer(USAGE));
+        return ExitCode::from(u8::from(printed.is_err()));
+    }
     let Some(command) = Command::of(words.as_slice()) else {
         let _ = rt.eprintln(USAGE);
         return ExitCode::from(2);

@@ -1,5 +1,5 @@
 //! What the program `toy` is asked for.
-use clif_interpreter::STEPS;
+use clif_runs::Options;
 
 /// A run of a function of a program.
 #[derive(Clone, Copy)]
@@ -8,8 +8,8 @@ pub struct Run<'a> {
     pub function: &'a str,
     /// One word for each parameter: a number, decimal or hexadecimal after `0x`, and `-` before it if it is negative.
     pub arguments: &'a [String],
-    /// The bound on steps.
-    pub steps: u64,
+    /// How it is made.
+    pub options: Options,
 }
 
 /// What the program is asked for, for the toy program of a file.
@@ -30,10 +30,13 @@ pub enum Command<'a> {
 }
 
 /// What the program answers to words that ask for nothing.
-pub const USAGE: &str = "usage: toy FILE\n       toy --run [--steps N] FILE FUNCTION [ARGUMENT ..]";
+pub const USAGE: &str = "usage: toy FILE
+       toy --run [--trace] [--steps N] FILE FUNCTION [ARGUMENT ..]
+       toy --help
+       toy --version";
 
 impl<'a> Command<'a> {
-    /// What the words after the program's name ask for: `FILE`, or `--run [--steps N] FILE FUNCTION [ARGUMENT ..]`.
+    /// What the words after the program's name ask for: `FILE`, or `--run [--trace] [--steps N] FILE FUNCTION [ARGUMENT ..]`.
     pub fn of(words: &'a [String]) -> Option<Command<'a>> {
         let (first, rest) = words.split_first()?;
         match first.as_str() {
@@ -45,13 +48,15 @@ impl<'a> Command<'a> {
 
     // What the words after `--run` ask for.
     fn run(words: &'a [String]) -> Option<Command<'a>> {
-        let (first, rest) = words.split_first()?;
-        if first.as_str() != "--steps" {
-            return run_of(first.as_str(), rest, STEPS);
-        }
-        let (steps, rest) = rest.split_first()?;
-        let (path, rest) = rest.split_first()?;
-        run_of(path.as_str(), rest, steps.as_str().parse().ok()?)
+        let (options, path, rest) = Options::of(words)?;
+        let (function, arguments) = rest.split_first()?;
+        let function = function.as_str();
+        let run = Run {
+            function,
+            arguments,
+            options,
+        };
+        Some(Command::Run { path, run })
     }
 
     /// The file of the program.
@@ -60,17 +65,4 @@ impl<'a> Command<'a> {
             Command::Print { path } | Command::Run { path, .. } => path,
         }
     }
-}
-
-fn run_of<'a>(path: &'a str, words: &'a [String], steps: u64) -> Option<Command<'a>> {
-    let (function, arguments) = words.split_first()?;
-    let function = function.as_str();
-    Some(Command::Run {
-        path,
-        run: Run {
-            function,
-            arguments,
-            steps,
-        },
-    })
 }

@@ -4,15 +4,18 @@ ghost use Rattle.std.specs.Prelude.{◌<◌, IfOk};
 use crate::command::Run;
 use clif_interpreter::{RunError, Told};
 use clif_ir::Function;
-use clif_runs::{ArgumentError, Comparison, Given, Report, Verdict, arguments_of, compare};
-use clif_types::PointerWidth;
+use clif_runs::{
+    ArgumentError, Comparison, Given, Numbering, Report, Verdict, arguments_of, compare,
+};
+use clif_types::{AbiParam, PointerWidth};
 use std::alloc::Global;
 use std::{io, str};
 use toy_compiler::{CompiledFunction, Program, ToyError, compile};
 
 /// Compiles the program of the bytes of a file, runs a function of it twice, as the calls that the compiler made and as the
 /// function that was built of them, and prints to `out` what each calls and how it ends, as `script: called %gcd(48, 36)`,
-/// `script: returned 12` and `function: returned 12`. Answers the exit status.
+/// `script: returned 12` and `function: returned 12`; before them the blocks that both pass, if the run is traced. Answers the
+/// exit status.
 ///
 /// A call of another function, or of itself, is an outside call. It returns what the line `answer NAME NUMBER;` of the program
 /// says, and 0 where none says it.
@@ -104,27 +107,30 @@ fn execute_function<O: io::Write, E: io::Write>(
         arguments: arguments.as_slice(),
         answers: program.answers.as_slice(),
         pointer_width: PointerWidth::U64,
-        steps: run.steps,
+        options: run.options,
     };
     let calls = function.calls.as_slice();
     match compare(alloc, calls, signature, built, &given) {
-        Ok(runs) => {
-            let returns = signature.returns.as_slice();
-            let report = Report {
-                runs: &runs,
-                returns,
-            };
-            write!(out, "{report}")?;
-            tell_verdict(&runs, err)
-        }
+        Ok(runs) => tell_runs(&runs, signature.returns.as_slice(), out, err),
         Err(error) => tell_unrun(error, err),
     }
 }
 
-// Tells it where the runs aren't equal.
-fn tell_verdict<E: io::Write>(runs: &Comparison, err: &mut E) -> io::Result<u8>
+// Prints what both runs show, and tells it where they aren't equal.
+fn tell_runs<'r, O: io::Write, E: io::Write>(
+    runs: &'r Comparison,
+    returns: &'r [AbiParam],
+    out: &mut O,
+    err: &mut E,
+) -> io::Result<u8>
     ensures { IfOk result (λ status. status < 6) }
 {
+    let report = Report {
+        runs,
+        returns,
+        numbering: Numbering::InOrder,
+    };
+    write!(out, "{report}")?;
     let verdict = runs.verdict();
     if let Verdict::Equal = verdict {
         return Ok(0);

@@ -5,6 +5,6 @@
 mod command;
 mod execution;
 
-pub use clif_interpreter::STEPS;
+pub use clif_runs::Options;
 pub use command::{Command, Run, USAGE};
 pub use execution::execute;
