@@ -1,4 +1,5 @@
 //! What the program `clif_build` is asked for.
+use crate::program::TypeCheck;
 use clif_interpreter::STEPS;
 
 /// A run: the words of its arguments, and how many steps it has at most.
@@ -18,6 +19,8 @@ pub enum Command<'a> {
     Build {
         /// The file, or `-` for standard input.
         path: &'a str,
+        /// Whether its types are checked.
+        types: TypeCheck,
     },
     /// To build the function and to run the script and the function.
     Run {
@@ -30,15 +33,27 @@ pub enum Command<'a> {
 
 /// What the program answers to words that ask for nothing.
 pub const USAGE: &str =
-    "usage: clif_build FILE\n       clif_build --run [--steps N] FILE [ARGUMENT ..]";
+    "usage: clif_build [--unchecked] FILE\n       clif_build --run [--steps N] FILE [ARGUMENT ..]";
 
 impl<'a> Command<'a> {
-    /// What the words after the program's name ask for: `FILE`, or `--run [--steps N] FILE [ARGUMENT ..]`.
+    /// What the words after the program's name ask for: `[--unchecked] FILE`, or
+    /// `--run [--steps N] FILE [ARGUMENT ..]`.
     pub fn of(words: &'a [String]) -> Option<Command<'a>> {
         let (first, rest) = words.split_first()?;
         match first.as_str() {
             "--run" => Command::run(rest),
-            path if rest.is_empty() => Some(Command::Build { path }),
+            "--unchecked" => Command::build(rest, TypeCheck::Unchecked),
+            _ => Command::build(words, TypeCheck::Checked),
+        }
+    }
+
+    // What the words of a build ask for, which are its file alone.
+    fn build(words: &'a [String], types: TypeCheck) -> Option<Command<'a>> {
+        match words {
+            [path] => {
+                let path = path.as_str();
+                Some(Command::Build { path, types })
+            }
             _ => None,
         }
     }
@@ -57,7 +72,7 @@ impl<'a> Command<'a> {
     /// The file of the script.
     pub fn path(&self) -> &'a str {
         match *self {
-            Command::Build { path } | Command::Run { path, .. } => path,
+            Command::Build { path, .. } | Command::Run { path, .. } => path,
         }
     }
 }

@@ -18,5 +18,5 @@ pub use clif_interpreter::STEPS;
 pub use clif_replay::{ReplayError, replay};
 pub use command::{Command, Run, USAGE};
 pub use execution::execute;
-pub use program::build;
+pub use program::{TypeCheck, build};
 pub use rows::{row_text, run};

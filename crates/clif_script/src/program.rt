@@ -3,19 +3,32 @@ ghost use Rattle.std.specs.Prelude.{◌≡◌, ◌<◌, IfOk};
 ghost use Rattle.clif_script.specs.Program.{IsAccepted, MakesFunction};
 
 use clif_builder::FunctionBuilderContext;
-use clif_conditions::{Condition, broken_condition};
+use clif_calls::Call;
+use clif_check::{CheckError, check};
+use clif_conditions::{Condition, broken_condition, cut_constant};
+use clif_ir::Function;
 use clif_replay::{ReplayError, replay};
 use clif_text::{Expected, Fault, ReadError, Script, read};
+use clif_type_messages::type_message;
 use std::alloc::Global;
-use std::{io, str};
+use std::{fmt, io, str};
+
+/// Whether the types of a function's instructions are checked before it is printed.
+#[derive(Clone, Copy, PartialEq, Eq)]
+pub enum TypeCheck {
+    /// They are, by [`check`].
+    Checked,
+    /// They aren't.
+    Unchecked,
+}
 
 /// Builds the function of a script, for the bytes of a file, and prints its text to `out`. Answers the exit
 /// status.
 ///
 /// | Status | When |
 /// |---|---|
-/// | 0 | the function was finished and its text printed to `out`, and nothing to `err` |
-/// | 1 | the function couldn't be built, and `err` has the reason, as `misuse at call 3` and then `line 12: jump b1: block1 is sealed`, or `refused at call 4` and `at the end`; or memory or a write was refused |
+/// | 0 | the function was finished and its text printed to `out`, and to `err` a line for each constant that was cut, as `note: line 3: iconst.i8 4000 is cut to -96` |
+/// | 1 | the function couldn't be built, and `err` has the reason, as `misuse at call 3` and then `line 12: jump b1: block1 is sealed`, or `refused at call 4` and then `at the end: block0 isn't filled`; or its types are checked, and `err` has an instruction that isn't well typed, as `inst2: iadd: the second operand is i64, i32 is needed`; or memory or a write was refused |
 /// | 2 | the bytes are no script, and `err` has the reason, as `script error at line 12: expected a block` |
 ///
 /// Nothing is printed to `out` unless the function was finished. Where a write fails, what was written before
@@ -23,13 +36,14 @@ use std::{io, str};
 pub fn build<O: io::Write, E: io::Write>(
     alloc: Global,
     bytes: &[u8],
+    types: TypeCheck,
     out: &mut O,
     err: &mut E,
 ) -> u8
     ensures status { result < 3 }
     ensures accepted { result ≡ 0 → IsAccepted bytes.now }
 {
-    match build_bytes(alloc, bytes, out, err) {
+    match build_bytes(alloc, bytes, types, out, err) {
         Ok(status) => status,
         Err(_) => 1,
     }
@@ -38,6 +52,7 @@ pub fn build<O: io::Write, E: io::Write>(
 fn build_bytes<O: io::Write, E: io::Write>(
     alloc: Global,
     bytes: &[u8],
+    types: TypeCheck,
     out: &mut O,
     err: &mut E,
 ) -> io::Result<u8>
@@ -45,7 +60,7 @@ fn build_bytes<O: io::Write, E: io::Write>(
     ensures accepted { IfOk result (λ status. status ≡ 0 → IsAccepted bytes.now) }
 {
     match str::from_utf8(bytes) {
-        Ok(text) => build_text(alloc, text, out, err),
+        Ok(text) => build_text(alloc, text, types, out, err),
         Err(error) => tell_no_text(&bytes[..error.valid_up_to()], err),
     }
 }
@@ -78,6 +93,7 @@ pub(crate) fn tell_unread<E: io::Write>(error: ReadError<'_>, err: &mut E) -> io
 pub(crate) fn build_text<O: io::Write, E: io::Write>(
     alloc: Global,
     text: &str,
+    types: TypeCheck,
     out: &mut O,
     err: &mut E,
 ) -> io::Result<u8>
@@ -85,7 +101,7 @@ pub(crate) fn build_text<O: io::Write, E: io::Write>(
     ensures accepted { IfOk result (λ status. status ≡ 0 → IsAccepted text.now) }
 {
     match read(alloc, text) {
-        Ok(script) => build_script(alloc, text, script, out, err),
+        Ok(script) => build_script(alloc, text, script, types, out, err),
         Err(error) => tell_unread(error, err),
     }
 }
@@ -94,6 +110,7 @@ fn build_script<O: io::Write, E: io::Write>(
     alloc: Global,
     text: &str,
     script: Script,
+    types: TypeCheck,
     out: &mut O,
     err: &mut E,
 ) -> io::Result<u8>
@@ -113,12 +130,71 @@ fn build_script<O: io::Write, E: io::Write>(
         Ok(func) => func,
         Err(error) => return tell_unbuilt(alloc, error, text, lines.as_slice(), err),
     };
+    let notes = Notes {
+        calls: calls.as_slice(),
+        lines: lines.as_slice(),
+    };
+    show(alloc, &func, types, &notes, out, err)
+}
+
+// Prints a function, unless its types are checked and wrong. It is made into a text before anything is printed, so that
+// nothing is where memory is refused.
+fn show<O: io::Write, E: io::Write>(
+    alloc: Global,
+    func: &Function,
+    types: TypeCheck,
+    notes: &Notes<'_>,
+    out: &mut O,
+    err: &mut E,
+) -> io::Result<u8>
+    ensures { IfOk result (λ status. status < 3) }
+{
+    if let TypeCheck::Checked = types {
+        if let Err(error) = check(func) {
+            return tell_ill_typed(func, error, err);
+        }
+    }
     let shown = func.display();
     let Ok(printed) = format!(in alloc; "{shown}") else {
         return tell_unread(ReadError::Memory, err);
     };
+    write!(err, "{notes}")?;
     out.write_all(printed.as_bytes())?;
     Ok(0)
+}
+
+// Tells which instruction isn't well typed.
+fn tell_ill_typed<E: io::Write>(
+    func: &Function,
+    error: CheckError,
+    err: &mut E,
+) -> io::Result<u8>
+    ensures { IfOk result (λ status. status ≡ 1) }
+{
+    match type_message(func, error) {
+        Some(message) => writeln!(err, "{message}")?,
+        None => writeln!(err, "{error}")?,
+    }
+    Ok(1)
+}
+
+/// The notes on a script: a line for each constant that is cut, as `note: line 3: iconst.i8 4000 is cut to -96`.
+#[derive(Clone, Copy)]
+pub(crate) struct Notes<'a> {
+    pub(crate) calls: &'a [Call],
+    // the line of each call
+    pub(crate) lines: &'a [usize],
+}
+
+impl fmt::Display for Notes<'_> {
+    fn fmt<W: fmt::Write>(&self, f: &mut fmt::Formatter<W>) -> fmt::Result {
+        for (call, number) in self.calls.iter().zip(self.lines.iter()) {
+            if let Some(cut) = cut_constant(call) {
+                writeln!(f, "note: line {number}: {cut}")?;
+            }
+        }
+        Ok(())
+    }
 }
 
 // Tells why a function couldn't be built, and the line of the call.
@@ -133,16 +209,17 @@ pub(crate) fn tell_unbuilt<E: io::Write>(
 {
     writeln!(err, "{error}")?;
     match error {
-        ReplayError::Misuse(place) => tell_misuse(alloc, place, text, lines, err)?,
-        ReplayError::Refused(place) => tell_call(place, text, lines, err)?,
+        ReplayError::Misuse(place) | ReplayError::Refused(place) => {
+            tell_condition(alloc, place, text, lines, err)?;
+        }
         ReplayError::Memory | ReplayError::Full => {}
     }
     Ok(1)
 }
 
-// Tells the line of a misused call, and which of its conditions doesn't hold. The script is read once more for that; if
-// memory is refused, the line alone is told.
-fn tell_misuse<E: io::Write>(
+// Tells the line of a misused or refused call, or that it is the end, and which condition doesn't hold. The script is read
+// once more for that; if memory is refused, the line alone is told.
+fn tell_condition<E: io::Write>(
     alloc: Global,
     place: usize,
     text: &str,
@@ -153,7 +230,7 @@ fn tell_misuse<E: io::Write>(
         return tell_call(place, text, lines, err);
     };
     let Some(number) = lines.get(place) else {
-        return tell_call(place, text, lines, err);
+        return writeln!(err, "at the end: {condition}");
     };
     let line = line_of(text, *number);
     writeln!(err, "line {number}: {line}: {condition}")

@@ -3,7 +3,7 @@
 
 use clif_builder::FunctionBuilderContext;
 use clif_ir::Function;
-use clif_script::{Run, build, execute, replay, row_text, run};
+use clif_script::{Run, TypeCheck, build, execute, replay, row_text, run};
 use clif_text::{Script, read, write};
 use std::alloc::{AllocError, Global};
 use std::io;
@@ -91,7 +91,7 @@ impl Program<'_> {
         }
         let arguments = arguments.as_slice();
         Ok(match self {
-            Program::Build(script) => build(alloc, script, out, err),
+            Program::Build(script) => build(alloc, script, TypeCheck::Checked, out, err),
             Program::Execute(script, _, steps) => {
                 let run = Run { arguments, steps };
                 execute(alloc, script, &run, out, err)
