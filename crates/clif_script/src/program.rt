@@ -126,13 +126,13 @@ fn build_script<O: io::Write, E: io::Write>(
         lines,
     } = script;
     let mut ctx = FunctionBuilderContext::new(alloc);
-    let func = match replay(alloc, calls.as_slice(), name, signature, &mut ctx, config) {
-        Ok(func) => func,
-        Err(error) => return tell_unbuilt(alloc, error, text, lines.as_slice(), err),
-    };
     let notes = Notes {
         calls: calls.as_slice(),
         lines: lines.as_slice(),
+    };
+    let func = match replay(alloc, notes.calls, name, signature, &mut ctx, config) {
+        Ok(func) => func,
+        Err(error) => return tell_unbuilt(alloc, error, text, notes.lines, err),
     };
     show(alloc, &func, types, &notes, out, err)
 }
@@ -164,11 +164,7 @@ fn show<O: io::Write, E: io::Write>(
 }
 
 // Tells which instruction isn't well typed.
-fn tell_ill_typed<E: io::Write>(
-    func: &Function,
-    error: CheckError,
-    err: &mut E,
-) -> io::Result<u8>
+fn tell_ill_typed<E: io::Write>(func: &Function, error: CheckError, err: &mut E) -> io::Result<u8>
     ensures { IfOk result (λ status. status ≡ 1) }
 {
     match type_message(func, error) {

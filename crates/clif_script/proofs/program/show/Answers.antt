@@ -1,0 +1,6 @@
+-- Refused memory is told with another status than 0.
+use Rattle.clif_script.proofs.Answering.{if_ok_then}
+use Rattle.clif_script.proofs.program.show.Goals as goal
+
+pub returns-in_default : goal.returns-in_default
+returns-in_default g c = if_ok_then c.tell_unread.result (λ status told. told.1) c.tell_unread.ensures
