@@ -1,6 +1,6 @@
 //! A function from the text of a script: `build` is the program `clif_build` over two writers.
-ghost use Rattle.std.specs.Prelude.{◌≡◌, ◌<◌, IfOk};
-ghost use Rattle.clif_script.specs.Program.{IsAccepted, MakesFunction};
+ghost use Rattle.std.specs.Prelude.{◌≡◌, ◌<◌, IfOk, OnOk};
+ghost use Rattle.clif_script.specs.Program.{HasTypesAs, IsAccepted, MakesFunction};
 
 use clif_builder::FunctionBuilderContext;
 use clif_calls::Call;
@@ -41,7 +41,7 @@ pub fn build<O: io::Write, E: io::Write>(
     err: &mut E,
 ) -> u8
     ensures status { result < 3 }
-    ensures accepted { result ≡ 0 → IsAccepted bytes.now }
+    ensures accepted { result ≡ 0 → IsAccepted types bytes.now }
 {
     match build_bytes(alloc, bytes, types, out, err) {
         Ok(status) => status,
@@ -57,7 +57,7 @@ fn build_bytes<O: io::Write, E: io::Write>(
     err: &mut E,
 ) -> io::Result<u8>
     ensures status { IfOk result (λ status. status < 3) }
-    ensures accepted { IfOk result (λ status. status ≡ 0 → IsAccepted bytes.now) }
+    ensures accepted { IfOk result (λ status. status ≡ 0 → IsAccepted types bytes.now) }
 {
     match str::from_utf8(bytes) {
         Ok(text) => build_text(alloc, text, types, out, err),
@@ -98,7 +98,7 @@ pub(crate) fn build_text<O: io::Write, E: io::Write>(
     err: &mut E,
 ) -> io::Result<u8>
     ensures status { IfOk result (λ status. status < 3) }
-    ensures accepted { IfOk result (λ status. status ≡ 0 → IsAccepted text.now) }
+    ensures accepted { IfOk result (λ status. status ≡ 0 → IsAccepted types text.now) }
 {
     match read(alloc, text) {
         Ok(script) => build_script(alloc, text, script, types, out, err),
@@ -115,7 +115,7 @@ fn build_script<O: io::Write, E: io::Write>(
     err: &mut E,
 ) -> io::Result<u8>
     ensures status { IfOk result (λ status. status < 3) }
-    ensures makes { IfOk result (λ status. status ≡ 0 → MakesFunction script) }
+    ensures makes { IfOk result (λ status. status ≡ 0 → MakesFunction types script) }
 {
     let Script {
         name,
@@ -147,12 +147,11 @@ fn show<O: io::Write, E: io::Write>(
     out: &mut O,
     err: &mut E,
 ) -> io::Result<u8>
-    ensures { IfOk result (λ status. status < 3) }
+    ensures status { IfOk result (λ status. status < 3) }
+    ensures typed { IfOk result (λ status. status ≡ 0 → HasTypesAs types func.now) }
 {
-    if let TypeCheck::Checked = types {
-        if let Err(error) = check(func) {
-            return tell_ill_typed(func, error, err);
-        }
+    if let Err(error) = check_as(types, func) {
+        return tell_ill_typed(func, error, err);
     }
     let shown = func.display();
     let Ok(printed) = format!(in alloc; "{shown}") else {
@@ -161,6 +160,16 @@ fn show<O: io::Write, E: io::Write>(
     write!(err, "{notes}")?;
     out.write_all(printed.as_bytes())?;
     Ok(0)
+}
+
+// Checks the types of a function, if they are to be.
+fn check_as(types: TypeCheck, func: &Function) -> Result<(), CheckError>
+    ensures { OnOk result (HasTypesAs types func.now) }
+{
+    match types {
+        TypeCheck::Checked => check(func),
+        TypeCheck::Unchecked => Ok(()),
+    }
 }
 
 // Tells which instruction isn't well typed.

@@ -10,8 +10,9 @@ pub returns-clause-makes : goal.returns-clause-makes
 returns-clause-makes g c =
     let script = c.args.script in
     if_ok_then c.show.result
-    (λ status told zero. record {
+    (λ status typed zero. record {
       function = c.in-Ok.func;
+      typed = typed zero;
       makes = subst (λ (calls : List Call). ReplayMakes calls script.name script.signature script.config c.in-Ok.func) c.as_slice.ensures.value
           (record {
             same_meaning = c.in-Ok.ensures.same_meaning;
@@ -22,4 +23,4 @@ returns-clause-makes g c =
             accepted = sym (same_Some _ _ (c.in-Ok.ensures.verdict (answer_no_error c.in-Ok.func _) (answer_no_error c.in-Ok.func _)));
           });
     })
-    c.show.ensures
+    c.show.ensures.typed
