@@ -1,6 +1,6 @@
-//! `clif_build FILE` builds the function of a script and prints it; `clif_build --cfg FILE` prints its control-flow graph;
-//! `clif_build --run FILE ARGUMENTS` builds it and runs the script and the function. Where the file is `-`, the script is read from
-//! standard input.
+//! `clif_build FILE` builds the function of a script, checks its types and prints it, `clif_build --unchecked FILE` without the
+//! check; `--cfg` before the file prints its control-flow graph. `clif_build --run FILE ARGUMENTS` builds it and runs the script
+//! and the function. Where the file is `-`, the script is read from standard input.
 #![tactic(auto)]
 
 use clif_command_line::{Question, bytes_of, words};
@@ -35,7 +35,7 @@ fn carry_out(rt: &HostRuntime, command: &Command<'_>, bytes: &[u8]) -> u8 {
     let mut out = io::writer(rt);
     let mut err = rt.stderr();
     match command {
-        Command::Build { form, .. } => build(rt.alloc(), bytes, *form, &mut out, &mut err),
+        Command::Build { printing, .. } => build(rt.alloc(), bytes, *printing, &mut out, &mut err),
         Command::Run { run, .. } => execute(rt.alloc(), bytes, run, &mut out, &mut err),
     }
 }

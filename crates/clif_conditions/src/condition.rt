@@ -1,4 +1,4 @@
-//! The conditions of calls, and how one that doesn't hold is told.
+//! The conditions of calls and of the end of a script, and how one that doesn't hold is told.
 use clif_calls::Name;
 use clif_opcodes::Opcode;
 use clif_types::{IntCC, Type};
@@ -69,6 +69,16 @@ pub enum Condition {
     MovedAlignment(u8, u64),
     /// Bytes are compared as signed numbers.
     Signed(IntCC),
+    /// The key comes twice among those of a switch.
+    KeyTwice(u128),
+    /// The greatest key of a switch is no unsigned number of the value's type.
+    KeyTooWide(Type, u128),
+    /// Too many keys of a switch follow one another for a jump table.
+    TableTooLong,
+    /// The script ends, and the block isn't sealed.
+    Unsealed(usize),
+    /// The script ends, and the block has no terminator.
+    Unended(usize),
 }
 
 impl fmt::Display for Condition {
@@ -118,6 +128,11 @@ impl fmt::Display for Condition {
                 )
             }
             Condition::Signed(cond) => write!(f, "{cond} is of signed numbers"),
+            Condition::KeyTwice(key) => write!(f, "the key {key} comes twice"),
+            Condition::KeyTooWide(ty, key) => write!(f, "the key {key} is no number of type {ty}"),
+            Condition::TableTooLong => f.write_str("2^32 keys follow one another"),
+            Condition::Unsealed(number) => write_block(f, *number, "isn't sealed"),
+            Condition::Unended(number) => write_block(f, *number, "isn't filled"),
         }
     }
 }

@@ -85,7 +85,7 @@ impl Ledger<'_> {
         Ok(())
     }
 
-    fn can_define(&self, variable: usize, value: Name) -> Result<(), Condition> {
+    pub(crate) fn can_define(&self, variable: usize, value: Name) -> Result<(), Condition> {
         self.is_open()?;
         let (wanted, found) = (self.variable(variable)?, self.value(value)?);
         if wanted != found {
@@ -493,7 +493,12 @@ fn slot_of(operation: &Operation) -> Option<usize> {
 }
 
 /// The first condition of the call at a place that doesn't hold, if the calls before it were made, for a function of
-/// this signature on this target. There is none if the call may be made.
+/// this signature on this target: one that makes the call a misuse, or else one for which it is refused. Where no call has
+/// this place, it is a condition of the script's end. There is none if the call may be made.
+///
+/// # Errors
+///
+/// Where memory is refused.
 pub fn broken_condition(
     alloc: Global,
     calls: &[Call],
@@ -504,10 +509,13 @@ pub fn broken_condition(
     let mut ledger = Ledger::new(alloc, calls, signature, config.pointer_width);
     for (at, call) in calls.iter().enumerate() {
         if at == place {
-            return Ok(ledger.test(call).err());
+            return match ledger.test(call) {
+                Ok(()) => ledger.refusal(alloc, call),
+                Err(condition) => Ok(Some(condition)),
+            };
         }
         ledger.add_branch(call)?;
         ledger.change(call)?;
     }
-    Ok(None)
+    Ok(ledger.unfinished())
 }

@@ -72,7 +72,7 @@ pub(crate) struct Ledger<'a> {
     pub(crate) signature: &'a Signature,
     pub(crate) pointer_width: PointerWidth,
     answers: Vec<Vec<Answer>>,
-    blocks: Vec<BlockState>,
+    pub(crate) blocks: Vec<BlockState>,
     variables: Vec<Type>,
     pub(crate) slots: usize,
     pub(crate) imports: Imports,

@@ -1,8 +1,9 @@
-//! The blocks that a switch makes.
+//! The blocks that a switch makes, and for which keys it is refused.
 ghost use Rattle.std.specs.Prelude.{◌≢◌, IfOk};
 ghost use Rattle.clif_types.specs.declared.types.«Type».TheVariants.{Invalid};
 ghost use Rattle.clif_ranges.specs.Search.{AreSeparate};
 
+use crate::condition::Condition;
 use clif_calls::SwitchEntry;
 use clif_ranges::{CaseRange, Cases, SwitchError, Test, search_tree};
 use clif_types::{Block, Type};
@@ -21,6 +22,24 @@ pub(crate) fn blocks_made(
         Ok(ranges) => blocks_for(alloc, ranges.as_slice(), ty),
         Err(SwitchError::Build(_)) => Err(AllocError),
         Err(_) => Ok(0),
+    }
+}
+
+/// For which of its keys a switch is refused, if it is, where a value of this type is compared with them.
+pub(crate) fn refused_keys(
+    alloc: Global,
+    entries: &[SwitchEntry],
+    ty: Type,
+) -> Result<Option<Condition>, AllocError> {
+    if let Type::Invalid = ty {
+        return Ok(None);
+    }
+    match ranges_of(alloc, entries, ty) {
+        Ok(_) => Ok(None),
+        Err(SwitchError::Build(_)) => Err(AllocError),
+        Err(SwitchError::SetTwice(key)) => Ok(Some(Condition::KeyTwice(key))),
+        Err(SwitchError::KeyTooWide { ty, max }) => Ok(Some(Condition::KeyTooWide(ty, max))),
+        Err(SwitchError::TableTooLong) => Ok(Some(Condition::TableTooLong)),
     }
 }
 

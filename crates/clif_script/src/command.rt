@@ -1,4 +1,5 @@
 //! What the program `clif_build` is asked for.
+use crate::program::{Form, Printing, TypeCheck};
 use clif_runs::Options;
 
 /// A run: the words of its arguments, and how it is made.
@@ -11,15 +12,6 @@ pub struct Run<'a> {
     pub options: Options,
 }
 
-/// As what a function is printed.
-#[derive(Clone, Copy, PartialEq, Eq)]
-pub enum Form {
-    /// As its text.
-    Text,
-    /// As its control-flow graph, in the language DOT (`clif_graph`).
-    Graph,
-}
-
 /// What the program is asked for, for the script of a file.
 #[derive(Clone, Copy)]
 pub enum Command<'a> {
@@ -27,8 +19,8 @@ pub enum Command<'a> {
     Build {
         /// The file, or `-` for standard input.
         path: &'a str,
-        /// As what it is printed.
-        form: Form,
+        /// How it is printed.
+        printing: Printing,
     },
     /// To build the function and to run the script and the function.
     Run {
@@ -40,29 +32,37 @@ pub enum Command<'a> {
 }
 
 /// What the program answers to words that ask for nothing.
-pub const USAGE: &str = "usage: clif_build FILE
-       clif_build --cfg FILE
+pub const USAGE: &str = "usage: clif_build [--unchecked] [--cfg] FILE
        clif_build --run [--trace] [--steps N] FILE [ARGUMENT ..]
        clif_build --help
        clif_build --version";
 
 impl<'a> Command<'a> {
-    /// What the words after the program's name ask for: `FILE`, `--cfg FILE`, or `--run [--trace] [--steps N] FILE [ARGUMENT ..]`.
+    /// What the words after the program's name ask for: `[--unchecked] [--cfg] FILE`, or
+    /// `--run [--trace] [--steps N] FILE [ARGUMENT ..]`.
     pub fn of(words: &'a [String]) -> Option<Command<'a>> {
         let (first, rest) = words.split_first()?;
         match first.as_str() {
             "--run" => Command::run(rest),
-            "--cfg" => {
-                let (path, others) = rest.split_first()?;
-                Command::build(path.as_str(), others, Form::Graph)
-            }
-            path => Command::build(path, rest, Form::Text),
+            "--unchecked" => Command::print(rest, TypeCheck::Unchecked),
+            _ => Command::print(words, TypeCheck::Checked),
         }
     }
 
-    // Nothing is asked for by words after the file.
-    fn build(path: &'a str, others: &'a [String], form: Form) -> Option<Command<'a>> {
-        others.is_empty().then_some(Command::Build { path, form })
+    // What the words of a build ask for.
+    fn print(words: &'a [String], types: TypeCheck) -> Option<Command<'a>> {
+        let (first, rest) = words.split_first()?;
+        let (form, words) = match first.as_str() {
+            "--cfg" => (Form::Graph, rest),
+            _ => (Form::Text, words),
+        };
+        match words {
+            [path] => Some(Command::Build {
+                path: path.as_str(),
+                printing: Printing { types, form },
+            }),
+            _ => None,
+        }
     }
 
     // What the words after `--run` ask for.

@@ -3,7 +3,7 @@
 ghost use Rattle.std.specs.Prelude.{◌<◌, IfOk};
 
 use crate::command::Run;
-use crate::program::{tell_call, tell_no_text, tell_unbuilt, tell_unread};
+use crate::program::{Notes, tell_call, tell_no_text, tell_unbuilt, tell_unread};
 use clif_builder::FunctionBuilderContext;
 use clif_conditions::block_numbers;
 use clif_interpreter::{Place, RunError, Told};
@@ -97,7 +97,14 @@ fn execute_script<O: io::Write, E: io::Write>(
         Err(error) => return tell_arguments(error, err),
     };
     match both_run(alloc, script, arguments.as_slice(), run.options) {
-        Ok(both) => tell_runs(&both, script.signature.returns.as_slice(), out, err),
+        Ok(both) => {
+            let notes = Notes {
+                calls: script.calls.as_slice(),
+                lines: script.lines.as_slice(),
+            };
+            write!(err, "{notes}")?;
+            tell_runs(&both, script.signature.returns.as_slice(), out, err)
+        }
         Err(Unrun::Unbuilt(error)) => tell_unbuilt(
             alloc,
             error,

@@ -1,24 +1,53 @@
 //! A function from the text of a script: `build` is the program `clif_build` over two writers.
-ghost use Rattle.std.specs.Prelude.{◌≡◌, ◌<◌, IfOk};
-ghost use Rattle.clif_script.specs.Program.{IsAccepted, MakesFunction};
+ghost use Rattle.std.specs.Prelude.{◌≡◌, ◌<◌, IfOk, OnOk};
+ghost use Rattle.clif_script.specs.Program.{HasTypesAs, IsAccepted, MakesFunction};
 
-use crate::command::Form;
 use clif_builder::FunctionBuilderContext;
-use clif_conditions::{Condition, broken_condition};
+use clif_calls::Call;
+use clif_check::{CheckError, check};
+use clif_conditions::{Condition, broken_condition, cut_constant};
 use clif_graph::Graph;
 use clif_ir::Function;
 use clif_replay::{ReplayError, replay};
 use clif_text::{Expected, Fault, ReadError, Script, read};
+use clif_type_messages::type_message;
 use std::alloc::{AllocError, Global};
-use std::{io, str};
+use std::{fmt, io, str};
+
+/// Whether the types of a function's instructions are checked before it is printed.
+#[derive(Clone, Copy, PartialEq, Eq)]
+pub enum TypeCheck {
+    /// They are, by [`check`].
+    Checked,
+    /// They aren't.
+    Unchecked,
+}
+
+/// As what a function is printed.
+#[derive(Clone, Copy, PartialEq, Eq)]
+pub enum Form {
+    /// As its text.
+    Text,
+    /// As its control-flow graph, in the language DOT (`clif_graph`).
+    Graph,
+}
+
+/// How a function is printed.
+#[derive(Clone, Copy, PartialEq, Eq)]
+pub struct Printing {
+    /// Whether its types are checked before.
+    pub types: TypeCheck,
+    /// As what it is printed.
+    pub form: Form,
+}
 
 /// Builds the function of a script, for the bytes of a file, and prints it to `out` in this form. Answers the exit
 /// status.
 ///
 /// | Status | When |
 /// |---|---|
-/// | 0 | the function was finished and printed to `out`, and nothing to `err` |
-/// | 1 | the function couldn't be built, and `err` has the reason, as `misuse at call 3` and then `line 12: jump b1: block1 is sealed`, or `refused at call 4` and `at the end`; or memory or a write was refused |
+/// | 0 | the function was finished and printed to `out`, and to `err` a line for each constant that was cut, as `note: line 3: iconst.i8 4000 is cut to -96` |
+/// | 1 | the function couldn't be built, and `err` has the reason, as `misuse at call 3` and then `line 12: jump b1: block1 is sealed`, or `refused at call 4` and then `at the end: block0 isn't filled`; or its types are checked, and `err` has an instruction that isn't well typed, as `inst2: iadd: the second operand is i64, i32 is needed`; or memory or a write was refused |
 /// | 2 | the bytes are no script, and `err` has the reason, as `script error at line 12: expected a block` |
 ///
 /// Nothing is printed to `out` unless the function was finished. Where a write fails, what was written before
@@ -26,14 +55,14 @@ use std::{io, str};
 pub fn build<O: io::Write, E: io::Write>(
     alloc: Global,
     bytes: &[u8],
-    form: Form,
+    printing: Printing,
     out: &mut O,
     err: &mut E,
 ) -> u8
     ensures status { result < 3 }
-    ensures accepted { result ≡ 0 → IsAccepted bytes.now }
+    ensures accepted { result ≡ 0 → IsAccepted printing.types bytes.now }
 {
-    match build_bytes(alloc, bytes, form, out, err) {
+    match build_bytes(alloc, bytes, printing, out, err) {
         Ok(status) => status,
         Err(_) => 1,
     }
@@ -42,15 +71,15 @@ pub fn build<O: io::Write, E: io::Write>(
 fn build_bytes<O: io::Write, E: io::Write>(
     alloc: Global,
     bytes: &[u8],
-    form: Form,
+    printing: Printing,
     out: &mut O,
     err: &mut E,
 ) -> io::Result<u8>
     ensures status { IfOk result (λ status. status < 3) }
-    ensures accepted { IfOk result (λ status. status ≡ 0 → IsAccepted bytes.now) }
+    ensures accepted { IfOk result (λ status. status ≡ 0 → IsAccepted printing.types bytes.now) }
 {
     match str::from_utf8(bytes) {
-        Ok(text) => build_text(alloc, text, form, out, err),
+        Ok(text) => build_text(alloc, text, printing, out, err),
         Err(error) => tell_no_text(&bytes[..error.valid_up_to()], err),
     }
 }
@@ -83,15 +112,15 @@ pub(crate) fn tell_unread<E: io::Write>(error: ReadError<'_>, err: &mut E) -> io
 pub(crate) fn build_text<O: io::Write, E: io::Write>(
     alloc: Global,
     text: &str,
-    form: Form,
+    printing: Printing,
     out: &mut O,
     err: &mut E,
 ) -> io::Result<u8>
     ensures status { IfOk result (λ status. status < 3) }
-    ensures accepted { IfOk result (λ status. status ≡ 0 → IsAccepted text.now) }
+    ensures accepted { IfOk result (λ status. status ≡ 0 → IsAccepted printing.types text.now) }
 {
     match read(alloc, text) {
-        Ok(script) => build_script(alloc, text, script, form, out, err),
+        Ok(script) => build_script(alloc, text, script, printing, out, err),
         Err(error) => tell_unread(error, err),
     }
 }
@@ -100,12 +129,12 @@ fn build_script<O: io::Write, E: io::Write>(
     alloc: Global,
     text: &str,
     script: Script,
-    form: Form,
+    printing: Printing,
     out: &mut O,
     err: &mut E,
 ) -> io::Result<u8>
     ensures status { IfOk result (λ status. status < 3) }
-    ensures makes { IfOk result (λ status. status ≡ 0 → MakesFunction script) }
+    ensures makes { IfOk result (λ status. status ≡ 0 → MakesFunction types script) }
 {
     let Script {
         name,
@@ -116,13 +145,37 @@ fn build_script<O: io::Write, E: io::Write>(
         lines,
     } = script;
     let mut ctx = FunctionBuilderContext::new(alloc);
-    let func = match replay(alloc, calls.as_slice(), name, signature, &mut ctx, config) {
-        Ok(func) => func,
-        Err(error) => return tell_unbuilt(alloc, error, text, lines.as_slice(), err),
+    let notes = Notes {
+        calls: calls.as_slice(),
+        lines: lines.as_slice(),
     };
-    let Ok(printed) = printed(alloc, &func, form) else {
+    let func = match replay(alloc, notes.calls, name, signature, &mut ctx, config) {
+        Ok(func) => func,
+        Err(error) => return tell_unbuilt(alloc, error, text, notes.lines, err),
+    };
+    show(alloc, &func, printing, &notes, out, err)
+}
+
+// Prints a function, unless its types are checked and wrong. It is made into a text before anything is printed, so that
+// nothing is where memory is refused.
+fn show<O: io::Write, E: io::Write>(
+    alloc: Global,
+    func: &Function,
+    printing: Printing,
+    notes: &Notes<'_>,
+    out: &mut O,
+    err: &mut E,
+) -> io::Result<u8>
+    ensures status { IfOk result (λ status. status < 3) }
+    ensures typed { IfOk result (λ status. status ≡ 0 → HasTypesAs printing.types func.now) }
+{
+    if let Err(error) = check_as(printing.types, func) {
+        return tell_ill_typed(func, error, err);
+    }
+    let Ok(printed) = printed(alloc, func, printing.form) else {
         return tell_unread(ReadError::Memory, err);
     };
+    write!(err, "{notes}")?;
     out.write_all(printed.as_bytes())?;
     Ok(0)
 }
@@ -141,6 +194,46 @@ fn printed(alloc: Global, func: &Function, form: Form) -> Result<String, AllocEr
     }
 }
 
+// Checks the types of a function, if they are to be.
+fn check_as(types: TypeCheck, func: &Function) -> Result<(), CheckError>
+    ensures { OnOk result (HasTypesAs types func.now) }
+{
+    match types {
+        TypeCheck::Checked => check(func),
+        TypeCheck::Unchecked => Ok(()),
+    }
+}
+
+// Tells which instruction isn't well typed.
+fn tell_ill_typed<E: io::Write>(func: &Function, error: CheckError, err: &mut E) -> io::Result<u8>
+    ensures { IfOk result (λ status. status ≡ 1) }
+{
+    match type_message(func, error) {
+        Some(message) => writeln!(err, "{message}")?,
+        None => writeln!(err, "{error}")?,
+    }
+    Ok(1)
+}
+
+/// The notes on a script: a line for each constant that is cut, as `note: line 3: iconst.i8 4000 is cut to -96`.
+#[derive(Clone, Copy)]
+pub(crate) struct Notes<'a> {
+    pub(crate) calls: &'a [Call],
+    // the line of each call
+    pub(crate) lines: &'a [usize],
+}
+
+impl fmt::Display for Notes<'_> {
+    fn fmt<W: fmt::Write>(&self, f: &mut fmt::Formatter<W>) -> fmt::Result {
+        for (call, number) in self.calls.iter().zip(self.lines.iter()) {
+            if let Some(cut) = cut_constant(call) {
+                writeln!(f, "note: line {number}: {cut}")?;
+            }
+        }
+        Ok(())
+    }
+}
+
 // Tells why a function couldn't be built, and the line of the call.
 pub(crate) fn tell_unbuilt<E: io::Write>(
     alloc: Global,
@@ -153,16 +246,17 @@ pub(crate) fn tell_unbuilt<E: io::Write>(
 {
     writeln!(err, "{error}")?;
     match error {
-        ReplayError::Misuse(place) => tell_misuse(alloc, place, text, lines, err)?,
-        ReplayError::Refused(place) => tell_call(place, text, lines, err)?,
+        ReplayError::Misuse(place) | ReplayError::Refused(place) => {
+            tell_condition(alloc, place, text, lines, err)?;
+        }
         ReplayError::Memory | ReplayError::Full => {}
     }
     Ok(1)
 }
 
-// Tells the line of a misused call, and which of its conditions doesn't hold. The script is read once more for that; if
-// memory is refused, the line alone is told.
-fn tell_misuse<E: io::Write>(
+// Tells the line of a misused or refused call, or that it is the end, and which condition doesn't hold. The script is read
+// once more for that; if memory is refused, the line alone is told.
+fn tell_condition<E: io::Write>(
     alloc: Global,
     place: usize,
     text: &str,
@@ -173,7 +267,7 @@ fn tell_misuse<E: io::Write>(
         return tell_call(place, text, lines, err);
     };
     let Some(number) = lines.get(place) else {
-        return tell_call(place, text, lines, err);
+        return writeln!(err, "at the end: {condition}");
     };
     let line = line_of(text, *number);
     writeln!(err, "line {number}: {line}: {condition}")

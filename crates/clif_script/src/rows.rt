@@ -2,15 +2,20 @@
 ghost use Rattle.std.specs.Prelude.{◌≡◌, ◌<◌, ◌↔◌, length, string_bytes, slice_get, IfOk, IfSome, IsSome};
 ghost use Rattle.clif_script.specs.Rows.{IsHelperRow, IsOtherRow, IsRowName, IsSwitchRow};
 
-use crate::command::Form;
 use crate::helper_rows::{COPY12, COPY40, MEMCMP_ODD, MEMCPY};
-use crate::program::build_text;
+use crate::program::{Form, Printing, TypeCheck, build_text};
 use crate::row_texts::{
     BOTH_ARMS, CHANGE_BOTH, CHANGE_ONE, EMPTY, FIRST, REORDERING, SAMPLE, SAMPLE_LATE,
     SWITCH_128BIT_MAX_U64, SWITCH_BORDER, SWITCH_HIGH, SWITCH_MANY, UNDEF_VECTORS,
 };
 use std::alloc::Global;
 use std::io;
+
+// Rows are printed as they are: the row memcpy isn't well typed.
+const AS_TEXT: Printing = Printing {
+    types: TypeCheck::Unchecked,
+    form: Form::Text,
+};
 
 // The names of the rows, in order.
 const NAMES: [&str; 17] = [
@@ -88,8 +93,8 @@ fn other_row_text(name: &str) -> Option<&'static str>
 }
 
 /// The program `rows NAME`: builds the function of the row that the argument names, for pointers of 64
-/// bits and the convention `system_v`, and prints it. Without an argument it prints the names of the
-/// rows, one a line. Answers the exit status.
+/// bits and the convention `system_v`, and prints it; its types aren't checked. Without an argument it prints
+/// the names of the rows, one a line. Answers the exit status.
 ///
 /// | Status | When |
 /// |---|---|
@@ -153,7 +158,7 @@ fn print_row<O: io::Write, E: io::Write>(
         writeln!(err, "unknown row: {name}")?;
         return Ok(2);
     };
-    match build_text(alloc, text, Form::Text, out, err)? {
+    match build_text(alloc, text, AS_TEXT, out, err)? {
         0 => Ok(0),
         _ => Ok(1),
     }

@@ -2,7 +2,7 @@
 #![tactic(auto)]
 
 use crate::support::words_of;
-use clif_script::{Command, Form, Options};
+use clif_script::{Command, Form, Options, Printing, TypeCheck};
 use std::test::Fail;
 
 const SEVEN: Options = Options {
@@ -19,16 +19,41 @@ const SEVEN_TRACED: Options = Options {
 #[derive(Clone, Copy, PartialEq, Eq)]
 enum Task {
     /// To print its function.
-    Print(Form),
+    Print(Printing),
     /// To run it with so many arguments.
     Run(usize, Options),
 }
 
+const PLAIN: Printing = Printing {
+    types: TypeCheck::Checked,
+    form: Form::Text,
+};
+
+const UNCHECKED: Printing = Printing {
+    types: TypeCheck::Unchecked,
+    form: Form::Text,
+};
+
+const GRAPH: Printing = Printing {
+    types: TypeCheck::Checked,
+    form: Form::Graph,
+};
+
+const UNCHECKED_GRAPH: Printing = Printing {
+    types: TypeCheck::Unchecked,
+    form: Form::Graph,
+};
+
 /// What the words of a command line ask for.
 const COMMANDS: &[(&str, Option<(&str, Task)>)] = &[
-    ("a.script", Some(("a.script", Task::Print(Form::Text)))),
-    ("-", Some(("-", Task::Print(Form::Text)))),
-    ("--cfg -", Some(("-", Task::Print(Form::Graph)))),
+    ("a.script", Some(("a.script", Task::Print(PLAIN)))),
+    ("-", Some(("-", Task::Print(PLAIN)))),
+    ("--unchecked -", Some(("-", Task::Print(UNCHECKED)))),
+    ("--cfg -", Some(("-", Task::Print(GRAPH)))),
+    (
+        "--unchecked --cfg -",
+        Some(("-", Task::Print(UNCHECKED_GRAPH))),
+    ),
     (
         "--run a.script",
         Some(("a.script", Task::Run(0, Options::NONE))),
@@ -51,6 +76,9 @@ const COMMANDS: &[(&str, Option<(&str, Task)>)] = &[
     ),
     ("", None),
     ("a.script 1", None),
+    ("--unchecked", None),
+    ("--unchecked a.script 1", None),
+    ("a.script --unchecked", None),
     ("--cfg", None),
     ("--cfg a.script 1", None),
     ("--run", None),
@@ -65,7 +93,7 @@ fn commands(rt: HostRuntime) -> Result<(), Fail> {
         let words = words_of(rt.alloc(), text)?;
         let asked = match Command::of(words.as_slice()) {
             None => None,
-            Some(Command::Build { path, form }) => Some((path, Task::Print(form))),
+            Some(Command::Build { path, printing }) => Some((path, Task::Print(printing))),
             Some(Command::Run { path, run }) => {
                 let task = Task::Run(run.arguments.len(), run.options);
                 Some((path, task))

@@ -1,5 +1,5 @@
 //! Tests of `clif_script` and `clif_text`, of what no clause says and no program prints: scripts that calls are written as, replays
-//! with a context that served before, the condition that a misused call breaks, writers that refuse, and what functions hold. The
+//! with a context that served before, the condition for which a call is misused or refused, writers that refuse, and what functions hold. The
 //! files in the folder `tests` have the cases that are a text in and a text out.
 #![tactic(auto)]
 
@@ -41,6 +41,8 @@ mod support;
 mod switches;
 #[cfg(test)]
 mod tables;
+#[cfg(test)]
+mod toys;
 #[cfg(test)]
 mod tries;
 #[cfg(test)]

@@ -54,19 +54,19 @@ const REPLAYS: &[&[&str]] = &[
     tables::REPLAYS,
 ];
 
-// By what the calls alone tell, a condition of the call at this place doesn't hold, and all conditions of the calls before
+// By what the calls alone tell, a condition doesn't hold of the call at this place, or of the end, and all conditions before
 // it do; where there is no place, all conditions hold.
-fn tells_misuse(
+fn tells_condition(
     rt: &impl Abort,
     alloc: Global,
     script: &Script,
-    misuse: Option<usize>,
+    stopped: Option<usize>,
 ) -> Result<(), Fail> {
     let calls = script.calls.as_slice();
-    let last = misuse.unwrap_or(calls.len());
-    for place in 0..calls.len().min(last.saturating_add(1)) {
+    let last = stopped.unwrap_or(calls.len());
+    for place in 0..last.saturating_add(1) {
         let broken = broken_condition(alloc, calls, &script.signature, script.config, place)?;
-        assert!(rt; broken.is_some() == (place == last), "at {place}");
+        assert!(rt; broken.is_some() == (stopped == Some(place)), "at {place}");
     }
     Ok(())
 }
@@ -130,12 +130,12 @@ fn both_give(
     gives(rt, alloc, second.0, &mut ctx, second.1)
 }
 
-// The place of the call that is misused, if one is.
-fn misused(alloc: Global, script: &Script) -> Result<Option<usize>, Fail> {
+// The place of the call that is misused or refused, if one is.
+fn stopped(alloc: Global, script: &Script) -> Result<Option<usize>, Fail> {
     let mut ctx = FunctionBuilderContext::new(alloc);
     let error = replayed(alloc, script, &mut ctx)?.err();
     Ok(match error {
-        Some(ReplayError::Misuse(place)) => Some(place),
+        Some(ReplayError::Misuse(place) | ReplayError::Refused(place)) => Some(place),
         _ => None,
     })
 }
@@ -150,7 +150,7 @@ fn replays(
 ) -> Result<(), Fail> {
     both_give(rt, alloc, (script, expected), (script, expected))?;
     both_give(rt, alloc, (script, expected), (empty, EMPTY_TEXT))?;
-    tells_misuse(rt, alloc, script, misused(alloc, script)?)
+    tells_condition(rt, alloc, script, stopped(alloc, script)?)
 }
 
 // The same of the script before `=>`.

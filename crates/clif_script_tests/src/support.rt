@@ -3,7 +3,9 @@
 
 use clif_builder::FunctionBuilderContext;
 use clif_ir::Function;
-use clif_script::{Form, Options, Run, build, execute, replay, row_text, run};
+use clif_script::{
+    Form, Options, Printing, Run, TypeCheck, build, execute, replay, row_text, run,
+};
 use clif_text::{Script, read, write};
 use std::alloc::{AllocError, Global};
 use std::io;
@@ -76,6 +78,12 @@ pub fn words_of(alloc: Global, text: &str) -> Result<Vec<String>, AllocError> {
     Ok(words)
 }
 
+// As `clif_build` prints where no word asks for something else.
+const AS_TEXT: Printing = Printing {
+    types: TypeCheck::Checked,
+    form: Form::Text,
+};
+
 impl Program<'_> {
     // Runs it over these writers, and answers its status.
     fn status(self, alloc: Global, out: &mut Limited, err: &mut Limited) -> Result<u8, AllocError> {
@@ -91,7 +99,7 @@ impl Program<'_> {
         }
         let arguments = arguments.as_slice();
         Ok(match self {
-            Program::Build(script) => build(alloc, script, Form::Text, out, err),
+            Program::Build(script) => build(alloc, script, AS_TEXT, out, err),
             Program::Execute(script, _, steps) => {
                 let options = Options {
                     steps,

@@ -1,4 +1,6 @@
 //! Why a text is no program.
+ghost use Rattle.std.specs.Prelude.{◌<◌};
+
 use crate::tokens::Place;
 use clif_replay::ReplayError;
 use std::alloc::{AllocError, AllocFailed};
@@ -78,6 +80,16 @@ impl<'a> ToyError<'a> {
     /// The error that this is wrong at this place.
     pub fn at(place: Place, fault: Fault<'a>) -> ToyError<'a> {
         ToyError::At(place, fault)
+    }
+
+    /// The exit status of a program that meets it: 2 where the text is no program, and else 1.
+    pub fn status(&self) -> u8
+        ensures { (0 < result) × (result < 3) }
+    {
+        match self {
+            ToyError::At(..) => 2,
+            ToyError::Unbuilt(_) | ToyError::Unwritten | ToyError::Memory => 1,
+        }
     }
 }
 

@@ -11,13 +11,21 @@ use crate::function::Compiler;
 use crate::parser::Parser;
 use crate::tokens::{Token, tokens_of};
 use clif_calls::{Call, OutsideAnswer};
+use clif_conditions::{Condition, broken_condition};
 use clif_ir::Function;
-use clif_replay::replay;
+use clif_replay::{ReplayError, replay};
 use clif_types::types::I64;
 use clif_types::{AbiParam, CallConv, PointerWidth, Signature, TargetFrontendConfig, UserFuncName};
 use cranelift_frontend::FunctionBuilderContext;
 use std::alloc::{AllocError, Global};
 use std::{io, str};
+
+/// The target of every function.
+const TARGET: TargetFrontendConfig = TargetFrontendConfig {
+    default_call_conv: CallConv::SystemV,
+    pointer_width: PointerWidth::U64,
+    page_size_align_log2: 12,
+};
 
 /// How many blocks, brackets and arms behind `else` may stand within one another.
 const DEPTH: u32 = 200;
@@ -199,14 +207,37 @@ impl CompiledFunction<'_> {
         let name = String::from_str(alloc, self.name)?;
         let signature = signature_of(alloc, self.parameters)?;
         let mut ctx = FunctionBuilderContext::new(alloc);
-        let config = TargetFrontendConfig {
-            default_call_conv: CallConv::SystemV,
-            pointer_width: PointerWidth::U64,
-            page_size_align_log2: 12,
-        };
         let name = UserFuncName::testcase(name);
         let calls = self.calls.as_slice();
-        Ok(replay(alloc, calls, name, signature, &mut ctx, config)?)
+        Ok(replay(alloc, calls, name, signature, &mut ctx, TARGET)?)
+    }
+
+    /// Why the function wasn't built, where a call was a misuse or refused: the condition that doesn't hold, by what the calls
+    /// alone tell. There is none after another error, or where memory is refused.
+    pub fn broken_condition(&self, alloc: Global, error: ToyError<'_>) -> Option<Condition> {
+        let place = match error {
+            ToyError::Unbuilt(ReplayError::Misuse(place) | ReplayError::Refused(place)) => place,
+            _ => return None,
+        };
+        let signature = signature_of(alloc, self.parameters).ok()?;
+        broken_condition(alloc, self.calls.as_slice(), &signature, TARGET, place).ok()?
+    }
+
+    /// Tells an error of this function: a line, and where a condition doesn't hold a second one, as `gcd: block1 is filled`.
+    pub fn tell<E: io::Write>(
+        &self,
+        alloc: Global,
+        error: ToyError<'_>,
+        err: &mut E,
+    ) -> io::Result<()> {
+        writeln!(err, "{error}")?;
+        match self.broken_condition(alloc, error) {
+            Some(condition) => {
+                let name = self.name;
+                writeln!(err, "{name}: {condition}")
+            }
+            None => Ok(()),
+        }
     }
 }
 
@@ -229,39 +260,43 @@ pub fn print<O: io::Write, E: io::Write>(
         let _ = writeln!(err, "expected UTF-8 text");
         return 2;
     };
-    let printed = match compile(alloc, text) {
-        Ok(program) => print_functions(alloc, program.functions.as_slice(), out),
-        Err(error) => Err(error),
-    };
-    match printed {
-        Ok(()) => 0,
-        Err(error) => tell(error, err),
+    match compile(alloc, text) {
+        Ok(program) => print_functions(alloc, program.functions.as_slice(), out, err),
+        Err(error) => {
+            let _ = writeln!(err, "{error}");
+            error.status()
+        }
     }
 }
 
-// Tells an error, and answers its status.
-fn tell<E: io::Write>(error: ToyError<'_>, err: &mut E) -> u8
-    ensures { result < 3 }
-{
-    let _ = writeln!(err, "{error}");
-    match error {
-        ToyError::At(..) => 2,
-        ToyError::Unbuilt(_) | ToyError::Unwritten | ToyError::Memory => 1,
-    }
-}
-
-fn print_functions<O: io::Write>(
+fn print_functions<O: io::Write, E: io::Write>(
     alloc: Global,
     functions: &[CompiledFunction<'_>],
     out: &mut O,
-) -> Result<(), ToyError<'static>> {
+    err: &mut E,
+) -> u8
+    ensures { result < 3 }
+{
     for (index, function) in functions.iter().enumerate() {
-        let built = function.build(alloc)?;
-        let shown = built.display();
         let gap = if index == 0 { "" } else { "\n" };
-        if write!(out, "{gap}{shown}").is_err() {
-            return Err(ToyError::Unwritten);
+        if let Err(error) = print_function(alloc, function, gap, out) {
+            let _ = function.tell(alloc, error, err);
+            return error.status();
         }
     }
-    Ok(())
+    0
+}
+
+fn print_function<O: io::Write>(
+    alloc: Global,
+    function: &CompiledFunction<'_>,
+    gap: &str,
+    out: &mut O,
+) -> Result<(), ToyError<'static>> {
+    let built = function.build(alloc)?;
+    let shown = built.display();
+    match write!(out, "{gap}{shown}") {
+        Ok(()) => Ok(()),
+        Err(_) => Err(ToyError::Unwritten),
+    }
 }

@@ -70,7 +70,10 @@ fn execute_program<O: io::Write, E: io::Write>(
     };
     match function.build(alloc) {
         Ok(built) => execute_function(alloc, program, function, &built, run, out, err),
-        Err(error) => tell_error(error, err),
+        Err(error) => {
+            function.tell(alloc, error, err)?;
+            Ok(error.status())
+        }
     }
 }
 
@@ -156,13 +159,10 @@ fn tell_arguments<E: io::Write>(error: ArgumentError<'_>, err: &mut E) -> io::Re
     Ok(error.status())
 }
 
-// Tells why there is no function to run.
+// Tells why a text is no program.
 fn tell_error<E: io::Write>(error: ToyError<'_>, err: &mut E) -> io::Result<u8>
     ensures { IfOk result (λ status. status < 6) }
 {
     writeln!(err, "{error}")?;
-    match error {
-        ToyError::At(..) => Ok(2),
-        ToyError::Unbuilt(_) | ToyError::Unwritten | ToyError::Memory => Ok(1),
-    }
+    Ok(error.status())
 }

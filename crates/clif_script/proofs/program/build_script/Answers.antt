@@ -1,5 +1,5 @@
 -- What a replay answers with a function is what the script makes.
-use Rattle.std.proofs.Common.{List, sym, subst, arith}
+use Rattle.std.proofs.Common.{List, sym, subst}
 use Rattle.std.proofs.lemmas.Option.{same_Some}
 use Rattle.clif_calls.specs.declared.call.Call.{Call}
 use Rattle.clif_replay.specs.Replay.{ReplayMakes}
@@ -7,10 +7,12 @@ use Rattle.clif_script.proofs.Answering.{answer_no_error, if_ok_then}
 use Rattle.clif_script.proofs.program.build_script.Goals as goal
 
 pub returns-clause-makes : goal.returns-clause-makes
-returns-clause-makes g c = λ zero.
+returns-clause-makes g c =
     let script = c.args.script in
-    record {
+    if_ok_then c.show.result
+    (λ status typed zero. record {
       function = c.in-Ok.func;
+      typed = typed zero;
       makes = subst (λ (calls : List Call). ReplayMakes calls script.name script.signature script.config c.in-Ok.func) c.as_slice.ensures.value
           (record {
             same_meaning = c.in-Ok.ensures.same_meaning;
@@ -20,10 +22,5 @@ returns-clause-makes g c = λ zero.
             named = c.in-Ok.ensures.name;
             accepted = sym (same_Some _ _ (c.in-Ok.ensures.verdict (answer_no_error c.in-Ok.func _) (answer_no_error c.in-Ok.func _)));
           });
-    }
-
-pub returns-in_default-clause-status : goal.returns-in_default-clause-status
-returns-in_default-clause-status g c = if_ok_then c.tell_unread.result (λ status told. told.1) c.tell_unread.ensures
-
-pub returns-in_default-clause-makes : goal.returns-in_default-clause-makes
-returns-in_default-clause-makes g c = if_ok_then c.tell_unread.result (λ status told zero. absurd (omega (arith, told.0, zero))) c.tell_unread.ensures
+    })
+    c.show.ensures.typed
