@@ -134,7 +134,7 @@ fn build_script<O: io::Write, E: io::Write>(
     err: &mut E,
 ) -> io::Result<u8>
     ensures status { IfOk result (λ status. status < 3) }
-    ensures makes { IfOk result (λ status. status ≡ 0 → MakesFunction types script) }
+    ensures makes { IfOk result (λ status. status ≡ 0 → MakesFunction printing.types script) }
 {
     let Script {
         name,
