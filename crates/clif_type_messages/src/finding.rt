@@ -67,8 +67,7 @@ impl Misfit {
     }
 }
 
-// LOOKS: what an entity is, if it is there.
-
+// The shape of an instruction, if it is there.
 fn shape_of(func: &Function, inst: Inst) -> Option<&InstructionData> {
     if inst.index() < func.inst_count() {
         Some(func.inst_data(inst))
@@ -100,8 +99,6 @@ fn params_of(func: &Function, block: Block) -> &[Value] {
         &[]
     }
 }
-
-// OPERANDS
 
 fn misfit_in_operands(func: &Function, inst: Inst, shape: &InstructionData) -> Option<Misfit> {
     let typing = shape.opcode().typing();
@@ -142,8 +139,6 @@ fn controlling_type(func: &Function, inst: Inst, shape: &InstructionData) -> Typ
     }
 }
 
-// ARGUMENTS AND RETURNED VALUES
-
 // The arguments of a call, which follow its operands of fixed number.
 fn misfit_in_arguments(func: &Function, shape: &InstructionData) -> Option<Misfit> {
     let fixed = shape.opcode().typing().operands.len();
@@ -171,8 +166,6 @@ fn misfit_in_values(
     }
     None
 }
-
-// EDGES
 
 // What the call at the start of an edge gives to it: what it returns, or the parts of an exception.
 #[derive(Clone, Copy)]
