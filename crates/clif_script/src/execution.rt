@@ -34,7 +34,8 @@ use std::{io, str};
 /// | 4 | the theorem promises nothing of this run, and `err` has the reason, as `the promise doesn't cover this: $4.1 is used before it is given`, and then the line of the call |
 /// | 5 | a run hasn't ended within the bound on steps, and `err` says so |
 ///
-/// Nothing is printed to `out` but with status 0, 3 and 5. Where a write fails, what was written before it stays
+/// Where both ran, `err` first has a note for each constant that is cut, as [`crate::build`] tells it. Nothing is printed
+/// to `out` but with status 0, 3 and 5. Where a write fails, what was written before it stays
 /// written.
 pub fn execute<O: io::Write, E: io::Write>(
     alloc: Global,
