@@ -1,9 +1,11 @@
 -- One word of 64 bits: reading, setting, clearing and joining its bits.
 use Rattle.std.proofs.Common.{◌≡◌, ◌≢◌, ◌⊎◌, ℕ, ◌/◌, ◌%◌, ◌*◌, ◌^◌, ◌<◌, max, Bool, true, false, ◌||◌, eqb, sym, ap, ◌∙◌, arith, inl, inr, w64, eq-eqb, ne_eqb}
+use native.Mathlib.Nat.{pow-suc}
+use Prim.Native.Nat.{zero, suc}
 use Rattle.std.specs.Prelude.{bit_and, bit_or}
 use Rattle.std.specs.Int.{bit_at, bit_not}
 use Rattle.std.proofs.lemmas.Bool.{cases_eq}
-use Rattle.std.proofs.lemmas.Nat.Bits.{bit_at-zero, bit_at_or, bit_at_set_same, bit_at_set_other, bit_at_clear_same, bit_at_clear_other, shr_and_one}
+use Rattle.std.proofs.lemmas.Nat.Bits.{bit_at-zero, bit_at-suc, bit_at_lowest, bit_at-lt, same_from_bits, bit_at_or, bit_at_set_same, bit_at_set_other, bit_at_clear_same, bit_at_clear_other, shr_and_one}
 use Rattle.clif_number_sets.specs.Words.{has_bit}
 
 -- zero has no bit
@@ -41,5 +43,45 @@ joined word other bit = ap (λ n. eqb n 1) (bit_at_or word other bit) ∙ by (ca
 
     by : (a ≡ 1) ⊎ (a ≢ 1) → (b ≡ 1) ⊎ (b ≢ 1) → eqb (max a b) 1 ≡ (eqb a 1 || eqb b 1)
     by (inl one) _ = eq-eqb (max a b) 1 (omega arith) ∙ sym (ap (λ (t : Bool). t || eqb b 1) (eq-eqb a 1 one))
-    by (inr zero) (inl one) = eq-eqb (max a b) 1 (omega arith) ∙ sym (ap (λ (t : Bool). t || eqb b 1) (ne_eqb a 1 zero) ∙ eq-eqb b 1 one)
-    by (inr zero) (inr none) = ne_eqb (max a b) 1 (omega arith) ∙ sym (ap (λ (t : Bool). t || eqb b 1) (ne_eqb a 1 zero) ∙ ne_eqb b 1 none)
+    by (inr other_bit) (inl one) = eq-eqb (max a b) 1 (omega arith) ∙ sym (ap (λ (t : Bool). t || eqb b 1) (ne_eqb a 1 other_bit) ∙ eq-eqb b 1 one)
+    by (inr other_bit) (inr none) =
+        let at_most : (a < 2) × (b < 2) = (bit_at-lt word bit, bit_at-lt other bit) in
+        ne_eqb (max a b) 1 (omega (arith, at_most.0, at_most.1, other_bit, none)) ∙ sym (ap (λ (t : Bool). t || eqb b 1) (ne_eqb a 1 other_bit) ∙ ne_eqb b 1 none)
+
+pub or_zero : (word : ℕ) → bit_or word 0 ≡ word
+or_zero word = same_from_bits (bit_or word 0) word (λ i. bit_at_or word 0 i ∙ ap (max (bit_at word i)) (bit_at-zero i) ∙ omega arith)
+
+pub zero_or : (word : ℕ) → bit_or 0 word ≡ word
+zero_or word = same_from_bits (bit_or 0 word) word (λ i. bit_at_or 0 word i ∙ ap (λ d. max d (bit_at word i)) (bit_at-zero i) ∙ omega arith)
+
+-- a word with a bit has one after a union
+pub or_some : (word other : ℕ) → 0 < word → 0 < bit_or word other
+or_some word other some = by (cases_eq (bit_or word other) 0)
+  where
+    by : (bit_or word other ≡ 0) ⊎ (bit_or word other ≢ 0) → 0 < bit_or word other
+    by (inl none) =
+        let zero : word ≡ 0 = same_from_bits word 0 (λ i. omega (arith, bit_at_or word other i, ap (λ n. bit_at n i) none, bit_at-zero i)) in
+        omega arith
+    by (inr there) = omega arith
+
+-- words of so many bits that differ do so in one of the bits
+differing : (bits a b : ℕ) → a < 2 ^ bits → b < 2 ^ bits → a ≢ b → (i : ℕ) × (i < bits) × (bit_at a i ≢ bit_at b i)
+differing zero a b p q apart = absurd (apart (omega arith))
+differing (suc bits) a b p q apart =
+    by (cases_eq (a % 2) (b % 2)) (λ high. differing bits (a / 2) (b / 2) (omega (arith, pow-suc 2 bits)) (omega (arith, pow-suc 2 bits)) high)
+  where
+    by : (a % 2 ≡ b % 2) ⊎ (a % 2 ≢ b % 2) → (a / 2 ≢ b / 2 → (i : ℕ) × (i < bits) × (bit_at (a / 2) i ≢ bit_at (b / 2) i))
+        → (i : ℕ) × (i < suc bits) × (bit_at a i ≢ bit_at b i)
+    by (inl low) rest =
+        let found = rest (λ e. apart (omega arith)) in
+        (suc found.0, omega (arith, found.1), λ e. found.2 (sym (bit_at-suc a found.0) ∙ e ∙ bit_at-suc b found.0))
+    by (inr low) _ = (0, omega arith, λ e. low (sym (bit_at_lowest a) ∙ e ∙ bit_at_lowest b))
+
+-- a union that is another word has a new bit
+pub new_bit : (word other union : ℕ) → union ≡ bit_or word other → word ≢ union → word < 2 ^ 64 → union < 2 ^ 64
+    → (i : ℕ) × (i < 64) × (has_bit word i ≡ false) × (has_bit union i ≡ true)
+new_bit word other union is changed fits union_fits =
+    let found = differing 64 word union fits union_fits changed in
+    let i : ℕ = found.0 in
+    let bit : bit_at union i ≡ max (bit_at word i) (bit_at other i) = ap (λ n. bit_at n i) is ∙ bit_at_or word other i in
+    (i, found.1, ne_eqb (bit_at word i) 1 (λ e. found.2 (omega arith)), eq-eqb (bit_at union i) 1 (omega (arith, found.2)))

@@ -4,3 +4,4 @@
 #![tactic(auto)]
 
 pub mod number_set;
+mod words;
