@@ -31,7 +31,7 @@ module _ (first : ℕ) (words : List ℕ) where
       by (inr from) = omega (arith, spread_from k from, fits (k - first))
 
 -- a word that has changed has a new bit
-new_place : (old new : List ℕ) (k other : ℕ) → word_of new k ≡ bit_or (word_of old k) other → word_of old k ≢ word_of new k → word_of old k < 2 ^ 64
+pub new_place : (old new : List ℕ) (k other : ℕ) → word_of new k ≡ bit_or (word_of old k) other → word_of old k ≢ word_of new k → word_of old k < 2 ^ 64
     → word_of new k < 2 ^ 64 → HasNew old new
 new_place old new k other united changed old_fits new_fits =
     let bit = new_bit (word_of old k) other (word_of new k) united changed old_fits new_fits in

@@ -1,3 +1,4 @@
 pub mod Bits
 pub mod Joining
 pub mod Marks
+pub mod Runs

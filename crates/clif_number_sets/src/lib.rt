@@ -4,4 +4,5 @@
 #![tactic(auto)]
 
 pub mod number_set;
+mod word_run;
 mod words;
