@@ -85,3 +85,10 @@ new_bit word other union is changed fits union_fits =
     let i : ℕ = found.0 in
     let bit : bit_at union i ≡ max (bit_at word i) (bit_at other i) = ap (λ n. bit_at n i) is ∙ bit_at_or word other i in
     (i, found.1, ne_eqb (bit_at word i) 1 (λ e. found.2 (omega arith)), eq-eqb (bit_at union i) 1 (omega (arith, found.2)))
+
+-- a word that isn't zero has a bit
+pub some_bit : (word : ℕ) → 0 < word → word < 2 ^ 64 → (i : ℕ) × (i < 64) × (has_bit word i ≡ true)
+some_bit word some fits =
+    let found = differing 64 word 0 fits (omega arith) (λ e. absurd (omega arith)) in
+    let i : ℕ = found.0 in
+    (i, found.1, eq-eqb (bit_at word i) 1 (omega (arith, found.2, bit_at-zero i, bit_at-lt word i)))

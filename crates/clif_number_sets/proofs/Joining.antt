@@ -1,5 +1,5 @@
 -- Words that begin at a number, and the union of words.
-use Rattle.std.proofs.Common.{◌≡◌, ◌≢◌, ◌⊎◌, ℕ, ◌+◌, ◌-◌, ◌/◌, ◌%◌, ◌*◌, ◌^◌, ◌<◌, ◌≤◌, Bool, true, false, List, length, replicate, get_or, set, refl, sym, ap, subst, ◌∙◌, arith, inl, inr, length-set, get_or-set_same, get_or-set_other}
+use Rattle.std.proofs.Common.{◌≡◌, ◌≢◌, ◌⊎◌, ℕ, ◌+◌, ◌-◌, ◌/◌, ◌%◌, ◌*◌, ◌^◌, ◌<◌, ◌≤◌, Bool, true, false, List, [], ◌++◌, length, replicate, get_or, set, refl, sym, ap, subst, ◌∙◌, arith, inl, inr, length-set, get_or-set_same, get_or-set_other}
 use Rattle.std.specs.Prelude.{bit_or}
 use Rattle.std.proofs.lemmas.Nat.{or_lt}
 use Rattle.std.proofs.lemmas.Bool.{cases_eq, cases_lt}
@@ -29,6 +29,10 @@ module _ (first : ℕ) (words : List ℕ) where
       by : (k < first) ⊎ (first ≤ k) → word_of (spread first words) k < 2 ^ 64
       by (inl before) = omega (arith, spread_before k before)
       by (inr from) = omega (arith, spread_from k from, fits (k - first))
+
+pub spread_none : (first : ℕ) (words : List ℕ) → first ≡ 0 → words ≡ [] → spread first words ≡ replicate 0 0
+unfolding spread
+spread_none first words at none = ap (λ f. replicate f 0 ++ words) at ∙ none
 
 -- a word that has changed has a new bit
 pub new_place : (old new : List ℕ) (k other : ℕ) → word_of new k ≡ bit_or (word_of old k) other → word_of old k ≢ word_of new k → word_of old k < 2 ^ 64

@@ -2,3 +2,5 @@ pub mod Bits
 pub mod Joining
 pub mod Marks
 pub mod Runs
+pub mod Spans
+pub mod Unions

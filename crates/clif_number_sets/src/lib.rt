@@ -3,6 +3,7 @@
 //! A [`NumberSet`](number_set::NumberSet) has a bit for each number.
 #![tactic(auto)]
 
+pub mod number_row;
 pub mod number_set;
 mod word_run;
 mod words;

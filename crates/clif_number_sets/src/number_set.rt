@@ -1,8 +1,10 @@
 //! Sets that have a bit for each number below their size.
-ghost use Rattle.std.specs.Prelude.{◌≡◌, ◌<◌, false, true, length, replicate, slice_set, IfOk, IsOkUnless};
+ghost use Rattle.std.specs.Prelude.{◌≡◌, ◌<◌, ◌||◌, false, true, length, replicate, slice_set, IfOk, IsOkUnless};
 ghost use Rattle.clif_number_sets.specs.Sets.{is_in, IsSet};
 ghost use Rattle.clif_number_sets.specs.Words.{words_for};
 
+use crate::number_row::NumberRow;
+use crate::words::join_words;
 use clif_types::BuildError;
 use std::alloc::Global;
 use std::marker::Model;
@@ -10,8 +12,8 @@ use std::marker::Model;
 /// A set of numbers below its size: number `n` is bit `n % 64` of word `n / 64`.
 #[derive(Drop)]
 pub struct NumberSet {
-    words: Vec<u64>,
-    size: usize,
+    pub(crate) words: Vec<u64>,
+    pub(crate) size: usize,
 }
 
 impl Model for NumberSet {
@@ -74,5 +76,14 @@ impl NumberSet {
         ensures { IsSet (length self.old) (λ place. false) self.new }
     {
         self.words.as_mut_slice().fill(0);
+    }
+
+    /// Adds the members of a row. It takes time for the row's words alone.
+    pub fn add_all(&mut self, other: &NumberRow)
+        requires { length self.old ≡ length other.now }
+        ensures { IsSet (length self.old) (λ place. is_in other.now place || is_in self.old place) self.new }
+    {
+        let row = &other.run;
+        join_words(self.words.as_mut_slice(), row.first, row.words.as_slice());
     }
 }

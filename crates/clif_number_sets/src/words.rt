@@ -1,6 +1,6 @@
 //! Slices of words: which of them have a bit, and the union of two.
-ghost use Rattle.std.specs.Prelude.{◌≡◌, ◌+◌, ◌<◌, ◌≤◌, false, length, IsTrue};
-ghost use Rattle.clif_number_sets.specs.Words.{spread, AreUnited, HasNew, IsFirstUsed, IsUsedEnd};
+ghost use Rattle.std.specs.Prelude.{◌≡◌, ℕ, ◌+◌, ◌^◌, ◌<◌, ◌≤◌, false, length, IsTrue};
+ghost use Rattle.clif_number_sets.specs.Words.{spread, word_of, AreUnited, HasNew, IsFirstUsed, IsUsedEnd};
 
 /// The number of the first word that has a bit.
 pub(crate) fn first_used(words: &[u64]) -> Option<usize>
@@ -44,3 +44,8 @@ pub(crate) fn join_words(target: &mut [u64], start: usize, source: &[u64]) -> bo
     }
     grown
 }
+
+/// Each word has no more than 64 bits.
+pub(crate) fn law_fits(words: &[u64])
+    ensures { (number : ℕ) → word_of words.now number < 2 ^ 64 }
+{}
