@@ -1,11 +1,12 @@
 -- One word of 64 bits: reading, setting, clearing and joining its bits.
-use Rattle.std.proofs.Common.{◌≡◌, ◌≢◌, ◌⊎◌, ℕ, ◌/◌, ◌%◌, ◌*◌, ◌^◌, ◌<◌, max, Bool, true, false, ◌||◌, eqb, sym, ap, ◌∙◌, arith, inl, inr, w64, eq-eqb, ne_eqb}
+use Rattle.std.proofs.Common.{◌≡◌, ◌≢◌, ◌⊎◌, ℕ, ◌+◌, ◌/◌, ◌%◌, ◌*◌, ◌^◌, ◌<◌, ◌≤◌, max, Bool, true, false, ◌||◌, eqb, sym, ap, ◌∙◌, arith, inl, inr, w64, eq-eqb, ne_eqb}
 use native.Mathlib.Nat.{pow-suc}
 use Prim.Native.Nat.{zero, suc}
 use Rattle.std.specs.Prelude.{bit_and, bit_or}
-use Rattle.std.specs.Int.{bit_at, bit_not}
+use Rattle.std.specs.Int.{bit_at, bit_not, trailing_zeros}
 use Rattle.std.proofs.lemmas.Bool.{cases_eq}
-use Rattle.std.proofs.lemmas.Nat.Bits.{bit_at-zero, bit_at-suc, bit_at_lowest, bit_at-lt, same_from_bits, bit_at_or, bit_at_set_same, bit_at_set_other, bit_at_clear_same, bit_at_clear_other, shr_and_one}
+use Rattle.std.proofs.lemmas.Nat.{shr-shr}
+use Rattle.std.proofs.lemmas.Nat.Bits.{bit_at_above, bit_at-trailing_zeros, bit_at-zero, bit_at-suc, bit_at_lowest, bit_at-lt, same_from_bits, bit_at_or, bit_at_set_same, bit_at_set_other, bit_at_clear_same, bit_at_clear_other, shr_and_one}
 use Rattle.clif_number_sets.specs.Words.{has_bit}
 
 -- zero has no bit
@@ -92,3 +93,18 @@ some_bit word some fits =
     let found = differing 64 word 0 fits (omega arith) (λ e. absurd (omega arith)) in
     let i : ℕ = found.0 in
     (i, found.1, eq-eqb (bit_at word i) 1 (omega (arith, found.2, bit_at-zero i, bit_at-lt word i)))
+
+-- a word has no bit above its 64
+pub none_above : (word bit : ℕ) → word < 2 ^ 64 → 64 ≤ bit → has_bit word bit ≡ false
+none_above word bit fits above = ap (λ n. eqb n 1) (bit_at_above word 64 bit fits above)
+
+-- `word >> by`
+pub shifted : (word by bit : ℕ) → has_bit (word / 2 ^ by) bit ≡ has_bit word (by + bit)
+shifted word by bit = ap (λ n. eqb (n % 2) 1) (shr-shr word by bit)
+
+-- `trailing_zeros` is the place of the lowest bit
+pub lowest : (word : ℕ) → 0 < word → word < 2 ^ 64
+    → (trailing_zeros w64 word < 64) × (has_bit word (trailing_zeros w64 word) ≡ true) × ((bit : ℕ) → bit < trailing_zeros w64 word → has_bit word bit ≡ false)
+lowest word some fits =
+    let found = bit_at-trailing_zeros w64 word some fits in
+    (found.0, ap (λ n. eqb n 1) found.1, λ bit below. ap (λ n. eqb n 1) (found.2 bit below))

@@ -1,11 +1,11 @@
 -- The union of two runs of words.
-use Rattle.std.proofs.Common.{◌≡◌, ◌≢◌, ◌⊎◌, ℕ, ◌+◌, ◌-◌, ◌/◌, ◌%◌, ◌*◌, ◌^◌, ◌<◌, ◌≤◌, max, min, Bool, true, false, ◌||◌, List, Option, Some, None, length, replicate, take, drop, get_or, refl, sym, ap, subst, ◌∙◌, arith, inl, inr, length-take, length-drop}
+use Rattle.std.proofs.Common.{◌≡◌, ◌≢◌, ◌⊎◌, ℕ, ◌+◌, ◌-◌, ◌/◌, ◌%◌, ◌*◌, ◌^◌, ◌<◌, ◌≤◌, max, min, Bool, ◌||◌, List, Some, length, replicate, take, drop, sym, ap, subst, ◌∙◌, arith, inl, inr, length-take, length-drop}
 use Rattle.std.specs.Prelude.{bit_or, Vec}
 use Rattle.std.specs.Vec.{with_items}
-use Rattle.std.proofs.lemmas.Bool.{cases_eq, cases_lt}
-use Rattle.std.proofs.lemmas.Nat.{or_lt, le_or_l, le_or_r}
+use Rattle.std.proofs.lemmas.Bool.{cases_lt}
+use Rattle.std.proofs.lemmas.Nat.{le_or_l, le_or_r}
 use Rattle.std.proofs.lemmas.List.{with_items_is, length-replicate, get_or-replicate, get_or_past, get_or-take, get_or-drop}
-use Rattle.clif_number_sets.specs.Words.{has_bit, mark_in, spread, word_of, AreUnited, HasNew, IsFirstUsed, IsTrimmed, IsUsedEnd}
+use Rattle.clif_number_sets.specs.Words.{has_bit, spread, word_of, AreUnited, HasNew, IsFirstUsed, IsTrimmed, IsUsedEnd}
 use Rattle.clif_number_sets.proofs.Bits.{joined as joined_bit, or_zero, zero_or}
 use Rattle.clif_number_sets.proofs.Joining.{new_place, spread_at, spread_before, spread_behind, spread_from}
 

@@ -1,6 +1,6 @@
 -- The words from the one of the least member to the one of the greatest.
-use Rattle.std.proofs.Common.{◌≡◌, ◌⊎◌, ℕ, ◌+◌, ◌-◌, ◌*◌, ◌/◌, ◌%◌, ◌^◌, ◌<◌, ◌≤◌, Bool, true, false, List, length, refl, sym, ap, subst, ◌∙◌, arith, inl, inr}
-use Rattle.std.proofs.lemmas.Bool.{cases_lt, cases_eq}
+use Rattle.std.proofs.Common.{◌≡◌, ◌⊎◌, ℕ, ◌+◌, ◌-◌, ◌*◌, ◌/◌, ◌%◌, ◌^◌, ◌<◌, ◌≤◌, Bool, true, false, List, length, sym, ap, ◌∙◌, arith, inl, inr}
+use Rattle.std.proofs.lemmas.Bool.{cases_lt}
 use Rattle.clif_number_sets.specs.Sets.{is_in, IsFirst, IsLast, SpansWords}
 use Rattle.clif_number_sets.specs.Words.{has_bit, mark_in, marks_of, spread, word_of, IsTrimmed, NoneFrom}
 use Rattle.clif_number_sets.proofs.Bits.{none_set, some_bit}

@@ -1,8 +1,7 @@
 -- The union of words as the union of sets, and how many members it has.
-use Rattle.std.proofs.Common.{◌≡◌, ◌⊎◌, ℕ, ◌+◌, ◌/◌, ◌%◌, ◌<◌, ◌≤◌, Bool, true, false, ◌||◌, List, [], ◌∷◌, length, refl, sym, ap, subst, ◌∙◌, arith, inl, inr, cond}
+use Rattle.std.proofs.Common.{◌≡◌, ℕ, ◌+◌, ◌/◌, ◌%◌, ◌<◌, ◌≤◌, Bool, true, false, ◌||◌, List, [], ◌∷◌, length, refl, sym, ap, subst, ◌∙◌, arith, cond}
 use Prim.Native.Nat.{zero, suc}
 use Rattle.std.specs.Prelude.{IfOk, OnErr, OnOk, IsOk, IsTrue, Result, Ok, Err}
-use Rattle.std.proofs.lemmas.Bool.{cases_lt}
 use Rattle.std.proofs.lemmas.List.Sums.{sum_by-cons}
 use Rattle.clif_number_sets.specs.Sets.{is_in, member_count, Grows, IsSet, IsWithin}
 use Rattle.clif_number_sets.specs.Words.{has_bit, mark_in, marks_of, word_of, AreUnited, HasNew, NoneFrom}

@@ -54,3 +54,9 @@ pub record IsUsedEnd (words : List ℕ) (end : ℕ) : Type 0 where
 pub record IsTrimmed (words : List ℕ) : Type 0 where
   pub first : 0 < length words → 0 < word_of words 0
   pub last : 0 < length words → 0 < word_of words (length words - 1)
+
+-- the least place at or above one that is marked, or none
+abbrev pub IsNextMark : List ℕ → ℕ → Option ℕ → Type 0
+IsNextMark words place None = (other : ℕ) → place ≤ other → mark_in words other ≡ false
+IsNextMark words place (Some found) = (place ≤ found) × (mark_in words found ≡ true)
+    × ((other : ℕ) → place ≤ other → other < found → mark_in words other ≡ false)

@@ -1,10 +1,10 @@
 //! Sets that have a bit for each number below their size.
 ghost use Rattle.std.specs.Prelude.{◌≡◌, ◌<◌, ◌||◌, false, true, length, replicate, slice_set, IfOk, IsOkUnless};
-ghost use Rattle.clif_number_sets.specs.Sets.{is_in, IsSet};
+ghost use Rattle.clif_number_sets.specs.Sets.{is_in, IsNext, IsSet};
 ghost use Rattle.clif_number_sets.specs.Words.{words_for};
 
 use crate::number_row::NumberRow;
-use crate::words::join_words;
+use crate::words::{join_words, next_mark};
 use clif_types::BuildError;
 use std::alloc::Global;
 use std::marker::Model;
@@ -53,6 +53,17 @@ impl NumberSet {
         ensures { result ≡ is_in self.now place }
     {
         self.words[place / 64] >> (place % 64) & 1 == 1
+    }
+
+    /// The least member at or above a number. It takes time for the words from there to the one found, so a walk over
+    /// the members takes time for the words and the members.
+    pub fn next_from(&self, place: usize) -> Option<usize>
+        ensures { IsNext self.now place result }
+    {
+        if place >= self.size {
+            return None;
+        }
+        next_mark(self.words.as_slice(), place)
     }
 
     /// Makes a number a member.

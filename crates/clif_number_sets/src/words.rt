@@ -1,6 +1,6 @@
 //! Slices of words: which of them have a bit, and the union of two.
-ghost use Rattle.std.specs.Prelude.{◌≡◌, ℕ, ◌+◌, ◌^◌, ◌<◌, ◌≤◌, false, length, IsTrue};
-ghost use Rattle.clif_number_sets.specs.Words.{spread, word_of, AreUnited, HasNew, IsFirstUsed, IsUsedEnd};
+ghost use Rattle.std.specs.Prelude.{◌≡◌, ℕ, ◌+◌, ◌*◌, ◌^◌, ◌<◌, ◌≤◌, false, length, IsTrue};
+ghost use Rattle.clif_number_sets.specs.Words.{spread, word_of, AreUnited, HasNew, IsFirstUsed, IsNextMark, IsUsedEnd};
 
 /// The number of the first word that has a bit.
 pub(crate) fn first_used(words: &[u64]) -> Option<usize>
@@ -24,6 +24,32 @@ pub(crate) fn used_end(words: &[u64]) -> usize
         }
     }
     0
+}
+
+/// The least marked place at or above `place`. It takes time for the words from there to the one found.
+pub(crate) fn next_mark(words: &[u64], place: usize) -> Option<usize>
+    requires { 64 * length words.now ≤ 2 ^ 64 }
+    ensures { IsNextMark words.now place result }
+{
+    let number = place / 64;
+    if number >= words.len() {
+        return None;
+    }
+    let rest = words[number] >> (place % 64);
+    if rest != 0 {
+        return Some(place + rest.trailing_zeros() as usize);
+    }
+    first_mark(words, number + 1)
+}
+
+// The least marked place in the words from a number on.
+fn first_mark(words: &[u64], start: usize) -> Option<usize>
+    requires reach { 64 * length words.now ≤ 2 ^ 64 }
+    requires inside { start ≤ length words.now }
+    ensures { IsNextMark words.now (64 * start) result }
+{
+    let next = start + first_used(&words[start..])?;
+    Some(64 * next + words[next].trailing_zeros() as usize)
 }
 
 /// Adds the bits of the source to the words of the target from `start` on, and tells whether any of them is new.

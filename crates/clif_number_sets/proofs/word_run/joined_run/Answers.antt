@@ -1,4 +1,4 @@
-use Rattle.std.proofs.Common.{◌≡◌, ℕ, ◌-◌, length, replicate, rules, arith}
+use Rattle.std.proofs.Common.{◌≡◌, ℕ, ◌-◌, replicate, rules, arith}
 use Rattle.clif_number_sets.proofs.Runs.{both_joined}
 use Rattle.clif_number_sets.proofs.word_run.joined_run.Goals as goal
 

@@ -1,5 +1,4 @@
-use Rattle.std.proofs.Common.{◌≡◌, ◌+◌, ◌<◌, ℕ, Bool, true, List, length, get_or, set, subst, sym, refl, arith, bit_or}
-use Rattle.clif_number_sets.specs.Words.{HasNew}
+use Rattle.std.proofs.Common.{◌+◌, ℕ, true, get_or, set, subst, refl, arith, bit_or}
 use Rattle.clif_number_sets.proofs.Joining.{Joined, joined_all, joined_as, joined_grown, joined_kept, joined_none, joined_one}
 use Rattle.clif_number_sets.proofs.words.join_words.Goals as goal
 use Rattle.clif_number_sets.proofs.words.join_words.Goals.{then-joined-target, else-joined-target}

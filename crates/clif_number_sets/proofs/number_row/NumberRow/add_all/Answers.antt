@@ -1,6 +1,5 @@
-use Rattle.std.proofs.Common.{◌≡◌, ◌∙◌, ◌≤◌, ℕ, List, length, sym, ap, subst, arith}
-use Rattle.clif_number_sets.specs.Words.{spread, marks_of, words_for, AreUnited, HasNew, NoneFrom}
-use Rattle.std.specs.Prelude.{OnErr, OnOk}
+use Rattle.std.proofs.Common.{◌≡◌, ◌∙◌, length, sym, ap, subst, arith}
+use Rattle.clif_number_sets.specs.Words.{spread, marks_of, words_for, NoneFrom}
 use Rattle.clif_number_sets.proofs.Marks.{length-marks}
 use Rattle.clif_number_sets.proofs.Unions.{grown_after, known_after, none_after, union_after}
 use Rattle.clif_number_sets.proofs.number_row.NumberRow.add_all.Goals as goal

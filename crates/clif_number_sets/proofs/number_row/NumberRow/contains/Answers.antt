@@ -1,4 +1,4 @@
-use Rattle.std.proofs.Common.{◌≡◌, ◌<◌, ◌/◌, ◌%◌, ◌∙◌, length, sym, ap, arith}
+use Rattle.std.proofs.Common.{◌<◌, ◌%◌, ◌∙◌, length, sym, ap, arith}
 use Rattle.clif_number_sets.specs.Sets.{is_in}
 use Rattle.clif_number_sets.specs.Words.{has_bit, spread}
 use Rattle.clif_number_sets.proofs.Bits.{read}

@@ -1,4 +1,4 @@
-use Rattle.std.proofs.Common.{◌≡◌, ◌∙◌, ◌++◌, [], List, ℕ, replicate, length, subst, sym, ap, arith}
+use Rattle.std.proofs.Common.{◌≡◌, ◌∙◌, replicate, length, subst, sym, ap, arith}
 use Rattle.clif_number_sets.specs.Words.{marks_of, spread, NoneFrom}
 use Rattle.clif_number_sets.proofs.Marks.{marks-zeros, none-zeros}
 use Rattle.clif_number_sets.proofs.Joining.{spread_none}

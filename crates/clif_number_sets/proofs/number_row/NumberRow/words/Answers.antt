@@ -1,4 +1,4 @@
-use Rattle.std.proofs.Common.{◌≡◌, ◌<◌, ◌^◌, ℕ, length, subst, sym, arith}
+use Rattle.std.proofs.Common.{◌≡◌, ◌<◌, ◌^◌, ℕ, length, subst, arith}
 use Rattle.clif_number_sets.specs.Sets.{SpansWords}
 use Rattle.clif_number_sets.specs.Words.{word_of}
 use Rattle.clif_number_sets.proofs.Spans.{spans}

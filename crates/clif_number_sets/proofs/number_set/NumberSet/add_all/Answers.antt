@@ -1,7 +1,7 @@
-use Rattle.std.proofs.Common.{◌≡◌, ◌∙◌, ◌≤◌, ℕ, List, length, sym, ap, subst, arith}
+use Rattle.std.proofs.Common.{◌≡◌, ◌∙◌, length, sym, ap, subst, arith}
 use Rattle.std.specs.Vec.{with_items}
 use Rattle.std.proofs.lemmas.List.{with_items_is}
-use Rattle.clif_number_sets.specs.Words.{spread, marks_of, words_for, AreUnited, NoneFrom}
+use Rattle.clif_number_sets.specs.Words.{spread, words_for, AreUnited, NoneFrom}
 use Rattle.clif_number_sets.proofs.Marks.{length-marks}
 use Rattle.clif_number_sets.proofs.Unions.{none_united, union_marks}
 use Rattle.clif_number_sets.proofs.number_set.NumberSet.add_all.Goals as goal

@@ -1,10 +1,10 @@
-use Rattle.std.proofs.Common.{◌≡◌, ◌∙◌, ◌<◌, ◌+◌, ◌-◌, ◌≤◌, ◌⊎◌, inl, inr, ℕ, List, Some, length, take, drop, ap, sym, subst, arith}
+use Rattle.std.proofs.Common.{◌∙◌, ◌<◌, ◌+◌, ◌-◌, ◌⊎◌, inl, inr, ℕ, List, length, take, drop, ap, sym, subst, arith}
 use Rattle.std.specs.Prelude.{bit_or, OnErr, Result, Ok, Err}
 use Rattle.std.specs.Vec.{with_items}
 use Rattle.std.proofs.lemmas.List.{with_items_is}
-use Rattle.clif_number_sets.specs.Words.{spread, word_of, AreUnited, HasNew, IsTrimmed}
+use Rattle.clif_number_sets.specs.Words.{spread, word_of, AreUnited, HasNew}
 use Rattle.clif_number_sets.proofs.Bits.{or_zero}
-use Rattle.clif_number_sets.proofs.Runs.{fresh_grown, inside_joined, new_inside, new_united, united_grown, used_run, AreJoinedInside, IsUsedRun}
+use Rattle.clif_number_sets.proofs.Runs.{fresh_grown, inside_joined, new_inside, new_united, united_grown, used_run, IsUsedRun}
 use Rattle.clif_number_sets.proofs.word_run.WordRun.add.Goals as goal
 use Rattle.clif_number_sets.proofs.word_run.WordRun.add.Goals.{else-first-low-via-then-first-low+else-low-used, else-first-low-via-else-first-low}
 

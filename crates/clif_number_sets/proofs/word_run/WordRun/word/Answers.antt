@@ -1,4 +1,4 @@
-use Rattle.std.proofs.Common.{◌≡◌, ◌∙◌, get_or, sym, ap, arith}
+use Rattle.std.proofs.Common.{◌∙◌, get_or, sym, ap, arith}
 use Rattle.std.specs.Option.{unwrap_or}
 use Rattle.clif_number_sets.proofs.Joining.{spread_before, spread_from}
 use Rattle.clif_number_sets.proofs.word_run.WordRun.word.Goals as goal
