@@ -20,8 +20,8 @@ module _ (first : ℕ) (words : List ℕ) where
   pub spread_at : (k : ℕ) → word_of (spread first words) (first + k) ≡ word_of words k
   spread_at k = let e : first + k - first ≡ k = omega arith in spread_from (first + k) (omega arith) ∙ ap (word_of words) e
 
-  pub spread_behind : (k : ℕ) → first + length words ≤ k → word_of (spread first words) k ≡ 0
-  spread_behind k behind = spread_from k (omega arith) ∙ get_or_past words (k - first) 0 (omega arith)
+  pub spread_after : (k : ℕ) → first + length words ≤ k → word_of (spread first words) k ≡ 0
+  spread_after k after = spread_from k (omega arith) ∙ get_or_past words (k - first) 0 (omega arith)
 
   pub spread_fits : ((k : ℕ) → word_of words k < 2 ^ 64) → (k : ℕ) → word_of (spread first words) k < 2 ^ 64
   spread_fits fits k = by (cases_lt k first)
@@ -118,7 +118,7 @@ module _ (old source : List ℕ) (start : ℕ) where
     where
       by : (k < start + number) ⊎ (start + number ≤ k) → word_of new k ≡ bit_or (word_of old k) (word_of (spread start source) k)
       by (inl before) = done.done k before
-      by (inr from) = done.rest k from ∙ sym (ap (bit_or (word_of old k)) (spread_behind start source k (omega arith)) ∙ or_zero (word_of old k))
+      by (inr from) = done.rest k from ∙ sym (ap (bit_or (word_of old k)) (spread_after start source k (omega arith)) ∙ or_zero (word_of old k))
 
   pub joined_grown : (number : ℕ) (new : List ℕ) → length source ≤ number → ((k : ℕ) → word_of source k < 2 ^ 64) → Joined old source start number new true → HasNew old new
   joined_grown number new past fits done =

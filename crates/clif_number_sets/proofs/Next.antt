@@ -65,12 +65,12 @@ module _ (words : List ℕ) (place : ℕ) where
     where
       by : (other : ℕ) → place ≤ other → (other < 64 * (place / 64 + 1)) ⊎ (64 * (place / 64 + 1) ≤ other) → mark_in words other ≡ false
       by other above (inl inside) = none_rest none other above inside
-      by other above (inr behind) = next other behind
+      by other above (inr after) = next other after
   next_after none (Some found) next = (omega (arith, next.0), next.1, λ other above below. by other above below (cases_lt other (64 * (place / 64 + 1))))
     where
       by : (other : ℕ) → place ≤ other → other < found → (other < 64 * (place / 64 + 1)) ⊎ (64 * (place / 64 + 1) ≤ other) → mark_in words other ≡ false
       by other above below (inl inside) = none_rest none other above inside
-      by other above below (inr behind) = next.2 other behind below
+      by other above below (inr after) = next.2 other after below
 
 -- the first word with a bit, from a number on
 module _ (words : List ℕ) (start : ℕ) where

@@ -7,7 +7,7 @@ use Rattle.std.proofs.lemmas.Nat.{le_or_l, le_or_r}
 use Rattle.std.proofs.lemmas.List.{with_items_is, length-replicate, get_or-replicate, get_or_past, get_or-take, get_or-drop}
 use Rattle.clif_number_sets.specs.Words.{has_bit, spread, word_of, AreUnited, HasNew, IsFirstUsed, IsTrimmed, IsUsedEnd}
 use Rattle.clif_number_sets.proofs.Bits.{joined as joined_bit, or_zero, zero_or}
-use Rattle.clif_number_sets.proofs.Joining.{new_place, spread_at, spread_before, spread_behind, spread_from}
+use Rattle.clif_number_sets.proofs.Joining.{new_place, spread_at, spread_before, spread_after, spread_from}
 
 -- the words that have bits, of others
 pub record IsUsedRun (others : List ℕ) (low end : ℕ) (used : List ℕ) : Type 0 where
@@ -31,7 +31,7 @@ used_run others low end first last = record {
 
     order_by : (low < end) ⊎ (end ≤ low) → low < end
     order_by (inl less) = less
-    order_by (inr more) = let none = last.behind low more in omega (arith, none, first.1)
+    order_by (inr more) = let none = last.after low more in omega (arith, none, first.1)
 
     order : low < end
     order = order_by (cases_lt low end)
@@ -55,7 +55,7 @@ used_run others low end first last = record {
     by k (inr from) (inl below) =
         let e : low + (k - low) ≡ k = omega arith in
         spread_from low used k from ∙ at (k - low) (omega arith) ∙ ap (word_of others) e
-    by k (inr from) (inr behind) = spread_behind low used k (omega (arith, count, order)) ∙ sym (last.behind k behind)
+    by k (inr from) (inr after) = spread_after low used k (omega (arith, count, order)) ∙ sym (last.after k after)
 
 pub word-zeros : (count k : ℕ) → word_of (replicate count 0) k ≡ 0
 word-zeros count k = by (cases_lt k count)
@@ -70,9 +70,9 @@ spread_shift start first words k later from = by (cases_lt k first)
   where
     by : (k < first) ⊎ (first ≤ k) → word_of (spread (first - start) words) (k - start) ≡ word_of (spread first words) k
     by (inl before) = spread_before (first - start) words (k - start) (omega arith) ∙ sym (spread_before first words k before)
-    by (inr behind) =
+    by (inr after) =
         let e : k - start - (first - start) ≡ k - first = omega arith in
-        spread_from (first - start) words (k - start) (omega arith) ∙ ap (word_of words) e ∙ sym (spread_from first words k behind)
+        spread_from (first - start) words (k - start) (omega arith) ∙ ap (word_of words) e ∙ sym (spread_from first words k after)
 
 -- others that are word for word the same
 pub united_as : (old others others' new : List ℕ) → ((k : ℕ) → word_of others k ≡ word_of others' k) → AreUnited old others new → AreUnited old others' new
@@ -228,9 +228,9 @@ pub outside : (first low end : ℕ) (words used others : List ℕ) → IsUsedRun
 outside first low end words used others run (inl before) =
     let e : low + 0 ≡ low = omega arith in
     (low, spread_before first words low before, omega (arith, run.same low, ap (word_of (spread low used)) e, spread_at low used 0, run.trimmed.first run.some))
-outside first low end words used others run (inr behind) =
+outside first low end words used others run (inr after) =
     let k : ℕ = low + (length used - 1) in
-    (k, spread_behind first words k (omega (arith, run.some)), omega (arith, run.same k, spread_at low used (length used - 1), run.trimmed.last run.some))
+    (k, spread_after first words k (omega (arith, run.some)), omega (arith, run.same k, spread_at low used (length used - 1), run.trimmed.last run.some))
 
 -- so they have a bit that the run has not
 pub fresh_outside : (old others : List ℕ) (k : ℕ) → word_of old k ≡ 0 → 0 < word_of others k → word_of others k < 2 ^ 64 → HasNew old others
@@ -257,7 +257,7 @@ spread_alike first from words begins k = by (cases_lt 0 (length words))
       where
         no_words : (f : ℕ) → (k < f) ⊎ (f ≤ k) → word_of (spread f words) k ≡ 0
         no_words f (inl before) = spread_before f words k before
-        no_words f (inr behind) = spread_behind f words k (omega arith)
+        no_words f (inr after) = spread_after f words k (omega arith)
 
 -- the union with words that a run doesn't cover
 module _ (first from low end : ℕ) (words used others : List ℕ) (run : IsUsedRun others low end used) (begins : 0 < length words → from ≡ first) where

@@ -4,7 +4,7 @@ use Rattle.std.proofs.lemmas.Bool.{cases_lt}
 use Rattle.clif_number_sets.specs.Sets.{is_in, IsFirst, IsLast, SpansWords}
 use Rattle.clif_number_sets.specs.Words.{has_bit, mark_in, marks_of, spread, word_of, IsTrimmed, NoneFrom}
 use Rattle.clif_number_sets.proofs.Bits.{none_set, some_bit}
-use Rattle.clif_number_sets.proofs.Joining.{spread_at, spread_before, spread_behind}
+use Rattle.clif_number_sets.proofs.Joining.{spread_at, spread_before, spread_after}
 use Rattle.clif_number_sets.proofs.Marks.{in-marks-all}
 
 -- a word that isn't zero has a member
@@ -41,13 +41,13 @@ module _ (size first : ℕ) (words : List ℕ) (trimmed : IsTrimmed words) (none
 
       below : (place / 64 < first + length words) ⊎ (first + length words ≤ place / 64) → place / 64 < first + length words
       below (inl at) = at
-      below (inr behind) = absurd (in_word all place (spread_behind first words (place / 64) behind) there)
+      below (inr after) = absurd (in_word all place (spread_after first words (place / 64) after) there)
 
   -- a member in the word of such a number
   member : (k : ℕ) → 0 < word_of words k → (place : ℕ) × (place / 64 ≡ first + k) × (mark_in all place ≡ true)
   member k some = member_of all (first + k) (omega (arith, spread_at first words k, some)) (omega (arith, spread_at first words k, fits k))
 
-  -- the least member is not behind a member, and the greatest not before one
+  -- the least member is not after a member, and the greatest not before one
   least : (place other : ℕ) → IsFirst set place → mark_in all other ≡ true → place ≤ other
   least place other at there = by (cases_lt other place)
     where

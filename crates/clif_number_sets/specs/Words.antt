@@ -44,11 +44,11 @@ abbrev pub IsFirstUsed : List ℕ → Option ℕ → Type 0
 IsFirstUsed words None = (number : ℕ) → word_of words number ≡ 0
 IsFirstUsed words (Some first) = (first < length words) × (0 < word_of words first) × ((number : ℕ) → number < first → word_of words number ≡ 0)
 
--- the number behind the last word that has a bit
+-- the number after the last word that has a bit
 pub record IsUsedEnd (words : List ℕ) (end : ℕ) : Type 0 where
   pub inside : end ≤ length words
   pub last : 0 < end → 0 < word_of words (end - 1)
-  pub behind : (number : ℕ) → end ≤ number → word_of words number ≡ 0
+  pub after : (number : ℕ) → end ≤ number → word_of words number ≡ 0
 
 -- the first and the last word have a bit
 pub record IsTrimmed (words : List ℕ) : Type 0 where

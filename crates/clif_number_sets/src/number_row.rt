@@ -13,8 +13,9 @@ use std::marker::Model;
 /// greatest.
 #[derive(Drop)]
 pub struct NumberRow {
+    // The words that have members, from the first of them to the last.
     pub(crate) run: WordRun,
-    pub(crate) size: usize,
+    size: usize,
 }
 
 impl Model for NumberRow {

@@ -12,8 +12,9 @@ use std::marker::Model;
 /// A set of numbers below its size: number `n` is bit `n % 64` of word `n / 64`.
 #[derive(Drop)]
 pub struct NumberSet {
+    // As many as the size needs. No bit is set from the size on.
     pub(crate) words: Vec<u64>,
-    pub(crate) size: usize,
+    size: usize,
 }
 
 impl Model for NumberSet {

@@ -1,4 +1,4 @@
-//! Words from a number on, without the zeros before the first and behind the last word that has a bit.
+//! Words from a number on, without the zeros before the first and after the last word that has a bit.
 ghost use Rattle.std.specs.Prelude.{◌≡◌, ◌+◌, ◌^◌, ◌<◌, ◌≤◌, ℕ, [], max, false, length, IsTrue, IfOk, OnOk, OnErr, IsOk, IsOkUnless};
 ghost use Rattle.clif_number_sets.specs.Words.{spread, word_of, AreUnited, HasNew, IsTrimmed};
 
@@ -6,7 +6,7 @@ use crate::words::{first_used, join_words, used_end};
 use clif_types::BuildError;
 use std::alloc::Global;
 
-/// Words from a number on. Each word before them and behind them is zero.
+/// Words from a number on. Each word before them and after them is zero.
 #[derive(Drop)]
 pub(crate) struct WordRun {
     /// The words, of which the first and the last have a bit.

@@ -14,7 +14,7 @@ pub(crate) fn first_used(words: &[u64]) -> Option<usize>
     None
 }
 
-/// The number behind the last word that has a bit, or zero.
+/// The number after the last word that has a bit, or zero.
 pub(crate) fn used_end(words: &[u64]) -> usize
     ensures { IsUsedEnd words.now result }
 {
