@@ -21,6 +21,11 @@ use std::alloc::Global;
 use std::num::NonZeroU8;
 
 /// The words that are left, and what names in them stand for.
+///
+/// # Errors
+///
+/// Each call that takes words says what was expected, where the line has something else there, or nothing; or that memory
+/// was refused.
 #[derive(Drop)]
 pub struct Args<'w, 'a> {
     words: Cursor<'w, 'a>,
@@ -40,6 +45,7 @@ impl<'w, 'a> Args<'w, 'a> {
     ghost use Rattle.clif_arguments.specs.Header.{IsSignature};
     ghost use Rattle.clif_arguments.specs.Taking.{TakesAnswer, TakesAnswers, TakesWord, TakesWords, names_in, numbers_in};
 
+    /// All words of a line after its answers' names, none of them taken.
     pub fn new(words: &'w [&'a str], scope: &'w Scope<'a>) -> Args<'w, 'a>
         ensures words { words_left result.words ≡ texts words.now }
         ensures scope { result.scope ≡ scope.entry }

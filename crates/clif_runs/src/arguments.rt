@@ -72,8 +72,13 @@ impl<T: Drop> From<AllocFailed<T>> for ArgumentError<'_> {
 }
 
 /// The bits of the arguments that words give to parameters: one word for each, a number that fits its type with or
-/// without a sign, decimal, or hexadecimal after `0x`, and `-` before it if it is negative. For a float or a vector it is
-/// the bits.
+/// without a sign, decimal, or hexadecimal after `0x`, and `-` before it if it is negative. For a float or a vector
+/// it is the bits.
+///
+/// # Errors
+///
+/// An [`ArgumentError`]: there are too many words or too few, one isn't a number of its parameter's type, or memory
+/// is refused.
 pub fn arguments_of<'a>(
     alloc: Global,
     params: &[AbiParam],

@@ -679,8 +679,12 @@ impl fmt::Display for CallText<'_> {
 
 /// A script of these calls, for a function with this name and signature on this target. It has no line `answer`.
 ///
-/// The name is written as it is. So a name that is a text is read back only if it isn't empty and has no blank
-/// (a space, a comma, a tab, a carriage return or a form feed), no `(`, `)`, `=` or `#`, and no end of a line.
+/// The name is written as it is. So a name that is a text is read back only if it isn't empty and has no blank (a
+/// space, a comma, a tab, a carriage return or a form feed), no `(`, `)`, `=` or `#`, and no end of a line.
+///
+/// # Errors
+///
+/// `AllocError`, where memory is refused.
 pub fn write(
     alloc: Global,
     name: &UserFuncName,

@@ -26,10 +26,12 @@ fn byte_of(high: u8, low: u8) -> Option<u8>
     Some(digit_of(high)? * 16 + digit_of(low)?)
 }
 
-/// The bytes of a constant, the lowest first: `0x`, and two hexadecimal digits a byte, from the last byte to the first.
-/// There is one byte at least, and letters are in lower case.
+/// The bytes of a constant, the lowest first: `0x`, and two hexadecimal digits a byte, from the last byte to the
+/// first. There is one byte at least, and letters are in lower case.
 ///
-/// Any other word is refused as one where bytes were expected; the only other error is `Memory`.
+/// # Errors
+///
+/// The word, where it is another one, as one where bytes were expected; or memory is refused.
 pub fn bytes<'a>(alloc: Global, word: &str) -> Result<Vec<u8>, LineError<'a>>
     ensures { IfOk result (λ bytes. IsBytes word.now bytes.items) }
 {

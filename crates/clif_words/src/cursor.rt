@@ -35,7 +35,11 @@ impl<'w, 'a> Cursor<'w, 'a> {
         self.taken == self.words.len()
     }
 
-    /// Takes the next word. Where none is left, the line is refused, and `expected` says what should have stood there.
+    /// Takes the next word.
+    ///
+    /// # Errors
+    ///
+    /// Where none is left: the line is refused, and `expected` says what should be there.
     pub fn take(&mut self, expected: Expected) -> Result<&'a str, LineError<'a>>
         ensures ok { IfOk result (λ word. words_left self.old ≡ word.now ∷ words_left self.new) }
         ensures err { OnErr result (words_left self.old ≡ []) }
@@ -86,6 +90,10 @@ impl<'w, 'a> Cursor<'w, 'a> {
     }
 
     /// Nothing is left.
+    ///
+    /// # Errors
+    ///
+    /// The word that is left.
     pub fn end(&self) -> Result<(), LineError<'a>>
         ensures { IsOk result ↔ (words_left self.now ≡ []) }
     {

@@ -80,7 +80,11 @@ fn first_word(line: &str) -> Option<(&str, &str)>
     Some(text.split_at(len))
 }
 
-/// The words of a line, in order. The only error is that memory was refused.
+/// The words of a line, in order.
+///
+/// # Errors
+///
+/// `AllocError`, where memory is refused.
 pub fn words_of(alloc: Global, line: &str) -> Result<Vec<&str>, AllocError>
     ensures { IfOk result (λ words. AreWords (map (λ word. word.now) words.items) line.now) }
 {

@@ -223,7 +223,12 @@ impl CompiledFunction<'_> {
         broken_condition(alloc, self.calls.as_slice(), &signature, TARGET, place).ok()?
     }
 
-    /// Tells an error of this function: a line, and where a condition doesn't hold a second one, as `gcd: block1 is filled`.
+    /// Tells an error of this function: a line, and where a condition doesn't hold a second one, as `gcd: block1 is
+    /// filled`.
+    ///
+    /// # Errors
+    ///
+    /// Where the writer refuses.
     pub fn tell<E: io::Write>(
         &self,
         alloc: Global,
