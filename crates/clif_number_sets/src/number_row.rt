@@ -20,14 +20,15 @@ pub struct NumberRow {
 
 impl Model for NumberRow {
     ghost use Rattle.std.specs.Prelude.{◌+◌, ◌≤◌, Bool, List, length};
-    ghost use Rattle.clif_number_sets.specs.Words.{marks_of, spread, words_for, NoneFrom};
+    ghost use Rattle.clif_number_sets.specs.Runs.{run_words};
+    ghost use Rattle.clif_number_sets.specs.Words.{marks_of, words_for, NoneFrom};
 
     ghost Value = { List Bool };
 
-    ghost view = { λ r. marks_of r.size (spread r.run.first r.run.words.items) };
+    ghost view = { λ r. marks_of r.size (run_words r.run) };
 
     ghost invariant = { λ r. (r.run.first + length r.run.words.items ≤ words_for r.size)
-        × NoneFrom r.size (spread r.run.first r.run.words.items) };
+        × NoneFrom r.size (run_words r.run) };
 }
 
 impl NumberRow {

@@ -25,7 +25,8 @@ impl Model for NumberSet {
 
     ghost view = { λ s. marks_of s.size s.words.items };
 
-    ghost invariant = { λ s. (length s.words.items ≡ words_for s.size) × NoneFrom s.size s.words.items };
+    ghost invariant = { λ s. (length s.words.items ≡ words_for s.size)
+        × NoneFrom s.size s.words.items };
 }
 
 impl NumberSet {
@@ -93,7 +94,8 @@ impl NumberSet {
     /// Adds the members of a row. It takes time for the row's words alone.
     pub fn add_all(&mut self, other: &NumberRow)
         requires { length self.old ≡ length other.now }
-        ensures { IsSet (length self.old) (λ place. is_in other.now place || is_in self.old place) self.new }
+        ensures { IsSet (length self.old)
+            (λ place. is_in other.now place || is_in self.old place) self.new }
     {
         let row = &other.run;
         join_words(self.words.as_mut_slice(), row.first, row.words.as_slice());

@@ -17,6 +17,10 @@ pub(crate) struct WordRun {
 }
 
 impl WordRun {
+    ghost use Rattle.std.specs.Prelude.{◌≡◌, ◌+◌, ◌<◌, ◌≤◌, [], false, length, IsTrue, IfOk, OnOk, OnErr, IsOkUnless};
+    ghost use Rattle.clif_number_sets.specs.Runs.{run_words};
+    ghost use Rattle.clif_number_sets.specs.Words.{word_of, AreUnited, HasNew};
+
     /// No words.
     pub(crate) fn new(alloc: Global) -> WordRun
         ensures { (result.first ≡ 0) × (result.words.items ≡ []) }
@@ -29,7 +33,7 @@ impl WordRun {
 
     /// The word of a number.
     pub(crate) fn word(&self, number: usize) -> u64
-        ensures { result ≡ word_of (spread self.now.first self.now.words.items) number }
+        ensures { result ≡ word_of (run_words self.now) number }
     {
         match number.checked_sub(self.first) {
             Some(place) => self.words.get(place).copied().unwrap_or(0),
@@ -43,16 +47,15 @@ impl WordRun {
     /// `Memory` alone, and only where a bit is new. Then nothing changes.
     pub(crate) fn add(&mut self, others: &[u64]) -> Result<bool, BuildError>
         requires inside { self.old.first + length self.old.words.items ≤ length others.now }
-        ensures united { OnOk result (AreUnited (spread self.old.first self.old.words.items) others.now
-            (spread self.new.first self.new.words.items)) }
+        ensures united { OnOk result
+            (AreUnited (run_words self.old) others.now (run_words self.new)) }
         ensures inside { self.new.first + length self.new.words.items ≤ length others.now }
-        ensures grown { IfOk result (λ grown. IsTrue grown
-            → HasNew (spread self.old.first self.old.words.items) (spread self.new.first self.new.words.items)) }
-        ensures kept { IfOk result (λ grown. grown ≡ false
-            → spread self.new.first self.new.words.items ≡ spread self.old.first self.old.words.items) }
-        ensures unchanged { OnErr result (spread self.new.first self.new.words.items
-            ≡ spread self.old.first self.old.words.items) }
-        ensures fresh { OnErr result (HasNew (spread self.old.first self.old.words.items) others.now) }
+        ensures grown { IfOk result
+            (λ grown. IsTrue grown → HasNew (run_words self.old) (run_words self.new)) }
+        ensures kept { IfOk result
+            (λ grown. grown ≡ false → run_words self.new ≡ run_words self.old) }
+        ensures unchanged { OnErr result (run_words self.new ≡ run_words self.old) }
+        ensures fresh { OnErr result (HasNew (run_words self.old) others.now) }
         ensures memory_alone { IsOkUnless result BuildError.Memory }
     {
         let Some(low) = first_used(others) else {
