@@ -1,5 +1,5 @@
-//! Tests of what needs no function: types and other plain data, the tables of opcodes, the ranges of switches, and the
-//! words of scripts.
+//! Tests of what needs no function: types and other plain data, the tables of opcodes, the ranges of switches, sets
+//! of numbers, and the words of scripts.
 //!
 //! They test what no clause says: that calls succeed, and texts, which are those of the printer's rules, of Cranelift and
 //! of docs/SCRIPTS.md.
@@ -9,6 +9,8 @@
 mod opcodes;
 #[cfg(test)]
 mod ranges;
+#[cfg(test)]
+mod sets;
 #[cfg(test)]
 mod types;
 #[cfg(test)]

@@ -8,8 +8,7 @@ ghost use Rattle.clif_stack_slots.specs.Sizes.{FitsStackMap};
 use clif_ir::Function;
 use clif_stack_slots::{SlotSize, StackSlots};
 use clif_types::types::{I8, I8X16, I16, I32, I32X8, I64, INVALID};
-use clif_types::{EntityRef, StackSlot, Type, Value};
-use std::alloc::Global;
+use clif_types::{Block, EntityRef, StackSlot, Type, Value};
 use std::process::Abort;
 use std::test::Fail;
 
@@ -82,6 +81,12 @@ fn size_of(rt: &impl Abort, ty: Type) -> SlotSize
     size.unwrap()
 }
 
+fn param(rt: &impl Abort, func: &mut Function, block: Block, ty: Type) -> Result<(), Fail> {
+    assert!(rt; block.index() < func.block_count());
+    func.append_block_param(block, ty)?;
+    Ok(())
+}
+
 fn does(
     rt: &impl Abort,
     slots: &mut StackSlots,
@@ -118,7 +123,7 @@ fn the_last_freed_is_given_first(rt: HostRuntime) -> Result<(), Fail> {
     let block = func.create_block()?;
     func.ensure_block_inserted(block)?;
     for ty in TYPES {
-        func.append_block_param(block, *ty)?;
+        param(&rt, &mut func, block, *ty)?;
     }
     let mut slots = StackSlots::new(alloc);
     for step in ACTS {
