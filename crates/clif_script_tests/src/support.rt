@@ -3,9 +3,7 @@
 
 use clif_builder::FunctionBuilderContext;
 use clif_ir::Function;
-use clif_script::{
-    Form, Options, Printing, Run, TypeCheck, build, execute, replay, row_text, run,
-};
+use clif_script::{Form, Options, Printing, Run, TypeCheck, build, execute, replay, row_text, run};
 use clif_text::{Script, read, write};
 use std::alloc::{AllocError, Global};
 use std::io;
