@@ -1,12 +1,17 @@
 pub mod Concluding
+pub mod Dominating
+pub mod FrontLists
+pub mod FrontTables
 pub mod Marks
 pub mod Paths
 pub mod Recording
 pub mod Rows
 pub mod Scanning
+pub mod Searching
 pub mod Settling
 pub mod Starting
 pub mod Tracking
+pub mod Unaliased
 pub mod Visits
 pub mod Worked
 pub mod Working

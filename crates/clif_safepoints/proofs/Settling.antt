@@ -17,7 +17,8 @@ use Rattle.clif_instructions.specs.Members.{stands_in}
 use Rattle.clif_ir.specs.Body.{Body, block_at, inst_at}
 use Rattle.clif_safepoints.specs.Graph.{arcs, leads_to, sources_of}
 use Rattle.clif_safepoints.specs.Progress.{IsHandled, IsTaken, Progress, one_more, pushed_all}
-use Rattle.clif_safepoints.specs.Sets.{AreSets, Grows, IsSet, in_set_of, is_in, member_count}
+use Rattle.clif_number_sets.specs.Sets.{Grows, IsSet, is_in, member_count}
+use Rattle.clif_safepoints.specs.Sets.{AreSets, in_set_of}
 use Rattle.clif_safepoints.specs.Transfer.{argument_passes, edge_needs, insts_of, is_live_before, is_live_in, names, successors_of, targets_from}
 use Rattle.clif_safepoints.specs.Fronts.{IsFinished, IsLiveFront, IsStart}
 use Rattle.clif_safepoints.proofs.Paths.{contained_in_map, front_to, or_cases, or_left}

@@ -14,7 +14,6 @@ mod last_pass;
 pub mod laws;
 mod lists;
 pub mod liveness;
-mod number_set;
 mod reading;
 mod recorded;
 mod scan;

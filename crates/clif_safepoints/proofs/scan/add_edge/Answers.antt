@@ -1,7 +1,8 @@
 use Rattle.std.proofs.Common.{◌≡◌, ◌<◌, ◌||◌, Bool, List, [], sym, subst, length, slice_index, slice_index_or}
 use Rattle.std.specs.List.{list_any}
 use Rattle.clif_instructions.specs.declared.block_call.BlockArg.{BlockArg}
-use Rattle.clif_safepoints.specs.Sets.{IsSet, in_set_of, is_in}
+use Rattle.clif_number_sets.specs.Sets.{IsSet, is_in}
+use Rattle.clif_safepoints.specs.Sets.{in_set_of}
 use Rattle.clif_safepoints.specs.Transfer.{argument_passes}
 use Rattle.clif_safepoints.proofs.Marks.{added_twice}
 use Rattle.clif_safepoints.proofs.Rows.{row_at}

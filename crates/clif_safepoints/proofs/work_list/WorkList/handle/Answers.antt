@@ -1,6 +1,7 @@
 use Rattle.std.proofs.Common.{List, Bool, length, subst, slice_index}
 use Rattle.clif_safepoints.specs.Progress.{progress_of}
-use Rattle.clif_safepoints.specs.Sets.{IsSet, in_set_of}
+use Rattle.clif_number_sets.specs.Sets.{IsSet}
+use Rattle.clif_safepoints.specs.Sets.{in_set_of}
 use Rattle.clif_safepoints.specs.Transfer.{is_live_in}
 use Rattle.clif_safepoints.proofs.Working.{handled_same}
 use Rattle.clif_safepoints.proofs.work_list.WorkList.handle.Goals as goal
