@@ -40,51 +40,13 @@ use Rattle.clif_safepoints.specs.Order.{IsDepthFirst, IsSorted, IsWay, first_to_
 use Rattle.clif_safepoints.specs.Sets.{in_set_of}
 use Rattle.clif_safepoints.specs.Tables.{AreRows}
 use Rattle.clif_safepoints.specs.Transfer.{in_order, insts_of, successors_of, targets_followed, targets_from}
+use Rattle.clif_safepoints.proofs.Following.{followed_from, followed_long, followed_to}
 use Rattle.clif_safepoints.proofs.FrontLists.{AreSolved, exact_after, exact_in}
 use Rattle.clif_safepoints.proofs.Unaliased.{ahead_unaliased}
 use Rattle.clif_safepoints.proofs.Paths.{across_from, across_to, block_reached, contained_in_map, contains_at, contains_map, place_of_member, items_are, placed_is, placed_none, reached_inside, size_is, stands_from, stands_to, targets_are}
 use Rattle.clif_safepoints.proofs.Recording.{inst_home}
 
 -- REACHED BLOCKS --------------------------------------------------------------------------------------------------------
-
--- what an instruction has for its edges, in another order
-to_back_alike : {X : Type 0} (xs : List X) (x : X) → Contains (first_to_back xs) x → Contains xs x
-to_back_alike [] x h = h
-to_back_alike (y ∷ xs) x h = by (Contains-push_cases xs y x h)
-  where
-    by : Contains xs x ⊎ (y ≡ x) → Contains (y ∷ xs) x
-    by (inl rest) = (suc rest.0, (let inside = rest.1 in omega (arith, inside)), rest.2)
-    by (inr first) = (0, omega arith, first)
-
-alike_to_back : {X : Type 0} (xs : List X) (x : X) → Contains xs x → Contains (first_to_back xs) x
-alike_to_back [] x h = h
-alike_to_back (y ∷ xs) x (zero, inside, is) = subst (λ z. Contains (xs ++ y ∷ []) z) is (Contains-append_right xs (y ∷ []) y (0, omega arith, refl))
-alike_to_back (y ∷ xs) x (suc k, inside, is) = Contains-append_left xs (y ∷ []) x (k, omega (arith, inside), is)
-
-to_back_long : {X : Type 0} (xs : List X) → length (first_to_back xs) ≡ length xs
-to_back_long [] = refl
-to_back_long (x ∷ xs) = length-append xs (x ∷ []) ∙ (let e : length xs + 1 ≡ suc (length xs) = omega arith in e)
-
-followed_to : (shape : InstructionData) (t : ℕ) → Contains (targets_followed shape) t → Contains (targets (destinations shape)) t
-followed_to shape t = by (exception_table shape)
-  where
-    by : (table : Option ExceptionShape) → Contains (in_order table (targets (destinations shape))) t → Contains (targets (destinations shape)) t
-    by None h = h
-    by (Some table) h = to_back_alike (targets (destinations shape)) t h
-
-followed_from : (shape : InstructionData) (t : ℕ) → Contains (targets (destinations shape)) t → Contains (targets_followed shape) t
-followed_from shape t = by (exception_table shape)
-  where
-    by : (table : Option ExceptionShape) → Contains (targets (destinations shape)) t → Contains (in_order table (targets (destinations shape))) t
-    by None h = h
-    by (Some table) h = alike_to_back (targets (destinations shape)) t h
-
-followed_long : (shape : InstructionData) → length (targets_followed shape) ≡ length (targets (destinations shape))
-followed_long shape = by (exception_table shape)
-  where
-    by : (table : Option ExceptionShape) → length (in_order table (targets (destinations shape))) ≡ length (targets (destinations shape))
-    by None = refl
-    by (Some table) = to_back_long (targets (destinations shape))
 
 -- a target of the instructions of a list, and the place of the instruction whose edge leads there
 pub target_at : (f : Body) (insts : List ℕ) (t : ℕ) → Contains (targets_from f insts) t → (k inst : ℕ) × (slice_get insts k ≡ Some inst) × Contains (targets (destinations (inst_at f inst).shape)) t

@@ -1,8 +1,10 @@
 pub mod Concluding
 pub mod Dominating
+pub mod Following
 pub mod FrontLists
 pub mod FrontTables
 pub mod Marks
+pub mod Numbered
 pub mod Paths
 pub mod Recording
 pub mod Rows

@@ -1,5 +1,5 @@
 -- Sets as marks: one more member, and tests over lists one element at a time.
-use Rattle.std.proofs.Common.{◌≡◌, ◌≢◌, ◌+◌, ◌<◌, ◌≤◌, ℕ, Bool, true, false, not, ◌||◌, ◌&&◌, List, [], ◌∷◌, length, get_or, set, take, refl, sym, ap, subst, ◌∙◌, arith, eqb, slice_index, slice_set, ◌⊎◌, inl, inr, cond}
+use Rattle.std.proofs.Common.{◌≡◌, ◌≢◌, ◌+◌, ◌<◌, ◌≤◌, ℕ, zero, suc, Bool, true, false, not, ◌||◌, ◌&&◌, List, [], ◌∷◌, length, get_or, set, take, refl, sym, ap, subst, ◌∙◌, arith, eqb, slice_index, slice_set, ◌⊎◌, inl, inr, cond}
 use Rattle.std.specs.List.{list_any}
 use Rattle.std.proofs.lemmas.List.Sums.{sum_by-set}
 use Rattle.std.specs.List.Sorted.{IsStrictlyIncreasing}
@@ -11,7 +11,7 @@ use Rattle.std.proofs.lemmas.Bool.Decides.{eqb_tells}
 use Rattle.std.proofs.lemmas.Map.Keys.{below_from_sorted, sorted_from_strictly_increasing}
 use Rattle.std.proofs.lemmas.List.{take_more, take_all}
 use Rattle.std.proofs.lemmas.List.Folds.{list_any-append}
-use Rattle.clif_number_sets.specs.Sets.{Grows, IsSet, is_in, member_count}
+use Rattle.clif_number_sets.specs.Sets.{IsSet, is_in}
 
 or_false : (a : Bool) → (a || false) ≡ a
 or_false true = refl
@@ -163,3 +163,9 @@ added_twice n f g old mid new before now = record {
     or_assoc : (a b c : Bool) → (a || (b || c)) ≡ ((a || b) || c)
     or_assoc true b c = refl
     or_assoc false b c = refl
+
+-- a member is below the size
+pub member_below : (marks : List Bool) (place : ℕ) → is_in marks place ≡ true → place < length marks
+member_below [] place h = cc
+member_below (mark ∷ marks) zero h = omega arith
+member_below (mark ∷ marks) (suc place) h = let more = member_below marks place h in omega (arith, more)

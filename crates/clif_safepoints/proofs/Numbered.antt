@@ -8,7 +8,7 @@ use Rattle.std.proofs.lemmas.Map.Keys.{below_from_sorted, sorted_from_strictly_i
 use Rattle.std.proofs.Math.ListN.{get_or-eq_default}
 use Rattle.std.proofs.Math.Nat.{mul-le-mul_left}
 use Rattle.clif_nodes.specs.declared.nodes.ValueNode.{ValueNode}
-use Rattle.clif_ir.specs.Body.{Body, alias_of, alias_of_origin, no_value, resolved}
+use Rattle.clif_ir.specs.Body.{Body, alias_of_origin, resolved}
 use Rattle.clif_ir.proofs.Aliases.{follow_end}
 use Rattle.clif_meaning.specs.View.{view_of}
 use Rattle.clif_safepoints.specs.Analysis.{Findings, IsAnalysis, IsExact, IsExactList, IsTracedAcross, IsTracedAfterParams, IsTracedIn, edges_from, found_across, found_after_params, found_in}
@@ -25,7 +25,7 @@ later x xs y h = (suc h.0, (let inside = h.1 in omega (arith, inside)), h.2)
 
 pub filter_to : (p : ℕ → Bool) (xs : List ℕ) (y : ℕ) → Contains (filter p xs) y → Contains xs y × (p y ≡ true)
 filter_to p [] y h = absurd (omega (arith, h.1))
-filter_to p (x ∷ xs) y = by (p x) refl (filter_to p xs y)
+filter_to p (x ∷ xs) y h = by (p x) refl (filter_to p xs y) h
   where
     here : p x ≡ true → (Contains (filter p xs) y → Contains xs y × (p y ≡ true)) → (x ≡ y) ⊎ Contains (filter p xs) y → Contains (x ∷ xs) y × (p y ≡ true)
     here passes rest (inl same) = ((0, omega arith, same), subst (λ z. p z ≡ true) same passes)
@@ -37,13 +37,13 @@ filter_to p (x ∷ xs) y = by (p x) refl (filter_to p xs y)
 
 pub filter_from : (p : ℕ → Bool) (xs : List ℕ) (y : ℕ) → Contains xs y → p y ≡ true → Contains (filter p xs) y
 filter_from p [] y h passes = absurd (omega (arith, h.1))
-filter_from p (x ∷ xs) y h passes = by (p x) refl (head_or_later x xs y h)
+filter_from p (x ∷ xs) y h passes = by (λ more. filter_from p xs y more passes) (p x) refl (head_or_later x xs y h)
   where
-    by : (c : Bool) → p x ≡ c → (x ≡ y) ⊎ Contains xs y → Contains (cond c (x ∷ filter p xs) (filter p xs)) y
-    by true is (inl same) = (0, omega arith, same)
-    by true is (inr more) = later x (filter p xs) y (filter_from p xs y more passes)
-    by false is (inl same) = let both : true ≡ false = sym passes ∙ ap p (sym same) ∙ is in cc
-    by false is (inr more) = filter_from p xs y more passes
+    by : (Contains xs y → Contains (filter p xs) y) → (c : Bool) → p x ≡ c → (x ≡ y) ⊎ Contains xs y → Contains (cond c (x ∷ filter p xs) (filter p xs)) y
+    by rest true is (inl same) = (0, omega arith, same)
+    by rest true is (inr more) = later x (filter p xs) y (rest more)
+    by rest false is (inl same) = let both : true ≡ false = sym passes ∙ ap p (sym same) ∙ is in cc
+    by rest false is (inr more) = rest more
 
 filter_short : (p : ℕ → Bool) (xs : List ℕ) → length (filter p xs) ≤ length xs
 filter_short p [] = omega arith
@@ -54,7 +54,8 @@ filter_short p (x ∷ xs) = by (p x) (filter_short p xs)
     by false rest = omega (arith, rest)
 
 rising_rest : (x : ℕ) (xs : List ℕ) → IsStrictlyIncreasing (x ∷ xs) → IsStrictlyIncreasing xs
-rising_rest x xs up k inside = up (suc k) (omega (arith, inside))
+rising_rest x xs up k inside =
+    subst (λ n. get_or xs k 0 < get_or (x ∷ xs) n 0) (let e : suc k + 1 ≡ suc (k + 1) = omega arith in e) (up (suc k) (omega (arith, inside)))
 
 above_head : (x : ℕ) (xs : List ℕ) → IsStrictlyIncreasing (x ∷ xs) → (y : ℕ) → Contains xs y → x < y
 above_head x xs up y h =
@@ -69,7 +70,8 @@ above_head x xs up y h =
 rising_more : (x : ℕ) (xs : List ℕ) → ((y : ℕ) → Contains xs y → x < y) → IsStrictlyIncreasing xs → IsStrictlyIncreasing (x ∷ xs)
 rising_more x [] above up k inside = absurd (omega (arith, inside))
 rising_more x (y ∷ xs) above up zero inside = above y (0, omega arith, refl)
-rising_more x (y ∷ xs) above up (suc k) inside = up k (omega (arith, inside))
+rising_more x (y ∷ xs) above up (suc k) inside =
+    subst (λ n. get_or (y ∷ xs) k 0 < get_or (x ∷ y ∷ xs) n 0) (let e : suc (k + 1) ≡ suc k + 1 = omega arith in e) (up k (omega (arith, inside)))
 
 pub filter_rising : (p : ℕ → Bool) (xs : List ℕ) → IsStrictlyIncreasing xs → IsStrictlyIncreasing (filter p xs)
 filter_rising p [] up = up
@@ -102,7 +104,7 @@ filter_within p xs k d inside = (filter_to p xs (get_or (filter p xs) k d) (k, i
 -- a value that isn't there stands for itself
 pub resolved_past : (f : Body) (v : ℕ) → length f.values ≤ v → resolved f v ≡ v
 resolved_past f v past =
-    follow_end f.values (length f.values) v (ap (λ (node : ValueNode). alias_of_origin node.origin) (get_or-eq_default f.values no_value past))
+    follow_end f.values (length f.values) v (ap (λ (node : ValueNode). alias_of_origin node.origin) (get_or-eq_default f.values _ past))
 
 -- THE ANALYSIS ----------------------------------------------------------------------------------------------------------
 

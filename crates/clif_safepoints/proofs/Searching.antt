@@ -60,13 +60,13 @@ nested_past : (leads : ℕ → List ℕ) (entry : Option ℕ) (xs : List ℕ) (b
     → AreNested leads entry (Leave block ∷ stack) → AreNested leads entry (entered xs ++ Leave block ∷ stack)
 nested_past leads entry [] block stack from nested = nested
 nested_past leads entry (x ∷ xs) block stack from nested = (
-  subst (λ open. IsWay leads entry (x ∷ open)) (sym (open_past xs (Leave block ∷ stack))) (from x (0, omega arith, refl), nested.0),
+  subst (λ blocks. IsWay leads entry (x ∷ blocks)) (sym (open_past xs (Leave block ∷ stack))) (from x (0, omega arith, refl), nested.0),
   nested_past leads entry xs block stack (λ y h. from y (suc h.0, omega (arith, h.1), h.2)) nested,
 )
 
 -- a block is open or, from this place on, left
 abbrev pub IsOpenOrLater : List ℕ → List ℕ → ℕ → ℕ → Type 0
-IsOpenOrLater open order i other = Contains open other ⊎ ((j : ℕ) × (i ≤ j) × (slice_get order j ≡ Some other))
+IsOpenOrLater blocks order i other = Contains blocks other ⊎ ((j : ℕ) × (i ≤ j) × (slice_get order j ≡ Some other))
 
 -- What holds between visits, of what was entered and left. `known` has the blocks that were entered, the latest first.
 pub record IsSearching (leads : ℕ → List ℕ) (entry : Option ℕ) (seen : List Bool) (stack : List Visit) (order : List ℕ) : Type 0 where
@@ -135,10 +135,10 @@ search_leave leads entry seen b stack order so_far = record {
   where
     open_now : (i other : ℕ) → i ≤ length order → (b ≡ other) ⊎ Contains (open_in stack) other → IsOpenOrLater (open_in stack) (order ++ b ∷ []) i other
     open_now i other below (inl same) = inr (length order, below, get_last order b ∙ ap (λ x. Some x) same)
-    open_now i other below (inr open) = inl open
+    open_now i other below (inr opened) = inl opened
 
     old : (i other : ℕ) → i ≤ length order → IsOpenOrLater (b ∷ open_in stack) order i other → IsOpenOrLater (open_in stack) (order ++ b ∷ []) i other
-    old i other below (inl open) = open_now i other below (contains_cases b (open_in stack) other open)
+    old i other below (inl opened) = open_now i other below (contains_cases b (open_in stack) other opened)
     old i other below (inr done) = inr (done.0, done.1, get_left order (b ∷ []) done.0 other done.2)
 
     by : (i block other : ℕ) → Dominates leads entry other block → ((i < length order) × (slice_get order i ≡ Some block)) ⊎ ((i ≡ length order) × (b ≡ block))
@@ -170,7 +170,7 @@ search_enter leads entry seen b stack order inside fresh so_far = record {
   completes = λ e first after h. complete e first after (collected leads (leads b) (Leave b ∷ stack) (record { entered = b ∷ so_far.known; left = order }) after h);
   nested = nested_past leads entry (leads b) b stack (λ x h. h) so_far.nested;
   later = λ i block other at dominates.
-      subst (λ open. IsOpenOrLater open order i other) (sym (open_past (leads b) (Leave b ∷ stack))) (wider i other (so_far.later i block other at dominates));
+      subst (λ blocks. IsOpenOrLater blocks order i other) (sym (open_past (leads b) (Leave b ∷ stack))) (wider i other (so_far.later i block other at dominates));
 }
   where
     now : Visited
@@ -196,7 +196,7 @@ search_enter leads entry seen b stack order inside fresh so_far = record {
         )
 
     wider : (i other : ℕ) → IsOpenOrLater (open_in stack) order i other → IsOpenOrLater (b ∷ open_in stack) order i other
-    wider i other (inl open) = inl (contains_later b (open_in stack) other open)
+    wider i other (inl opened) = inl (contains_later b (open_in stack) other opened)
     wider i other (inr done) = inr done
 
 -- no visits are left
@@ -209,7 +209,7 @@ pub search_sorted : (leads : ℕ → List ℕ) (entry : Option ℕ) (seen : List
 search_sorted leads entry seen order done i block other at dominates = by (done.later i block other at dominates)
   where
     by : IsOpenOrLater [] order i other → (j : ℕ) × (i ≤ j) × (slice_get order j ≡ Some other)
-    by (inl open) = absurd (omega (arith, open.1))
+    by (inl opened) = absurd (omega (arith, opened.1))
     by (inr done) = done
 
 -- STACKS WITH THE NEXT VISIT LAST ---------------------------------------------------------------------------------------

@@ -18,6 +18,7 @@ use Rattle.clif_meaning.specs.View.{argument_of, edge_of, placed_of, view_of}
 use Rattle.clif_meaning.specs.WellPlaced.{placed_at, placed_gives}
 use Rattle.clif_safepoints.specs.Fronts.{at}
 use Rattle.clif_safepoints.specs.Liveness.{IsPassed, IsUsedAhead, every_argument, used_operands}
+use Rattle.clif_safepoints.specs.Transfer.{insts_of}
 use Rattle.clif_safepoints.proofs.Paths.{contained_in_map, contains_at, placed_is, placed_none}
 
 -- what an operand or an argument stands for is no alias

@@ -170,6 +170,7 @@ pub(crate) fn members(
     ensures memory_alone { IsOkUnless result BuildError.Memory }
 {
     recorded.law_rising();
+    recorded.law_fits();
     let mut values = ValueList::new(alloc);
     let mut from = 0;
     while let Some(place) = live.next_from(from) {

@@ -1,4 +1,4 @@
-use Rattle.std.proofs.Common.{◌≡◌, ◌+◌, ◌<◌, ◌∙◌, ◌++◌, ◌∷◌, ◌-◌, [], ℕ, Bool, take, append-nil, List, true, false, length, ap, sym, subst, refl, IfSome, set, arith, Option, Some, None, replicate}
+use Rattle.std.proofs.Common.{◌≡◌, ◌+◌, ◌<◌, ◌∙◌, ◌++◌, ◌∷◌, ◌-◌, [], ℕ, Bool, take, append-nil, List, true, false, length, reverse, ap, sym, subst, refl, IfSome, set, arith, Option, Some, None, replicate}
 use Rattle.clif_safepoints.specs.declared.graph.Visit.{Visit}
 use Rattle.clif_safepoints.specs.declared.graph.Visit.TheVariants.{Enter, Leave}
 use Rattle.clif_safepoints.specs.Graph.{IsOrder, leads_to}

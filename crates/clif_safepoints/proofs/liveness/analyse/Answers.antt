@@ -6,7 +6,9 @@ use Rattle.clif_safepoints.specs.Graph.{IsClosed, IsOrder}
 use Rattle.clif_safepoints.specs.LastPass.{IsListedBy}
 use Rattle.clif_safepoints.specs.Tables.{AreRows}
 use Rattle.clif_safepoints.specs.Transfer.{successors_of}
+use Rattle.clif_safepoints.specs.Numbered.{numbered}
 use Rattle.clif_safepoints.proofs.Concluding.{analysis_from_parts, closed_graph}
+use Rattle.clif_safepoints.proofs.Numbered.{analysis_of_all}
 use Rattle.clif_safepoints.proofs.liveness.analyse.Goals as goal
 use Rattle.clif_safepoints.proofs.liveness.analyse.Goals.{After-as_slice-order, After-as_slice-successors}
 
@@ -31,7 +33,7 @@ live_ins-requires-clause-closed c = closed (goal.at.live_ins-requires-clause-clo
 
 pub returns-clause-ok : goal.returns-clause-ok
 returns-clause-ok c =
-    let recorded : c.in_ok-recorded.recorded ≡ c.args.recorded.now = c.in_ok-recorded.ensures.ok in
+    let recorded : c.in_ok-recorded.recorded ≡ numbered c.args.func.now c.args.recorded.now = c.in_ok-recorded.ensures.ok in
     let order = ordered (goal.at.returns-clause-ok c).After-as_slice-order in
     let rows = graph_rows (goal.at.returns-clause-ok c).After-as_slice-successors in
     let listed : IsListedBy c.args.func.now c.in_ok-recorded.recorded c.in_ok-work.work.sets.items c.as_slice-order.result.now c.in_ok-passed.passed.across.items =
@@ -48,6 +50,7 @@ returns-clause-ok c =
       handled = c.in_ok-work.work.handled;
     } in
     subst (λ blocks. IsAnalysis c.args.func.now c.args.recorded.now (found blocks)) c.as_slice-order.ensures.value
+    (analysis_of_all c.args.func.now c.args.recorded.now (found c.as_slice-order.result.now)
     (subst (λ values. IsAnalysis c.args.func.now values (found c.as_slice-order.result.now)) recorded
     (analysis_from_parts c.args.func.now c.in_ok-recorded.recorded c.as_slice-successors.result.now c.as_slice-order.result.now c.in_ok-work.work.sets.items
     c.in_ok-passed.passed.across.items (tables_of c.in_ok-passed.passed.fronts) c.in_ok-work.work.handled (record {
@@ -58,4 +61,4 @@ returns-clause-ok c =
       finished = c.in_ok-work.ensures.ok;
       listed = listed;
       fronts = fronts;
-    })))
+    }))))
