@@ -5,6 +5,7 @@ pub mod FrontLists
 pub mod FrontTables
 pub mod Marks
 pub mod Numbered
+pub mod OneOrder
 pub mod Paths
 pub mod Recording
 pub mod Rows

@@ -82,3 +82,9 @@ abbrev pub IsSorted : (leads : ℕ → List ℕ) → Option ℕ → List ℕ →
 IsSorted leads entry order =
     (i block other : ℕ) → slice_get order i ≡ Some block → Dominates leads entry other block
     → (j : ℕ) × (i ≤ j) × (slice_get order j ≡ Some other)
+
+-- blocks have one such order at most
+abbrev pub HasOneOrder : Type 0
+HasOneOrder =
+    (leads : ℕ → List ℕ) (entry : Option ℕ) (order other : List ℕ) → IsDepthFirst leads entry order → IsDepthFirst leads entry other
+    → order ≡ other
