@@ -2,29 +2,24 @@
 use Rattle.std.proofs.Common.{◌≡◌, ◌+◌, ◌*◌, ◌<◌, ◌≤◌, ◌⊎◌, ℕ, zero, suc, Bool, true, false, List, [], ◌∷◌, ◌++◌, length, map, get_or, length-append, refl, sym, ap, subst, ◌∙◌, arith, inl, inr, Option, Some, None, slice_index}
 use Rattle.std.specs.Prelude.{Contains, slice_get, if◌then◌else◌, sum_by}
 use Rattle.std.specs.List.{flat_map}
-use Rattle.std.specs.Option.{option_map}
 use Rattle.std.specs.List.Sorted.{IsStrictlyIncreasing}
 use Rattle.std.proofs.lemmas.Bool.{false≢true}
 use Rattle.std.proofs.lemmas.List.{get_or_default, map-append}
-use Rattle.std.proofs.lemmas.Option.{get_or_from_slice_get, slice_get-map, slice_get_within}
+use Rattle.std.proofs.lemmas.Option.{get_or_from_slice_get, slice_get_within}
 use Rattle.std.proofs.Math.ListN.{get_or-eq_default}
 use Rattle.std.proofs.lemmas.List.Concat.{length-flat_map}
 use Rattle.std.proofs.Math.Path.{fun_ext}
-use Rattle.std.proofs.lemmas.List.Elements.{All-contains, Contains-append_cases, Contains-append_left, Contains-append_right, Contains-get_or, Contains-push_cases}
-use Rattle.clif_instructions.specs.declared.block_call.BlockArg.{BlockArg}
-use Rattle.clif_instructions.specs.declared.block_call.BlockArg.TheVariants as arg
+use Rattle.std.proofs.lemmas.List.Elements.{All-contains, Contains-append_cases, Contains-append_left, Contains-append_right, Contains-get_or}
 use Rattle.clif_instructions.specs.declared.block_call.BlockCall.{BlockCall}
 use Rattle.clif_instructions.specs.Edges.{targets}
-use Rattle.clif_instructions.specs.ExceptionTables.{ExceptionShape}
 use Rattle.clif_instructions.specs.declared.instructions.InstructionData.{InstructionData}
 use Rattle.clif_instructions.specs.declared.instructions.InstructionData.TheVariants.{UnaryImm, UnaryIeee, UnaryConst, Unary, Binary, IntCompare, Concat, Split, Convert, Ternary, Load, Store, StackLoad, StackStore, Jump, Brif, BranchTable, MultiAry, Trap, CondTrap, Call, CallIndirect, TryCall, TryCallIndirect}
 use Rattle.clif_instructions.specs.Instruction.{destinations, exception_table, is_call}
 use Rattle.clif_instructions.specs.Members.{stands_in}
 use Rattle.clif_instructions.proofs.Members.{place_of-first}
-use Rattle.clif_ir.specs.Body.{Body, block_at, inst_at, resolved}
-use Rattle.clif_ir.specs.Consistent.{EdgeExists, IsConsistent, PassedExists}
+use Rattle.clif_ir.specs.Body.{Body, block_at, inst_at}
+use Rattle.clif_ir.specs.Consistent.{EdgeExists, IsConsistent}
 use Rattle.clif_ir.specs.Reading.{place_in_block}
-use Rattle.clif_ir.proofs.Aliases.{follow_end, resolved-no_alias}
 use Rattle.clif_meaning.specs.FunctionView.{Placed}
 use Rattle.clif_meaning.specs.Instruction.{Edge}
 use Rattle.clif_meaning.specs.Path.{IsPath, IsReachable, Leads, Place}

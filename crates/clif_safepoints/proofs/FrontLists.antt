@@ -1,5 +1,5 @@
 -- The lists of what is live at the fronts of blocks are exact.
-use Rattle.std.proofs.Common.{◌≡◌, ◌<◌, ◌≤◌, ◌⊎◌, ◌&&◌, ℕ, zero, suc, Bool, true, false, not, List, [], ◌∷◌, length, refl, sym, ap, subst, ◌∙◌, arith, inl, inr, Option, Some, None, slice_index}
+use Rattle.std.proofs.Common.{◌≡◌, ◌<◌, ◌⊎◌, ℕ, Bool, true, false, not, List, [], ◌∷◌, length, refl, sym, ap, subst, ◌∙◌, arith, inl, inr, Option, Some, None, slice_index}
 use Rattle.std.specs.Prelude.{Contains, slice_get}
 use Rattle.std.proofs.lemmas.List.{get_or_default}
 use Rattle.std.proofs.lemmas.Option.{slice_get_within}
@@ -10,12 +10,12 @@ use Rattle.clif_ir.specs.Consistent.{IsConsistent}
 use Rattle.clif_meaning.specs.FunctionView.{Placed}
 use Rattle.clif_meaning.specs.Path.{Leads, Place}
 use Rattle.clif_meaning.specs.View.{view_of}
-use Rattle.clif_meaning.specs.WellPlaced.{function_flow, placed_at, placed_gives, placed_targets}
-use Rattle.clif_safepoints.specs.Analysis.{IsExactList, IsReached, IsTracedAfterParams, IsTracedIn, first_place}
+use Rattle.clif_meaning.specs.WellPlaced.{function_flow, placed_targets}
+use Rattle.clif_safepoints.specs.Analysis.{IsExactList, IsReached, IsTracedAfterParams, IsTracedIn}
 use Rattle.clif_safepoints.specs.FrontTables.{AreFronts, AreRowsOf, FrontTables}
 use Rattle.clif_safepoints.specs.Fronts.{IsFinished, IsLiveAt, at}
-use Rattle.clif_safepoints.specs.LastPass.{IsRow, row_at}
-use Rattle.clif_safepoints.specs.Liveness.{IsLiveAcross, IsLiveBefore, IsPassed, IsUsedAhead, every_argument, used_operands}
+use Rattle.clif_safepoints.specs.LastPass.{row_at}
+use Rattle.clif_safepoints.specs.Liveness.{IsLiveBefore, IsPassed, IsUsedAhead, every_argument, used_operands}
 use Rattle.clif_safepoints.specs.Sets.{in_set_of}
 use Rattle.clif_safepoints.specs.Transfer.{insts_of, is_live_before, is_live_in}
 use Rattle.clif_safepoints.proofs.Paths.{IsSettled, across_from, and_both, and_cases, before_to, not_cases, not_true, placed_none, size_is, stands_from, stands_to, there}

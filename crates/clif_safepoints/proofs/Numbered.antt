@@ -1,9 +1,9 @@
 -- The recorded values without aliases: what is found is the same, and nothing more is handled.
-use Rattle.std.proofs.Common.{◌≡◌, ◌+◌, ◌*◌, ◌<◌, ◌≤◌, ◌⊎◌, ◌==◌, ◌↔◌, ℕ, zero, suc, Bool, true, false, cond, List, [], ◌∷◌, ◌++◌, length, get_or, refl, sym, ap, subst, ◌∙◌, arith, inl, inr, None, slice_index, slice_index_or}
+use Rattle.std.proofs.Common.{◌≡◌, ◌+◌, ◌<◌, ◌≤◌, ◌⊎◌, ◌==◌, ℕ, zero, suc, Bool, true, false, cond, List, [], ◌∷◌, ◌++◌, length, get_or, refl, sym, ap, subst, ◌∙◌, arith, inl, inr}
 use Rattle.std.specs.Prelude.{All, Contains, sum_by}
 use Rattle.std.specs.List.{filter}
 use Rattle.std.specs.List.Sorted.{IsStrictlyIncreasing}
-use Rattle.std.proofs.lemmas.Bool.{eq-eqb, eqb-true}
+use Rattle.std.proofs.lemmas.Bool.{eq-eqb}
 use Rattle.std.proofs.lemmas.Map.Keys.{below_from_sorted, sorted_from_strictly_increasing}
 use Rattle.std.proofs.Math.ListN.{get_or-eq_default}
 use Rattle.std.proofs.Math.Nat.{mul-le-mul_left}
@@ -11,7 +11,7 @@ use Rattle.clif_nodes.specs.declared.nodes.ValueNode.{ValueNode}
 use Rattle.clif_ir.specs.Body.{Body, alias_of_origin, resolved}
 use Rattle.clif_ir.proofs.Aliases.{follow_end}
 use Rattle.clif_meaning.specs.View.{view_of}
-use Rattle.clif_safepoints.specs.Analysis.{Findings, IsAnalysis, IsExact, IsExactList, IsTracedAcross, IsTracedAfterParams, IsTracedIn, edges_from, found_across, found_after_params, found_in}
+use Rattle.clif_safepoints.specs.Analysis.{Findings, IsAnalysis, IsTracedAcross, IsTracedAfterParams, edges_from}
 use Rattle.clif_safepoints.specs.Numbered.{numbered}
 
 -- FILTERS ---------------------------------------------------------------------------------------------------------------

@@ -1,7 +1,7 @@
 -- A depth-first search leaves blocks in one order alone.
-use Rattle.std.proofs.Common.{◌≡◌, ◌⊎◌, ℕ, List, [], ◌∷◌, refl, sym, ap, subst, ◌∙◌, inl, inr, Option, Some, None}
+use Rattle.std.proofs.Common.{◌≡◌, ◌⊎◌, ℕ, List, [], ◌∷◌, refl, sym, ap, subst, ◌∙◌, inl, inr, Some, None}
 use Rattle.std.specs.Prelude.{Contains}
-use Rattle.clif_safepoints.specs.Order.{DepthFirst, Ends, Enters, HasOneOrder, IsDepthFirst, Passes, Visited, with_entered, with_left}
+use Rattle.clif_safepoints.specs.Order.{DepthFirst, Ends, Enters, HasOneOrder, Passes, Visited, with_entered, with_left}
 
 -- a search that comes to nothing
 ended : {leads : ℕ → List ℕ} {xs : List ℕ} {a b : Visited} → DepthFirst leads xs a b → xs ≡ [] → a ≡ b

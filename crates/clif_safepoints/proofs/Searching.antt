@@ -1,17 +1,16 @@
 -- A search by a stack of visits is the depth-first search, and what dominates a block is left no earlier. Stacks have the next
 -- visit first here.
-use Rattle.std.proofs.Common.{◌≡◌, ◌≢◌, ◌+◌, ◌<◌, ◌≤◌, ◌⊎◌, ◌↔◌, ℕ, zero, suc, Bool, true, false, List, [], ◌∷◌, ◌++◌, length, map, reverse, get_or, set, replicate, refl, sym, ap, subst, ◌∙◌, arith, inl, inr, Option, Some, None, eqb, length-append}
+use Rattle.std.proofs.Common.{◌≡◌, ◌≢◌, ◌<◌, ◌≤◌, ◌⊎◌, ℕ, zero, suc, Bool, true, false, List, [], ◌∷◌, ◌++◌, length, reverse, set, replicate, refl, sym, ap, subst, ◌∙◌, arith, inl, inr, Option, Some, None, eqb}
 use Rattle.std.specs.Prelude.{Contains, slice_get}
 use Rattle.std.proofs.lemmas.Bool.{false≢true}
 use Rattle.std.proofs.lemmas.Bool.Decides.{eqb_tells}
-use Rattle.std.proofs.lemmas.List.{get_or-set_other, get_or_append_left, map-append, reverse-append, reverse-reverse}
+use Rattle.std.proofs.lemmas.List.{get_or-set_other, map-append, reverse-append, reverse-reverse}
 use Rattle.std.proofs.lemmas.Grind.{get_or-set_at}
-use Rattle.std.proofs.lemmas.Option.{slice_get_within, slice_get-get_or, get_or_from_slice_get}
-use Rattle.std.proofs.Math.Seq.{get_or-append_seam}
+use Rattle.std.proofs.lemmas.Option.{slice_get_within}
 use Rattle.clif_safepoints.specs.declared.graph.Visit.{Visit}
 use Rattle.clif_safepoints.specs.declared.graph.Visit.TheVariants.{Enter, Leave}
 use Rattle.clif_safepoints.specs.Graph.{IsClosed, IsOrder, leads_to}
-use Rattle.clif_safepoints.specs.Order.{DepthFirst, Dominates, Ends, Enters, IsDepthFirst, IsSorted, IsWay, Passes, Visited, nothing_visited, with_entered, with_left}
+use Rattle.clif_safepoints.specs.Order.{DepthFirst, Dominates, Ends, Enters, IsDepthFirst, IsSorted, IsWay, Passes, Visited, nothing_visited, with_left}
 use Rattle.clif_number_sets.specs.Sets.{is_in}
 use Rattle.clif_safepoints.specs.Visits.{entered}
 use Rattle.clif_safepoints.proofs.Visits.{IsVisiting, enter_inside, visits_end, visits_enter, visits_leave, visits_skip, visits_start}

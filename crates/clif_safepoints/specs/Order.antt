@@ -1,7 +1,6 @@
 -- The order in which a depth-first search from the entry leaves the blocks: each after all that were entered from it. Source: the
 -- usual depth-first search, in post-order. As in Cranelift the first edge is followed first.
-use Rattle.std.specs.Prelude.{◌≡◌, ◌≤◌, ◌↔◌, ℕ, List, [], ◌∷◌, ◌++◌, flat_map, Option, Some, None, Contains, slice_get}
-use Rattle.clif_instructions.specs.Members.{Once}
+use Rattle.std.specs.Prelude.{◌≡◌, ◌≤◌, ℕ, List, [], ◌∷◌, ◌++◌, flat_map, Option, Some, None, Contains, slice_get}
 use Rattle.clif_meaning.specs.FunctionView.{FunctionView, Placed}
 use Rattle.clif_meaning.specs.Instruction.{Operation, TryCall, TryCallIndirect}
 use Rattle.clif_meaning.specs.WellPlaced.{edge_targets}
