@@ -101,7 +101,7 @@ filter_within p xs k d inside = (filter_to p xs (get_or (filter p xs) k d) (k, i
     again (y ∷ ys) zero e below = refl
     again (y ∷ ys) (suc j) e below = again ys j e (omega (arith, below))
 
--- a value that isn't there stands for itself
+-- a value that the function lacks is the end of its way
 pub resolved_past : (f : Body) (v : ℕ) → length f.values ≤ v → resolved f v ≡ v
 resolved_past f v past =
     follow_end f.values (length f.values) v (ap (λ (node : ValueNode). alias_of_origin node.origin) (get_or-eq_default f.values _ past))

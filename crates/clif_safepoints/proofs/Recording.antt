@@ -38,7 +38,7 @@ row_none values test = record {
   to = λ k below inside h. absurd (omega (arith, below));
 }
 
--- no member stands between two places
+-- there is no member between two places
 pub row_jump : (values : List ℕ) (test : ℕ → Bool) (place found : ℕ) (row : List ℕ) → place ≤ found → ((k : ℕ) → place ≤ k → k < found → test k ≡ false) → RowTo values test place row
     → RowTo values test found row
 row_jump values test place found row up none so_far = record {

@@ -62,7 +62,8 @@ pub data DepthFirst (leads : ℕ → List ℕ) : List ℕ → (before after : Vi
 abbrev pub IsDepthFirst : (leads : ℕ → List ℕ) (entry : Option ℕ) (order : List ℕ) → Type 0
 IsDepthFirst leads None order = order ≡ []
 IsDepthFirst leads (Some entry) order =
-    (entered : List ℕ) × DepthFirst leads (entry ∷ []) nothing_visited (record { entered = entered; left = order })
+    (entered : List ℕ)
+    × DepthFirst leads (entry ∷ []) nothing_visited (record { entered = entered; left = order })
 
 -- DOMINATION ------------------------------------------------------------------------------------------------------------
 
@@ -70,11 +71,13 @@ IsDepthFirst leads (Some entry) order =
 abbrev pub IsWay : (leads : ℕ → List ℕ) → Option ℕ → List ℕ → Type 0
 IsWay leads entry [] = ⊥
 IsWay leads entry (block ∷ []) = entry ≡ Some block
-IsWay leads entry (block ∷ before ∷ way) = Contains (leads before) block × IsWay leads entry (before ∷ way)
+IsWay leads entry (block ∷ before ∷ way) =
+    Contains (leads before) block × IsWay leads entry (before ∷ way)
 
 -- every way from the entry to the block passes the other one, or that is the block
 abbrev pub Dominates : (leads : ℕ → List ℕ) → Option ℕ → (other block : ℕ) → Type 0
-Dominates leads entry other block = (way : List ℕ) → IsWay leads entry (block ∷ way) → Contains (block ∷ way) other
+Dominates leads entry other block =
+    (way : List ℕ) → IsWay leads entry (block ∷ way) → Contains (block ∷ way) other
 
 -- what dominates a block of the list is in it, and no earlier than the block
 abbrev pub IsSorted : (leads : ℕ → List ℕ) → Option ℕ → List ℕ → Type 0
@@ -85,5 +88,5 @@ IsSorted leads entry order =
 -- blocks have one such order at most
 abbrev pub HasOneOrder : Type 0
 HasOneOrder =
-    (leads : ℕ → List ℕ) (entry : Option ℕ) (order other : List ℕ) → IsDepthFirst leads entry order → IsDepthFirst leads entry other
-    → order ≡ other
+    (leads : ℕ → List ℕ) (entry : Option ℕ) (order other : List ℕ)
+    → IsDepthFirst leads entry order → IsDepthFirst leads entry other → order ≡ other

@@ -88,7 +88,8 @@ fn record_block(
     ensures ok { OnOk result (IsRecorded func.now recorded.now live_ins.now insts.now
         across.old.items across.new.items) }
     ensures before { OnOk result (IsSet (length recorded.now)
-        (λ place. is_live_before func.now (in_set_of live_ins.now place) (slice_index recorded.now place) insts.now)
+        (λ place. is_live_before func.now (in_set_of live_ins.now place)
+        (slice_index recorded.now place) insts.now)
         live.new) }
     ensures memory_alone { IsOkUnless result BuildError.Memory }
 {

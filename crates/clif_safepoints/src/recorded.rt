@@ -23,7 +23,8 @@ impl<'a> Model for Recorded<'a> {
 
     ghost view = { λ r. r.values.items };
 
-    ghost invariant = { λ r. All (Contains r.set.now) r.values.items × IsStrictlyIncreasing r.values.items };
+    ghost invariant = { λ r. All (Contains r.set.now) r.values.items
+        × IsStrictlyIncreasing r.values.items };
 }
 
 impl<'a> Recorded<'a> {
@@ -89,7 +90,7 @@ impl<'a> Recorded<'a> {
     }
 }
 
-// Whether a value stands for itself. One that the function lacks does.
+// Whether a value is no alias. One that the function lacks is none.
 fn is_no_alias(func: &Function, value: Value) -> bool
     ensures { result ≡ (resolved func.now value == value) }
 {

@@ -37,7 +37,7 @@ const FRONTS: [FrontCase; 6] = [
             Front(3, &[], &[4]),
         ],
     },
-    // v0 is used behind such a loop, and lives around it.
+    // v0 is used after such a loop, and lives around it.
     FrontCase {
         name: "around an irreducible loop",
         steps: &[
