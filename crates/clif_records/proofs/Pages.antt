@@ -5,7 +5,7 @@ use Rattle.std.specs.Ordering.{eq_by_cmp}
 use Rattle.std.specs.Option.{unwrap_or}
 use Rattle.std.specs.FinMap as map
 use Rattle.std.specs.FinMap.{get-insert, get-remove, get-empty, same_map, len-empty, len-insert, empty_of_len}
-use Rattle.std.specs.HashMap.{HashMap, get}
+use Rattle.std.specs.HashMap.{HashMap, WritesThrough, get}
 use Rattle.std.specs.Map.{lookup}
 use Rattle.std.proofs.lemmas.Grind.{common_steps}
 use Rattle.std.proofs.lemmas.Bool.{cases_eq}
@@ -336,6 +336,24 @@ page_changed old new updated x b number place change page after is_number is_pla
     cell_changed_at old updated new x b number place change changes.0 page is_number is_place
     (λ q. found q ∙ ap (λ p. cond (same_key (x, number) q) (Some p) (get same_key old q)) changes.1)
     was changes.2 changes.3 changes.4 same
+
+-- the page was there, and was changed in place
+pub page_written : {S : Type 0} (old new : HashMap (ℕ × ℕ) (List Cell) S) (x b number place : ℕ) (change : Recorded → Recorded) (page after : List Cell)
+    → number ≡ b / 8 → place ≡ b % 8
+    → get same_key old (x, number) ≡ Some page
+    → WritesThrough same_key (same_key (x, number)) old after new
+    → ChangesCell page after place change
+    → HasEntry (records_in old) (records_in new) x b change
+page_written old new x b number place change page after is_number is_place found wrote changes =
+    page_changed old new.entries new.entries x b number place change page after is_number is_place (wrote.3 (ap is_some found)).0
+    (sym (ap (λ p. unwrap_or p empty_page) found)) changes refl
+
+pub len-written : {S : Type 0} (kept : HashMap (ℕ × ℕ) (List Cell) S) (new : RecordMap) (x b number place : ℕ) (change : Recorded → Recorded) (page : List Cell)
+    → number ≡ b / 8 → place ≡ b % 8
+    → get same_key kept (x, number) ≡ Some page → HasEntry (records_in kept) new x b change
+    → map.len new ≡ map.len (records_in kept) + added_by page place
+len-written kept new x b number place change page is_number is_place found has =
+    len-after-at kept new x b number place change page is_number is_place (sym (ap (λ p. unwrap_or p empty_page) found)) has
 
 pub entry_from : (old now new : RecordMap) (x b : ℕ) (change : Recorded → Recorded) → old ≡ now → HasEntry now new x b change → HasEntry old new x b change
 entry_from old now new x b change same has = has ∙ ap (λ m. map.insert m (x, b) (change (recorded_at m x b))) (sym same)

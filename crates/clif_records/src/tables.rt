@@ -345,6 +345,30 @@ impl VariableTable {
         if self.count == usize::MAX {
             return Err(BuildError::Memory);
         }
+        let key = (variable, page_number(block));
+        match self.pages.get_mut(&key) {
+            Some(page) => {
+                self.count += put_value(page, place_in_page(block), value);
+                Ok(())
+            }
+            None => self.set_in_new_page(variable, block, value),
+        }
+    }
+
+    // Records a value for a variable in a block whose page may not be there yet.
+    fn set_in_new_page(
+        &mut self,
+        variable: Variable,
+        block: Block,
+        value: Value,
+    ) -> Result<(), BuildError>
+        ensures entry { OnOk result (HasEntry self.old self.new variable block (recording value)) }
+        ensures refused { OnErr result (self.new ≡ self.old) }
+        ensures only_memory { OnErr result (result ≡ Err BuildError.Memory) }
+    {
+        if self.count == usize::MAX {
+            return Err(BuildError::Memory);
+        }
         let page = self
             .pages
             .entry((variable, page_number(block)))?
@@ -393,6 +417,29 @@ impl VariableTable {
         ensures records { (v b : ℕ) → record_at self.new v b ≡ record_at self.old v b }
         ensures ok { OnOk result ((v b : ℕ) → lookups_at self.new v b ≡ (if v == variable && b == block then one_more (lookups_at self.old v b) else lookups_at self.old v b)) }
         ensures err { OnErr result ((v b : ℕ) → lookups_at self.new v b ≡ lookups_at self.old v b) }
+        ensures only_memory { OnErr result (result ≡ Err BuildError.Memory) }
+    {
+        if self.count == usize::MAX {
+            return Err(BuildError::Memory);
+        }
+        let key = (variable, page_number(block));
+        match self.pages.get_mut(&key) {
+            Some(page) => {
+                self.count += count_one(page, place_in_page(block));
+                Ok(())
+            }
+            None => self.count_in_new_page(variable, block),
+        }
+    }
+
+    // Counts a look-up of a variable in a block whose page may not be there yet.
+    fn count_in_new_page(
+        &mut self,
+        variable: Variable,
+        block: Block,
+    ) -> Result<(), BuildError>
+        ensures entry { OnOk result (HasEntry self.old self.new variable block counting) }
+        ensures refused { OnErr result (self.new ≡ self.old) }
         ensures only_memory { OnErr result (result ≡ Err BuildError.Memory) }
     {
         if self.count == usize::MAX {
