@@ -131,5 +131,3 @@ before-passed x (suc k) (y ∷ xs) inside at none =
     let rest : before_first x xs ≡ take k xs = before-passed x k xs (omega (arith, inside)) at (λ j before. none (suc j) (omega (arith, before))) in
     let other : y ≢ x = none 0 (omega arith) in
     grind (arith, common_steps, rest, other)
-
-pub ruleset copying_rules = (records-none, records-further, before-passed, before-all)
