@@ -6,13 +6,8 @@ use Rattle.std.proofs.lemmas.Grind.{common_steps}
 use Rattle.std.proofs.lemmas.Bool.{cases_eq}
 use Rattle.clif_instructions.specs.Members.{stands_in}
 use Rattle.clif_records.specs.Tables.{RecordMap, record_at}
-use Rattle.clif_records.specs.Records.{MayBeSet, RecordsSome}
+use Rattle.clif_records.specs.Records.{MayBeSet, RecordsIn, RecordsSome}
 use Rattle.clif_records.specs.Passed.{before_first}
-
--- a value is recorded for a variable in the blocks that pass a test, and nowhere else
-abbrev pub RecordsIn : RecordMap → RecordMap → ℕ → ℕ → (ℕ → Bool) → Type 0
-RecordsIn old new variable value test =
-    (v b : ℕ) → record_at new v b ≡ (if v == variable && test b then Some value else record_at old v b)
 
 -- in no blocks
 pub records-none : (old : RecordMap) (variable value : ℕ) → RecordsIn old old variable value (λ b. stands_in b [])
@@ -28,6 +23,22 @@ stands-further b c blocks = list_any-append (λ y. y == b) blocks (c ∷ []) ∙
     by : (test : Bool) → (test || false) ≡ test
     by true = refl
     by false = refl
+
+-- in more blocks
+pub records-more : (old mid new : RecordMap) (variable value : ℕ) (blocks more : List ℕ) → RecordsIn old mid variable value (λ b. stands_in b blocks)
+    → RecordsIn mid new variable value (λ b. stands_in b more) → RecordsIn old new variable value (λ b. stands_in b (blocks ++ more))
+records-more old mid new variable value blocks more before step v b =
+    step v b ∙ ap (λ (r : Option ℕ). if v == variable && stands_in b more then Some value else r) (before v b)
+    ∙ by (v == variable) (stands_in b blocks) (stands_in b more) (record_at old v b)
+    ∙ ap (λ t. if v == variable && t then Some value else record_at old v b) (sym (list_any-append (λ y. y == b) blocks more))
+  where
+    by : (it here last : Bool) (r : Option ℕ)
+        → (if it && last then Some value else (if it && here then Some value else r)) ≡ (if it && (here || last) then Some value else r)
+    by false here last r = refl
+    by true true true r = refl
+    by true true false r = refl
+    by true false true r = refl
+    by true false false r = refl
 
 -- in one more block
 pub records-further : (old mid new : RecordMap) (variable value c : ℕ) (blocks : List ℕ) → RecordsIn old mid variable value (λ b. stands_in b blocks)
@@ -120,5 +131,3 @@ before-passed x (suc k) (y ∷ xs) inside at none =
     let rest : before_first x xs ≡ take k xs = before-passed x k xs (omega (arith, inside)) at (λ j before. none (suc j) (omega (arith, before))) in
     let other : y ≢ x = none 0 (omega arith) in
     grind (arith, common_steps, rest, other)
-
-pub ruleset copying_rules = (records-none, records-further, before-passed, before-all)

@@ -4,3 +4,4 @@ pub mod Pages
 pub mod SparseSet
 pub mod Stacks
 pub mod Copying
+pub mod OnePage

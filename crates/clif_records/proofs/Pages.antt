@@ -1,19 +1,19 @@
 -- What pages of cells say of a variable in a block, and what a changed cell makes of them.
-use Rattle.std.proofs.Common.{◌≡◌, ◌≢◌, ℕ, zero, suc, ◌+◌, ◌-◌, ◌*◌, ◌/◌, ◌%◌, ◌<◌, ◌≤◌, ◌⊎◌, inl, inr, List, [], ◌∷◌, Option, Some, None, Bool, true, false, cond, refl, ap, sym, ◌∙◌, subst, arith, eq-eqb, length}
+use Rattle.std.proofs.Common.{◌≡◌, ◌≢◌, ℕ, zero, suc, ◌+◌, ◌-◌, ◌*◌, ◌/◌, ◌%◌, ◌<◌, ◌⊎◌, inl, inr, List, [], ◌∷◌, Option, Some, None, Bool, true, false, cond, refl, ap, sym, ◌∙◌, subst, arith, length}
 use Rattle.std.specs.Prelude.{if◌then◌else◌, ◌==◌, ◌&&◌, not, is_some, slice_index_or, slice_set}
 use Rattle.std.specs.Ordering.{eq_by_cmp}
 use Rattle.std.specs.Option.{unwrap_or}
 use Rattle.std.specs.FinMap as map
-use Rattle.std.specs.FinMap.{get-insert, get-remove, get-empty, same_map, len-empty, len-insert, empty_of_len}
-use Rattle.std.specs.HashMap.{HashMap, get}
+use Rattle.std.specs.FinMap.{get-insert, get-remove, get-empty, same_map, len-insert}
+use Rattle.std.specs.HashMap.{HashMap, WritesThrough, get}
 use Rattle.std.specs.Map.{lookup}
 use Rattle.std.proofs.lemmas.Grind.{common_steps}
 use Rattle.std.proofs.lemmas.Bool.{cases_eq}
 use Rattle.clif_records.specs.declared.tables.Cell.{Cell}
 use Rattle.clif_records.specs.Tables.{Recorded, RecordMap, variable_then_block, nothing_recorded, recorded_at}
 use Rattle.clif_records.specs.Records.{HasEntry}
-use Rattle.clif_records.specs.Pages.{page_number, place_in_page, recorded_in, is_nothing, empty_cell, with_recorded_at, with_cells, records_of, records_in, kept_at, ChangesCell, added_by}
-use Rattle.clif_records.proofs.RecordMaps.{in_order, same_place, apart, itself, key_test, test_true, test_false}
+use Rattle.clif_records.specs.Pages.{recorded_in, is_nothing, empty_cell, with_recorded_at, with_cells, records_of, records_in, kept_at, ChangesCell, added_by}
+use Rattle.clif_records.proofs.RecordMaps.{in_order, same_place, apart, itself, test_true, test_false}
 
 -- the entry that something recorded is
 abbrev pub entry_of : Recorded → Option Recorded
@@ -92,13 +92,13 @@ none_second : (s t : Bool) → t ≡ false → (s && t) ≡ false
 none_second true t p = p
 none_second false t p = refl
 
-key_same : (p q : ℕ × ℕ) → p.0 ≡ q.0 → p.1 ≡ q.1 → same_key p q ≡ true
+pub key_same : (p q : ℕ × ℕ) → p.0 ≡ q.0 → p.1 ≡ q.1 → same_key p q ≡ true
 key_same p q i j = both_true (p.0 == q.0) (p.1 == q.1) (test_true p.0 q.0 i) (test_true p.1 q.1 j)
 
-first_differs : (p q : ℕ × ℕ) → p.0 ≢ q.0 → same_key p q ≡ false
+pub first_differs : (p q : ℕ × ℕ) → p.0 ≢ q.0 → same_key p q ≡ false
 first_differs p q other = none_first (p.0 == q.0) (p.1 == q.1) (test_false p.0 q.0 other)
 
-second_differs : (p q : ℕ × ℕ) → p.1 ≢ q.1 → same_key p q ≡ false
+pub second_differs : (p q : ℕ × ℕ) → p.1 ≢ q.1 → same_key p q ≡ false
 second_differs p q other = none_second (p.0 == q.0) (p.1 == q.1) (test_false p.1 q.1 other)
 
 pub get-records_of : (es : List ((ℕ × ℕ) × List Cell)) (x b : ℕ)
@@ -184,48 +184,48 @@ kept_or_empty None k = ap recorded_in (cell_of_empty k)
 kept_or_empty (Some cells) k = refl
 
 -- one cell of the page at a key was changed, and keeps something now
-pub cell_changed : {S : Type 0} (old : HashMap (ℕ × ℕ) (List Cell) S) (updated new : List ((ℕ × ℕ) × List Cell)) (x b : ℕ) (change : Recorded → Recorded) (cell : Cell) (page : List Cell)
-    → ((q : ℕ × ℕ) → lookup (same_key q) updated ≡ cond (same_key (x, b / 8) q) (Some (slice_set page (b % 8) cell)) (get same_key old q))
-    → page ≡ unwrap_or (get same_key old (x, b / 8)) empty_page
+pub cell_changed : (old : List ((ℕ × ℕ) × List Cell)) (updated new : List ((ℕ × ℕ) × List Cell)) (x b : ℕ) (change : Recorded → Recorded) (cell : Cell) (page : List Cell)
+    → ((q : ℕ × ℕ) → lookup (same_key q) updated ≡ cond (same_key (x, b / 8) q) (Some (slice_set page (b % 8) cell)) (lookup (same_key q) old))
+    → page ≡ unwrap_or (lookup (same_key (x, b / 8)) old) empty_page
     → b % 8 < length page
     → recorded_in cell ≡ change (recorded_in (cell_at page (b % 8)))
     → is_nothing (recorded_in cell) ≡ false
     → new ≡ updated
-    → HasEntry (records_in old) (records_of new) x b change
+    → HasEntry (records_of old) (records_of new) x b change
 cell_changed old updated new x b change cell page found was room is some same =
     ap records_of same
     ∙ same_map in_order same_place _ _ (λ q. at q.0 q.1)
   where
     changed : Recorded
-    changed = change (recorded_at (records_in old) x b)
+    changed = change (recorded_at (records_of old) x b)
 
     was_recorded : recorded_in cell ≡ changed
     was_recorded =
-        is ∙ ap (λ p. change (recorded_in (cell_at p (b % 8)))) was ∙ ap change (kept_or_empty (get same_key old (x, b / 8)) (b % 8))
-        ∙ ap change (sym (recorded_at-found old x b (get same_key old (x, b / 8)) refl))
+        is ∙ ap (λ p. change (recorded_in (cell_at p (b % 8)))) was ∙ ap change (kept_or_empty (lookup (same_key (x, b / 8)) old) (b % 8))
+        ∙ ap change (sym (recorded_at-pages old x b))
 
     entry : entry_of (recorded_in cell) ≡ Some changed
     entry = ap (λ t. if t then None else Some (recorded_in cell)) some ∙ ap Some was_recorded
 
     written : (y c : ℕ) (t : Bool) → same_key (x, b / 8) (y, c / 8) ≡ t
-        → map.get (records_of updated) (y, c) ≡ entry_of (kept_at (cond t (Some (slice_set page (b % 8) cell)) (get same_key old (y, c / 8))) (c % 8))
+        → map.get (records_of updated) (y, c) ≡ entry_of (kept_at (cond t (Some (slice_set page (b % 8) cell)) (lookup (same_key (y, c / 8)) old)) (c % 8))
     written y c t same_page =
         get-records_of updated y c
-        ∙ ap (λ p. entry_of (kept_at p (c % 8))) (found (y, c / 8) ∙ ap (λ u. cond u (Some (slice_set page (b % 8) cell)) (get same_key old (y, c / 8))) same_page)
+        ∙ ap (λ p. entry_of (kept_at p (c % 8))) (found (y, c / 8) ∙ ap (λ u. cond u (Some (slice_set page (b % 8) cell)) (lookup (same_key (y, c / 8)) old)) same_page)
 
     inserted : (y c : ℕ) (t : Bool) → eq_by_cmp variable_then_block (y, c) (x, b) ≡ t
-        → map.get (map.insert (records_in old) (x, b) changed) (y, c) ≡ cond t (Some changed) (map.get (records_in old) (y, c))
-    inserted y c t same_entry = get-insert in_order (records_in old) (x, b) changed (y, c) ∙ ap (λ u. cond u (Some changed) (map.get (records_in old) (y, c))) same_entry
+        → map.get (map.insert (records_of old) (x, b) changed) (y, c) ≡ cond t (Some changed) (map.get (records_of old) (y, c))
+    inserted y c t same_entry = get-insert in_order (records_of old) (x, b) changed (y, c) ∙ ap (λ u. cond u (Some changed) (map.get (records_of old) (y, c))) same_entry
 
     untouched : (y c : ℕ) → same_key (x, b / 8) (y, c / 8) ≡ false → ◌≢◌ {A = ℕ × ℕ} (y, c) (x, b)
-        → map.get (records_of updated) (y, c) ≡ map.get (map.insert (records_in old) (x, b) changed) (y, c)
+        → map.get (records_of updated) (y, c) ≡ map.get (map.insert (records_of old) (x, b) changed) (y, c)
     untouched y c off other =
-        written y c false off ∙ sym (get-records_of old.entries y c) ∙ sym (inserted y c false (apart (y, c) (x, b) other))
+        written y c false off ∙ sym (get-records_of old y c) ∙ sym (inserted y c false (apart (y, c) (x, b) other))
 
     same_block : (c : ℕ) → c / 8 ≡ b / 8 → c % 8 ≡ b % 8 → c ≡ b
     same_block c number place = sym (split c) ∙ (λ i. 8 * number i + place i) ∙ split b
 
-    at : (y c : ℕ) → map.get (records_of updated) (y, c) ≡ map.get (map.insert (records_in old) (x, b) changed) (y, c)
+    at : (y c : ℕ) → map.get (records_of updated) (y, c) ≡ map.get (map.insert (records_of old) (x, b) changed) (y, c)
     at y c =
         elim (cases_eq x y) [
           | inr other ↦ untouched y c (first_differs (x, b / 8) (y, c / 8) other) (λ q. other (sym (ap (λ (p : ℕ × ℕ). p.0) q)))
@@ -243,9 +243,9 @@ cell_changed old updated new x b change cell page found was room is some same =
                           written y c true (key_same (x, b / 8) (y, c / 8) variable number)
                           ∙ ap (λ d. entry_of (recorded_in d)) (cell_other page (b % 8) (c % 8) cell place)
                           ∙ ap (λ p. entry_of (recorded_in (cell_at p (c % 8)))) was
-                          ∙ ap entry_of (kept_or_empty (get same_key old (x, b / 8)) (c % 8))
-                          ∙ ap (λ p. entry_of (kept_at (get same_key old p) (c % 8))) (λ i. (variable i, number i))
-                          ∙ sym (get-records_of old.entries y c)
+                          ∙ ap entry_of (kept_or_empty (lookup (same_key (x, b / 8)) old) (c % 8))
+                          ∙ ap (λ p. entry_of (kept_at (lookup (same_key p) old) (c % 8))) (λ i. (variable i, number i))
+                          ∙ sym (get-records_of old y c)
                           ∙ sym (inserted y c false (apart (y, c) (x, b) (λ q. place (ap (λ (p : ℕ × ℕ). p.1 % 8) q))))
                     ]
               ]
@@ -270,51 +270,51 @@ contains-entry r = by (is_nothing r)
     by true = refl
     by false = refl
 
-pub contains-pages : {S : Type 0} (kept : HashMap (ℕ × ℕ) (List Cell) S) (x b : ℕ) (page : List Cell) → page ≡ unwrap_or (get same_key kept (x, b / 8)) empty_page
-    → map.contains_key (records_in kept) (x, b) ≡ not (is_nothing (recorded_in (cell_at page (b % 8))))
+pub contains-pages : (kept : List ((ℕ × ℕ) × List Cell)) (x b : ℕ) (page : List Cell) → page ≡ unwrap_or (lookup (same_key (x, b / 8)) kept) empty_page
+    → map.contains_key (records_of kept) (x, b) ≡ not (is_nothing (recorded_in (cell_at page (b % 8))))
 contains-pages kept x b page was =
-    ap is_some (get-records_of kept.entries x b) ∙ contains-entry (kept_at (get same_key kept (x, b / 8)) (b % 8))
-    ∙ ap (λ r. not (is_nothing r)) (sym (kept_or_empty (get same_key kept (x, b / 8)) (b % 8)) ∙ ap (λ p. recorded_in (cell_at p (b % 8))) (sym was))
+    ap is_some (get-records_of kept x b) ∙ contains-entry (kept_at (lookup (same_key (x, b / 8)) kept) (b % 8))
+    ∙ ap (λ r. not (is_nothing r)) (sym (kept_or_empty (lookup (same_key (x, b / 8)) kept) (b % 8)) ∙ ap (λ p. recorded_in (cell_at p (b % 8))) (sym was))
 
 -- how many records there are after the change
-pub len-after : {S : Type 0} (kept : HashMap (ℕ × ℕ) (List Cell) S) (new : RecordMap) (x b : ℕ) (change : Recorded → Recorded) (page : List Cell)
-    → page ≡ unwrap_or (get same_key kept (x, b / 8)) empty_page → HasEntry (records_in kept) new x b change
-    → map.len new ≡ map.len (records_in kept) + added_by page (b % 8)
+pub len-after : (kept : List ((ℕ × ℕ) × List Cell)) (new : RecordMap) (x b : ℕ) (change : Recorded → Recorded) (page : List Cell)
+    → page ≡ unwrap_or (lookup (same_key (x, b / 8)) kept) empty_page → HasEntry (records_of kept) new x b change
+    → map.len new ≡ map.len (records_of kept) + added_by page (b % 8)
 len-after kept new x b change page was has =
-    len-changed (records_in kept) new x b change has
-    ∙ ap (λ t. if t then map.len (records_in kept) else map.len (records_in kept) + 1) (contains-pages kept x b page was)
+    len-changed (records_of kept) new x b change has
+    ∙ ap (λ t. if t then map.len (records_of kept) else map.len (records_of kept) + 1) (contains-pages kept x b page was)
     ∙ by (is_nothing (recorded_in (cell_at page (b % 8))))
   where
-    by : (t : Bool) → (if not t then map.len (records_in kept) else map.len (records_in kept) + 1) ≡ map.len (records_in kept) + (if t then 1 else 0)
+    by : (t : Bool) → (if not t then map.len (records_of kept) else map.len (records_of kept) + 1) ≡ map.len (records_of kept) + (if t then 1 else 0)
     by true = refl
     by false = omega arith
 
 -- the same with names for the page's number and for the cell's place
-pub cell_changed_at : {S : Type 0} (old : HashMap (ℕ × ℕ) (List Cell) S) (updated new : List ((ℕ × ℕ) × List Cell)) (x b number place : ℕ) (change : Recorded → Recorded) (cell : Cell) (page : List Cell)
+pub cell_changed_at : (old : List ((ℕ × ℕ) × List Cell)) (updated new : List ((ℕ × ℕ) × List Cell)) (x b number place : ℕ) (change : Recorded → Recorded) (cell : Cell) (page : List Cell)
     → number ≡ b / 8 → place ≡ b % 8
-    → ((q : ℕ × ℕ) → lookup (same_key q) updated ≡ cond (same_key (x, number) q) (Some (slice_set page place cell)) (get same_key old q))
-    → page ≡ unwrap_or (get same_key old (x, number)) empty_page
+    → ((q : ℕ × ℕ) → lookup (same_key q) updated ≡ cond (same_key (x, number) q) (Some (slice_set page place cell)) (lookup (same_key q) old))
+    → page ≡ unwrap_or (lookup (same_key (x, number)) old) empty_page
     → place < length page
     → recorded_in cell ≡ change (recorded_in (cell_at page place))
     → is_nothing (recorded_in cell) ≡ false
     → new ≡ updated
-    → HasEntry (records_in old) (records_of new) x b change
+    → HasEntry (records_of old) (records_of new) x b change
 cell_changed_at old updated new x b number place change cell page is_number is_place found was room is some same =
     cell_changed old updated new x b change cell page
-    (subst (λ n. (q : ℕ × ℕ) → lookup (same_key q) updated ≡ cond (same_key (x, n) q) (Some (slice_set page (b % 8) cell)) (get same_key old q)) is_number
-    (subst (λ k. (q : ℕ × ℕ) → lookup (same_key q) updated ≡ cond (same_key (x, number) q) (Some (slice_set page k cell)) (get same_key old q)) is_place found))
-    (was ∙ ap (λ n. unwrap_or (get same_key old (x, n)) empty_page) is_number)
+    (subst (λ n. (q : ℕ × ℕ) → lookup (same_key q) updated ≡ cond (same_key (x, n) q) (Some (slice_set page (b % 8) cell)) (lookup (same_key q) old)) is_number
+    (subst (λ k. (q : ℕ × ℕ) → lookup (same_key q) updated ≡ cond (same_key (x, number) q) (Some (slice_set page k cell)) (lookup (same_key q) old)) is_place found))
+    (was ∙ ap (λ n. unwrap_or (lookup (same_key (x, n)) old) empty_page) is_number)
     (subst (λ k. k < length page) is_place room)
     (is ∙ ap (λ k. change (recorded_in (cell_at page k))) is_place)
     some same
 
-pub len-after-at : {S : Type 0} (kept : HashMap (ℕ × ℕ) (List Cell) S) (new : RecordMap) (x b number place : ℕ) (change : Recorded → Recorded) (page : List Cell)
+pub len-after-at : (kept : List ((ℕ × ℕ) × List Cell)) (new : RecordMap) (x b number place : ℕ) (change : Recorded → Recorded) (page : List Cell)
     → number ≡ b / 8 → place ≡ b % 8
-    → page ≡ unwrap_or (get same_key kept (x, number)) empty_page → HasEntry (records_in kept) new x b change
-    → map.len new ≡ map.len (records_in kept) + added_by page place
+    → page ≡ unwrap_or (lookup (same_key (x, number)) kept) empty_page → HasEntry (records_of kept) new x b change
+    → map.len new ≡ map.len (records_of kept) + added_by page place
 len-after-at kept new x b number place change page is_number is_place was has =
-    len-after kept new x b change page (was ∙ ap (λ n. unwrap_or (get same_key kept (x, n)) empty_page) is_number) has
-    ∙ ap (λ k. map.len (records_in kept) + added_by page k) (sym is_place)
+    len-after kept new x b change page (was ∙ ap (λ n. unwrap_or (lookup (same_key (x, n)) kept) empty_page) is_number) has
+    ∙ ap (λ k. map.len (records_of kept) + added_by page k) (sym is_place)
 
 -- the number of a value isn't that of none
 pub value_numbered : (n value : ℕ) → n ≡ value → value < 4294967295 → (if n == 4294967295 then None else Some n) ≡ Some value
@@ -325,17 +325,35 @@ pub has_value : (r : Recorded) (value : ℕ) → r.value ≡ Some value → is_n
 has_value r value is = ap (λ (v : Option ℕ). not (is_some v) && r.lookups == 0) is
 
 -- a cell of the page that was found, or of an empty one, was changed, and the page put
-pub page_changed : {S : Type 0} (old : HashMap (ℕ × ℕ) (List Cell) S) (new updated : List ((ℕ × ℕ) × List Cell)) (x b number place : ℕ) (change : Recorded → Recorded) (page after : List Cell)
+pub page_changed : (old : List ((ℕ × ℕ) × List Cell)) (new updated : List ((ℕ × ℕ) × List Cell)) (x b number place : ℕ) (change : Recorded → Recorded) (page after : List Cell)
     → number ≡ b / 8 → place ≡ b % 8
-    → ((q : ℕ × ℕ) → lookup (same_key q) updated ≡ cond (same_key (x, number) q) (Some after) (get same_key old q))
-    → page ≡ unwrap_or (get same_key old (x, number)) empty_page
+    → ((q : ℕ × ℕ) → lookup (same_key q) updated ≡ cond (same_key (x, number) q) (Some after) (lookup (same_key q) old))
+    → page ≡ unwrap_or (lookup (same_key (x, number)) old) empty_page
     → ChangesCell page after place change
     → new ≡ updated
-    → HasEntry (records_in old) (records_of new) x b change
+    → HasEntry (records_of old) (records_of new) x b change
 page_changed old new updated x b number place change page after is_number is_place found was changes same =
     cell_changed_at old updated new x b number place change changes.0 page is_number is_place
-    (λ q. found q ∙ ap (λ p. cond (same_key (x, number) q) (Some p) (get same_key old q)) changes.1)
+    (λ q. found q ∙ ap (λ p. cond (same_key (x, number) q) (Some p) (lookup (same_key q) old)) changes.1)
     was changes.2 changes.3 changes.4 same
+
+-- the page was there, and was changed in place
+pub page_written : {S : Type 0} (old new : HashMap (ℕ × ℕ) (List Cell) S) (x b number place : ℕ) (change : Recorded → Recorded) (page after : List Cell)
+    → number ≡ b / 8 → place ≡ b % 8
+    → get same_key old (x, number) ≡ Some page
+    → WritesThrough same_key (same_key (x, number)) old after new
+    → ChangesCell page after place change
+    → HasEntry (records_in old) (records_in new) x b change
+page_written old new x b number place change page after is_number is_place found wrote changes =
+    page_changed old.entries new.entries new.entries x b number place change page after is_number is_place (wrote.3 (ap is_some found)).0
+    (sym (ap (λ p. unwrap_or p empty_page) found)) changes refl
+
+pub len-written : {S : Type 0} (kept : HashMap (ℕ × ℕ) (List Cell) S) (new : RecordMap) (x b number place : ℕ) (change : Recorded → Recorded) (page : List Cell)
+    → number ≡ b / 8 → place ≡ b % 8
+    → get same_key kept (x, number) ≡ Some page → HasEntry (records_in kept) new x b change
+    → map.len new ≡ map.len (records_in kept) + added_by page place
+len-written kept new x b number place change page is_number is_place found has =
+    len-after-at kept.entries new x b number place change page is_number is_place (sym (ap (λ p. unwrap_or p empty_page) found)) has
 
 pub entry_from : (old now new : RecordMap) (x b : ℕ) (change : Recorded → Recorded) → old ≡ now → HasEntry now new x b change → HasEntry old new x b change
 entry_from old now new x b change same has = has ∙ ap (λ m. map.insert m (x, b) (change (recorded_at m x b))) (sym same)

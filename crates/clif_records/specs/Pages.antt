@@ -1,9 +1,10 @@
 -- How `src/tables.rt` keeps the records: in pages, each for a variable and eight blocks with numbers side by side. Source:
 -- own.
-use Rattle.std.specs.Prelude.{ℕ, zero, suc, ◌+◌, ◌-◌, ◌*◌, ◌/◌, ◌%◌, ◌^◌, ◌≡◌, ◌==◌, ◌&&◌, Bool, not, List, [], ◌∷◌, Option, Some, None, is_some, option_copied, slice_index_or, slice_set, false, length, ◌<◌, if◌then◌else◌}
+use Rattle.std.specs.Prelude.{ℕ, zero, suc, ◌+◌, ◌-◌, ◌*◌, ◌/◌, ◌%◌, ◌^◌, ◌≡◌, ◌==◌, ◌&&◌, Bool, not, List, [], ◌∷◌, Option, Some, None, is_some, option_copied, slice_index, slice_index_or, slice_set, false, length, ◌<◌, if◌then◌else◌}
 use Rattle.std.specs.HashMap.{HashMap}
 use Rattle.std.specs.FinMap as map
 use Rattle.clif_records.specs.Tables.{Recorded, RecordMap, nothing_recorded, recorded_at}
+use Rattle.clif_records.specs.Records.{recording}
 use Rattle.clif_records.specs.declared.tables.Cell.{Cell}
 use Rattle.clif_records.specs.declared.tables.PageAtHand.{PageAtHand}
 
@@ -70,3 +71,13 @@ ChangesCell old new place change =
 -- how many cells more keep something once this one does
 abbrev pub added_by : List Cell → ℕ → ℕ
 added_by cells place = if is_nothing (recorded_in (slice_index_or cells place empty_cell)) then 1 else 0
+
+-- the cells of the first of these blocks, so many, keep a value, and so many cells more keep something
+abbrev pub PutsRun : List ℕ → ℕ → List Cell → List Cell → ℕ → ℕ → Type 0
+PutsRun blocks value old new added zero = (new ≡ old) × (added ≡ 0)
+PutsRun blocks value old new added (suc k) =
+    (mid : List Cell)
+    × (fewer : ℕ)
+    × PutsRun blocks value old mid fewer k
+    × ChangesCell mid new (place_in_page (slice_index blocks k)) (recording value)
+    × (added ≡ fewer + added_by mid (place_in_page (slice_index blocks k)))

@@ -8,6 +8,7 @@
 
 pub mod look_up;
 pub mod passed;
+mod runs;
 pub mod side_effects;
 pub mod tables;
 pub mod tracking;

@@ -14,7 +14,7 @@ use std::marker::Model;
 pub struct PassedBlocks {
     blocks: Vec<Block>,
     // For each block of the set, where it stands in `blocks`. What it says of other blocks means nothing.
-    places: Vec<usize>,
+    places: Vec<u32>,
 }
 
 impl Model for PassedBlocks {
@@ -63,7 +63,7 @@ impl PassedBlocks {
         ensures { IsTrue result ↔ Stands block self.now }
     {
         match self.places.get(block.index()) {
-            Some(place) => self.stands_at(block, *place),
+            Some(place) => self.stands_at(block, *place as usize),
             None => false,
         }
     }
@@ -92,11 +92,13 @@ impl PassedBlocks {
         ensures err { OnErr result (self.new ≡ self.old) }
         ensures only_memory { OnErr result (result ≡ Err BuildError.Memory) }
     {
+        let Ok(place) = u32::try_from(self.blocks.len()) else {
+            return Err(BuildError::Memory);
+        };
         let missing = (block.index() + 1).saturating_sub(self.places.len());
         for _ in 0..missing {
             self.places.push(0)?;
         }
-        let place = self.blocks.len();
         self.blocks.push(block)?;
         self.places[block.index()] = place;
         Ok(())

@@ -1,12 +1,13 @@
 //! Tables of the construction: the records of a variable, the branches that lead to a block, and the
 //! parameters that wait in it.
-ghost use Rattle.std.specs.Prelude.{◌≡◌, ◌==◌, ◌&&◌, ◌↔◌, IsTrue, false, ℕ, [], ◌∷◌, ◌++◌, ◌<◌, ◌≤◌, ◌+◌, ◌⊎◌, ◌^◌, length, OnOk, OnErr, IfOk, Some, None, option_copied, if◌then◌else◌, slice_index_or};
-ghost use Rattle.clif_instructions.specs.Members.{Stands, place_of, without};
+ghost use Rattle.std.specs.Prelude.{◌≡◌, ◌≢◌, ◌==◌, ◌&&◌, ◌↔◌, IsTrue, false, ℕ, [], ◌∷◌, ◌++◌, ◌<◌, ◌≤◌, ◌+◌, ◌⊎◌, ◌^◌, length, take, OnOk, OnErr, IfOk, Some, None, option_copied, if◌then◌else◌, slice_index, slice_index_or};
+ghost use Rattle.clif_instructions.specs.Members.{Stands, place_of, stands_in, without};
 ghost use Rattle.std.specs.FinMap as map;
 ghost use Rattle.clif_records.specs.Pages.{ChangesCell, IsAtHand, added_by, is_nothing, kept_at, page_number, place_in_page, recorded_in};
-ghost use Rattle.clif_records.specs.Records.{recording, counting, HasEntry, RecordsUpTo, RecordsSome};
+ghost use Rattle.clif_records.specs.Records.{recording, counting, HasEntry, RecordsIn, RecordsUpTo, RecordsSome};
 ghost use Rattle.clif_records.specs.Tables.{recorded_at, record_at, lookups_at, one_more, known_at, sealed_at, predecessors_at, sealed_predecessors_at, is_yes, pending_of};
 
+use crate::runs::put_run;
 use crate::variable::Variable;
 use clif_types::{Block, BuildError, EntityRef, Inst, Value};
 use smallvec::SmallVec;
@@ -82,7 +83,7 @@ impl PendingList {
 
 /// What a page keeps of a variable in one of its blocks, in eight bytes.
 #[derive(Clone, Copy, Debug)]
-struct Cell {
+pub(crate) struct Cell {
     // The number of the value; that of no value, `NO_VALUE`, where none is recorded.
     value: u32,
     lookups: u32,
@@ -94,7 +95,7 @@ const NO_VALUE: u32 = 0xffff_ffff;
 // Of how many blocks a page has the cells.
 const BLOCKS_IN_PAGE: u32 = 8;
 
-type Page = [Cell; BLOCKS_IN_PAGE as usize];
+pub(crate) type Page = [Cell; BLOCKS_IN_PAGE as usize];
 
 const EMPTY_PAGE: Page = [Cell {
     value: NO_VALUE,
@@ -136,7 +137,7 @@ fn kept_at(page: &Page, place: usize) -> Recorded
 }
 
 // Makes a cell keep a value. Returns how many cells more keep something.
-fn put_value(page: &mut Page, place: usize, value: Value) -> usize
+pub(crate) fn put_value(page: &mut Page, place: usize, value: Value) -> usize
     requires { place < 8 }
     ensures changed { ChangesCell page.old page.new place (recording value) }
     ensures added { result ≡ added_by page.old place }
@@ -160,14 +161,14 @@ fn count_one(page: &mut Page, place: usize) -> usize
 }
 
 // The number of the page of a block: pages have eight blocks each, by their numbers.
-fn page_number(block: Block) -> u32
+pub(crate) fn page_number(block: Block) -> u32
     ensures { result ≡ page_number block }
 {
     block.as_u32() / BLOCKS_IN_PAGE
 }
 
 // Where the cell of a block is in its page.
-fn place_in_page(block: Block) -> usize
+pub(crate) fn place_in_page(block: Block) -> usize
     ensures exact { result ≡ place_in_page block }
     ensures inside { result < 8 }
 {
@@ -345,6 +346,30 @@ impl VariableTable {
         if self.count == usize::MAX {
             return Err(BuildError::Memory);
         }
+        let key = (variable, page_number(block));
+        match self.pages.get_mut(&key) {
+            Some(page) => {
+                self.count += put_value(page, place_in_page(block), value);
+                Ok(())
+            }
+            None => self.set_in_new_page(variable, block, value),
+        }
+    }
+
+    // Records a value for a variable in a block whose page may not be there yet.
+    fn set_in_new_page(
+        &mut self,
+        variable: Variable,
+        block: Block,
+        value: Value,
+    ) -> Result<(), BuildError>
+        ensures entry { OnOk result (HasEntry self.old self.new variable block (recording value)) }
+        ensures refused { OnErr result (self.new ≡ self.old) }
+        ensures only_memory { OnErr result (result ≡ Err BuildError.Memory) }
+    {
+        if self.count == usize::MAX {
+            return Err(BuildError::Memory);
+        }
         let page = self
             .pages
             .entry((variable, page_number(block)))?
@@ -358,7 +383,6 @@ impl VariableTable {
     /// # Errors
     ///
     /// `Memory`, where memory is refused. The value may be recorded in some of the blocks then.
-    #[tactic(auto, using(crate::proofs::Copying::copying_rules))]
     #[inline(always)]
     pub fn set_each(
         &mut self,
@@ -372,13 +396,53 @@ impl VariableTable {
         ensures lookups { (v b : ℕ) → lookups_at self.new v b ≡ lookups_at self.old v b }
         ensures only_memory { OnErr result (result ≡ Err BuildError.Memory) }
     {
-        for block in blocks.iter() {
-            if *block == from {
+        let mut done = 0;
+        while done < blocks.len() {
+            if blocks[done] == from {
                 break;
             }
-            self.set(variable, *block, value)?;
+            done += self.set_run(variable, &blocks[done..], from, value)?;
         }
         Ok(())
+    }
+
+    // Records a value for a variable in the first of these blocks, and in those after it whose cells are in the same
+    // page, up to the first `from`. Returns how many these are. After an error the records are as they were.
+    #[inline(always)]
+    fn set_run(
+        &mut self,
+        variable: Variable,
+        blocks: &[Block],
+        from: Block,
+        value: Value,
+    ) -> Result<usize, BuildError>
+        requires some { 0 < length blocks.now }
+        requires first { slice_index blocks.now 0 ≢ from }
+        ensures run { IfOk result (λ n.
+            RecordsIn self.old self.new variable value (λ b. stands_in b (take n blocks.now))) }
+        ensures lookups { OnOk result
+            ((v b : ℕ) → lookups_at self.new v b ≡ lookups_at self.old v b) }
+        ensures apart { IfOk result
+            (λ n. (k : ℕ) → k < n → slice_index blocks.now k ≢ from) }
+        ensures within { IfOk result (λ n. (0 < n) × (n ≤ length blocks.now)) }
+        ensures refused { OnErr result (self.new ≡ self.old) }
+        ensures only_memory { OnErr result (result ≡ Err BuildError.Memory) }
+    {
+        if blocks.len() > usize::MAX - self.count {
+            return Err(BuildError::Memory);
+        }
+        let number = page_number(blocks[0]);
+        match self.pages.get_mut(&(variable, number)) {
+            Some(page) => {
+                let run = put_run(page, number, blocks, from, value);
+                self.count += run.added;
+                Ok(run.blocks)
+            }
+            None => {
+                self.set_in_new_page(variable, blocks[0], value)?;
+                Ok(1)
+            }
+        }
     }
 
     /// Counts a look-up of a variable in a block's predecessors.
@@ -393,6 +457,25 @@ impl VariableTable {
         ensures records { (v b : ℕ) → record_at self.new v b ≡ record_at self.old v b }
         ensures ok { OnOk result ((v b : ℕ) → lookups_at self.new v b ≡ (if v == variable && b == block then one_more (lookups_at self.old v b) else lookups_at self.old v b)) }
         ensures err { OnErr result ((v b : ℕ) → lookups_at self.new v b ≡ lookups_at self.old v b) }
+        ensures only_memory { OnErr result (result ≡ Err BuildError.Memory) }
+    {
+        if self.count == usize::MAX {
+            return Err(BuildError::Memory);
+        }
+        let key = (variable, page_number(block));
+        match self.pages.get_mut(&key) {
+            Some(page) => {
+                self.count += count_one(page, place_in_page(block));
+                Ok(())
+            }
+            None => self.count_in_new_page(variable, block),
+        }
+    }
+
+    // Counts a look-up of a variable in a block whose page may not be there yet.
+    fn count_in_new_page(&mut self, variable: Variable, block: Block) -> Result<(), BuildError>
+        ensures entry { OnOk result (HasEntry self.old self.new variable block counting) }
+        ensures refused { OnErr result (self.new ≡ self.old) }
         ensures only_memory { OnErr result (result ≡ Err BuildError.Memory) }
     {
         if self.count == usize::MAX {

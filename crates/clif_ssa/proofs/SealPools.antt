@@ -13,6 +13,7 @@ use Rattle.clif_ssa.specs.Constructs.{OnlyConstructs}
 use Rattle.clif_ssa.specs.Pools.{types_of, MayPool, MayPoolAll, MayPoolWaiting, SealingIsFull, UseIsFull, WaitsWithType}
 use Rattle.clif_ssa.specs.Ssa.{SsaState, sealed_of, NamesExist, SameBlocks, Seals}
 use Rattle.clif_ssa.specs.Steps.{StepPools}
+use Rattle.clif_ssa.proofs.Constructing.{constructs_none}
 use Rattle.clif_ssa.proofs.Ordering.{contains_cons, contains_first, contains_more, none_contained}
 use Rattle.clif_ssa.proofs.Pooled.{all_append}
 use Rattle.clif_ssa.proofs.Pooling.{pool_append, pool_none, pools_next, sealing_from, types_kept}
@@ -90,6 +91,9 @@ pools_local types f g s t u b tables made seals blocks = record {
   typed = types_kept f g made;
   waiting = λ c p here. inl (waited s t b c p seals (subst (λ known. Contains (pending_of (sealed_at known c)) p) blocks here));
 }
+
+pub pools_nothing : (types : List «Type») (f : Body) (s t : SsaState) (b : ℕ) → Seals s t b → StepPools types f s f t
+pools_nothing types f s t b seals = pools_local types f f s t t b (pool_none types f.tables) (constructs_none f) seals refl
 
 pub pools_sealed : (types : List «Type») (f g : Body) (s t u : SsaState) (b : ℕ) → Seals s t b → StepPools types f t g u → StepPools types f s g u
 pools_sealed types f g s t u b seals pools = record {

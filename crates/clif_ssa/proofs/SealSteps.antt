@@ -1,5 +1,5 @@
 -- What the sealing of a block makes and leaves, by the ways in which it ends.
-use Rattle.std.proofs.Common.{◌≡◌, ◌≢◌, ℕ, ◌+◌, List, [], length, refl, ap, sym, ◌∙◌, subst, inl, inr}
+use Rattle.std.proofs.Common.{◌≡◌, ◌≢◌, ℕ, ◌+◌, List, [], ◌∷◌, length, refl, ap, sym, ◌∙◌, subst, inl, inr}
 use Rattle.std.specs.Prelude.{Result, Ok, Err, OnOk, IfOk}
 use Rattle.clif_types.specs.declared.error.BuildError.{BuildError}
 use Rattle.clif_ir.specs.Body.{Body}
@@ -13,8 +13,9 @@ use Rattle.clif_ssa.specs.Ssa.{SsaState, sealed_of, predecessors_of, completed, 
 use Rattle.clif_ssa.specs.Steps.{SealKeeps, SealMakes, StepLeaves}
 use Rattle.clif_ssa.specs.Structure.{LooksOnce}
 use Rattle.clif_records.specs.Tables.{is_yes, lookups_at, pending_of, predecessors_at, record_at, sealed_at}
-use Rattle.clif_ssa.proofs.Constructing.{constructs_none, tells_all}
+use Rattle.clif_ssa.proofs.Constructing.{constructs_none, tells_all, tells_more_none, tells_none}
 use Rattle.clif_ssa.proofs.CountedOnce.{none_lost, once_kept, once_same, once_seals}
+use Rattle.clif_ssa.proofs.LeavesSteps.{leaves_kept}
 use Rattle.clif_ssa.proofs.Local.{named-same}
 use Rattle.clif_ssa.proofs.Naming.{has_more}
 use Rattle.clif_ssa.proofs.Public.{seals_by_look_up}
@@ -118,3 +119,26 @@ looked_keeps b f g s t u waiting records seals same known list leaves looks = re
   looks_once = λ once.
       looks (once_same t b (pending_of (sealed_of s b)) waiting (sym list) (once_seals s t b seals (same_records s t records) (same_lookups s t records) once));
 }
+
+-- NOTHING WAITS IN IT ---------------------------------------------------------------------------------------------
+
+-- where nothing waits it makes no difference whether branches lead to the block
+pub nothing_makes : (b : ℕ) (f : Body) (s t : SsaState) (answer : SideEffects) → t.records ≡ s.records → t.tracking ≡ s.tracking → Seals s t b → SamePredecessors s t
+    → [] ≡ pending_of (sealed_of s b) → answer.instructions_added_to_blocks.items ≡ [] → SealMakes b f s f t (Ok answer)
+nothing_makes b f s t answer records tracking seals same none told = by (predecessors_of t b) refl
+  where
+    some_none : {x : ℕ} {xs : List ℕ} → ◌≡◌ {A = List ℕ} (x ∷ xs) [] → ⊥
+    some_none is = cc
+
+    by : (leads : List ℕ) → predecessors_of t b ≡ leads → SealMakes b f s f t (Ok answer)
+    by [] is =
+        local_makes b f f s t t [] (Ok answer) records tracking seals same none (λ some. some is) (λ x c. refl) refl refl (λ x c. refl) refl told
+        (subst (λ xs. TellsZeros f f xs) (sym told) (tells_none f f refl))
+    by (branch ∷ leads) is =
+        looked_makes b f f s t t [] no_look_up no_look_up answer records tracking seals same none (λ no. some_none (sym is ∙ no))
+        (leaves_kept f t t (λ x c. refl) refl) refl refl (tells_more_none f []) told
+
+pub nothing_keeps : (b : ℕ) (f : Body) (s t : SsaState) → t.records ≡ s.records → Seals s t b → SamePredecessors s t → KnowsNoMore s t (b + 1)
+    → [] ≡ pending_of (sealed_of s b) → SealKeeps b f s f t
+nothing_keeps b f s t records seals same known none =
+    local_keeps b f f s t t [] records seals same known none (λ x c. refl) refl (λ begins. begins.once) (has_more f) (constructs_none f)

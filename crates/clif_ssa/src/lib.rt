@@ -17,6 +17,7 @@
 
 mod ending;
 pub mod laws;
+mod look_up;
 pub mod ssa;
 mod ssa_tables;
 mod zeros;

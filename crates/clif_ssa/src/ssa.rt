@@ -1,9 +1,9 @@
 //! The builder of SSA form.
-ghost use Rattle.std.specs.Prelude.{◌≡◌, ◌≢◌, ◌<◌, ◌≤◌, ◌==◌, ◌↔◌, ◌++◌, ◌⊎◌, List, [], ◌∷◌, ℕ, Bool, IsTrue, Some, None, true, false, length, OnOk, OnErr, IfOk, IfSome, Contains, ◌+◌, ◌-◌, slice_get};
+ghost use Rattle.std.specs.Prelude.{◌≡◌, ◌≢◌, ◌<◌, ◌≤◌, ◌==◌, ◌↔◌, ◌⊎◌, [], ◌∷◌, ℕ, Bool, IsTrue, Some, None, true, false, length, OnOk, OnErr, IfOk, IfSome, Contains, ◌+◌, ◌-◌, slice_get};
 ghost use Rattle.std.specs.FinMap as map;
-ghost use Rattle.clif_ir.specs.Body.{Body, block_at, value_at};
+ghost use Rattle.clif_ir.specs.Body.{Body, block_at};
 ghost use Rattle.clif_instructions.specs.Members.{Stands};
-ghost use Rattle.clif_ssa.specs.Constructs.{OnlyConstructs, TellsMore, TellsZeros};
+ghost use Rattle.clif_ssa.specs.Constructs.{OnlyConstructs, TellsZeros};
 ghost use Rattle.clif_ssa.specs.Limits.{ConstructionIsFull};
 ghost use Rattle.clif_ssa.specs.Moving.{MovesBranch};
 ghost use Rattle.clif_ssa.specs.Pools.{types_of, MayPool, MayPoolAll, MayPoolWaiting, SealingIsFull, UseIsFull, WaitsWithType};
@@ -20,27 +20,25 @@ ghost use Rattle.clif_records.specs.Stacks.{no_look_up};
 ghost use Rattle.clif_records.specs.Tracking.{recorded_of, with_binding, with_mark};
 ghost use Rattle.std.specs.Borrow.{sem};
 ghost use Rattle.clif_ssa.specs.Lending.{lends_builder_recorded};
-ghost use Rattle.clif_ssa.specs.LookUp.{branch_block, LooksUp, MakesCall, UsesVariable, CompletesParameter};
-ghost use Rattle.clif_ssa.specs.Running.{stage, found, with_call, CallsFit, CompletesAll, MakesAll, ToComplete};
+ghost use Rattle.clif_ssa.specs.LookUp.{branch_block, UsesVariable};
+ghost use Rattle.clif_ssa.specs.Running.{stage, found, ToComplete};
 ghost use Rattle.clif_ssa.specs.Sealing.{SealsBelow, SealsOne, SealsLocally, SealsByLookUp};
-ghost use Rattle.clif_ssa.specs.Steps.{SealKeeps, SealMakes, StepEnds, StepKeeps, StepLeaves, StepPools, UsesLocally};
+ghost use Rattle.clif_ssa.specs.Steps.{SealKeeps, SealMakes, StepEnds, StepKeeps, StepPools, UsesLocally};
 ghost use Rattle.clif_ssa.specs.Tracked.{TracksMade};
 ghost use Rattle.clif_ssa.specs.Zeros.{steps_before};
 ghost use Rattle.clif_ssa.specs.Within.{HoldsBranches, HoldsWaiting, StaysWithin};
 ghost use Rattle.clif_ssa.specs.Ssa.{no_state, record_of, sealed_of, predecessors_of, lookups_of, completed, completing_blocks, CountsEach, CountsLookup, Declares, HasMore, IsLocal, MayBind, Named, NamesExist, Records, KnowsNoMore, RecordsStay, Removes, SamePredecessors, SameBlocks, SameLookups, SameRecords, SealedStays, Seals, Waits, Zeroes};
 
-use crate::ending::finish_look_up;
-use crate::ssa_tables::{Reached, SsaTables};
+use crate::ssa_tables::SsaTables;
 use crate::zeros::replace_by_zero;
 use clif_ir::Function;
-use clif_records::look_up::{Call, LookUp};
+use clif_records::look_up::LookUp;
 use clif_records::passed::PassedBlocks;
 use clif_records::tables::Pending;
 use clif_records::{SideEffects, Variable};
 use clif_types::{Block, BuildError, EntityRef, EntitySet, Inst, Type, Value};
 use std::alloc::Global;
 use std::marker::Model;
-use std::mem;
 
 /// The builder of SSA form: which value each variable has in each block.
 #[derive(Debug)]
@@ -396,38 +394,25 @@ impl SSABuilder {
         if self.tables.is_local(block) {
             return self.use_locally(func, variable, ty, block);
         }
-        let mut look_up = self.take_look_up();
-        self.look_up_in(func, variable, ty, block, &mut look_up)?;
-        let value = self.make_calls(func, variable, ty, &mut look_up)?;
-        let instructions_added_to_blocks = self.give_back(look_up);
+        self.look_up.clear();
+        self.tables.look_up_in(
+            func,
+            variable,
+            ty,
+            block,
+            &mut self.passed,
+            &mut self.look_up,
+        )?;
+        let value = self
+            .tables
+            .make_calls(func, variable, ty, &mut self.passed, &mut self.look_up)?;
+        let instructions_added_to_blocks = self.look_up.take_zeros();
         Ok((
             value,
             SideEffects {
                 instructions_added_to_blocks,
             },
         ))
-    }
-
-    // The stacks of a look-up, with nothing on them. Where they aren't given back, the next look-up takes
-    // new ones.
-    fn take_look_up(&mut self) -> LookUp
-        ensures empty { result ≡ no_look_up }
-        ensures kept { self.new ≡ self.old }
-    {
-        let mut look_up = mem::replace(&mut self.look_up, LookUp::new(self.alloc));
-        look_up.clear();
-        look_up
-    }
-
-    // Gives the stacks back, and answers the blocks of the zeros that were put.
-    fn give_back(&mut self, look_up: LookUp) -> Vec<Block>
-        ensures zeros { result.items ≡ look_up.zeros }
-        ensures kept { self.new ≡ self.old }
-    {
-        let mut look_up = look_up;
-        let zeros = look_up.take_zeros();
-        self.look_up = look_up;
-        zeros
     }
 
     // The value of a variable that isn't recorded in a block which is unsealed or has no predecessors.
@@ -446,138 +431,6 @@ impl SSABuilder {
     {
         self.tables
             .use_locally(self.alloc, func, variable, ty, block)
-    }
-
-    // Looks a variable up in a block.
-    #[inline(always)]
-    fn look_up_in(
-        &mut self,
-        func: &mut Function,
-        variable: Variable,
-        ty: Type,
-        block: Block,
-        look_up: &mut LookUp,
-    ) -> Result<(), BuildError>
-        requires exists { block < length func.old.blocks }
-        requires named { NamesExist func.old self.old }
-        ensures looks { OnOk result (LooksUp variable ty block (stage func.old self.old look_up.old) (stage func.new self.new look_up.new)) }
-        ensures keeps { StepKeeps variable ty func.old self.old func.new self.new }
-        ensures tells { OnOk result (TellsMore func.old func.new look_up.old.zeros look_up.new.zeros) }
-        ensures ends { StepEnds (UseIsFull ty) func.new result }
-    {
-        func.law_consistent();
-        let reached = self.tables.walk(func, variable, block, &mut self.passed)?;
-        let Reached { block, recorded } = reached;
-        let value = self
-            .tables
-            .record_or_parameter(func, variable, ty, block, recorded, look_up)?;
-        self.tables
-            .copy_record(variable, value, &self.passed, block)
-    }
-
-    // Makes calls until none is left, and answers the one result.
-    fn make_calls(
-        &mut self,
-        func: &mut Function,
-        variable: Variable,
-        ty: Type,
-        look_up: &mut LookUp,
-    ) -> Result<Value, BuildError>
-        requires named { NamesExist func.old self.old }
-        requires calls_fit { CallsFit ty func.old self.old look_up.old }
-        ensures made { IfOk result (λ v. MakesAll variable ty (stage func.old self.old look_up.old) v (stage func.new self.new look_up.new)) }
-        ensures keeps { StepKeeps variable ty func.old self.old func.new self.new }
-        ensures tells { OnOk result (TellsMore func.old func.new look_up.old.zeros look_up.new.zeros) }
-        ensures exists { IfOk result (λ v. v < length func.new.values) }
-        ensures ends { StepEnds (UseIsFull ty) func.new result }
-    {
-        while let Some(call) = look_up.next_call() {
-            self.make_call(func, variable, ty, call, look_up)?;
-        }
-        Ok(look_up.take_result())
-    }
-
-    // Makes one call.
-    #[inline(always)]
-    fn make_call(
-        &mut self,
-        func: &mut Function,
-        variable: Variable,
-        ty: Type,
-        call: Call,
-        look_up: &mut LookUp,
-    ) -> Result<(), BuildError>
-        requires named { NamesExist func.old self.old }
-        requires calls_fit { CallsFit ty func.old self.old (with_call call look_up.old) }
-        ensures made { OnOk result (MakesCall variable ty (stage func.old self.old (with_call call look_up.old)) (stage func.new self.new look_up.new)) }
-        ensures fits { OnOk result (CallsFit ty func.new self.new look_up.new) }
-        ensures keeps { StepKeeps variable ty func.old self.old func.new self.new }
-        ensures tells { OnOk result (TellsMore func.old func.new look_up.old.zeros look_up.new.zeros) }
-        ensures ends { StepEnds (UseIsFull ty) func.new result }
-    {
-        match call {
-            Call::UseVar(branch) => {
-                func.law_consistent();
-                let Some(block) = func.inst_block(branch) else {
-                    unreachable!()
-                };
-                self.look_up_in(func, variable, ty, block, look_up)
-            }
-            Call::FinishPredecessorsLookup(param, block) => {
-                let predecessors = self.tables.predecessors(block);
-                finish_look_up(func, predecessors, param, block, look_up)
-            }
-        }
-    }
-
-    // Completes a parameter that waited in a block: looks its variable up in the predecessors.
-    fn complete_parameter(
-        &mut self,
-        func: &mut Function,
-        block: Block,
-        waiting: Pending,
-        look_up: &mut LookUp,
-    ) -> Result<(), BuildError>
-        requires named { NamesExist func.old self.old }
-        requires param_exists { waiting.param < length func.old.values }
-        requires idle { (look_up.old.calls ≡ []) × (look_up.old.results ≡ []) }
-        ensures completes { OnOk result (CompletesParameter waiting.variable (value_at func.old waiting.param).ty waiting.param block (stage func.old self.old look_up.old) (stage func.new self.new look_up.new)) }
-        ensures idle { OnOk result ((look_up.new.calls ≡ []) × (look_up.new.results ≡ [])) }
-        ensures leaves { StepLeaves func.old self.old func.new self.new }
-        ensures pools { StepPools ((value_at func.old waiting.param).ty ∷ []) func.old self.old func.new self.new }
-        ensures tells { OnOk result (TellsMore func.old func.new look_up.old.zeros look_up.new.zeros) }
-        ensures looks_once { (rest : List Pending) → ToComplete self.old block (waiting ∷ rest) → ToComplete self.new block rest }
-        ensures ends { StepEnds (UseIsFull (value_at func.old waiting.param).ty) func.new result }
-    {
-        let Pending { variable, param } = waiting;
-        let ty = func.value_type(param);
-        self.tables.begin_look_up(variable, param, block, look_up)?;
-        let _value = self.make_calls(func, variable, ty, look_up)?;
-        Ok(())
-    }
-
-    // Completes parameters that waited in a block, in order.
-    fn complete_all(
-        &mut self,
-        func: &mut Function,
-        block: Block,
-        waiting: &[Pending],
-        look_up: &mut LookUp,
-    ) -> Result<(), BuildError>
-        requires named { NamesExist func.old self.old }
-        requires params_exist { (p : Pending) → Contains waiting.now p → p.param < length func.old.values }
-        requires idle { (look_up.old.calls ≡ []) × (look_up.old.results ≡ []) }
-        ensures completes { OnOk result (CompletesAll block waiting.now (stage func.old self.old look_up.old) (stage func.new self.new look_up.new)) }
-        ensures leaves { StepLeaves func.old self.old func.new self.new }
-        ensures pools { StepPools (types_of func.old waiting.now) func.old self.old func.new self.new }
-        ensures tells { OnOk result (TellsMore func.old func.new look_up.old.zeros look_up.new.zeros) }
-        ensures looks_once { ToComplete self.old block waiting.now → LooksOnce self.new }
-        ensures ends { StepEnds (SealingIsFull (Contains (types_of func.old waiting.now))) func.new result }
-    {
-        for pending in waiting.iter() {
-            self.complete_parameter(func, block, *pending, look_up)?;
-        }
-        Ok(())
     }
 
     // Completes parameters that waited in a block to which nothing leads, in order.
@@ -625,12 +478,21 @@ impl SSABuilder {
         ensures ends { StepEnds ConstructionIsFull func.new result }
     {
         let waiting = self.tables.seal(block)?;
+        if waiting.as_slice().is_empty() {
+            return Ok(SideEffects::new(self.alloc));
+        }
         if !self.tables.has_any_predecessors(block) {
             return self.complete_locally(func, block, waiting.as_slice());
         }
-        let mut look_up = self.take_look_up();
-        self.complete_all(func, block, waiting.as_slice(), &mut look_up)?;
-        let instructions_added_to_blocks = self.give_back(look_up);
+        self.look_up.clear();
+        self.tables.complete_all(
+            func,
+            block,
+            waiting.as_slice(),
+            &mut self.passed,
+            &mut self.look_up,
+        )?;
+        let instructions_added_to_blocks = self.look_up.take_zeros();
         Ok(SideEffects {
             instructions_added_to_blocks,
         })

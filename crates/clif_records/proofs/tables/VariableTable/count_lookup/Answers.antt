@@ -1,27 +1,47 @@
-use Rattle.std.proofs.Common.{rules, ◌≡◌, ◌∙◌, ◌+◌, sym, ap, subst, arith, Bool, true, false}
-use Rattle.std.proofs.lemmas.Grind.{common_steps}
+use Rattle.std.proofs.Common.{rules, ◌≡◌, ◌∙◌, ◌+◌, sym, ap, Some}
+use Rattle.std.specs.Prelude.{OnOk, OnErr}
+use Rattle.std.specs.Option.{option_copied_mut}
 use Rattle.std.specs.FinMap as map
+use Rattle.std.specs.HashMap.{get}
 use Rattle.clif_records.specs.Records.{counting, HasEntry}
-use Rattle.clif_records.specs.Pages.{records_in, records_of}
-use Rattle.clif_records.proofs.RecordMaps.{value_kept, count_changed}
-use Rattle.clif_records.proofs.Pages.{entry_from, len-after-at, page_changed}
+use Rattle.clif_records.specs.Tables.{record_at}
+use Rattle.clif_records.specs.Pages.{records_in}
+use Rattle.clif_records.proofs.RecordLaws.{either_way, on_ok}
+use Rattle.clif_records.proofs.RecordMaps.{count_changed, value_kept}
+use Rattle.clif_records.proofs.Pages.{entry_from, len-written, page_written, same_key}
 use Rattle.clif_records.proofs.tables.VariableTable.count_lookup.Goals as goal
 
-pub returns-clause-entry : goal.returns-clause-entry
-returns-clause-entry c =
-    rw (← c.self.view_is) (page_changed c.self.inside.pages _ _ c.args.variable c.args.block c.page_number.result c.place_in_page.result counting c.or_insert-page.result.now _
-    c.page_number.ensures c.place_in_page.ensures.exact ((c.in_ok-self-inside.ensures.update).0 _).0
-    (first_of (search rules, grind (arith, common_steps))) c.count_one.ensures.changed (first_of (search rules, grind (arith, common_steps))))
+-- THE PAGE IS THERE -----------------------------------------------------------------------------------------------
 
-pub invariant_of-self-2 : goal.invariant_of-self-2
-invariant_of-self-2 c =
+pub returns-in-Some-clause-entry : goal.returns-in-Some-clause-entry
+returns-in-Some-clause-entry c =
+    let found : get same_key c.self.inside.pages (c.args.variable, c.page_number.result) ≡ Some c.in-Some.page.now = sym c.get_mut.ensures.value ∙ ap option_copied_mut c.in-Some.is in
+    rw (← c.self.view_is) (page_written c.self.inside.pages _ c.args.variable c.args.block c.page_number.result c.place_in_page.result counting c.in-Some.page.now c.count_one.new.page
+    c.page_number.ensures c.place_in_page.ensures.exact found (c.get_mut.follows.holds c.count_one.new.page) c.count_one.ensures.changed)
+
+pub invariant_of-self : goal.invariant_of-self
+invariant_of-self c =
+    let found : get same_key c.self.inside.pages (c.args.variable, c.page_number.result) ≡ Some c.in-Some.page.now = sym c.get_mut.ensures.value ∙ ap option_copied_mut c.in-Some.is in
     ap (λ n. n + c.count_one.result) c.self.invariant ∙ ap (λ n. map.len (records_in c.self.inside.pages) + n) c.count_one.ensures.added
-    ∙ sym (len-after-at c.self.inside.pages _ c.args.variable c.args.block c.page_number.result c.place_in_page.result counting c.or_insert-page.result.now
-    c.page_number.ensures c.place_in_page.ensures.exact (first_of (search rules, grind (arith, common_steps)))
-    (entry_from _ _ _ c.args.variable c.args.block counting c.self.view_is (returns-clause-entry c)))
+    ∙ sym (len-written c.self.inside.pages _ c.args.variable c.args.block c.page_number.result c.place_in_page.result counting c.in-Some.page.now
+    c.page_number.ensures c.place_in_page.ensures.exact found
+    (entry_from _ _ _ c.args.variable c.args.block counting c.self.view_is (returns-in-Some-clause-entry c)))
 
-pub returns-clause-records : goal.returns-clause-records
-returns-clause-records c = value_kept _ _ c.args.variable c.args.block (returns-clause-entry c)
+pub returns-in-Some-clause-records : goal.returns-in-Some-clause-records
+returns-in-Some-clause-records c = value_kept _ _ c.args.variable c.args.block (returns-in-Some-clause-entry c)
 
-pub returns-clause-ok : goal.returns-clause-ok
-returns-clause-ok c = count_changed _ _ c.args.variable c.args.block (returns-clause-entry c)
+pub returns-in-Some-clause-ok : goal.returns-in-Some-clause-ok
+returns-in-Some-clause-ok c = count_changed _ _ c.args.variable c.args.block (returns-in-Some-clause-entry c)
+
+-- IT ISN'T --------------------------------------------------------------------------------------------------------
+
+pub returns-in-None-clause-records : goal.returns-in-None-clause-records
+returns-in-None-clause-records c =
+    let has : OnOk c.count_in_new_page.result (HasEntry c.args.self.now c.count_in_new_page.new.self c.args.variable c.args.block counting) = search rules in
+    let same : OnErr c.count_in_new_page.result (c.count_in_new_page.new.self ≡ c.args.self.now) = search rules in
+    either_way c.count_in_new_page.result _ _ _ (value_kept _ _ c.args.variable c.args.block) (λ is v b. ap (λ m. record_at m v b) is) has same
+
+pub returns-in-None-clause-ok : goal.returns-in-None-clause-ok
+returns-in-None-clause-ok c =
+    let has : OnOk c.count_in_new_page.result (HasEntry c.args.self.now c.count_in_new_page.new.self c.args.variable c.args.block counting) = search rules in
+    on_ok c.count_in_new_page.result _ _ (count_changed _ _ c.args.variable c.args.block) has

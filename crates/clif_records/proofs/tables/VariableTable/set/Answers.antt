@@ -1,27 +1,47 @@
-use Rattle.std.proofs.Common.{rules, ◌≡◌, ◌∙◌, ◌+◌, sym, ap, subst, arith, Bool, true, false}
-use Rattle.std.proofs.lemmas.Grind.{common_steps}
+use Rattle.std.proofs.Common.{rules, ◌≡◌, ◌∙◌, ◌+◌, sym, ap, Some}
+use Rattle.std.specs.Prelude.{OnOk, OnErr}
+use Rattle.std.specs.Option.{option_copied_mut}
 use Rattle.std.specs.FinMap as map
+use Rattle.std.specs.HashMap.{get}
 use Rattle.clif_records.specs.Records.{recording, HasEntry}
-use Rattle.clif_records.specs.Pages.{records_in, records_of}
-use Rattle.clif_records.proofs.RecordMaps.{value_changed, count_kept}
-use Rattle.clif_records.proofs.Pages.{entry_from, len-after-at, page_changed}
+use Rattle.clif_records.specs.Tables.{lookups_at}
+use Rattle.clif_records.specs.Pages.{records_in}
+use Rattle.clif_records.proofs.RecordLaws.{either_way, on_ok}
+use Rattle.clif_records.proofs.RecordMaps.{count_kept, value_changed}
+use Rattle.clif_records.proofs.Pages.{entry_from, len-written, page_written, same_key}
 use Rattle.clif_records.proofs.tables.VariableTable.set.Goals as goal
 
-pub returns-clause-entry : goal.returns-clause-entry
-returns-clause-entry c =
-    rw (← c.self.view_is) (page_changed c.self.inside.pages _ _ c.args.variable c.args.block c.page_number.result c.place_in_page.result (recording c.args.value) c.or_insert-page.result.now _
-    c.page_number.ensures c.place_in_page.ensures.exact ((c.in_ok-self-inside.ensures.update).0 _).0
-    (first_of (search rules, grind (arith, common_steps))) c.put_value.ensures.changed (first_of (search rules, grind (arith, common_steps))))
+-- THE PAGE IS THERE -----------------------------------------------------------------------------------------------
 
-pub invariant_of-self-2 : goal.invariant_of-self-2
-invariant_of-self-2 c =
+pub returns-in-Some-clause-entry : goal.returns-in-Some-clause-entry
+returns-in-Some-clause-entry c =
+    let found : get same_key c.self.inside.pages (c.args.variable, c.page_number.result) ≡ Some c.in-Some.page.now = sym c.get_mut.ensures.value ∙ ap option_copied_mut c.in-Some.is in
+    rw (← c.self.view_is) (page_written c.self.inside.pages _ c.args.variable c.args.block c.page_number.result c.place_in_page.result (recording c.args.value) c.in-Some.page.now c.put_value.new.page
+    c.page_number.ensures c.place_in_page.ensures.exact found (c.get_mut.follows.holds c.put_value.new.page) c.put_value.ensures.changed)
+
+pub invariant_of-self : goal.invariant_of-self
+invariant_of-self c =
+    let found : get same_key c.self.inside.pages (c.args.variable, c.page_number.result) ≡ Some c.in-Some.page.now = sym c.get_mut.ensures.value ∙ ap option_copied_mut c.in-Some.is in
     ap (λ n. n + c.put_value.result) c.self.invariant ∙ ap (λ n. map.len (records_in c.self.inside.pages) + n) c.put_value.ensures.added
-    ∙ sym (len-after-at c.self.inside.pages _ c.args.variable c.args.block c.page_number.result c.place_in_page.result (recording c.args.value) c.or_insert-page.result.now
-    c.page_number.ensures c.place_in_page.ensures.exact (first_of (search rules, grind (arith, common_steps)))
-    (entry_from _ _ _ c.args.variable c.args.block (recording c.args.value) c.self.view_is (returns-clause-entry c)))
+    ∙ sym (len-written c.self.inside.pages _ c.args.variable c.args.block c.page_number.result c.place_in_page.result (recording c.args.value) c.in-Some.page.now
+    c.page_number.ensures c.place_in_page.ensures.exact found
+    (entry_from _ _ _ c.args.variable c.args.block (recording c.args.value) c.self.view_is (returns-in-Some-clause-entry c)))
 
-pub returns-clause-ok : goal.returns-clause-ok
-returns-clause-ok c = value_changed _ _ c.args.variable c.args.block c.args.value (returns-clause-entry c)
+pub returns-in-Some-clause-ok : goal.returns-in-Some-clause-ok
+returns-in-Some-clause-ok c = value_changed _ _ c.args.variable c.args.block c.args.value (returns-in-Some-clause-entry c)
 
-pub returns-clause-lookups : goal.returns-clause-lookups
-returns-clause-lookups c = count_kept _ _ c.args.variable c.args.block c.args.value (returns-clause-entry c)
+pub returns-in-Some-clause-lookups : goal.returns-in-Some-clause-lookups
+returns-in-Some-clause-lookups c = count_kept _ _ c.args.variable c.args.block c.args.value (returns-in-Some-clause-entry c)
+
+-- IT ISN'T --------------------------------------------------------------------------------------------------------
+
+pub returns-in-None-clause-ok : goal.returns-in-None-clause-ok
+returns-in-None-clause-ok c =
+    let has : OnOk c.set_in_new_page.result (HasEntry c.args.self.now c.set_in_new_page.new.self c.args.variable c.args.block (recording c.args.value)) = search rules in
+    on_ok c.set_in_new_page.result _ _ (value_changed _ _ c.args.variable c.args.block c.args.value) has
+
+pub returns-in-None-clause-lookups : goal.returns-in-None-clause-lookups
+returns-in-None-clause-lookups c =
+    let has : OnOk c.set_in_new_page.result (HasEntry c.args.self.now c.set_in_new_page.new.self c.args.variable c.args.block (recording c.args.value)) = search rules in
+    let same : OnErr c.set_in_new_page.result (c.set_in_new_page.new.self ≡ c.args.self.now) = search rules in
+    either_way c.set_in_new_page.result _ _ _ (count_kept _ _ c.args.variable c.args.block c.args.value) (λ is v b. ap (λ m. lookups_at m v b) is) has same

@@ -3,14 +3,14 @@ use Rattle.std.specs.Prelude.{Contains, Err}
 use Rattle.std.proofs.lemmas.Grind.{common_steps}
 use Rattle.std.proofs.lemmas.Result.{err_from_is_err_and}
 use Rattle.clif_records.specs.Tables.{pending_of, record_at}
-use Rattle.clif_ssa.specs.Ssa.{SsaState, NamesExist, sealed_of, predecessors_of}
+use Rattle.clif_ssa.specs.Ssa.{NamesExist, sealed_of, predecessors_of}
 use Rattle.clif_ssa.specs.Pools.{types_of}
 use Rattle.clif_ssa.specs.Running.{stage, CompletesAll, ToComplete}
-use Rattle.clif_ssa.specs.Steps.{StepLeaves, StepPools}
+use Rattle.clif_ssa.specs.Steps.{StepLeaves}
 use Rattle.clif_ssa.specs.Structure.{LooksOnce}
-use Rattle.clif_ssa.proofs.SealSteps.{failed_makes, local_keeps, local_makes, looked_keeps, looked_makes, refused_keeps, refused_makes}
+use Rattle.clif_ssa.proofs.SealSteps.{failed_makes, local_keeps, local_makes, looked_keeps, looked_makes, nothing_keeps, nothing_makes, refused_keeps, refused_makes}
 use Rattle.clif_ssa.proofs.Pooling.{sealing_full}
-use Rattle.clif_ssa.proofs.SealPools.{block_full, block_pools, pools_local, pools_refused, pools_sealed, waiting_exist}
+use Rattle.clif_ssa.proofs.SealPools.{block_full, block_pools, pools_local, pools_nothing, pools_refused, pools_sealed, waiting_exist}
 use Rattle.clif_ssa.proofs.Steps.{ends_as, ends_memory, ends_ok, ends_wider, ends_zeros}
 use Rattle.clif_ssa.proofs.Waited.{leading-named, sealed-named}
 use Rattle.clif_ssa.proofs.ssa.SSABuilder.seal_one_block.Goals as goal
@@ -18,7 +18,6 @@ use Rattle.clif_ssa.proofs.ssa.SSABuilder.seal_one_block.Goals as goal
 pub complete_all-requires-clause-named : goal.complete_all-requires-clause-named
 complete_all-requires-clause-named c =
     let some : predecessors_of c.seal.new.self c.args.block ≢ [] = first_of (search rules, grind (arith, common_steps)) in
-    rw (c.take_look_up-look_up.ensures.kept)
     (sealed-named c.args.func.now c.self.inside.tables c.seal.new.self c.args.block c.in_ok-waiting.ensures.ok
     (λ x b. ap (λ rows. record_at rows x b) c.seal.ensures.records) c.seal.ensures.predecessors
     (leading-named c.args.func.now c.self.inside.tables c.args.block (rw (c.self.view_is) c.requires.named) (λ none. some (c.seal.ensures.predecessors c.args.block ∙ none))))
@@ -49,20 +48,42 @@ returns-in_err-waiting-clause-ends c =
     rw (p.1, p.2)
     (ends_memory c.args.func.now c.in_err-waiting.field-0.0 c.in_err-waiting.ensures.only_memory)
 
+-- NOTHING WAITS IN IT ---------------------------------------------------------------------------------------------
+
+pub returns-then-is_empty-clause-makes : goal.returns-then-is_empty-clause-makes
+returns-then-is_empty-clause-makes c =
+    let none : [] ≡ pending_of (sealed_of c.self.inside.tables c.args.block) = first_of (search rules, grind (arith, common_steps)) in
+    let told : c.new.result.instructions_added_to_blocks.items ≡ [] = search rules in
+    rw (← c.self.view_is)
+    (nothing_makes c.args.block c.args.func.now c.self.inside.tables c.seal.new.self c.new.result c.seal.ensures.records c.seal.ensures.tracking c.in_ok-waiting.ensures.ok c.seal.ensures.predecessors none told)
+
+pub returns-then-is_empty-clause-keeps : goal.returns-then-is_empty-clause-keeps
+returns-then-is_empty-clause-keeps c =
+    let none : [] ≡ pending_of (sealed_of c.self.inside.tables c.args.block) = first_of (search rules, grind (arith, common_steps)) in
+    rw (← c.self.view_is)
+    (nothing_keeps c.args.block c.args.func.now c.self.inside.tables c.seal.new.self c.seal.ensures.records c.in_ok-waiting.ensures.ok c.seal.ensures.predecessors c.seal.ensures.no_more none)
+
+pub returns-then-is_empty-clause-ends : goal.returns-then-is_empty-clause-ends
+returns-then-is_empty-clause-ends c = ends_ok c.args.func.now _
+
+pub returns-then-is_empty-clause-pools : goal.returns-then-is_empty-clause-pools
+returns-then-is_empty-clause-pools c =
+    rw (← c.self.view_is) (λ named. pools_nothing _ c.args.func.now c.self.inside.tables c.seal.new.self c.args.block c.in_ok-waiting.ensures.ok)
+
 -- NOTHING LEADS TO IT ---------------------------------------------------------------------------------------------
 
 pub returns-then-not-has_any_predecessors-clause-makes : goal.returns-then-not-has_any_predecessors-clause-makes
 returns-then-not-has_any_predecessors-clause-makes c =
-    let same : c.as_slice.result.now ≡ pending_of (sealed_of c.self.inside.tables c.args.block) = first_of (search rules, grind (arith, common_steps)) in
+    let same : c.as_slice-then-not-has_any_predecessors.result.now ≡ pending_of (sealed_of c.self.inside.tables c.args.block) = first_of (search rules, grind (arith, common_steps)) in
     rw (← c.self.view_is)
-    (local_makes c.args.block c.args.func.now c.complete_locally.new.func c.self.inside.tables c.seal.new.self c.complete_locally.new.self c.as_slice.result.now c.complete_locally.result c.seal.ensures.records c.seal.ensures.tracking c.in_ok-waiting.ensures.ok c.seal.ensures.predecessors same (λ some. let no : false ≡ true = c.if-not-has_any_predecessors.ensures.1 some in cc)
+    (local_makes c.args.block c.args.func.now c.complete_locally.new.func c.self.inside.tables c.seal.new.self c.complete_locally.new.self c.as_slice-then-not-has_any_predecessors.result.now c.complete_locally.result c.seal.ensures.records c.seal.ensures.tracking c.in_ok-waiting.ensures.ok c.seal.ensures.predecessors same (λ some. let no : false ≡ true = c.if-not-has_any_predecessors.ensures.1 some in cc)
     c.complete_locally.ensures.records c.complete_locally.ensures.tracking c.complete_locally.ensures.blocks c.complete_locally.ensures.counted c.complete_locally.ensures.function c.complete_locally.ensures.told c.complete_locally.ensures.tells)
 
 pub returns-then-not-has_any_predecessors-clause-keeps : goal.returns-then-not-has_any_predecessors-clause-keeps
 returns-then-not-has_any_predecessors-clause-keeps c =
-    let same : c.as_slice.result.now ≡ pending_of (sealed_of c.self.inside.tables c.args.block) = first_of (search rules, grind (arith, common_steps)) in
+    let same : c.as_slice-then-not-has_any_predecessors.result.now ≡ pending_of (sealed_of c.self.inside.tables c.args.block) = first_of (search rules, grind (arith, common_steps)) in
     rw (← c.self.view_is)
-    (local_keeps c.args.block c.args.func.now c.complete_locally.new.func c.self.inside.tables c.seal.new.self c.complete_locally.new.self c.as_slice.result.now c.seal.ensures.records c.in_ok-waiting.ensures.ok c.seal.ensures.predecessors c.seal.ensures.no_more same c.complete_locally.ensures.records c.complete_locally.ensures.blocks c.complete_locally.ensures.looks_once c.complete_locally.ensures.more c.complete_locally.ensures.constructs)
+    (local_keeps c.args.block c.args.func.now c.complete_locally.new.func c.self.inside.tables c.seal.new.self c.complete_locally.new.self c.as_slice-then-not-has_any_predecessors.result.now c.seal.ensures.records c.in_ok-waiting.ensures.ok c.seal.ensures.predecessors c.seal.ensures.no_more same c.complete_locally.ensures.records c.complete_locally.ensures.blocks c.complete_locally.ensures.looks_once c.complete_locally.ensures.more c.complete_locally.ensures.constructs)
 
 pub returns-then-not-has_any_predecessors-clause-ends : goal.returns-then-not-has_any_predecessors-clause-ends
 returns-then-not-has_any_predecessors-clause-ends c =
@@ -73,7 +94,7 @@ returns-then-not-has_any_predecessors-clause-ends c =
 pub returns-in_err-complete_all-clause-makes : goal.returns-in_err-complete_all-clause-makes
 returns-in_err-complete_all-clause-makes c =
     let leaves : StepLeaves c.args.func.now c.seal.new.self c.complete_all.new.func c.complete_all.new.self =
-    subst (λ (t : SsaState). StepLeaves c.args.func.now t c.complete_all.new.func c.complete_all.new.self) c.take_look_up-look_up.ensures.kept c.complete_all.ensures.leaves in
+    c.complete_all.ensures.leaves in
     let p = err_from_is_err_and c.from_residual-in_err-complete_all.result c.from_residual-in_err-complete_all.ensures.1 in
     rw (p.1, p.2, ← c.self.view_is)
     (failed_makes c.args.block c.args.func.now c.complete_all.new.func c.self.inside.tables c.seal.new.self c.complete_all.new.self c.in_err-complete_all.field-0.0 c.in_ok-waiting.ensures.ok c.seal.ensures.predecessors (c.if-not-has_any_predecessors.ensures.0 refl) leaves)
@@ -81,9 +102,9 @@ returns-in_err-complete_all-clause-makes c =
 pub returns-in_err-complete_all-clause-keeps : goal.returns-in_err-complete_all-clause-keeps
 returns-in_err-complete_all-clause-keeps c =
     let leaves : StepLeaves c.args.func.now c.seal.new.self c.complete_all.new.func c.complete_all.new.self =
-    subst (λ (t : SsaState). StepLeaves c.args.func.now t c.complete_all.new.func c.complete_all.new.self) c.take_look_up-look_up.ensures.kept c.complete_all.ensures.leaves in
+    c.complete_all.ensures.leaves in
     let once : ToComplete c.seal.new.self c.args.block c.as_slice-2.result.now → LooksOnce c.complete_all.new.self =
-    subst (λ (t : SsaState). ToComplete t c.args.block c.as_slice-2.result.now → LooksOnce c.complete_all.new.self) c.take_look_up-look_up.ensures.kept c.complete_all.ensures.looks_once in
+    c.complete_all.ensures.looks_once in
     let same : c.as_slice-2.result.now ≡ pending_of (sealed_of c.self.inside.tables c.args.block) = first_of (search rules, grind (arith, common_steps)) in
     rw (← c.self.view_is)
     (looked_keeps c.args.block c.args.func.now c.complete_all.new.func c.self.inside.tables c.seal.new.self c.complete_all.new.self c.as_slice-2.result.now c.seal.ensures.records c.in_ok-waiting.ensures.ok c.seal.ensures.predecessors c.seal.ensures.no_more same leaves once)
@@ -98,23 +119,23 @@ returns-in_err-complete_all-clause-ends c =
 pub returns-clause-makes : goal.returns-clause-makes
 returns-clause-makes c =
     let leaves : StepLeaves c.args.func.now c.seal.new.self c.complete_all.new.func c.complete_all.new.self =
-    subst (λ (t : SsaState). StepLeaves c.args.func.now t c.complete_all.new.func c.complete_all.new.self) c.take_look_up-look_up.ensures.kept c.complete_all.ensures.leaves in
-    let all : CompletesAll c.args.block c.as_slice-2.result.now (stage c.args.func.now c.seal.new.self c.take_look_up-look_up.result) (stage c.complete_all.new.func c.complete_all.new.self c.complete_all.new.look_up) =
-    subst (λ (t : SsaState). CompletesAll c.args.block c.as_slice-2.result.now (stage c.args.func.now t c.take_look_up-look_up.result) (stage c.complete_all.new.func c.complete_all.new.self c.complete_all.new.look_up)) c.take_look_up-look_up.ensures.kept c.in_ok-complete_all.ensures.completes in
+    c.complete_all.ensures.leaves in
+    let all : CompletesAll c.args.block c.as_slice-2.result.now (stage c.args.func.now c.seal.new.self c.clear.new.self) (stage c.complete_all.new.func c.complete_all.new.self c.complete_all.new.look_up) =
+    c.in_ok-complete_all.ensures.completes in
     let same : c.as_slice-2.result.now ≡ pending_of (sealed_of c.self.inside.tables c.args.block) = first_of (search rules, grind (arith, common_steps)) in
-    let told : c.give_back-instructions_added_to_blocks.result.items ≡ c.complete_all.new.look_up.zeros = first_of (search rules, grind (arith, common_steps)) in
-    rw (c.give_back-instructions_added_to_blocks.ensures.kept, ← c.self.view_is)
-    (looked_makes c.args.block c.args.func.now c.complete_all.new.func c.self.inside.tables c.seal.new.self c.complete_all.new.self c.as_slice-2.result.now c.take_look_up-look_up.result c.complete_all.new.look_up (record { instructions_added_to_blocks = c.give_back-instructions_added_to_blocks.result }) c.seal.ensures.records c.seal.ensures.tracking c.in_ok-waiting.ensures.ok c.seal.ensures.predecessors same (c.if-not-has_any_predecessors.ensures.0 refl) leaves
-    c.take_look_up-look_up.ensures.empty all c.in_ok-complete_all.ensures.tells told)
+    let told : c.take_zeros-instructions_added_to_blocks.result.items ≡ c.complete_all.new.look_up.zeros = first_of (search rules, grind (arith, common_steps)) in
+    rw (← c.self.view_is)
+    (looked_makes c.args.block c.args.func.now c.complete_all.new.func c.self.inside.tables c.seal.new.self c.complete_all.new.self c.as_slice-2.result.now c.clear.new.self c.complete_all.new.look_up (record { instructions_added_to_blocks = c.take_zeros-instructions_added_to_blocks.result }) c.seal.ensures.records c.seal.ensures.tracking c.in_ok-waiting.ensures.ok c.seal.ensures.predecessors same (c.if-not-has_any_predecessors.ensures.0 refl) leaves
+    c.clear.ensures all c.in_ok-complete_all.ensures.tells told)
 
 pub returns-clause-keeps : goal.returns-clause-keeps
 returns-clause-keeps c =
     let leaves : StepLeaves c.args.func.now c.seal.new.self c.complete_all.new.func c.complete_all.new.self =
-    subst (λ (t : SsaState). StepLeaves c.args.func.now t c.complete_all.new.func c.complete_all.new.self) c.take_look_up-look_up.ensures.kept c.complete_all.ensures.leaves in
+    c.complete_all.ensures.leaves in
     let once : ToComplete c.seal.new.self c.args.block c.as_slice-2.result.now → LooksOnce c.complete_all.new.self =
-    subst (λ (t : SsaState). ToComplete t c.args.block c.as_slice-2.result.now → LooksOnce c.complete_all.new.self) c.take_look_up-look_up.ensures.kept c.complete_all.ensures.looks_once in
+    c.complete_all.ensures.looks_once in
     let same : c.as_slice-2.result.now ≡ pending_of (sealed_of c.self.inside.tables c.args.block) = first_of (search rules, grind (arith, common_steps)) in
-    rw (c.give_back-instructions_added_to_blocks.ensures.kept, ← c.self.view_is)
+    rw (← c.self.view_is)
     (looked_keeps c.args.block c.args.func.now c.complete_all.new.func c.self.inside.tables c.seal.new.self c.complete_all.new.self c.as_slice-2.result.now c.seal.ensures.records c.in_ok-waiting.ensures.ok c.seal.ensures.predecessors c.seal.ensures.no_more same leaves once)
 
 pub returns-clause-ends : goal.returns-clause-ends
@@ -130,12 +151,12 @@ returns-in_err-waiting-clause-pools c =
 
 pub returns-then-not-has_any_predecessors-clause-pools : goal.returns-then-not-has_any_predecessors-clause-pools
 returns-then-not-has_any_predecessors-clause-pools c =
-    let same : c.as_slice.result.now ≡ pending_of (sealed_of c.self.inside.tables c.args.block) = first_of (search rules, grind (arith, common_steps)) in
+    let same : c.as_slice-then-not-has_any_predecessors.result.now ≡ pending_of (sealed_of c.self.inside.tables c.args.block) = first_of (search rules, grind (arith, common_steps)) in
     rw (← c.self.view_is)
     (λ named.
-    block_pools c.args.func.now c.complete_locally.new.func c.self.inside.tables c.complete_locally.new.self c.args.block c.as_slice.result.now same
-    (pools_local (types_of c.args.func.now c.as_slice.result.now) c.args.func.now c.complete_locally.new.func c.self.inside.tables c.seal.new.self c.complete_locally.new.self c.args.block
-    (c.complete_locally.ensures.pools (waiting_exist c.args.func.now c.self.inside.tables c.args.block c.as_slice.result.now same named))
+    block_pools c.args.func.now c.complete_locally.new.func c.self.inside.tables c.complete_locally.new.self c.args.block c.as_slice-then-not-has_any_predecessors.result.now same
+    (pools_local (types_of c.args.func.now c.as_slice-then-not-has_any_predecessors.result.now) c.args.func.now c.complete_locally.new.func c.self.inside.tables c.seal.new.self c.complete_locally.new.self c.args.block
+    (c.complete_locally.ensures.pools (waiting_exist c.args.func.now c.self.inside.tables c.args.block c.as_slice-then-not-has_any_predecessors.result.now same named))
     c.complete_locally.ensures.constructs c.in_ok-waiting.ensures.ok c.complete_locally.ensures.blocks))
 
 pub returns-in_err-complete_all-clause-pools : goal.returns-in_err-complete_all-clause-pools
@@ -145,24 +166,24 @@ returns-in_err-complete_all-clause-pools c =
     (λ named.
     block_pools c.args.func.now c.complete_all.new.func c.self.inside.tables c.complete_all.new.self c.args.block c.as_slice-2.result.now same
     (pools_sealed (types_of c.args.func.now c.as_slice-2.result.now) c.args.func.now c.complete_all.new.func c.self.inside.tables c.seal.new.self c.complete_all.new.self c.args.block c.in_ok-waiting.ensures.ok
-    (subst (λ (t : SsaState). StepPools (types_of c.args.func.now c.as_slice-2.result.now) c.args.func.now t c.complete_all.new.func c.complete_all.new.self) c.take_look_up-look_up.ensures.kept c.complete_all.ensures.pools)))
+    (c.complete_all.ensures.pools)))
 
 pub returns-clause-pools : goal.returns-clause-pools
 returns-clause-pools c =
     let same : c.as_slice-2.result.now ≡ pending_of (sealed_of c.self.inside.tables c.args.block) = first_of (search rules, grind (arith, common_steps)) in
-    rw (c.give_back-instructions_added_to_blocks.ensures.kept, ← c.self.view_is)
+    rw (← c.self.view_is)
     (λ named.
     block_pools c.args.func.now c.complete_all.new.func c.self.inside.tables c.complete_all.new.self c.args.block c.as_slice-2.result.now same
     (pools_sealed (types_of c.args.func.now c.as_slice-2.result.now) c.args.func.now c.complete_all.new.func c.self.inside.tables c.seal.new.self c.complete_all.new.self c.args.block c.in_ok-waiting.ensures.ok
-    (subst (λ (t : SsaState). StepPools (types_of c.args.func.now c.as_slice-2.result.now) c.args.func.now t c.complete_all.new.func c.complete_all.new.self) c.take_look_up-look_up.ensures.kept c.complete_all.ensures.pools)))
+    (c.complete_all.ensures.pools)))
 
 pub returns-then-not-has_any_predecessors-clause-full_waiting : goal.returns-then-not-has_any_predecessors-clause-full_waiting
 returns-then-not-has_any_predecessors-clause-full_waiting c =
-    let same : c.as_slice.result.now ≡ pending_of (sealed_of c.self.inside.tables c.args.block) = first_of (search rules, grind (arith, common_steps)) in
+    let same : c.as_slice-then-not-has_any_predecessors.result.now ≡ pending_of (sealed_of c.self.inside.tables c.args.block) = first_of (search rules, grind (arith, common_steps)) in
     rw (← c.self.view_is)
     (λ named is.
-    block_full c.args.func.now c.complete_locally.new.func c.self.inside.tables c.args.block c.as_slice.result.now same
-    (c.complete_locally.ensures.full_waiting (waiting_exist c.args.func.now c.self.inside.tables c.args.block c.as_slice.result.now same named) is))
+    block_full c.args.func.now c.complete_locally.new.func c.self.inside.tables c.args.block c.as_slice-then-not-has_any_predecessors.result.now same
+    (c.complete_locally.ensures.full_waiting (waiting_exist c.args.func.now c.self.inside.tables c.args.block c.as_slice-then-not-has_any_predecessors.result.now same named) is))
 
 pub returns-in_err-complete_all-clause-full_waiting : goal.returns-in_err-complete_all-clause-full_waiting
 returns-in_err-complete_all-clause-full_waiting c =

@@ -36,47 +36,47 @@ returns-then-is_local-clause-keeps c = λ own tables both.
 pub look_up_in-requires-clause-named : goal.look_up_in-requires-clause-named
 look_up_in-requires-clause-named c =
     let some : predecessors_of c.args.self.now c.args.block ≢ [] = rw (← c.self.view_is) ((c.if-is_local.ensures.no refl).1) in
-    rw (c.take_look_up-look_up.ensures.kept) (c.requires.named (something_leads c.args.self.now c.args.block some))
+    rw (c.self.view_is) (c.requires.named (something_leads c.args.self.now c.args.block some))
 
 pub make_calls-requires-clause-named : goal.make_calls-requires-clause-named
 make_calls-requires-clause-named c =
     let some : predecessors_of c.args.self.now c.args.block ≢ [] = rw (← c.self.view_is) ((c.if-is_local.ensures.no refl).1) in
-    let named : NamesExist c.args.func.now c.take_look_up-look_up.new.self = rw (c.take_look_up-look_up.ensures.kept) (c.requires.named (something_leads c.args.self.now c.args.block some)) in
+    let named : NamesExist c.args.func.now c.self.inside.tables = rw (c.self.view_is) (c.requires.named (something_leads c.args.self.now c.args.block some)) in
     c.look_up_in.ensures.keeps.names named
 
 pub make_calls-requires-clause-calls_fit : goal.make_calls-requires-clause-calls_fit
 make_calls-requires-clause-calls_fit c =
     let some : predecessors_of c.args.self.now c.args.block ≢ [] = rw (← c.self.view_is) ((c.if-is_local.ensures.no refl).1) in
-    let named : NamesExist c.args.func.now c.take_look_up-look_up.new.self = rw (c.take_look_up-look_up.ensures.kept) (c.requires.named (something_leads c.args.self.now c.args.block some)) in
-    look-fits c.args.variable c.args.ty c.args.block (stage c.args.func.now c.take_look_up-look_up.new.self c.take_look_up-look_up.result) (stage c.look_up_in.new.func c.look_up_in.new.self c.look_up_in.new.look_up)
+    let named : NamesExist c.args.func.now c.self.inside.tables = rw (c.self.view_is) (c.requires.named (something_leads c.args.self.now c.args.block some)) in
+    look-fits c.args.variable c.args.ty c.args.block (stage c.args.func.now c.self.inside.tables c.clear.new.self) (stage c.look_up_in.new.func c.look_up_in.new.self c.look_up_in.new.look_up)
     c.in_ok-look_up_in.ensures.looks named c.look_up_in.ensures.keeps.more c.look_up_in.ensures.keeps.pools.typed c.look_up_in.ensures.keeps.predecessors
-    (popped_nothing c.args.ty c.args.func.now c.take_look_up-look_up.new.self c.take_look_up-look_up.result c.take_look_up-look_up.ensures.empty)
+    (popped_nothing c.args.ty c.args.func.now c.self.inside.tables c.clear.new.self c.clear.ensures)
 
 pub returns-in_err-value-clause-stay : goal.returns-in_err-value-clause-stay
 returns-in_err-value-clause-stay c =
-    rw (← c.take_look_up-look_up.ensures.kept)
+    rw (← c.self.view_is)
     (λ x b v is. c.make_calls.ensures.keeps.stay x b v (c.look_up_in.ensures.keeps.stay x b v is))
 
 pub returns-clause-stay : goal.returns-clause-stay
 returns-clause-stay c =
-    rw (← c.take_look_up-look_up.ensures.kept, c.give_back-instructions_added_to_blocks.ensures.kept)
+    rw (← c.self.view_is)
     (λ x b v is. c.make_calls.ensures.keeps.stay x b v (c.look_up_in.ensures.keeps.stay x b v is))
 
 pub returns-clause-keeps : goal.returns-clause-keeps
 returns-clause-keeps c =
-    rw (← c.take_look_up-look_up.ensures.kept, c.give_back-instructions_added_to_blocks.ensures.kept)
+    rw (← c.self.view_is)
     (λ own tables both.
-    machine_use own c.args.func.now c.look_up_in.new.func c.make_calls.new.func c.take_look_up-look_up.new.self c.look_up_in.new.self c.make_calls.new.self tables
-    c.args.variable c.args.ty c.args.block _ c.look_up_in.new.look_up c.make_calls.new.look_up c.in_ok-value.value c.take_look_up-look_up.ensures.empty
+    machine_use own c.args.func.now c.look_up_in.new.func c.make_calls.new.func c.self.inside.tables c.look_up_in.new.self c.make_calls.new.self tables
+    c.args.variable c.args.ty c.args.block _ c.look_up_in.new.look_up c.make_calls.new.look_up c.in_ok-value.value c.clear.ensures
     c.law_consistent.ensures both c.requires.exists c.in_ok-look_up_in.ensures.looks c.in_ok-value.ensures.made)
 
 pub returns-clause-looks : goal.returns-clause-looks
 returns-clause-looks c =
-    rw (← c.take_look_up-look_up.ensures.kept, c.give_back-instructions_added_to_blocks.ensures.kept)
+    rw (← c.self.view_is)
     (λ none sealed some.
-    let told : c.give_back-instructions_added_to_blocks.result.items ≡ c.make_calls.new.look_up.zeros = first_of (search rules, grind (arith, common_steps)) in
-    uses_machine c.args.variable c.args.ty c.args.block c.args.func.now c.look_up_in.new.func c.make_calls.new.func c.take_look_up-look_up.new.self c.look_up_in.new.self c.make_calls.new.self
-    _ c.look_up_in.new.look_up c.make_calls.new.look_up c.in_ok-value.value _ c.take_look_up-look_up.ensures.empty c.in_ok-look_up_in.ensures.looks c.in_ok-value.ensures.made told)
+    let told : c.take_zeros-instructions_added_to_blocks.result.items ≡ c.make_calls.new.look_up.zeros = first_of (search rules, grind (arith, common_steps)) in
+    uses_machine c.args.variable c.args.ty c.args.block c.args.func.now c.look_up_in.new.func c.make_calls.new.func c.self.inside.tables c.look_up_in.new.self c.make_calls.new.self
+    _ c.look_up_in.new.look_up c.make_calls.new.look_up c.in_ok-value.value _ c.clear.ensures c.in_ok-look_up_in.ensures.looks c.in_ok-value.ensures.made told)
 
 -- RECORDED --------------------------------------------------------------------------------------------------------
 
@@ -94,10 +94,9 @@ returns-then-is_local-clause-recorded c =
 pub returns-clause-recorded : goal.returns-clause-recorded
 returns-clause-recorded c =
     let some : predecessors_of c.args.self.now c.args.block ≢ [] = rw (← c.self.view_is) ((c.if-is_local.ensures.no refl).1) in
-    let named : NamesExist c.args.func.now c.take_look_up-look_up.new.self = rw (c.take_look_up-look_up.ensures.kept) (c.requires.named (something_leads c.args.self.now c.args.block some)) in
-    rw (c.give_back-instructions_added_to_blocks.ensures.kept)
-    (use_recorded c.args.variable c.args.ty c.args.block c.args.func.now c.look_up_in.new.func c.make_calls.new.func c.take_look_up-look_up.new.self c.look_up_in.new.self c.make_calls.new.self
-    _ c.look_up_in.new.look_up c.make_calls.new.look_up c.in_ok-value.value c.take_look_up-look_up.ensures.empty
+    let named : NamesExist c.args.func.now c.self.inside.tables = rw (c.self.view_is) (c.requires.named (something_leads c.args.self.now c.args.block some)) in
+    (use_recorded c.args.variable c.args.ty c.args.block c.args.func.now c.look_up_in.new.func c.make_calls.new.func c.self.inside.tables c.look_up_in.new.self c.make_calls.new.self
+    _ c.look_up_in.new.look_up c.make_calls.new.look_up c.in_ok-value.value c.clear.ensures
     c.law_consistent.ensures named c.in_ok-look_up_in.ensures.looks c.in_ok-value.ensures.made c.make_calls.ensures.keeps.stay)
 
 -- REMEMBERS -------------------------------------------------------------------------------------------------------
@@ -114,14 +113,14 @@ returns-then-is_local-clause-remembers c = λ x b.
 pub returns-clause-remembers : goal.returns-clause-remembers
 returns-clause-remembers c =
     let some : predecessors_of c.args.self.now c.args.block ≢ [] = rw (← c.self.view_is) ((c.if-is_local.ensures.no refl).1) in
-    let named : NamesExist c.args.func.now c.take_look_up-look_up.new.self = rw (c.take_look_up-look_up.ensures.kept) (c.requires.named (something_leads c.args.self.now c.args.block some)) in
-    rw (← c.take_look_up-look_up.ensures.kept, c.give_back-instructions_added_to_blocks.ensures.kept)
+    let named : NamesExist c.args.func.now c.self.inside.tables = rw (c.self.view_is) (c.requires.named (something_leads c.args.self.now c.args.block some)) in
+    rw (← c.self.view_is)
     (λ x b.
     record {
       recorded = λ v is. c.make_calls.ensures.keeps.stay x b v (c.look_up_in.ensures.keeps.stay x b v is);
       alike =
-          use_alike c.args.variable c.args.ty c.args.block c.args.func.now c.look_up_in.new.func c.make_calls.new.func c.take_look_up-look_up.new.self c.look_up_in.new.self c.make_calls.new.self
-          _ c.look_up_in.new.look_up c.make_calls.new.look_up c.in_ok-value.value c.take_look_up-look_up.ensures.empty
+          use_alike c.args.variable c.args.ty c.args.block c.args.func.now c.look_up_in.new.func c.make_calls.new.func c.self.inside.tables c.look_up_in.new.self c.make_calls.new.self
+          _ c.look_up_in.new.look_up c.make_calls.new.look_up c.in_ok-value.value c.clear.ensures
           c.law_consistent.ensures named c.in_ok-look_up_in.ensures.looks c.in_ok-value.ensures.made;
     })
 
@@ -195,10 +194,10 @@ returns-then-is_local-clause-structured c = λ types own same before.
 
 pub returns-clause-structured : goal.returns-clause-structured
 returns-clause-structured c =
-    rw (← c.take_look_up-look_up.ensures.kept, c.give_back-instructions_added_to_blocks.ensures.kept)
+    rw (← c.self.view_is)
     (λ types own same before.
-    machine_structured types own c.args.func.now c.look_up_in.new.func c.make_calls.new.func c.take_look_up-look_up.new.self c.look_up_in.new.self c.make_calls.new.self
-    c.args.variable c.args.ty c.args.block _ c.look_up_in.new.look_up c.make_calls.new.look_up c.in_ok-value.value c.take_look_up-look_up.ensures.empty
+    machine_structured types own c.args.func.now c.look_up_in.new.func c.make_calls.new.func c.self.inside.tables c.look_up_in.new.self c.make_calls.new.self
+    c.args.variable c.args.ty c.args.block _ c.look_up_in.new.look_up c.make_calls.new.look_up c.in_ok-value.value c.clear.ensures
     c.law_consistent.ensures same before c.in_ok-look_up_in.ensures.looks c.in_ok-value.ensures.made)
 
 -- WHERE ZEROS COME ------------------------------------------------------------------------------------------------
@@ -213,13 +212,13 @@ returns-then-is_local-clause-within c = λ holds branches held.
 
 pub returns-clause-within : goal.returns-clause-within
 returns-clause-within c =
-    let named : Named c.args.func.now c.take_look_up-look_up.new.self = rw (c.take_look_up-look_up.ensures.kept) c.requires.named in
-    rw (← c.take_look_up-look_up.ensures.kept)
+    let named : Named c.args.func.now c.self.inside.tables = rw (c.self.view_is) c.requires.named in
+    rw (← c.self.view_is)
     (λ holds branches held.
-    let told : c.give_back-instructions_added_to_blocks.result.items ≡ c.make_calls.new.look_up.zeros = first_of (search rules, grind (arith, common_steps)) in
-    machine_within holds c.args.func.now c.look_up_in.new.func c.make_calls.new.func c.take_look_up-look_up.new.self c.look_up_in.new.self c.make_calls.new.self
-    c.args.variable c.args.ty c.args.block _ c.look_up_in.new.look_up c.make_calls.new.look_up c.in_ok-value.value _ c.take_look_up-look_up.ensures.empty
-    (leads_of holds c.args.func.now c.take_look_up-look_up.new.self named branches) held c.in_ok-look_up_in.ensures.looks c.in_ok-value.ensures.made told)
+    let told : c.take_zeros-instructions_added_to_blocks.result.items ≡ c.make_calls.new.look_up.zeros = first_of (search rules, grind (arith, common_steps)) in
+    machine_within holds c.args.func.now c.look_up_in.new.func c.make_calls.new.func c.self.inside.tables c.look_up_in.new.self c.make_calls.new.self
+    c.args.variable c.args.ty c.args.block _ c.look_up_in.new.look_up c.make_calls.new.look_up c.in_ok-value.value _ c.clear.ensures
+    (leads_of holds c.args.func.now c.self.inside.tables named branches) held c.in_ok-look_up_in.ensures.looks c.in_ok-value.ensures.made told)
 
 -- WHAT IS RECORDED FOR STACK MAPS -----------------------------------------------------------------------------------
 
@@ -244,9 +243,9 @@ returns-in_err-value-clause-tracks c =
 
 pub returns-clause-tracks : goal.returns-clause-tracks
 returns-clause-tracks c =
-    rw (← c.take_look_up-look_up.ensures.kept, c.give_back-instructions_added_to_blocks.ensures.kept)
+    rw (← c.self.view_is)
     (λ named.
-    machine_tracks c.args.func.now c.look_up_in.new.func c.make_calls.new.func c.take_look_up-look_up.new.self c.look_up_in.new.self c.make_calls.new.self
+    machine_tracks c.args.func.now c.look_up_in.new.func c.make_calls.new.func c.self.inside.tables c.look_up_in.new.self c.make_calls.new.self
     c.args.variable c.args.ty c.args.block _ c.look_up_in.new.look_up c.make_calls.new.look_up c.in_ok-value.value named
     c.in_ok-look_up_in.ensures.looks c.in_ok-value.ensures.made)
 
@@ -291,22 +290,22 @@ returns-then-is_local-clause-looks_once c = c.use_locally.ensures.keeps.once.loo
 
 pub returns-in_err-look_up_in-clause-predecessors : goal.returns-in_err-look_up_in-clause-predecessors
 returns-in_err-look_up_in-clause-predecessors c =
-    rw (← c.take_look_up-look_up.ensures.kept)
+    rw (← c.self.view_is)
     (c.look_up_in.ensures.keeps.predecessors)
 
 pub returns-in_err-look_up_in-clause-stay : goal.returns-in_err-look_up_in-clause-stay
 returns-in_err-look_up_in-clause-stay c =
-    rw (← c.take_look_up-look_up.ensures.kept)
+    rw (← c.self.view_is)
     (c.look_up_in.ensures.keeps.stay)
 
 pub returns-in_err-look_up_in-clause-flags : goal.returns-in_err-look_up_in-clause-flags
 returns-in_err-look_up_in-clause-flags c =
-    rw (← c.take_look_up-look_up.ensures.kept)
+    rw (← c.self.view_is)
     (c.look_up_in.ensures.keeps.flags)
 
 pub returns-in_err-look_up_in-clause-no_more : goal.returns-in_err-look_up_in-clause-no_more
 returns-in_err-look_up_in-clause-no_more c =
-    rw (← c.take_look_up-look_up.ensures.kept)
+    rw (← c.self.view_is)
     (c.look_up_in.ensures.keeps.no_more)
 
 pub returns-in_err-look_up_in-clause-more : goal.returns-in_err-look_up_in-clause-more
@@ -317,32 +316,32 @@ returns-in_err-look_up_in-clause-constructs c = c.look_up_in.ensures.keeps.const
 
 pub returns-in_err-look_up_in-clause-names : goal.returns-in_err-look_up_in-clause-names
 returns-in_err-look_up_in-clause-names c =
-    rw (← c.take_look_up-look_up.ensures.kept)
+    rw (← c.self.view_is)
     (c.look_up_in.ensures.keeps.names)
 
 pub returns-in_err-look_up_in-clause-looks_once : goal.returns-in_err-look_up_in-clause-looks_once
 returns-in_err-look_up_in-clause-looks_once c =
-    rw (← c.take_look_up-look_up.ensures.kept)
+    rw (← c.self.view_is)
     (c.look_up_in.ensures.keeps.once.looks_once)
 
 pub returns-in_err-value-clause-predecessors : goal.returns-in_err-value-clause-predecessors
 returns-in_err-value-clause-predecessors c =
-    rw (← c.take_look_up-look_up.ensures.kept)
+    rw (← c.self.view_is)
     (λ b. c.make_calls.ensures.keeps.predecessors b ∙ c.look_up_in.ensures.keeps.predecessors b)
 
 pub returns-in_err-value-clause-flags : goal.returns-in_err-value-clause-flags
 returns-in_err-value-clause-flags c =
-    rw (← c.take_look_up-look_up.ensures.kept)
+    rw (← c.self.view_is)
     (λ b. c.make_calls.ensures.keeps.flags b ∙ c.look_up_in.ensures.keeps.flags b)
 
 pub returns-in_err-value-clause-names : goal.returns-in_err-value-clause-names
 returns-in_err-value-clause-names c =
-    rw (← c.take_look_up-look_up.ensures.kept)
+    rw (← c.self.view_is)
     (λ named. c.make_calls.ensures.keeps.names (c.look_up_in.ensures.keeps.names named))
 
 pub returns-in_err-value-clause-looks_once : goal.returns-in_err-value-clause-looks_once
 returns-in_err-value-clause-looks_once c =
-    rw (← c.take_look_up-look_up.ensures.kept)
+    rw (← c.self.view_is)
     (λ once. c.make_calls.ensures.keeps.once.looks_once (c.look_up_in.ensures.keeps.once.looks_once once))
 
 pub returns-in_err-value-clause-more : goal.returns-in_err-value-clause-more
@@ -350,22 +349,22 @@ returns-in_err-value-clause-more c = more-then c.args.func.now c.look_up_in.new.
 
 pub returns-clause-predecessors : goal.returns-clause-predecessors
 returns-clause-predecessors c =
-    rw (← c.take_look_up-look_up.ensures.kept, c.give_back-instructions_added_to_blocks.ensures.kept)
+    rw (← c.self.view_is)
     (λ b. c.make_calls.ensures.keeps.predecessors b ∙ c.look_up_in.ensures.keeps.predecessors b)
 
 pub returns-clause-flags : goal.returns-clause-flags
 returns-clause-flags c =
-    rw (← c.take_look_up-look_up.ensures.kept, c.give_back-instructions_added_to_blocks.ensures.kept)
+    rw (← c.self.view_is)
     (λ b. c.make_calls.ensures.keeps.flags b ∙ c.look_up_in.ensures.keeps.flags b)
 
 pub returns-clause-names : goal.returns-clause-names
 returns-clause-names c =
-    rw (← c.take_look_up-look_up.ensures.kept, c.give_back-instructions_added_to_blocks.ensures.kept)
+    rw (← c.self.view_is)
     (λ named. c.make_calls.ensures.keeps.names (c.look_up_in.ensures.keeps.names named))
 
 pub returns-clause-looks_once : goal.returns-clause-looks_once
 returns-clause-looks_once c =
-    rw (← c.take_look_up-look_up.ensures.kept, c.give_back-instructions_added_to_blocks.ensures.kept)
+    rw (← c.self.view_is)
     (λ once. c.make_calls.ensures.keeps.once.looks_once (c.look_up_in.ensures.keeps.once.looks_once once))
 
 pub returns-clause-more : goal.returns-clause-more

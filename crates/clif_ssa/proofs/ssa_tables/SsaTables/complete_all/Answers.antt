@@ -10,7 +10,7 @@ use Rattle.clif_ssa.proofs.SealPools.{full_further, pools_further, same_type}
 use Rattle.clif_ssa.proofs.LeavesSteps.{leaves_none, leaves_then}
 use Rattle.clif_ssa.proofs.Steps.{ends_as, ends_ok, ends_wider}
 use Rattle.std.proofs.lemmas.Result.{err_from_is_err_and}
-use Rattle.clif_ssa.proofs.ssa.SSABuilder.complete_all.Goals as goal
+use Rattle.clif_ssa.proofs.ssa_tables.SsaTables.complete_all.Goals as goal
 
 pub complete_parameter-requires-clause-param_exists : goal.complete_parameter-requires-clause-param_exists
 complete_parameter-requires-clause-param_exists c =

@@ -9,7 +9,7 @@ use Rattle.clif_ssa.proofs.Calling.{call-less, popped_is}
 use Rattle.clif_ssa.proofs.Waited.{result-taken}
 use Rattle.clif_ssa.proofs.Constructing.{tells_more_none, tells_more_then}
 use Rattle.clif_ssa.proofs.Steps.{ends_as, ends_ok, keeps_none, keeps_then}
-use Rattle.clif_ssa.proofs.ssa.SSABuilder.make_calls.Goals as goal
+use Rattle.clif_ssa.proofs.ssa_tables.SsaTables.make_calls.Goals as goal
 
 pub make_call-requires-clause-calls_fit : goal.make_call-requires-clause-calls_fit
 make_call-requires-clause-calls_fit c =

@@ -6,7 +6,7 @@ use Rattle.clif_ssa.specs.Ssa.{SsaState, NamesExist}
 use Rattle.clif_ssa.specs.Steps.{StepLeaves, StepPools}
 use Rattle.clif_ssa.specs.LookUp.{Stage}
 use Rattle.clif_ssa.specs.Running.{stage, CompletesAll, ToComplete}
-use Rattle.clif_ssa.proofs.ssa.SSABuilder.complete_all.Given as goal
+use Rattle.clif_ssa.proofs.ssa_tables.SsaTables.complete_all.Given as goal
 
 abbrev pub invariant-loop-pending : goal.invariant-loop-pending
 invariant-loop-pending l = record {

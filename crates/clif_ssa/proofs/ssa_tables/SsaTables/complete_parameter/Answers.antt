@@ -13,18 +13,18 @@ use Rattle.clif_ssa.proofs.LeavesSteps.{leaves_from, leaves_kept, leaves_then}
 use Rattle.clif_ssa.proofs.Pooling.{pools_again, pools_kept}
 use Rattle.clif_ssa.proofs.Steps.{ends_as, ends_memory, ends_ok, ends_typed}
 use Rattle.std.proofs.lemmas.Result.{err_from_is_err_and}
-use Rattle.clif_ssa.proofs.ssa.SSABuilder.complete_parameter.Goals as goal
+use Rattle.clif_ssa.proofs.ssa_tables.SsaTables.complete_parameter.Goals as goal
 
 pub make_calls-requires-clause-named : goal.make_calls-requires-clause-named
 make_calls-requires-clause-named c =
-    named-same c.args.func.now c.args.func.now c.self.inside.tables c.begin_look_up.new.self (has_more c.args.func.now)
+    named-same c.args.func.now c.args.func.now c.args.self.now c.begin_look_up.new.self (has_more c.args.func.now)
     (λ b. ap (λ blocks. predecessors_at blocks b) c.begin_look_up.ensures.blocks) c.begin_look_up.ensures.records (λ b. ap (λ blocks. sealed_at blocks b) c.begin_look_up.ensures.blocks)
-    (rw (c.self.view_is) c.requires.named)
+    c.requires.named
 
 pub make_calls-requires-clause-calls_fit : goal.make_calls-requires-clause-calls_fit
 make_calls-requires-clause-calls_fit c =
-    begun-fits _ c.args.func.now c.self.inside.tables c.begin_look_up.new.self c.args.look_up.now c.begin_look_up.new.look_up c.args.waiting.param c.args.block
-    (rw (c.self.view_is) c.requires.named) (λ b. ap (λ blocks. predecessors_at blocks b) c.begin_look_up.ensures.blocks)
+    begun-fits _ c.args.func.now c.args.self.now c.begin_look_up.new.self c.args.look_up.now c.begin_look_up.new.look_up c.args.waiting.param c.args.block
+    c.requires.named (λ b. ap (λ blocks. predecessors_at blocks b) c.begin_look_up.ensures.blocks)
     (c.requires.param_exists, sym c.value_type-ty.ensures)
     c.requires.idle.0 c.requires.idle.1 c.in_ok-begin_look_up.ensures.look_up
 
@@ -33,25 +33,22 @@ make_calls-requires-clause-calls_fit c =
 pub returns-in_err-begin_look_up-clause-looks_once :
     goal.returns-in_err-begin_look_up-clause-looks_once
 returns-in_err-begin_look_up-clause-looks_once c =
-    rw (← c.self.view_is)
     (λ rest before.
-    once_completes c.self.inside.tables c.begin_look_up.new.self c.args.block c.args.waiting rest c.begin_look_up.ensures.records (λ b. ap (λ blocks. sealed_at blocks b) c.begin_look_up.ensures.blocks)
+    once_completes c.args.self.now c.begin_look_up.new.self c.args.block c.args.waiting rest c.begin_look_up.ensures.records (λ b. ap (λ blocks. sealed_at blocks b) c.begin_look_up.ensures.blocks)
     c.begin_look_up.ensures.counts before)
 
 pub returns-in_err-_value-clause-looks_once : goal.returns-in_err-_value-clause-looks_once
 returns-in_err-_value-clause-looks_once c =
-    rw (← c.self.view_is)
     (λ rest before.
     once_follows c.begin_look_up.new.self c.make_calls.new.self c.args.block rest c.make_calls.ensures.keeps.once c.make_calls.ensures.keeps.flags
-    (once_completes c.self.inside.tables c.begin_look_up.new.self c.args.block c.args.waiting rest c.begin_look_up.ensures.records (λ b. ap (λ blocks. sealed_at blocks b) c.begin_look_up.ensures.blocks)
+    (once_completes c.args.self.now c.begin_look_up.new.self c.args.block c.args.waiting rest c.begin_look_up.ensures.records (λ b. ap (λ blocks. sealed_at blocks b) c.begin_look_up.ensures.blocks)
     c.begin_look_up.ensures.counts before))
 
 pub returns-clause-looks_once : goal.returns-clause-looks_once
 returns-clause-looks_once c =
-    rw (← c.self.view_is)
     (λ rest before.
     once_follows c.begin_look_up.new.self c.make_calls.new.self c.args.block rest c.make_calls.ensures.keeps.once c.make_calls.ensures.keeps.flags
-    (once_completes c.self.inside.tables c.begin_look_up.new.self c.args.block c.args.waiting rest c.begin_look_up.ensures.records (λ b. ap (λ blocks. sealed_at blocks b) c.begin_look_up.ensures.blocks)
+    (once_completes c.args.self.now c.begin_look_up.new.self c.args.block c.args.waiting rest c.begin_look_up.ensures.records (λ b. ap (λ blocks. sealed_at blocks b) c.begin_look_up.ensures.blocks)
     c.begin_look_up.ensures.counts before))
 
 -- WHERE RECORDS ARE -----------------------------------------------------------------------------------------------
@@ -90,7 +87,7 @@ returns-in_err-_value-clause-tells c =
 
 pub returns-in_err-begin_look_up-clause-leaves : goal.returns-in_err-begin_look_up-clause-leaves
 returns-in_err-begin_look_up-clause-leaves c =
-    rw (← c.self.view_is) (leaves_kept c.args.func.now c.self.inside.tables c.begin_look_up.new.self c.begin_look_up.ensures.records c.begin_look_up.ensures.blocks)
+    (leaves_kept c.args.func.now c.args.self.now c.begin_look_up.new.self c.begin_look_up.ensures.records c.begin_look_up.ensures.blocks)
 
 pub returns-in_err-begin_look_up-clause-ends : goal.returns-in_err-begin_look_up-clause-ends
 returns-in_err-begin_look_up-clause-ends c =
@@ -100,8 +97,7 @@ returns-in_err-begin_look_up-clause-ends c =
 
 pub returns-in_err-_value-clause-leaves : goal.returns-in_err-_value-clause-leaves
 returns-in_err-_value-clause-leaves c =
-    rw (← c.self.view_is)
-    (leaves_then c.args.func.now c.self.inside.tables c.args.func.now c.begin_look_up.new.self c.make_calls.new.func c.make_calls.new.self (leaves_kept c.args.func.now c.self.inside.tables c.begin_look_up.new.self c.begin_look_up.ensures.records c.begin_look_up.ensures.blocks)
+    (leaves_then c.args.func.now c.args.self.now c.args.func.now c.begin_look_up.new.self c.make_calls.new.func c.make_calls.new.self (leaves_kept c.args.func.now c.args.self.now c.begin_look_up.new.self c.begin_look_up.ensures.records c.begin_look_up.ensures.blocks)
     (leaves_from c.args.waiting.variable c.args.func.now c.begin_look_up.new.self c.make_calls.new.func c.make_calls.new.self c.make_calls.ensures.keeps))
 
 pub returns-in_err-_value-clause-ends : goal.returns-in_err-_value-clause-ends
@@ -113,8 +109,7 @@ returns-in_err-_value-clause-ends c =
 
 pub returns-clause-leaves : goal.returns-clause-leaves
 returns-clause-leaves c =
-    rw (← c.self.view_is)
-    (leaves_then c.args.func.now c.self.inside.tables c.args.func.now c.begin_look_up.new.self c.make_calls.new.func c.make_calls.new.self (leaves_kept c.args.func.now c.self.inside.tables c.begin_look_up.new.self c.begin_look_up.ensures.records c.begin_look_up.ensures.blocks)
+    (leaves_then c.args.func.now c.args.self.now c.args.func.now c.begin_look_up.new.self c.make_calls.new.func c.make_calls.new.self (leaves_kept c.args.func.now c.args.self.now c.begin_look_up.new.self c.begin_look_up.ensures.records c.begin_look_up.ensures.blocks)
     (leaves_from c.args.waiting.variable c.args.func.now c.begin_look_up.new.self c.make_calls.new.func c.make_calls.new.self c.make_calls.ensures.keeps))
 
 pub returns-clause-ends : goal.returns-clause-ends
@@ -125,9 +120,8 @@ pub returns-clause-completes : goal.returns-clause-completes
 returns-clause-completes c =
     let typed = subst (λ ty. MakesAll c.args.waiting.variable ty (stage c.args.func.now c.begin_look_up.new.self c.begin_look_up.new.look_up) c.in_ok-_value._value
     (stage c.make_calls.new.func c.make_calls.new.self c.make_calls.new.look_up)) c.value_type-ty.ensures c.in_ok-_value.ensures.made in
-    rw (← c.self.view_is)
     (parameter-completed c.args.waiting.variable (value_at c.args.func.now c.args.waiting.param).ty c.args.waiting.param c.args.block c.in_ok-_value._value
-    c.args.func.now c.self.inside.tables c.begin_look_up.new.self c.args.look_up.now c.begin_look_up.new.look_up (stage c.make_calls.new.func c.make_calls.new.self c.make_calls.new.look_up)
+    c.args.func.now c.args.self.now c.begin_look_up.new.self c.args.look_up.now c.begin_look_up.new.look_up (stage c.make_calls.new.func c.make_calls.new.self c.make_calls.new.look_up)
     c.begin_look_up.ensures.records c.begin_look_up.ensures.blocks c.begin_look_up.ensures.tracking c.in_ok-begin_look_up.ensures.counted c.in_ok-begin_look_up.ensures.look_up
     typed)
 
@@ -135,24 +129,21 @@ returns-clause-completes c =
 
 pub returns-in_err-begin_look_up-clause-pools : goal.returns-in_err-begin_look_up-clause-pools
 returns-in_err-begin_look_up-clause-pools c =
-    rw (← c.self.view_is)
-    (pools_kept (value_at c.args.func.now c.args.waiting.param).ty c.args.func.now c.args.func.now c.self.inside.tables c.begin_look_up.new.self (inl refl)
+    (pools_kept (value_at c.args.func.now c.args.waiting.param).ty c.args.func.now c.args.func.now c.args.self.now c.begin_look_up.new.self (inl refl)
     (constructs_none c.args.func.now) (λ b. ap (λ blocks. sealed_at blocks b) c.begin_look_up.ensures.blocks))
 
 pub returns-in_err-_value-clause-pools : goal.returns-in_err-_value-clause-pools
 returns-in_err-_value-clause-pools c =
-    rw (← c.self.view_is)
-    (pools_again (value_at c.args.func.now c.args.waiting.param).ty c.args.func.now c.self.inside.tables c.args.func.now c.begin_look_up.new.self c.make_calls.new.func c.make_calls.new.self
-    (pools_kept (value_at c.args.func.now c.args.waiting.param).ty c.args.func.now c.args.func.now c.self.inside.tables c.begin_look_up.new.self (inl refl)
+    (pools_again (value_at c.args.func.now c.args.waiting.param).ty c.args.func.now c.args.self.now c.args.func.now c.begin_look_up.new.self c.make_calls.new.func c.make_calls.new.self
+    (pools_kept (value_at c.args.func.now c.args.waiting.param).ty c.args.func.now c.args.func.now c.args.self.now c.begin_look_up.new.self (inl refl)
     (constructs_none c.args.func.now) (λ b. ap (λ blocks. sealed_at blocks b) c.begin_look_up.ensures.blocks))
     (subst (λ ty. StepPools (ty ∷ []) c.args.func.now c.begin_look_up.new.self c.make_calls.new.func c.make_calls.new.self) c.value_type-ty.ensures
     c.make_calls.ensures.keeps.pools))
 
 pub returns-clause-pools : goal.returns-clause-pools
 returns-clause-pools c =
-    rw (← c.self.view_is)
-    (pools_again (value_at c.args.func.now c.args.waiting.param).ty c.args.func.now c.self.inside.tables c.args.func.now c.begin_look_up.new.self c.make_calls.new.func c.make_calls.new.self
-    (pools_kept (value_at c.args.func.now c.args.waiting.param).ty c.args.func.now c.args.func.now c.self.inside.tables c.begin_look_up.new.self (inl refl)
+    (pools_again (value_at c.args.func.now c.args.waiting.param).ty c.args.func.now c.args.self.now c.args.func.now c.begin_look_up.new.self c.make_calls.new.func c.make_calls.new.self
+    (pools_kept (value_at c.args.func.now c.args.waiting.param).ty c.args.func.now c.args.func.now c.args.self.now c.begin_look_up.new.self (inl refl)
     (constructs_none c.args.func.now) (λ b. ap (λ blocks. sealed_at blocks b) c.begin_look_up.ensures.blocks))
     (subst (λ ty. StepPools (ty ∷ []) c.args.func.now c.begin_look_up.new.self c.make_calls.new.func c.make_calls.new.self) c.value_type-ty.ensures
     c.make_calls.ensures.keeps.pools))

@@ -3,7 +3,7 @@ use Rattle.clif_ssa.specs.Ssa.{NamesExist}
 use Rattle.clif_ssa.specs.LookUp.{MakesCalls}
 use Rattle.clif_ssa.specs.Running.{stage, CallsFit, work_of}
 use Rattle.clif_ssa.specs.Steps.{StepKeeps}
-use Rattle.clif_ssa.proofs.ssa.SSABuilder.make_calls.Given as goal
+use Rattle.clif_ssa.proofs.ssa_tables.SsaTables.make_calls.Given as goal
 
 abbrev pub invariant-loop-call : goal.invariant-loop-call
 invariant-loop-call l = record {

@@ -9,7 +9,7 @@ use Rattle.clif_ssa.specs.Running.{stage, CallExists, CallsFit, with_call}
 use Rattle.clif_ssa.proofs.Calling.{look-fits, finish-fits, popped-look, next_typed, both_ok, on_ok', same_block, leading-each}
 use Rattle.clif_ssa.proofs.Pooling.{types_kept}
 use Rattle.clif_ssa.proofs.Steps.{ends_zeros, keeps_grown}
-use Rattle.clif_ssa.proofs.ssa.SSABuilder.make_call.Goals as goal
+use Rattle.clif_ssa.proofs.ssa_tables.SsaTables.make_call.Goals as goal
 
 pub inst_block-requires : goal.inst_block-requires
 inst_block-requires c =

@@ -4,7 +4,7 @@ use Rattle.clif_ssa.proofs.Making.{got-exists}
 use Rattle.clif_ssa.proofs.LookSteps.{ends_copied, keeps_looked, looked_copied}
 use Rattle.clif_ssa.proofs.Steps.{ends_as, ends_memory, keeps_none}
 use Rattle.clif_ssa.proofs.Waited.{on_any}
-use Rattle.clif_ssa.proofs.ssa.SSABuilder.look_up_in.Goals as goal
+use Rattle.clif_ssa.proofs.ssa_tables.SsaTables.look_up_in.Goals as goal
 
 pub returns-in_err-reached-clause-looks : goal.returns-in_err-reached-clause-looks
 returns-in_err-reached-clause-looks c =
@@ -18,7 +18,7 @@ returns-in_err-reached-clause-tells c =
 
 pub returns-in_err-reached-clause-keeps : goal.returns-in_err-reached-clause-keeps
 returns-in_err-reached-clause-keeps c =
-    rw (← c.self.view_is) (keeps_none c.args.variable c.args.func.now c.self.inside.tables)
+    (keeps_none c.args.variable c.args.func.now c.args.self.now)
 
 pub returns-in_err-reached-clause-ends : goal.returns-in_err-reached-clause-ends
 returns-in_err-reached-clause-ends c =
@@ -38,7 +38,7 @@ returns-in_err-value-clause-tells c =
 
 pub returns-in_err-value-clause-keeps : goal.returns-in_err-value-clause-keeps
 returns-in_err-value-clause-keeps c =
-    rw (← c.self.view_is) c.record_or_parameter.ensures.keeps
+    c.record_or_parameter.ensures.keeps
 
 pub returns-in_err-value-clause-ends : goal.returns-in_err-value-clause-ends
 returns-in_err-value-clause-ends c =
@@ -48,15 +48,13 @@ returns-in_err-value-clause-ends c =
 
 pub returns-clause-looks : goal.returns-clause-looks
 returns-clause-looks c =
-    rw (← c.self.view_is)
-    (looked_copied c.args.variable c.args.ty c.args.block c.walk.new.passed c.in_ok-reached.reached.block c.in_ok-value.value (stage c.args.func.now c.self.inside.tables c.args.look_up.now) (stage c.record_or_parameter.new.func c.record_or_parameter.new.self c.record_or_parameter.new.look_up) c.copy_record.new.self c.copy_record.result c.in_ok-reached.ensures.ok c.in_ok-reached.ensures.exists
+    (looked_copied c.args.variable c.args.ty c.args.block c.walk.new.passed c.in_ok-reached.reached.block c.in_ok-value.value (stage c.args.func.now c.args.self.now c.args.look_up.now) (stage c.record_or_parameter.new.func c.record_or_parameter.new.self c.record_or_parameter.new.look_up) c.copy_record.new.self c.copy_record.result c.in_ok-reached.ensures.ok c.in_ok-reached.ensures.exists
     c.in_ok-value.ensures.got c.copy_record.ensures.ok c.copy_record.ensures.blocks c.copy_record.ensures.lookups c.copy_record.ensures.tracking)
 
 pub returns-clause-keeps : goal.returns-clause-keeps
 returns-clause-keeps c =
-    rw (← c.self.view_is)
-    (keeps_looked c.args.variable c.args.func.now c.self.inside.tables c.record_or_parameter.new.func c.record_or_parameter.new.self c.copy_record.new.self c.args.block c.in_ok-reached.reached.block c.in_ok-value.value c.walk.new.passed c.law_consistent.ensures (rw (c.self.view_is) c.requires.named) c.requires.exists c.in_ok-reached.ensures.ok.walk
-    (got-exists c.args.variable c.args.ty c.in_ok-reached.reached.block c.in_ok-value.value (stage c.args.func.now c.self.inside.tables c.args.look_up.now) (stage c.record_or_parameter.new.func c.record_or_parameter.new.self c.record_or_parameter.new.look_up) c.in_ok-value.ensures.got (rw (c.self.view_is) c.requires.named))
+    (keeps_looked c.args.variable c.args.func.now c.args.self.now c.record_or_parameter.new.func c.record_or_parameter.new.self c.copy_record.new.self c.args.block c.in_ok-reached.reached.block c.in_ok-value.value c.walk.new.passed c.law_consistent.ensures c.requires.named c.requires.exists c.in_ok-reached.ensures.ok.walk
+    (got-exists c.args.variable c.args.ty c.in_ok-reached.reached.block c.in_ok-value.value (stage c.args.func.now c.args.self.now c.args.look_up.now) (stage c.record_or_parameter.new.func c.record_or_parameter.new.self c.record_or_parameter.new.look_up) c.in_ok-value.ensures.got c.requires.named)
     c.record_or_parameter.ensures.keeps c.copy_record.ensures.blocks c.copy_record.ensures.lookups c.copy_record.ensures.recorded c.copy_record.ensures.others c.copy_record.ensures.none_lost)
 
 pub returns-clause-tells : goal.returns-clause-tells
