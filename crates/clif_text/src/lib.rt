@@ -3,6 +3,7 @@
 
 mod calls;
 mod entries;
+mod explanation;
 mod immediate;
 mod instructions;
 mod memory;
@@ -13,5 +14,6 @@ mod throwing;
 mod writer;
 
 pub use clif_words::error::{Expected, Fault, ReadError};
-pub use reader::{Script, read};
+pub use explanation::{Explanation, Hint};
+pub use reader::{Script, explain, read};
 pub use writer::{CallText, write};

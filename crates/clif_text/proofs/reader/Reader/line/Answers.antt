@@ -28,7 +28,7 @@ pub returns-in-Some-split_first-clause-ok : goal.returns-in-Some-split_first-cla
 returns-in-Some-split_first-clause-ok c =
     let parts = ap texts (sym c.as_slice-words.ensures.value ∙ c.in-Some-split_first.ensures.cases.0) in
     let others = subst (λ ws. All (λ word. word ≢ codes "=") (texts ws)) c.as_slice-words.ensures.value c.in_default.ensures.none in
-    on_ok_weaker c.read.result (λ says counted. (record { numbered = counted.numbered; totals = counted.totals }, says_header c.args.line.now (texts c.in_ok-words.words.items) c.in-Some-split_first.head.now.now (texts c.in-Some-split_first.rest.now) c.args.number (said_to c.args.self.now) (header_said c.read.new.self) c.in_ok-words.ensures parts says others)) c.read.ensures
+    on_ok_weaker c.read.result (λ says counted. (record { numbered = counted.numbered; totals = counted.totals }, says_header c.args.line.now (texts c.in_ok-words.words.items) c.in-Some-split_first.head.now.now (words_left c.new.result) c.args.number (said_to c.args.self.now) (header_said c.read.new.self) c.in_ok-words.ensures parts says others)) c.read.ensures
 
 pub returns-in-Some-split_first-clause-err : goal.returns-in-Some-split_first-clause-err
 returns-in-Some-split_first-clause-err c =

@@ -1,0 +1,141 @@
+//! What is printed of a line that can't be read, after the reason.
+ghost use Rattle.std.specs.Prelude.{Some};
+ghost use Rattle.clif_text.specs.Explanation.{explanation_text, hint_text};
+
+use clif_words::error::{Expected, Fault};
+use clif_words::number::decimal;
+use std::fmt;
+
+/// Where a line can't be read, what should be there, and what helps. It prints as lines, each with its end:
+/// ``column 14: found `i33`, expected a type`` or `column 20: the line ends, expected a value`, and the hint.
+#[derive(Clone, Copy, Debug)]
+pub struct Explanation<'a> {
+    /// The column where the word begins, or where the last word ends: 1 more than there are characters before.
+    pub column: usize,
+    /// The word; none where the line ends.
+    pub found: Option<&'a str>,
+    /// What should be there.
+    pub expected: Expected,
+    /// What helps, if the line looks as if something else was meant.
+    pub hint: Option<Hint<'a>>,
+}
+
+impl fmt::Display for Explanation<'_> {
+    ghost output = { λ explanation. Some (explanation_text explanation) };
+
+    fn fmt<W: fmt::Write>(&self, f: &mut fmt::Formatter<W>) -> fmt::Result {
+        let Explanation {
+            column,
+            found,
+            expected,
+            hint,
+        } = self;
+        match found {
+            Some(word) => writeln!(f, "column {column}: found `{word}`, expected {expected}")?,
+            None => writeln!(f, "column {column}: the line ends, expected {expected}")?,
+        }
+        match hint {
+            Some(hint) => writeln!(f, "{hint}"),
+            None => Ok(()),
+        }
+    }
+}
+
+/// What may have been meant by a line that can't be read.
+#[derive(Clone, Copy, Debug, PartialEq, Eq)]
+pub enum Hint<'a> {
+    /// The value of this variable. It prints as `v is a variable: use_var v`.
+    Variable(&'a str),
+    /// A comment, by `;`.
+    Comment,
+    /// A block that begins, as in a `.clif` file.
+    Block,
+    /// A function that begins or ends, as in a `.clif` file.
+    Brace,
+    /// Another name of a value, as in a `.clif` file.
+    Alias,
+}
+
+impl fmt::Display for Hint<'_> {
+    ghost output = { λ hint. Some (hint_text hint) };
+
+    fn fmt<W: fmt::Write>(&self, f: &mut fmt::Formatter<W>) -> fmt::Result {
+        match self {
+            Hint::Variable(name) => write!(f, "{name} is a variable: use_var {name}"),
+            Hint::Comment => f.write_str("a script has no `;` comments: `#` begins one"),
+            Hint::Block => f.write_str(
+                "this is a line of a .clif file: in a script `switch_to_block b` begins a block",
+            ),
+            Hint::Brace => {
+                f.write_str("this is a line of a .clif file: a script has no `{` and no `}`")
+            }
+            Hint::Alias => f.write_str(
+                "this is a line of a .clif file: a script has no second names of values",
+            ),
+        }
+    }
+}
+
+// Whether the word is of the form `varN`.
+fn is_variable(word: &str) -> bool {
+    match word.strip_prefix("var") {
+        Some(digits) => decimal(digits).is_some(),
+        None => false,
+    }
+}
+
+// Whether the word is of the form `blockN`, with or without a colon.
+fn is_block(word: &str) -> bool {
+    let Some(digits) = word.strip_prefix("block") else {
+        return false;
+    };
+    match digits.strip_suffix(':') {
+        Some(digits) => decimal(digits).is_some(),
+        None => decimal(digits).is_some(),
+    }
+}
+
+// The words before a comment that begins with `;`.
+fn without_comment<'w, 'a>(words: &'w [&'a str]) -> &'w [&'a str] {
+    match words.iter().position(|word| word.contains(';')) {
+        Some(end) => &words[..end],
+        None => words,
+    }
+}
+
+// What a line of a `.clif` file says that a script can't.
+fn clif_hint<'a>(words: &[&'a str]) -> Option<Hint<'a>> {
+    let words = without_comment(words);
+    let first = words.first()?;
+    let last = words.last()?;
+    if *last == "{" || *first == "}" {
+        return Some(Hint::Brace);
+    }
+    if is_block(first) && last.ends_with(':') {
+        return Some(Hint::Block);
+    }
+    match words.get(1) {
+        Some(arrow) if *arrow == "->" => Some(Hint::Alias),
+        _ => None,
+    }
+}
+
+/// What may have been meant by a line of these words, which is refused for this fault at this word.
+pub(crate) fn hint_of<'a>(
+    words: &[&'a str],
+    found: Option<&'a str>,
+    fault: Fault<'a>,
+) -> Option<Hint<'a>> {
+    if let Some(hint) = clif_hint(words) {
+        return Some(hint);
+    }
+    if found?.contains(';') {
+        return Some(Hint::Comment);
+    }
+    match fault {
+        Fault::UnknownName(name, Expected::Value | Expected::ValueOrClose) if is_variable(name) => {
+            Some(Hint::Variable(name))
+        }
+        _ => None,
+    }
+}
