@@ -63,7 +63,10 @@ fn execute_bytes<O: io::Write, E: io::Write>(
 {
     match str::from_utf8(bytes) {
         Ok(text) => execute_text(alloc, text, run, out, err),
-        Err(error) => tell_no_text(bytes, error.valid_up_to(), err),
+        Err(error) => {
+            let place = error.valid_up_to();
+            tell_no_text(&bytes[..place], &bytes[place..], err)
+        }
     }
 }
 

@@ -81,21 +81,23 @@ fn build_bytes<O: io::Write, E: io::Write>(
 {
     match str::from_utf8(bytes) {
         Ok(text) => build_text(alloc, text, printing, out, err),
-        Err(error) => tell_no_text(bytes, error.valid_up_to(), err),
+        Err(error) => {
+            let place = error.valid_up_to();
+            tell_no_text(&bytes[..place], &bytes[place..], err)
+        }
     }
 }
 
-// Tells that bytes are no text from this place on.
-pub(crate) fn tell_no_text<E: io::Write>(bytes: &[u8], place: usize, err: &mut E) -> io::Result<u8>
+// Tells that a file, of these bytes and those after them, is no text from there on.
+pub(crate) fn tell_no_text<E: io::Write>(before: &[u8], after: &[u8], err: &mut E) -> io::Result<u8>
     ensures { IfOk result (λ status. (0 < status) × (status < 3)) }
 {
-    let (before, after) = bytes.split_at(place);
     let number = lines_to(before);
     let fault = Fault::Expected(Expected::Text);
     let status = tell_unread(ReadError::Line { number, fault }, err)?;
     if let Some(byte) = after.first() {
         let column = column_after(before);
-        let expected = fault.expected();
+        let expected = Expected::Text;
         writeln!(
             err,
             "column {column}: found the byte {byte:#04x}, expected {expected}"
@@ -111,8 +113,15 @@ fn lines_to(bytes: &[u8]) -> usize {
 
 // The column after these bytes, which are a text: 1 more than the last line has characters.
 fn column_after(bytes: &[u8]) -> usize {
-    let line = bytes.iter().rev().take_while(|byte| **byte != b'\n');
-    line.filter(|byte| **byte & 0xc0 != 0x80).count() + 1
+    let mut column: usize = 1;
+    for byte in bytes {
+        if *byte == b'\n' {
+            column = 1;
+        } else if *byte & 0xc0 != 0x80 {
+            column = column.saturating_add(1);
+        }
+    }
+    column
 }
 
 // Tells why a text is no script.
@@ -349,12 +358,16 @@ fn variable_named<'a>(
         return Ok(None);
     }
     let numbered = format!(in alloc; "${place}.{answer}")?;
-    let words = words_of(alloc, line)?;
-    let found = words.iter().find(|word| **word == numbered.as_str());
-    match found {
-        Some(word) => Ok(Some(*word)),
-        None => Ok(given.filter(|given| words.contains(given))),
+    let mut named = None;
+    for word in words_of(alloc, line)?.iter() {
+        if *word == numbered.as_str() {
+            return Ok(Some(*word));
+        }
+        if given == Some(*word) {
+            named = given;
+        }
     }
+    Ok(named)
 }
 
 // The condition of a call of a script that doesn't hold.
