@@ -1,6 +1,6 @@
 //! What is printed of a line that can't be read, after the reason.
 ghost use Rattle.std.specs.Prelude.{Some};
-ghost use Rattle.clif_text.specs.Explanation.{explanation_text, hint_text};
+ghost use Rattle.clif_text.specs.Explanation.{explanation_text, found_text, hint_line, hint_text};
 
 use clif_words::error::{Expected, Fault};
 use clif_words::number::decimal;
@@ -20,6 +20,36 @@ pub struct Explanation<'a> {
     pub hint: Option<Hint<'a>>,
 }
 
+// What is at the place: the word, or that the line ends.
+#[derive(Clone, Copy)]
+struct FoundText<'a>(Option<&'a str>);
+
+impl fmt::Display for FoundText<'_> {
+    ghost output = { λ text. Some (found_text text.0) };
+
+    fn fmt<W: fmt::Write>(&self, f: &mut fmt::Formatter<W>) -> fmt::Result {
+        match self.0 {
+            Some(word) => write!(f, "found `{word}`"),
+            None => f.write_str("the line ends"),
+        }
+    }
+}
+
+// The line of a hint, if there is one.
+#[derive(Clone, Copy)]
+struct HintLine<'a>(Option<Hint<'a>>);
+
+impl fmt::Display for HintLine<'_> {
+    ghost output = { λ line. Some (hint_line line.0) };
+
+    fn fmt<W: fmt::Write>(&self, f: &mut fmt::Formatter<W>) -> fmt::Result {
+        match self.0 {
+            Some(hint) => writeln!(f, "{hint}"),
+            None => f.write_str(""),
+        }
+    }
+}
+
 impl fmt::Display for Explanation<'_> {
     ghost output = { λ explanation. Some (explanation_text explanation) };
 
@@ -30,14 +60,9 @@ impl fmt::Display for Explanation<'_> {
             expected,
             hint,
         } = self;
-        match found {
-            Some(word) => writeln!(f, "column {column}: found `{word}`, expected {expected}")?,
-            None => writeln!(f, "column {column}: the line ends, expected {expected}")?,
-        }
-        match hint {
-            Some(hint) => writeln!(f, "{hint}"),
-            None => Ok(()),
-        }
+        let found = FoundText(*found);
+        let hint = HintLine(*hint);
+        write!(f, "column {column}: {found}, expected {expected}\n{hint}")
     }
 }
 
@@ -86,12 +111,9 @@ fn is_variable(word: &str) -> bool {
 
 // Whether the word is of the form `blockN`, with or without a colon.
 fn is_block(word: &str) -> bool {
-    let Some(digits) = word.strip_prefix("block") else {
-        return false;
-    };
-    match digits.strip_suffix(':') {
+    match word.strip_suffix(':').unwrap_or(word).strip_prefix("block") {
         Some(digits) => decimal(digits).is_some(),
-        None => decimal(digits).is_some(),
+        None => false,
     }
 }
 

@@ -317,16 +317,13 @@ fn read_lines<'a>(alloc: Global, text: &'a str) -> Result<Reader<'a>, Unread<'a>
     ensures unread { IfErr result (IsUnreadLine text.now) }
 {
     let mut reader = Reader::new(alloc);
-    let lines = match lines_of(alloc, text) {
-        Ok(lines) => lines,
-        Err(error) => {
-            return Err(Unread {
-                reader,
-                number: 0,
-                line: "",
-                error: LineError::from(error),
-            });
-        }
+    let Ok(lines) = lines_of(alloc, text) else {
+        return Err(Unread {
+            reader,
+            number: 0,
+            line: "",
+            error: LineError::Memory,
+        });
     };
     for (index, line) in lines.iter().enumerate() {
         if let Err(error) = reader.line(index + 1, line) {

@@ -1,4 +1,4 @@
-use Rattle.std.proofs.Common.{refl, ap, sym, subst, ◌∙◌, arith}
+use Rattle.std.proofs.Common.{refl, ap, ◌∙◌, arith}
 use Rattle.clif_words.specs.Cursor.{texts}
 use Rattle.clif_text.specs.Reader.{said_to}
 use Rattle.clif_text.proofs.Reading.{is_unread_line, lines_more, lines_count, numbered, line_here}

@@ -1,4 +1,4 @@
-use Rattle.std.proofs.Common.{ap, ◌+◌, length, rules}
+use Rattle.std.proofs.Common.{rules}
 use Rattle.std.proofs.lemmas.Str.{chars_from_encodes}
 use Rattle.clif_words.proofs.words.WordPlace.column.Goals as goal
 
