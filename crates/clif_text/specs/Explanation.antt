@@ -1,5 +1,5 @@
 -- What is printed of a line that can't be read, after the reason. Source: own; docs/SCRIPTS.md has the same texts.
-use Rattle.std.specs.Prelude.{◌≡◌, ◌≢◌, ℕ, ◌+◌, ◌⊎◌, ◌++◌, ◌∷◌, [], List, length, codes, Option, Some, None}
+use Rattle.std.specs.Prelude.{◌≡◌, ◌≢◌, ℕ, ◌+◌, ◌⊎◌, ◌++◌, ◌∷◌, [], List, length, codes, Option, Some, None, IfSome}
 use Rattle.std.specs.Borrow.{Bor}
 use Rattle.std.specs.Fmt.{decimal}
 use Rattle.std.specs.Str.{chars}
@@ -38,6 +38,26 @@ hint_line (Some helps) = hint_text helps ++ codes "\n"
 abbrev pub explanation_text : Explanation → List ℕ
 explanation_text explanation = codes "column " ++ (decimal explanation.column ++ (codes ": " ++ (found_text explanation.found ++ (codes ", expected " ++ (expected_text explanation.expected ++ (codes "\n" ++ hint_line explanation.hint))))))
 
+-- `varN`
+abbrev pub IsVariableWord : List ℕ → ℕ → Type 0
+IsVariableWord word number = (digits : List ℕ) × (word ≡ codes "var" ++ digits) × IsDecimal digits number
+
+-- the fault is that this name of a variable is where a value should be
+abbrev pub NamesVariable : Fault → Bor (List ℕ) → Type 0
+NamesVariable why name = ((number : ℕ) × IsVariableWord name.now number) × ((why ≡ fault.UnknownName name expected.Value) ⊎ (why ≡ fault.UnknownName name expected.ValueOrClose))
+
+-- the hint is of a line of another language
+abbrev pub IsOfLine : Hint → Type 0
+IsOfLine hint.Block = Unit {0}
+IsOfLine hint.Brace = Unit {0}
+IsOfLine hint.Alias = Unit {0}
+IsOfLine _ = ⊥
+
+-- a variable is named only where one is at fault
+abbrev pub FitsFault : Fault → Hint → Type 0
+FitsFault why (hint.Variable name) = NamesVariable why name
+FitsFault why _ = Unit {0}
+
 -- what is found, and where, is a word of the line or its end
 pub record IsPlaceIn (line : List ℕ) (explanation : Explanation) : Type 0 where
   pub index : ℕ
@@ -50,6 +70,7 @@ pub record IsPlaceIn (line : List ℕ) (explanation : Explanation) : Type 0 wher
 pub record ExplainsLine (line : List ℕ) (why : Fault) (explanation : Explanation) : Type 0 where
   pub place : IsPlaceIn line explanation
   pub wanted : explanation.expected ≡ wanted_by why
+  pub hint : IfSome explanation.hint (FitsFault why)
 
 -- it explains a line that wasn't read
 abbrev pub ExplainsText : List ℕ → Explanation → Type 0

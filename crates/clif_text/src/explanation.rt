@@ -1,6 +1,6 @@
 //! What is printed of a line that can't be read, after the reason.
-ghost use Rattle.std.specs.Prelude.{Some};
-ghost use Rattle.clif_text.specs.Explanation.{explanation_text, found_text, hint_line, hint_text};
+ghost use Rattle.std.specs.Prelude.{IfSome, Some};
+ghost use Rattle.clif_text.specs.Explanation.{FitsFault, IsOfLine, IsVariableWord, NamesVariable, explanation_text, found_text, hint_line, hint_text};
 
 use clif_words::error::{Expected, Fault};
 use clif_words::number::decimal;
@@ -101,11 +101,23 @@ impl fmt::Display for Hint<'_> {
     }
 }
 
-// Whether the word is of the form `varN`.
-fn is_variable(word: &str) -> bool {
-    match word.strip_prefix("var") {
-        Some(digits) => decimal(digits).is_some(),
-        None => false,
+// The number of a word of the form `varN`.
+fn variable_number(word: &str) -> Option<usize>
+    ensures { IfSome result (IsVariableWord word.now) }
+{
+    decimal(word.strip_prefix("var")?)
+}
+
+// The name of a variable, where a value should be.
+fn variable_for_value<'a>(fault: Fault<'a>) -> Option<&'a str>
+    ensures { IfSome result (NamesVariable fault.entry) }
+{
+    match fault {
+        Fault::UnknownName(name, Expected::Value | Expected::ValueOrClose) => {
+            variable_number(name)?;
+            Some(name)
+        }
+        _ => None,
     }
 }
 
@@ -126,7 +138,9 @@ fn without_comment<'w, 'a>(words: &'w [&'a str]) -> &'w [&'a str] {
 }
 
 // What a line of a `.clif` file says that a script can't.
-fn clif_hint<'a>(words: &[&'a str]) -> Option<Hint<'a>> {
+fn clif_hint<'a>(words: &[&'a str]) -> Option<Hint<'a>>
+    ensures { IfSome result IsOfLine }
+{
     let words = without_comment(words);
     let first = words.first()?;
     let last = words.last()?;
@@ -143,21 +157,19 @@ fn clif_hint<'a>(words: &[&'a str]) -> Option<Hint<'a>> {
 }
 
 /// What may have been meant by a line of these words, which is refused for this fault at this word.
+#[tactic(auto, using(crate::proofs::Hints::of_line_fits))]
 pub(crate) fn hint_of<'a>(
     words: &[&'a str],
     found: Option<&'a str>,
     fault: Fault<'a>,
-) -> Option<Hint<'a>> {
+) -> Option<Hint<'a>>
+    ensures { IfSome result (FitsFault fault.entry) }
+{
     if let Some(hint) = clif_hint(words) {
         return Some(hint);
     }
     if found?.contains(';') {
         return Some(Hint::Comment);
     }
-    match fault {
-        Fault::UnknownName(name, Expected::Value | Expected::ValueOrClose) if is_variable(name) => {
-            Some(Hint::Variable(name))
-        }
-        _ => None,
-    }
+    Some(Hint::Variable(variable_for_value(fault)?))
 }
