@@ -1,5 +1,5 @@
 -- What is printed of a line that can't be read, after the reason. Source: own; docs/SCRIPTS.md has the same texts.
-use Rattle.std.specs.Prelude.{◌≡◌, ◌≢◌, ℕ, ◌+◌, ◌⊎◌, ◌++◌, ◌∷◌, [], List, length, codes, Option, Some, None, IfSome}
+use Rattle.std.specs.Prelude.{◌≡◌, ℕ, ◌+◌, ◌⊎◌, ◌++◌, [], List, length, codes, Option, Some, None, IfSome}
 use Rattle.std.specs.Borrow.{Bor}
 use Rattle.std.specs.Fmt.{decimal}
 use Rattle.std.specs.Str.{chars}
@@ -7,7 +7,6 @@ use Rattle.clif_words.specs.declared.error.Expected.TheVariants as expected
 use Rattle.clif_words.specs.declared.error.Fault.{Fault}
 use Rattle.clif_words.specs.declared.error.Fault.TheVariants as fault
 use Rattle.clif_words.specs.declared.words.WordPlace.{WordPlace}
-use Rattle.clif_words.specs.Cursor.{texts}
 use Rattle.clif_words.specs.Errors.{expected_text, wanted_by}
 use Rattle.clif_words.specs.Spelling.{IsDecimal}
 use Rattle.clif_words.specs.Words.{IsPlace}

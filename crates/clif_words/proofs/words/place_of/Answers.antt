@@ -1,4 +1,4 @@
-use Rattle.std.proofs.Common.{◌++◌, ◌∷◌, [], arith, length, rules}
+use Rattle.std.proofs.Common.{◌++◌, ◌∷◌, [], arith, rules}
 use Rattle.std.proofs.lemmas.List.{length-append}
 use Rattle.clif_words.proofs.Places.{begins_front, begins_more, front_of_word}
 use Rattle.clif_words.proofs.words.place_of.Goals as goal
