@@ -123,7 +123,7 @@ is_unread_line text line index (fault.Fault why) before within here says has =
       here,
     )
 
--- which is told
+-- and so is its refusal
 pub tells_line : (text : List ℕ) (number : ℕ) (line : List ℕ) (error : LineError) → IsUnreadFor text number line error → TellsLine text (error_at error number)
 tells_line text number line fault.Memory unread = tt
 tells_line text number line (fault.Fault why) unread = unread.0

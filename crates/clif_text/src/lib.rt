@@ -1,4 +1,4 @@
-//! Scripts as text: `read` makes calls of a text, and `write` a text of calls.
+//! Scripts as text: `read` makes calls of a text, `explain` says where it can't be read, and `write` makes a text of calls.
 #![tactic(auto)]
 
 mod calls;
