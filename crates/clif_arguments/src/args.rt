@@ -14,7 +14,7 @@ use clif_types::{
 };
 use clif_words::bytes::bytes;
 use clif_words::cursor::Cursor;
-use clif_words::error::{Expected, LineError};
+use clif_words::error::{Expected, Fault, LineError};
 use clif_words::number::{decimal, magnitude, number, offset, wide_magnitude};
 use clif_words::types::{condition_named, lib_call_named, trap_code_named, type_named};
 use std::alloc::Global;
@@ -38,7 +38,7 @@ const MOST_OF_A_KIND: usize = 0xffff_ffff;
 impl<'w, 'a> Args<'w, 'a> {
     ghost use Rattle.std.specs.Prelude.{IfOk, OnOk};
     ghost use Rattle.clif_types.specs.Texts.{int_cc_text};
-    ghost use Rattle.clif_words.specs.Cursor.{TakesFlags, texts, words_left};
+    ghost use Rattle.clif_words.specs.Cursor.{TakesFlags, refused_place, texts, words_left};
     ghost use Rattle.std.specs.Int.NonZero.{non_zero_u8_get};
     ghost use Rattle.clif_words.specs.Spelling.{IsBytes, IsMagnitude, IsNumber, IsTrapCode, IsTypeWord, flag_word, overlap_word};
     ghost use Rattle.clif_arguments.specs.Arguments.{AreAnswers, AreClosed, AreItems, AreLast, AreLastPassed, ArePassed, AreSwitchCases, IsEdge, IsExceptionTable, IsExternalName, IsFunctionRef, IsInst, IsItem, IsJumpTable, IsLastEdge, IsLastOffset, IsNumbered, IsPassed, IsSignatureName, IsSlot, IsSwitchCase, IsTableEdge, IsVariable};
@@ -647,6 +647,13 @@ impl<'w, 'a> Args<'w, 'a> {
         } else {
             Err(LineError::wanted(Expected::Open))
         }
+    }
+
+    /// The place, from 0 on, of the word for which the line was refused.
+    pub fn refused(&self, fault: &Fault<'_>) -> usize
+        ensures { result ≡ refused_place self.now.words fault.now }
+    {
+        self.words.refused(fault)
     }
 
     /// Nothing is left.

@@ -1,7 +1,7 @@
 //! The header lines: the function's name and signature, and the configuration.
 ghost use Rattle.std.specs.Prelude.{◌≡◌, ◌++◌, ◌∷◌, [], ℕ, List, None, Some, IfOk, IfSome, OnOk, codes};
 ghost use Rattle.clif_types.specs.Texts.{call_conv_text};
-ghost use Rattle.clif_words.specs.Cursor.{texts, words_left};
+ghost use Rattle.clif_words.specs.Cursor.{words_left};
 ghost use Rattle.clif_arguments.specs.Header.{AreNumbers, AreReturned, AreTypes, IsAnswerLine, IsFunction, IsFunctionName, IsSignature, IsUserName, name_in, signature_in};
 ghost use Rattle.clif_words.specs.Spelling.{pointer_text};
 
@@ -57,21 +57,21 @@ impl Header {
         }
     }
 
-    /// Reads a header line, of which `head` is the first word.
+    /// Reads a header line, of which `head` is the first word and `words` are the others.
     pub fn read<'a>(
         &mut self,
         alloc: Global,
         head: &'a str,
-        rest: &[&'a str],
+        words: &mut Cursor<'_, 'a>,
     ) -> Result<(), LineError<'a>>
-        ensures { OnOk result (IsHeader (head.now ∷ texts rest.now) (header_said self.old)
+        ensures { OnOk result (IsHeader (head.now ∷ words_left words.old) (header_said self.old)
             (header_said self.new)) }
     {
         match head {
-            "function" => keep(&mut self.function, function_of(alloc, rest)?, head),
-            "pointer" => keep(&mut self.pointer_width, pointer_width_of(rest)?, head),
-            "conv" => keep(&mut self.call_conv, call_conv_of(rest)?, head),
-            "answer" => Ok(self.answers.push(answer_of(alloc, rest)?)?),
+            "function" => keep(&mut self.function, function_of(alloc, words)?, head),
+            "pointer" => keep(&mut self.pointer_width, pointer_width_of(words)?, head),
+            "conv" => keep(&mut self.call_conv, call_conv_of(words)?, head),
+            "answer" => Ok(self.answers.push(answer_of(alloc, words)?)?),
             _ => Err(LineError::Fault(Fault::NotSupported(head))),
         }
     }
@@ -130,13 +130,12 @@ fn keep<'a, T: Drop>(kept: &mut Option<T>, said: T, head: &'a str) -> Result<(),
 }
 
 // The name of a function, and what its calls return.
-fn answer_of<'a>(alloc: Global, rest: &[&'a str]) -> Result<OutsideAnswer, LineError<'a>>
-    ensures { IfOk result (IsAnswerLine (texts rest.now)) }
+fn answer_of<'a>(alloc: Global, words: &mut Cursor<'_, 'a>) -> Result<OutsideAnswer, LineError<'a>>
+    ensures { IfOk result (IsAnswerLine (words_left words.old)) }
 {
-    let mut words = Cursor::new(rest);
     let word = words.take(Expected::FunctionName)?;
     let callee = function_name(alloc, word, Expected::FunctionName)?;
-    let values = numbers_to_end(alloc, &mut words)?;
+    let values = numbers_to_end(alloc, words)?;
     Ok(OutsideAnswer { callee, values })
 }
 
@@ -155,20 +154,19 @@ fn numbers_to_end<'a>(alloc: Global, words: &mut Cursor<'_, 'a>) -> Result<Vec<i
     Ok(values)
 }
 
-fn pointer_width_of<'a>(rest: &[&'a str]) -> Result<PointerWidth, LineError<'a>>
-    ensures { IfOk result (λ width. texts rest.now ≡ pointer_text width ∷ []) }
+fn pointer_width_of<'a>(words: &mut Cursor<'_, 'a>) -> Result<PointerWidth, LineError<'a>>
+    ensures { IfOk result (λ width. words_left words.old ≡ pointer_text width ∷ []) }
 {
-    let mut words = Cursor::new(rest);
     let word = words.take(Expected::PointerWidth)?;
     let width = pointer_width_named(word).ok_or(LineError::wanted(Expected::PointerWidth))?;
     words.end()?;
     Ok(width)
 }
 
-fn call_conv_of<'a>(rest: &[&'a str]) -> Result<CallConv, LineError<'a>>
-    ensures { IfOk result (λ conv. texts rest.now ≡ call_conv_text conv ∷ []) }
+fn call_conv_of<'a>(words: &mut Cursor<'_, 'a>) -> Result<CallConv, LineError<'a>>
+    ensures { IfOk result (λ conv. words_left words.old ≡ call_conv_text conv ∷ []) }
 {
-    last_call_conv(&mut Cursor::new(rest), Expected::CallConv)
+    last_call_conv(words, Expected::CallConv)
 }
 
 // The convention that ends a line.
@@ -312,13 +310,12 @@ pub fn last_signature<'a>(
 // `%name`, and a signature.
 fn function_of<'a>(
     alloc: Global,
-    rest: &[&'a str],
+    words: &mut Cursor<'_, 'a>,
 ) -> Result<(UserFuncName, Signature), LineError<'a>>
-    ensures { IfOk result (IsFunction (texts rest.now)) }
+    ensures { IfOk result (IsFunction (words_left words.old)) }
 {
-    let mut words = Cursor::new(rest);
     let word = words.take(Expected::FunctionName)?;
     let name = function_name(alloc, word, Expected::FunctionName)?;
-    let signature = last_signature(alloc, &mut words)?;
+    let signature = last_signature(alloc, words)?;
     Ok((name, signature))
 }

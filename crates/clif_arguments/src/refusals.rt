@@ -8,11 +8,11 @@ use clif_words::error::{Expected, Fault, LineError};
 
 /// The refusal of a word that names no answer, where the line should have `expected`.
 pub fn unknown_name(word: &str, expected: Expected) -> LineError<'_>
-    ensures { (result ≡ line_error.Fault (fault.UnknownName word.entry)) ⊎
+    ensures { (result ≡ line_error.Fault (fault.UnknownName word.entry expected)) ⊎
         (result ≡ line_error.Fault (fault.Expected expected)) }
 {
     if is_name(word) {
-        LineError::Fault(Fault::UnknownName(word))
+        LineError::Fault(Fault::UnknownName(word, expected))
     } else {
         LineError::wanted(expected)
     }
@@ -20,11 +20,11 @@ pub fn unknown_name(word: &str, expected: Expected) -> LineError<'_>
 
 /// The refusal of a word that is no type, where the line should have `expected`.
 pub fn unknown_type(word: &str, expected: Expected) -> LineError<'_>
-    ensures { (result ≡ line_error.Fault (fault.UnknownType word.entry)) ⊎
+    ensures { (result ≡ line_error.Fault (fault.UnknownType word.entry expected)) ⊎
         (result ≡ line_error.Fault (fault.Expected expected)) }
 {
     if is_name(word) {
-        LineError::Fault(Fault::UnknownType(word))
+        LineError::Fault(Fault::UnknownType(word, expected))
     } else {
         LineError::wanted(expected)
     }

@@ -3,7 +3,7 @@
 ghost use Rattle.std.specs.Prelude.{◌<◌, IfOk};
 
 use crate::command::Run;
-use crate::program::{Notes, tell_call, tell_no_text, tell_unbuilt, tell_unread};
+use crate::program::{Notes, tell_call, tell_no_text, tell_refused, tell_unbuilt, tell_unread};
 use clif_builder::FunctionBuilderContext;
 use clif_conditions::block_numbers;
 use clif_interpreter::{Place, RunError, Told};
@@ -63,7 +63,10 @@ fn execute_bytes<O: io::Write, E: io::Write>(
 {
     match str::from_utf8(bytes) {
         Ok(text) => execute_text(alloc, text, run, out, err),
-        Err(error) => tell_no_text(&bytes[..error.valid_up_to()], err),
+        Err(error) => {
+            let place = error.valid_up_to();
+            tell_no_text(&bytes[..place], &bytes[place..], err)
+        }
     }
 }
 
@@ -78,7 +81,7 @@ fn execute_text<O: io::Write, E: io::Write>(
 {
     match read(alloc, text) {
         Ok(script) => execute_script(alloc, text, &script, run, out, err),
-        Err(error) => tell_unread(error, err),
+        Err(error) => tell_refused(alloc, text, error, err),
     }
 }
 

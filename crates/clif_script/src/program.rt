@@ -3,14 +3,15 @@ ghost use Rattle.std.specs.Prelude.{◌≡◌, ◌<◌, IfOk, OnOk};
 ghost use Rattle.clif_script.specs.Program.{HasTypesAs, IsAccepted, MakesFunction};
 
 use clif_builder::FunctionBuilderContext;
-use clif_calls::Call;
+use clif_calls::{Call, Name};
 use clif_check::{CheckError, check};
 use clif_conditions::{Condition, broken_condition, cut_constant};
 use clif_graph::Graph;
 use clif_ir::Function;
 use clif_replay::{ReplayError, replay};
-use clif_text::{Expected, Fault, ReadError, Script, read};
+use clif_text::{Expected, Fault, Hint, ReadError, Script, explain, read};
 use clif_type_messages::type_message;
+use clif_words::words::words_of;
 use std::alloc::{AllocError, Global};
 use std::{fmt, io, str};
 
@@ -48,7 +49,7 @@ pub struct Printing {
 /// |---|---|
 /// | 0 | the function was finished and printed to `out`, and to `err` a line for each constant that was cut, as `note: line 3: iconst.i8 4000 is cut to -96` |
 /// | 1 | the function couldn't be built, and `err` has the reason, as `misuse at call 3` and then `line 12: jump b1: block1 is sealed`, or `refused at call 4` and then `at the end: block0 isn't filled`; or its types are checked, and `err` has an instruction that isn't well typed, as `inst2: iadd: the second operand is i64, i32 is needed`; or memory or a write was refused |
-/// | 2 | the bytes are no script, and `err` has the reason, as `script error at line 12: expected a block` |
+/// | 2 | the bytes are no script, and `err` has the reason, as `script error at line 12: expected a block`, and then where the line can't be read ([`Explanation`](clif_text::Explanation)) |
 ///
 /// Nothing is printed to `out` unless the function was finished. Where a write fails, what was written before
 /// it stays written.
@@ -80,22 +81,47 @@ fn build_bytes<O: io::Write, E: io::Write>(
 {
     match str::from_utf8(bytes) {
         Ok(text) => build_text(alloc, text, printing, out, err),
-        Err(error) => tell_no_text(&bytes[..error.valid_up_to()], err),
+        Err(error) => {
+            let place = error.valid_up_to();
+            tell_no_text(&bytes[..place], &bytes[place..], err)
+        }
     }
 }
 
-// Tells that a file is no text behind these bytes.
-pub(crate) fn tell_no_text<E: io::Write>(before: &[u8], err: &mut E) -> io::Result<u8>
+// Tells that a file, of these bytes and those after them, is no text from there on.
+pub(crate) fn tell_no_text<E: io::Write>(before: &[u8], after: &[u8], err: &mut E) -> io::Result<u8>
     ensures { IfOk result (λ status. (0 < status) × (status < 3)) }
 {
     let number = lines_to(before);
     let fault = Fault::Expected(Expected::Text);
-    tell_unread(ReadError::Line { number, fault }, err)
+    let status = tell_unread(ReadError::Line { number, fault }, err)?;
+    if let Some(byte) = after.first() {
+        let column = column_after(before);
+        let expected = Expected::Text;
+        writeln!(
+            err,
+            "column {column}: found the byte {byte:#04x}, expected {expected}"
+        )?;
+    }
+    Ok(status)
 }
 
 // The number of the line on which these bytes end.
 fn lines_to(bytes: &[u8]) -> usize {
     bytes.iter().filter(|byte| **byte == b'\n').count() + 1
+}
+
+// The column after these bytes, which are a text: 1 more than the last line has characters.
+fn column_after(bytes: &[u8]) -> usize {
+    let mut column: usize = 1;
+    for byte in bytes {
+        if *byte == b'\n' {
+            column = 1;
+        } else if *byte & 0xc0 != 0x80 {
+            column = column.saturating_add(1);
+        }
+    }
+    column
 }
 
 // Tells why a text is no script.
@@ -107,6 +133,24 @@ pub(crate) fn tell_unread<E: io::Write>(error: ReadError<'_>, err: &mut E) -> io
         ReadError::Memory => Ok(1),
         ReadError::Line { .. } => Ok(2),
     }
+}
+
+// Tells why a text is no script, and where.
+pub(crate) fn tell_refused<E: io::Write>(
+    alloc: Global,
+    text: &str,
+    error: ReadError<'_>,
+    err: &mut E,
+) -> io::Result<u8>
+    ensures { IfOk result (λ status. (0 < status) × (status < 3)) }
+{
+    let status = tell_unread(error, err)?;
+    if let ReadError::Line { .. } = error {
+        if let Some(explanation) = explain(alloc, text) {
+            write!(err, "{explanation}")?;
+        }
+    }
+    Ok(status)
 }
 
 pub(crate) fn build_text<O: io::Write, E: io::Write>(
@@ -121,7 +165,7 @@ pub(crate) fn build_text<O: io::Write, E: io::Write>(
 {
     match read(alloc, text) {
         Ok(script) => build_script(alloc, text, script, printing, out, err),
-        Err(error) => tell_unread(error, err),
+        Err(error) => tell_refused(alloc, text, error, err),
     }
 }
 
@@ -270,7 +314,60 @@ fn tell_condition<E: io::Write>(
         return writeln!(err, "at the end: {condition}");
     };
     let line = line_of(text, *number);
-    writeln!(err, "line {number}: {line}: {condition}")
+    writeln!(err, "line {number}: {line}: {condition}")?;
+    let Some(name) = no_value(condition) else {
+        return Ok(());
+    };
+    let declaration = match lines.get(name.place) {
+        Some(number) => line_of(text, *number),
+        None => "",
+    };
+    match variable_named(alloc, declaration, line, name) {
+        Ok(Some(word)) => {
+            let hint = Hint::Variable(word);
+            writeln!(err, "{hint}")
+        }
+        _ => Ok(()),
+    }
+}
+
+// The answer that a call takes as a value and that is none.
+fn no_value(condition: Condition) -> Option<Name> {
+    match condition {
+        Condition::NoValue(name) => Some(name),
+        _ => None,
+    }
+}
+
+// The word of a line that names this answer, if that is the variable of a declaration: `$P.K`, or the name that the
+// declaration gives.
+fn variable_named<'a>(
+    alloc: Global,
+    declaration: &'a str,
+    line: &'a str,
+    name: Name,
+) -> Result<Option<&'a str>, AllocError> {
+    let Name { place, answer } = name;
+    let declared = words_of(alloc, declaration)?;
+    let given = match declared.as_slice() {
+        [head, ..] if *head == "declare_var" => None,
+        [given, equals, head, ..] if *equals == "=" && *head == "declare_var" => Some(*given),
+        _ => return Ok(None),
+    };
+    if answer != 0 {
+        return Ok(None);
+    }
+    let numbered = format!(in alloc; "${place}.{answer}")?;
+    let mut named = None;
+    for word in words_of(alloc, line)?.iter() {
+        if *word == numbered.as_str() {
+            return Ok(Some(*word));
+        }
+        if given == Some(*word) {
+            named = given;
+        }
+    }
+    Ok(named)
 }
 
 // The condition of a call of a script that doesn't hold.

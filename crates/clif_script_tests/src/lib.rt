@@ -16,6 +16,8 @@ mod data;
 #[cfg(test)]
 mod entries;
 #[cfg(test)]
+mod explanations;
+#[cfg(test)]
 mod functions;
 #[cfg(test)]
 mod helpers;

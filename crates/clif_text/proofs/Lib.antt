@@ -2,3 +2,4 @@ mod Reading
 mod Giving
 mod Counting
 mod Numbers
+mod Hints

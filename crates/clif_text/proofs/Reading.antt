@@ -10,7 +10,7 @@ use Rattle.clif_words.specs.Words.{AreWords, HasWord}
 use Rattle.clif_words.specs.declared.error.LineError.{LineError}
 use Rattle.clif_words.specs.declared.error.LineError.TheVariants as fault
 use Rattle.clif_words.specs.Errors.{error_at}
-use Rattle.clif_text.specs.Reader.{RefusesWords, WordsSay, LineAdds}
+use Rattle.clif_text.specs.Reader.{IsUnreadFor, RefusesWords, WordsSay, LineAdds}
 use Rattle.clif_arguments.specs.Header.{HeaderSaid, IsHeader}
 use Rattle.clif_text.specs.Script.{lines_of, line_at, IsLineNumber, Said, nothing_said, LineSays, LinesSay, TellsLine}
 use Rattle.clif_words.proofs.Left.{length-texts}
@@ -110,12 +110,20 @@ line_here text lines index d all none =
     get_or-texts lines index d ∙ (ap (λ e. get_or (texts lines) index e) none ∙ (ap (λ ls. get_or ls index []) all ∙ ap (λ k. get_or (lines_of text) k []) (omega arith)))
 
 -- a line that was refused, behind those that were read
-pub tells_line : (text line : List ℕ) (index : ℕ) (error : LineError) (before : Said) → IsLineNumber text (index + 1) → line ≡ line_at text (index + 1) → LinesSay 1 (take index (lines_of text)) nothing_said before → RefusesWords line error → TellsLine text (error_at error (index + 1))
-tells_line text line index fault.Memory before within here says has = tt
-tells_line text line index (fault.Fault why) before within here says has =
-    let at : index ≡ index + 1 - 1 = omega arith in record {
-      within = within;
-      has_word = subst HasWord here has;
-      before = before;
-      read_before = subst (λ n. LinesSay 1 (take n (lines_of text)) nothing_said before) at says;
-    }
+pub is_unread_line : (text line : List ℕ) (index : ℕ) (error : LineError) (before : Said) → IsLineNumber text (index + 1) → line ≡ line_at text (index + 1) → LinesSay 1 (take index (lines_of text)) nothing_said before → RefusesWords line error → IsUnreadFor text (index + 1) line error
+is_unread_line text line index fault.Memory before within here says has = tt
+is_unread_line text line index (fault.Fault why) before within here says has =
+    let at : index ≡ index + 1 - 1 = omega arith in (
+      record {
+        within = within;
+        has_word = subst HasWord here has;
+        before = before;
+        read_before = subst (λ n. LinesSay 1 (take n (lines_of text)) nothing_said before) at says;
+      },
+      here,
+    )
+
+-- and so is its refusal
+pub tells_line : (text : List ℕ) (number : ℕ) (line : List ℕ) (error : LineError) → IsUnreadFor text number line error → TellsLine text (error_at error number)
+tells_line text number line fault.Memory unread = tt
+tells_line text number line (fault.Fault why) unread = unread.0

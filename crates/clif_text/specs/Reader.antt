@@ -8,7 +8,8 @@ use Rattle.clif_arguments.specs.Given.{no_totals, numbered_from, totals_from, fi
 use Rattle.clif_text.specs.Grammar.{IsCall}
 use Rattle.clif_arguments.specs.declared.scope.Scope.{Scope}
 use Rattle.clif_arguments.specs.Scope.{given_in, KeepsNumbered}
-use Rattle.clif_text.specs.Script.{Said, SaysCall, LineSays}
+use Rattle.clif_text.specs.declared.reader.Unread.{Unread}
+use Rattle.clif_text.specs.Script.{line_at, lines_of, nothing_said, IsUnread, LinesSay, Said, SaysCall, LineSays}
 use Rattle.clif_words.specs.Words.{HasWord}
 
 -- what the lines so far said
@@ -37,3 +38,16 @@ pub record NamesAnswers (instruction : Bool) (place : ℕ) (names : List (List �
 abbrev pub RefusesWords : List ℕ → LineError → Type 0
 RefusesWords line error.Memory = Unit {0}
 RefusesWords line (error.Fault why) = HasWord line
+
+-- the lines of the text say this
+abbrev pub SaysLines : List ℕ → Said → Type 0
+SaysLines text said = LinesSay 1 (lines_of text) nothing_said said
+
+-- for this fault, the line with this number, which can't be read
+abbrev pub IsUnreadFor : List ℕ → ℕ → List ℕ → LineError → Type 0
+IsUnreadFor text number line error.Memory = Unit {0}
+IsUnreadFor text number line (error.Fault why) = IsUnread text number × (line ≡ line_at text number)
+
+-- memory was refused, or the line of the text can't be read
+abbrev pub IsUnreadLine : List ℕ → Unread → Type 0
+IsUnreadLine text unread = IsUnreadFor text unread.number unread.line.now unread.error

@@ -1,10 +1,11 @@
 //! The calls that are understood: one arm each.
 ghost use Rattle.std.specs.Prelude.{◌≡◌, ◌++◌, IfOk, IfSome, codes};
-ghost use Rattle.clif_words.specs.Cursor.{texts};
+ghost use Rattle.clif_words.specs.Cursor.{texts, words_left};
 ghost use Rattle.clif_arguments.specs.Given.{is_instruction};
 ghost use Rattle.clif_text.specs.Grammar.{IsCall};
 ghost use Rattle.clif_text.specs.Reading.{ReadsCall};
 ghost use Rattle.clif_arguments.specs.Scope.{names_of};
+ghost use Rattle.clif_arguments.specs.Taking.{names_in};
 
 use crate::entries::read_entry_call;
 use crate::immediate::read_immediate_call;
@@ -306,7 +307,7 @@ fn not_understood<'a>(head: &'a str, name: &'a str) -> LineError<'a> {
         || convert_named(name).is_some()
         || stack_named(name).is_some();
     if wants_type {
-        LineError::wanted(Expected::Type)
+        LineError::Fault(Fault::NoType)
     } else if NOT_SUPPORTED.contains(&name) {
         LineError::Fault(Fault::NotSupported(name))
     } else {
@@ -323,10 +324,33 @@ pub(crate) fn call_of<'a>(
     ensures { IfOk result (IsCall (names_of scope.now) (texts words.now)) }
 {
     let mut args = Args::new(words, scope);
+    call_in(alloc, &mut args)
+}
+
+// The same of words none of which was taken.
+fn call_in<'a>(alloc: Global, args: &mut Args<'_, 'a>) -> Result<Call, LineError<'a>>
+    ensures { IfOk result (IsCall (names_in args.old) (words_left args.old.words)) }
+{
     let head = args.head()?;
-    let call = read_call(alloc, head, &mut args)?;
+    let call = read_call(alloc, head, args)?;
     args.end()?;
     Ok(call)
+}
+
+/// The place, from 0 on, of the word for which these words are refused as a call. There is none where they are one, or where
+/// memory is refused.
+pub(crate) fn refused_in_call<'a>(
+    alloc: Global,
+    words: &[&'a str],
+    scope: &Scope<'a>,
+) -> Option<usize> {
+    let mut args = Args::new(words, scope);
+    match call_in(alloc, &mut args) {
+        // the word after `cursor`
+        Err(LineError::Fault(Fault::NotForCursor(_))) => Some(1),
+        Err(LineError::Fault(fault)) => Some(args.refused(&fault)),
+        Ok(_) | Err(LineError::Memory) => None,
+    }
 }
 
 /// What a call answers, as far as names are given to it.

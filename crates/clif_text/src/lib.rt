@@ -1,8 +1,9 @@
-//! Scripts as text: `read` makes calls of a text, and `write` a text of calls.
+//! Scripts as text: `read` makes calls of a text, `explain` says where it can't be read, and `write` makes a text of calls.
 #![tactic(auto)]
 
 mod calls;
 mod entries;
+mod explanation;
 mod immediate;
 mod instructions;
 mod memory;
@@ -13,5 +14,6 @@ mod throwing;
 mod writer;
 
 pub use clif_words::error::{Expected, Fault, ReadError};
-pub use reader::{Script, read};
+pub use explanation::{Explanation, Hint};
+pub use reader::{Script, explain, read};
 pub use writer::{CallText, write};

@@ -3,16 +3,19 @@ ghost use Rattle.std.specs.Prelude.{◌≡◌, ◌≢◌, ◌++◌, ◌∷◌, [
 ghost use Rattle.std.specs.List.{All};
 ghost use Rattle.clif_words.specs.Cursor.{texts};
 ghost use Rattle.clif_arguments.specs.Given.{numbered_kind, unnamed_in};
-ghost use Rattle.clif_text.specs.Reader.{NamesAnswers};
+ghost use Rattle.clif_text.specs.Explanation.{ExplainsText};
+ghost use Rattle.clif_text.specs.Reader.{IsUnreadLine, NamesAnswers, SaysLines, said_to};
 ghost use Rattle.clif_text.specs.Script as script;
 
-use crate::calls::{Answers, answers_of, call_of};
+use crate::calls::{Answers, answers_of, call_of, refused_in_call};
+use crate::explanation::{Explanation, hint_of};
 use clif_arguments::header::{Header, is_header};
 use clif_arguments::scope::{Kind, Scope, Unnamed, is_name};
 use clif_calls::{Call, EntryCall, Name, OutsideAnswer, table_count};
 use clif_types::{Signature, TargetFrontendConfig, UserFuncName};
+use clif_words::cursor::Cursor;
 use clif_words::error::{Expected, Fault, LineError, ReadError};
-use clif_words::words::words_of;
+use clif_words::words::{place_of, words_of};
 use std::alloc::{AllocError, Global};
 
 /// What a text says.
@@ -55,7 +58,7 @@ impl Drop for Reader<'_> {
 }
 
 impl<'a> Reader<'a> {
-    ghost use Rattle.clif_text.specs.Reader.{IsCounted, LineAdds, RefusesWords, WordsSay, said_to};
+    ghost use Rattle.clif_text.specs.Reader.{IsCounted, LineAdds, RefusesWords, WordsSay};
     ghost use Rattle.clif_text.specs.Script.{IsScriptOf};
 
     fn new(alloc: Global) -> Reader<'a>
@@ -110,7 +113,9 @@ impl<'a> Reader<'a> {
         }
         match words.split_first() {
             None => Ok(()),
-            Some((head, rest)) if is_header(head) => self.header.read(self.alloc, head, rest),
+            Some((head, rest)) if is_header(head) => {
+                self.header.read(self.alloc, head, &mut Cursor::new(rest))
+            }
             Some(_) => self.call(number, &[], words),
         }
     }
@@ -133,6 +138,55 @@ impl<'a> Reader<'a> {
         self.calls.push(call)?;
         self.lines.push(number)?;
         Ok(())
+    }
+}
+
+// Where lines that are refused are at fault.
+impl<'a> Reader<'a> {
+    ghost use Rattle.clif_text.specs.Explanation.{ExplainsLine};
+
+    // The place, from 0 on, of the word for which a line of these words is refused. There is none where memory is refused.
+    fn refused_word(&mut self, words: &[&'a str]) -> Option<usize> {
+        let Some((names, rest)) = parts_at_equals(words) else {
+            return match words.split_first() {
+                Some((head, rest)) if is_header(head) => self.refused_in_header(head, rest),
+                _ => refused_in_call(self.alloc, words, &self.scope),
+            };
+        };
+        if names.is_empty() {
+            return Some(0);
+        }
+        match call_of(self.alloc, rest, &self.scope) {
+            Ok(call) => Some(refused_name(names, answers_of(&call))),
+            Err(_) => {
+                let place = refused_in_call(self.alloc, rest, &self.scope)?;
+                Some(place.saturating_add(names.len() + 1))
+            }
+        }
+    }
+
+    // The same of a header line, of which `head` is the first word.
+    fn refused_in_header(&mut self, head: &'a str, rest: &[&'a str]) -> Option<usize> {
+        let mut words = Cursor::new(rest);
+        match self.header.read(self.alloc, head, &mut words) {
+            Err(LineError::Fault(Fault::NotSupported(_) | Fault::Repeated(_))) => Some(0),
+            Err(LineError::Fault(fault)) => Some(words.refused(&fault).saturating_add(1)),
+            Ok(()) | Err(LineError::Memory) => None,
+        }
+    }
+
+    // Why a line that is refused for this fault can't be read. It isn't known where memory is refused.
+    fn explanation(&mut self, line: &'a str, fault: Fault<'a>) -> Option<Explanation<'a>>
+        ensures { IfSome result (ExplainsLine line.now fault.entry) }
+    {
+        let words = words_of(self.alloc, line).ok()?;
+        let place = place_of(line, self.refused_word(words.as_slice())?);
+        Some(Explanation {
+            column: place.column(),
+            found: place.word,
+            expected: fault.expected(),
+            hint: hint_of(words.as_slice(), place.word, fault),
+        })
     }
 }
 
@@ -202,6 +256,19 @@ fn give_names<'a>(
     Ok(())
 }
 
+// The place, from 0 on, of the first name that can't be given to answers.
+fn refused_name(names: &[&str], answers: Answers) -> usize {
+    let mut given = 0;
+    for (index, word) in names.iter().enumerate() {
+        match instruction_name(word, answers.instruction) {
+            Some(name) if is_name(name) => {}
+            None if given < answers.names && is_name(word) => given += 1,
+            _ => return index,
+        }
+    }
+    names.len()
+}
+
 // The words before the first `=` and those behind it, if there is one.
 fn parts_at_equals<'w, 'a>(words: &'w [&'a str]) -> Option<(&'w [&'a str], &'w [&'a str])>
     ensures some { IfSome result (λ parts. (texts words.now ≡ texts parts.0.now ++ (codes "=" ∷ texts parts.1.now)) × All (λ word. word ≢ codes "=") (texts parts.0.now)) }
@@ -233,6 +300,44 @@ fn lines_of(alloc: Global, text: &str) -> Result<Vec<&str>, AllocError>
     text.split('\n').collect(alloc)
 }
 
+// A line that can't be read, and why.
+#[derive(Drop)]
+struct Unread<'a> {
+    // what the lines before say
+    reader: Reader<'a>,
+    // from 1 on; 0 where memory was refused before the first line
+    number: usize,
+    line: &'a str,
+    error: LineError<'a>,
+}
+
+// What all lines of a text say, or the first that can't be read.
+fn read_lines<'a>(alloc: Global, text: &'a str) -> Result<Reader<'a>, Unread<'a>>
+    ensures says { IfOk result (λ reader. SaysLines text.now (said_to reader)) }
+    ensures unread { IfErr result (IsUnreadLine text.now) }
+{
+    let mut reader = Reader::new(alloc);
+    let Ok(lines) = lines_of(alloc, text) else {
+        return Err(Unread {
+            reader,
+            number: 0,
+            line: "",
+            error: LineError::Memory,
+        });
+    };
+    for (index, line) in lines.iter().enumerate() {
+        if let Err(error) = reader.line(index + 1, line) {
+            return Err(Unread {
+                reader,
+                number: index + 1,
+                line,
+                error,
+            });
+        }
+    }
+    Ok(reader)
+}
+
 /// Reads a script. The format is described in docs/SCRIPTS.md.
 ///
 /// # Errors
@@ -243,14 +348,28 @@ pub fn read(alloc: Global, text: &str) -> Result<Script, ReadError<'_>>
     ensures says { IfOk result (script.SaysScript text.now) }
     ensures line { IfErr result (script.TellsLine text.now) }
 {
-    let Ok(lines) = lines_of(alloc, text) else {
-        return Err(ReadError::Memory);
-    };
-    let mut reader = Reader::new(alloc);
-    for (index, line) in lines.iter().enumerate() {
-        if let Err(error) = reader.line(index + 1, line) {
-            return Err(error.at(index + 1));
-        }
+    match read_lines(alloc, text) {
+        Ok(reader) => Ok(reader.script()),
+        Err(unread) => Err(unread.error.at(unread.number)),
     }
-    Ok(reader.script())
+}
+
+/// Where the first line of a text that can't be read is at fault, and what helps. There is nothing to explain where the text
+/// is a script, or where memory is refused.
+pub fn explain(alloc: Global, text: &str) -> Option<Explanation<'_>>
+    ensures { IfSome result (ExplainsText text.now) }
+{
+    let Err(unread) = read_lines(alloc, text) else {
+        return None;
+    };
+    let Unread {
+        mut reader,
+        number: _,
+        line,
+        error,
+    } = unread;
+    match error {
+        LineError::Fault(fault) => reader.explanation(line, fault),
+        LineError::Memory => None,
+    }
 }

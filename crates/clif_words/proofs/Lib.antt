@@ -3,3 +3,4 @@ pub mod Lines
 pub mod Texts
 pub mod Figures
 pub mod Flags
+pub mod Places

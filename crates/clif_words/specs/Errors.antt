@@ -64,6 +64,10 @@ expected_text expected.TypeOrClose = codes "a type or )"
 expected_text expected.ArrowOrCallConv = codes "-> or a convention"
 expected_text expected.TypeOrCallConv = codes "a type or a convention"
 expected_text expected.End = codes "the end of the line"
+expected_text expected.PointType = codes "a point and a type after it"
+expected_text expected.CursorInst = codes "an instruction for cursor"
+expected_text expected.Equals = codes "="
+expected_text expected.OtherHeader = codes "another header line"
 
 -- at most so many names
 abbrev pub names_text : ℕ → List ℕ
@@ -75,8 +79,9 @@ fault_text (fault.Expected what) = codes "expected " ++ expected_text what
 fault_text (fault.UnknownCall name) = codes "unknown call: " ++ name.now
 fault_text (fault.NotSupported name) = codes "not supported yet: " ++ name.now
 fault_text (fault.NotForCursor name) = codes "no instruction for cursor: " ++ name.now
-fault_text (fault.UnknownName name) = codes "unknown name: " ++ name.now
-fault_text (fault.UnknownType name) = codes "unknown type: " ++ name.now
+fault_text (fault.UnknownName name _) = codes "unknown name: " ++ name.now
+fault_text (fault.UnknownType name _) = codes "unknown type: " ++ name.now
+fault_text fault.NoType = codes "expected a type"
 fault_text (fault.TooManyNames count) = codes "expected " ++ names_text count
 fault_text (fault.Repeated name) = codes "expected no second line: " ++ name.now
 
@@ -84,3 +89,15 @@ fault_text (fault.Repeated name) = codes "expected no second line: " ++ name.now
 abbrev pub read_error_text : ReadError → List ℕ
 read_error_text read.Memory = codes "no memory"
 read_error_text (read.Line number why) = codes "script error at line " ++ (decimal number ++ (codes ": " ++ fault_text why))
+
+-- what should be where the line is at fault
+abbrev pub wanted_by : Fault → Expected
+wanted_by (fault.Expected what) = what
+wanted_by (fault.UnknownName name what) = what
+wanted_by (fault.UnknownType name what) = what
+wanted_by fault.NoType = expected.PointType
+wanted_by (fault.UnknownCall name) = expected.Call
+wanted_by (fault.NotSupported name) = expected.Call
+wanted_by (fault.NotForCursor name) = expected.CursorInst
+wanted_by (fault.TooManyNames count) = expected.Equals
+wanted_by (fault.Repeated name) = expected.OtherHeader

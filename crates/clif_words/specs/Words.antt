@@ -1,8 +1,10 @@
 -- The words of a line. Source: own.
-use Rattle.std.specs.Prelude.{◌≡◌, ◌≢◌, ℕ, ◌==◌, ◌⊎◌, ◌<◌, ◌||◌, List, [], ◌∷◌, ◌++◌, length, slice_index, if◌then◌else◌}
+use Rattle.std.specs.Prelude.{◌≡◌, ◌≢◌, ℕ, ◌==◌, ◌⊎◌, ◌<◌, ◌≤◌, ◌||◌, List, [], ◌∷◌, ◌++◌, length, slice_index, if◌then◌else◌, Option, Some, None}
 use Rattle.std.specs.List.{All}
+use Rattle.std.specs.Borrow.{Bor}
 use Rattle.clif_words.specs.declared.words.Kind.{Kind}
 use Rattle.clif_words.specs.declared.words.Kind.TheVariants.{Blank, Mark, Comment, Plain}
+use Rattle.clif_words.specs.declared.words.WordPlace.{WordPlace}
 
 -- space, comma, tab, carriage return and form feed are blanks; `(`, `)` and `=` are marks; `#` begins a comment
 abbrev pub kind_of : ℕ → Kind
@@ -38,3 +40,23 @@ pub record HasWord (line : List ℕ) : Type 0 where
   pub word : List ℕ
   pub words : List (List ℕ)
   pub are : AreWords (word ∷ words) line
+
+-- the line begins with these words, in order, and this follows the last of them
+abbrev pub BeginsWith : List (List ℕ) → List ℕ → List ℕ → Type 0
+BeginsWith [] line rest = line ≡ rest
+BeginsWith (word ∷ words) line rest = (blanks after : List ℕ) × (line ≡ blanks ++ (word ++ after)) × AllOf Blank blanks × IsWord word after × BeginsWith words after rest
+
+-- Of a line of these words and this rest: what comes before the first word of the rest, and that word. Where the rest has
+-- none, it is what comes before the rest.
+abbrev pub IsFirstOf : (line rest before : List ℕ) → Option (Bor (List ℕ)) → Type 0
+IsFirstOf line rest before None = EndsLine rest × (line ≡ before ++ rest)
+IsFirstOf line rest before (Some word) = (blanks after : List ℕ) × (rest ≡ blanks ++ (word.now ++ after)) × AllOf Blank blanks × IsWord word.now after × (line ≡ before ++ (word.now ++ after))
+
+-- there are as many words before the word as its index says, or fewer where the line hasn't that word
+abbrev pub HasBefore : ℕ → List (List ℕ) → Option (Bor (List ℕ)) → Type 0
+HasBefore index words None = length words ≤ index
+HasBefore index words (Some word) = length words ≡ index
+
+-- where the word with this index is in the line
+abbrev pub IsPlace : ℕ → List ℕ → WordPlace → Type 0
+IsPlace index line place = (words : List (List ℕ)) × (rest : List ℕ) × BeginsWith words line rest × HasBefore index words place.word × IsFirstOf line rest place.before.now place.word

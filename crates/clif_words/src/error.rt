@@ -104,6 +104,14 @@ pub enum Expected {
     TypeOrCallConv,
     /// Nothing more.
     End,
+    /// A point and a type after the name of a call.
+    PointType,
+    /// An instruction that the cursor makes.
+    CursorInst,
+    /// `=`, after as many names as the call has answers.
+    Equals,
+    /// A header line of a kind of which there is none above.
+    OtherHeader,
 }
 
 impl fmt::Display for Expected {
@@ -158,6 +166,10 @@ impl fmt::Display for Expected {
             Expected::ArrowOrCallConv => "-> or a convention",
             Expected::TypeOrCallConv => "a type or a convention",
             Expected::End => "the end of the line",
+            Expected::PointType => "a point and a type after it",
+            Expected::CursorInst => "an instruction for cursor",
+            Expected::Equals => "=",
+            Expected::OtherHeader => "another header line",
         })
     }
 }
@@ -173,14 +185,37 @@ pub enum Fault<'a> {
     NotSupported(&'a str),
     /// `cursor` stands before this, which is no instruction that it makes.
     NotForCursor(&'a str),
-    /// No line before gave this name.
-    UnknownName(&'a str),
-    /// No type has this name.
-    UnknownType(&'a str),
+    /// No line before gave this name, and this is what it should name.
+    UnknownName(&'a str, Expected),
+    /// No type has this name, where this should be.
+    UnknownType(&'a str, Expected),
+    /// No type follows the name of the call.
+    NoType,
     /// More names are given than the call has answers, which are so many.
     TooManyNames(usize),
     /// A header line of this kind stands above.
     Repeated(&'a str),
+}
+
+impl Fault<'_> {
+    ghost use Rattle.std.specs.Prelude.{◌≡◌};
+    ghost use Rattle.clif_words.specs.Errors.{wanted_by};
+
+    /// What should be where the line is at fault.
+    pub fn expected(&self) -> Expected
+        ensures { result ≡ wanted_by self.now }
+    {
+        match self {
+            Fault::Expected(expected)
+            | Fault::UnknownName(_, expected)
+            | Fault::UnknownType(_, expected) => *expected,
+            Fault::NoType => Expected::PointType,
+            Fault::UnknownCall(_) | Fault::NotSupported(_) => Expected::Call,
+            Fault::NotForCursor(_) => Expected::CursorInst,
+            Fault::TooManyNames(_) => Expected::Equals,
+            Fault::Repeated(_) => Expected::OtherHeader,
+        }
+    }
 }
 
 impl fmt::Display for Fault<'_> {
@@ -192,8 +227,9 @@ impl fmt::Display for Fault<'_> {
             Fault::UnknownCall(name) => write!(f, "unknown call: {name}"),
             Fault::NotSupported(name) => write!(f, "not supported yet: {name}"),
             Fault::NotForCursor(name) => write!(f, "no instruction for cursor: {name}"),
-            Fault::UnknownName(name) => write!(f, "unknown name: {name}"),
-            Fault::UnknownType(name) => write!(f, "unknown type: {name}"),
+            Fault::UnknownName(name, _) => write!(f, "unknown name: {name}"),
+            Fault::UnknownType(name, _) => write!(f, "unknown type: {name}"),
+            Fault::NoType => write!(f, "expected a type"),
             Fault::TooManyNames(0) => write!(f, "expected no names"),
             Fault::TooManyNames(1) => write!(f, "expected at most 1 name"),
             Fault::TooManyNames(count) => write!(f, "expected at most {count} names"),

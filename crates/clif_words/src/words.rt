@@ -1,7 +1,7 @@
 //! The words of a line.
 ghost use Rattle.std.specs.Prelude.{◌≡◌, ◌≢◌, ◌≤◌, ◌<◌, ◌++◌, List, ℕ, length, take, drop, slice_index, map, IfOk, MatchOption};
 ghost use Rattle.std.specs.Str.{IsCharBoundary};
-ghost use Rattle.clif_words.specs.Words.{kind_of, AllOf, AreWords, BeginsNoWord, EndsLine, IsWord};
+ghost use Rattle.clif_words.specs.Words.{kind_of, AllOf, AreWords, BeginsNoWord, EndsLine, IsPlace, IsWord};
 
 use std::alloc::{AllocError, Global};
 
@@ -95,4 +95,55 @@ pub fn words_of(alloc: Global, line: &str) -> Result<Vec<&str>, AllocError>
         rest = after;
     }
     Ok(words)
+}
+
+/// Where a word is in its line.
+#[derive(Clone, Copy, Debug)]
+pub struct WordPlace<'a> {
+    /// What comes before it; up to the end of the last word, if the line has no such word.
+    pub before: &'a str,
+    /// The word, if the line has it.
+    pub word: Option<&'a str>,
+}
+
+impl WordPlace<'_> {
+    ghost use Rattle.std.specs.Prelude.{◌+◌};
+    ghost use Rattle.std.specs.Str.{chars};
+
+    /// The column: 1 more than there are characters before it.
+    pub fn column(&self) -> usize
+        ensures { result ≡ length (chars self.now.before.now) + 1 }
+    {
+        self.before.chars().count() + 1
+    }
+}
+
+// What comes before this word of a line and what follows it.
+fn before<'a>(line: &'a str, word: &str, after: &str) -> &'a str
+    requires { (front : List ℕ) × (line.now ≡ front ++ (word.now ++ after.now)) }
+    ensures { line.now ≡ result.now ++ (word.now ++ after.now) }
+{
+    &line[..line.len() - after.len() - word.len()]
+}
+
+/// Where the word with this index, from 0 on, is in the line.
+pub fn place_of(line: &str, index: usize) -> WordPlace<'_>
+    ensures { IsPlace index line.now result }
+{
+    let mut left = index;
+    let mut rest = line;
+    while let Some((word, after)) = first_word(rest) {
+        if left == 0 {
+            return WordPlace {
+                before: before(line, word, after),
+                word: Some(word),
+            };
+        }
+        left -= 1;
+        rest = after;
+    }
+    WordPlace {
+        before: before(line, "", rest),
+        word: None,
+    }
 }

@@ -4,7 +4,7 @@
 use clif_types::types;
 use clif_words::cursor::Cursor;
 use clif_words::error::{Expected, Fault, LineError};
-use clif_words::words::words_of;
+use clif_words::words::{place_of, words_of};
 use std::alloc::Global;
 use std::process::Abort;
 use std::test::Fail;
@@ -102,13 +102,88 @@ fn unknown_words(rt: HostRuntime) -> Result<(), Fail> {
             Fault::NotForCursor("call"),
             "no instruction for cursor: call",
         ),
-        (Fault::UnknownName("x"), "unknown name: x"),
-        (Fault::UnknownType("i7"), "unknown type: i7"),
+        (Fault::UnknownName("x", Expected::Value), "unknown name: x"),
+        (
+            Fault::UnknownType("i7", Expected::TypeOrClose),
+            "unknown type: i7",
+        ),
+        (Fault::NoType, "expected a type"),
     ];
     for (fault, text) in rows.iter() {
         let told = format!(in rt.alloc(); "{fault}")?;
         assert!(rt; told.as_str() == *text);
     }
+    Ok(())
+}
+
+/// What should be where a line is at fault.
+#[test]
+fn wanted(rt: HostRuntime) -> Result<(), Fail> {
+    let rows = [
+        (Fault::Expected(Expected::End), "the end of the line"),
+        (Fault::UnknownName("x", Expected::Value), "a value"),
+        (
+            Fault::UnknownType("i7", Expected::TypeOrClose),
+            "a type or )",
+        ),
+        (Fault::NoType, "a point and a type after it"),
+        (Fault::UnknownCall("jmp"), "a call"),
+        (Fault::NotSupported("region"), "a call"),
+        (Fault::NotForCursor("call"), "an instruction for cursor"),
+        (Fault::TooManyNames(1), "="),
+        (Fault::Repeated("conv"), "another header line"),
+    ];
+    for (fault, text) in rows.iter() {
+        let expected = fault.expected();
+        let told = format!(in rt.alloc(); "{expected}")?;
+        assert!(rt; told.as_str() == *text);
+    }
+    Ok(())
+}
+
+/// The place of a word: its column counts characters, and where the line has no such word it is the end of the last one.
+#[test]
+fn places(rt: HostRuntime) -> Result<(), Fail> {
+    let rows = [
+        ("jump b(x) # y", 0, 1, Some("jump")),
+        ("jump b(x) # y", 1, 6, Some("b")),
+        ("jump b(x) # y", 2, 7, Some("(")),
+        ("jump b(x) # y", 4, 9, Some(")")),
+        ("jump b(x) # y", 5, 10, None),
+        ("jump b(x) # y", 9, 10, None),
+        ("\t, jump", 0, 4, Some("jump")),
+        ("é = \u{1F410}, c", 2, 5, Some("\u{1F410}")),
+        ("é = \u{1F410}, c", 3, 8, Some("c")),
+        ("", 0, 1, None),
+        ("  # x", 0, 1, None),
+    ];
+    for (line, index, column, word) in rows.iter() {
+        let place = place_of(line, *index);
+        assert!(rt; place.column() == *column);
+        assert!(rt; place.word == *word);
+    }
+    Ok(())
+}
+
+/// The word for which a line is refused is the one that was looked at last; where nothing more was expected, the next one.
+#[test]
+fn refused_places(rt: HostRuntime) -> Result<(), Fail> {
+    let words = words_of(rt.alloc(), "jump b0 i32")?;
+    let mut cursor = Cursor::new(words.as_slice());
+    let wrong = Fault::Expected(Expected::Block);
+    let too_many = Fault::Expected(Expected::End);
+    assert!(rt; cursor.refused(&wrong) == 0);
+    assert!(rt; cursor.take(Expected::Call).is_ok());
+    assert!(rt; cursor.refused(&wrong) == 0);
+    assert!(rt; cursor.refused(&too_many) == 1);
+    assert!(rt; !cursor.skips("("));
+    assert!(rt; cursor.refused(&wrong) == 1);
+    assert!(rt; cursor.take(Expected::Block).is_ok());
+    assert!(rt; cursor.refused(&wrong) == 1);
+    assert!(rt; cursor.take_type().is_some());
+    assert!(rt; cursor.refused(&wrong) == 2);
+    assert!(rt; cursor.take(Expected::Block).is_err());
+    assert!(rt; cursor.refused(&wrong) == 3);
     Ok(())
 }
 

@@ -1,8 +1,8 @@
-use Rattle.std.proofs.Common.{List, ℕ, ap, sym, subst, ◌∙◌, ◌≢◌, Bor}
+use Rattle.std.proofs.Common.{List, ℕ, ◌∷◌, ap, sym, subst, ◌∙◌, ◌≢◌, Bor}
 use Rattle.std.specs.List.{All}
 use Rattle.std.proofs.lemmas.Result.{on_ok_weaker}
 use Rattle.std.specs.Prelude.{codes}
-use Rattle.clif_words.specs.Cursor.{texts}
+use Rattle.clif_words.specs.Cursor.{texts, words_left}
 use Rattle.clif_words.specs.Words.{AreWords}
 use Rattle.clif_arguments.specs.Header.{header_said}
 use Rattle.clif_text.specs.Reader.{said_to}
@@ -27,8 +27,10 @@ returns-in-Some-clause-err c =
 pub returns-in-Some-split_first-clause-ok : goal.returns-in-Some-split_first-clause-ok
 returns-in-Some-split_first-clause-ok c =
     let parts = ap texts (sym c.as_slice-words.ensures.value ∙ c.in-Some-split_first.ensures.cases.0) in
+    let head = c.in-Some-split_first.head.now.now in
+    let left = parts ∙ ap (λ rest. head ∷ rest) (sym c.new.ensures) in
     let others = subst (λ ws. All (λ word. word ≢ codes "=") (texts ws)) c.as_slice-words.ensures.value c.in_default.ensures.none in
-    on_ok_weaker c.read.result (λ says counted. (record { numbered = counted.numbered; totals = counted.totals }, says_header c.args.line.now (texts c.in_ok-words.words.items) c.in-Some-split_first.head.now.now (texts c.in-Some-split_first.rest.now) c.args.number (said_to c.args.self.now) (header_said c.read.new.self) c.in_ok-words.ensures parts says others)) c.read.ensures
+    on_ok_weaker c.read.result (λ says counted. (record { numbered = counted.numbered; totals = counted.totals }, says_header c.args.line.now (texts c.in_ok-words.words.items) head (words_left c.new.result) c.args.number (said_to c.args.self.now) (header_said c.read.new.self) c.in_ok-words.ensures left says others)) c.read.ensures
 
 pub returns-in-Some-split_first-clause-err : goal.returns-in-Some-split_first-clause-err
 returns-in-Some-split_first-clause-err c =
