@@ -14,4 +14,8 @@ mod shapes;
 #[cfg(test)]
 mod slots;
 #[cfg(test)]
+mod spilled_rows;
+#[cfg(test)]
+mod spills;
+#[cfg(test)]
 mod steps;

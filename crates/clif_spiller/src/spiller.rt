@@ -1,0 +1,51 @@
+//! The spiller of safepoints.
+
+use crate::blocks::rewrite;
+use crate::plan::Plan;
+use clif_ir::Function;
+use clif_safepoints::liveness::LivenessAnalysis;
+use clif_stack_slots::StackSlots;
+use clif_types::{BuildError, EntitySet, Type, Value};
+use std::alloc::Global;
+
+/// What spills values that live across calls. One serves for many functions, and keeps its memory.
+#[derive(Drop)]
+pub struct SafepointSpiller {
+    liveness: LivenessAnalysis,
+    slots: StackSlots,
+}
+
+impl SafepointSpiller {
+    /// A spiller that has spilled nothing. It takes no memory.
+    pub fn new(alloc: Global) -> SafepointSpiller {
+        SafepointSpiller {
+            liveness: LivenessAnalysis::new(alloc),
+            slots: StackSlots::new(alloc),
+        }
+    }
+
+    /// Forgets what was spilled. It takes no memory.
+    pub fn clear(&mut self) {
+        self.liveness.clear();
+        self.slots.clear();
+    }
+
+    /// Spills the recorded values that live across a call that is reached, and gives each such call its stack map.
+    /// `pointer` is the type of addresses.
+    ///
+    /// # Errors
+    ///
+    /// `Memory`, where memory is refused, or `Full`, where a table of the function has 2^32 - 1 entries. The function
+    /// is consistent then, and otherwise nothing is said of it.
+    pub fn run(
+        &mut self,
+        func: &mut Function,
+        recorded: &EntitySet<Value>,
+        pointer: Type,
+    ) -> Result<(), BuildError> {
+        self.clear();
+        self.liveness.run(func, recorded)?;
+        let plan = Plan::new(func, &self.liveness, pointer)?;
+        rewrite(func, &mut self.slots, &plan)
+    }
+}
