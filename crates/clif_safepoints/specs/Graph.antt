@@ -2,6 +2,7 @@
 use Rattle.std.specs.Prelude.{◌≡◌, ◌<◌, ◌==◌, ℕ, List, [], ◌∷◌, length, map, flat_map, Option, Some, All, Contains, slice_index_or}
 use Rattle.std.specs.List.{filter}
 use Rattle.clif_instructions.specs.Members.{Once}
+use Rattle.clif_safepoints.specs.Order.{IsDepthFirst, IsSorted, IsWay}
 
 -- the blocks to which a block leads
 abbrev pub leads_to : List (List ℕ) → ℕ → List ℕ
@@ -11,18 +12,14 @@ leads_to graph block = slice_index_or graph block []
 abbrev pub IsClosed : List (List ℕ) → Type 0
 IsClosed graph = (block : ℕ) → All (λ target. target < length graph) (leads_to graph block)
 
--- a way from the entry, the latest block first
-abbrev pub IsWay : List (List ℕ) → Option ℕ → List ℕ → Type 0
-IsWay graph entry [] = ⊥
-IsWay graph entry (block ∷ []) = entry ≡ Some block
-IsWay graph entry (block ∷ before ∷ way) = Contains (leads_to graph before) block × IsWay graph entry (before ∷ way)
-
--- the blocks to which ways from the entry lead, each once
+-- the blocks to which ways from the entry lead, each once, as a depth-first search leaves them
 pub record IsOrder (graph : List (List ℕ)) (entry : Option ℕ) (order : List ℕ) : Type 0 where
   pub once : Once order
   pub exist : All (λ block. block < length graph) order
-  pub reached : (block : ℕ) → Contains order block → (way : List ℕ) × IsWay graph entry (block ∷ way)
-  pub all : (block : ℕ) (way : List ℕ) → IsWay graph entry (block ∷ way) → Contains order block
+  pub reached : (block : ℕ) → Contains order block → (way : List ℕ) × IsWay (leads_to graph) entry (block ∷ way)
+  pub all : (block : ℕ) (way : List ℕ) → IsWay (leads_to graph) entry (block ∷ way) → Contains order block
+  pub depth_first : IsDepthFirst (leads_to graph) entry order
+  pub sorted : IsSorted (leads_to graph) entry order
 
 -- the block, as often as it leads to the target
 abbrev pub arcs : List (List ℕ) → ℕ → ℕ → List ℕ

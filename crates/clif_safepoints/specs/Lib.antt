@@ -1,6 +1,7 @@
 pub mod Liveness
 pub mod Analysis
 pub mod Transfer
+pub mod Order
 pub mod Sets
 pub mod Graph
 pub mod Tables
@@ -8,5 +9,6 @@ pub mod Contexts
 pub mod Visits
 pub mod Examples
 pub mod LastPass
+pub mod FrontTables
 pub mod Fronts
 pub mod Progress

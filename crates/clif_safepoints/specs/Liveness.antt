@@ -41,3 +41,9 @@ abbrev pub IsLiveAcross : (counts : ℕ → ℕ → Type 0) → FunctionView →
 IsLiveAcross counts function p value =
     (¬ Contains (placed_gives (placed_at function p)) value)
     × (path : List (Place ℕ)) × IsUsedAhead counts function value p path
+
+-- Live right before the instruction at a place, the parameters of its block given: it uses the value, or the value is live across
+-- it.
+abbrev pub IsLiveBefore : (counts : ℕ → ℕ → Type 0) → FunctionView → Place ℕ → ℕ → Type 0
+IsLiveBefore counts function p value =
+    Contains (used_operands function.resolved (placed_at function p)) value ⊎ IsLiveAcross counts function p value

@@ -1,5 +1,5 @@
 //! The blocks that are reached, in post-order, and from where.
-ghost use Rattle.std.specs.Prelude.{◌≡◌, ◌<◌, ◌==◌, ◌++◌, [], length, map, All, IfSome, IfOk, OnOk, IsOkUnless};
+ghost use Rattle.std.specs.Prelude.{◌≡◌, ◌<◌, ◌==◌, ◌++◌, [], length, map, reverse, All, IfSome, IfOk, OnOk, IsOkUnless};
 ghost use Rattle.std.specs.List.{filter};
 ghost use Rattle.clif_safepoints.specs.Graph.{IsClosed, IsOrder, leads_to, sources_of};
 ghost use Rattle.clif_safepoints.specs.Tables.{AreRows};
@@ -13,14 +13,14 @@ use std::alloc::Global;
 /// What is still to be done on the way through the graph.
 #[derive(Clone, Copy, Drop)]
 enum Visit {
-    /// To go on from a block, unless that was done.
+    /// To enter a block, unless that was done.
     Enter(Block),
-    /// To put a block behind all that it leads to.
+    /// To leave a block, after all that were entered from it.
     Leave(Block),
 }
 
-/// The blocks that are reached from the entry, each once: a block behind those to which it leads, but for edges back.
-/// The only error is `Memory`.
+/// The blocks that are reached from the entry, each once, as a depth-first search leaves them that follows the first edge
+/// of a block first. The only error is `Memory`.
 pub(crate) fn post_order(
     alloc: Global,
     entry: Option<Block>,
@@ -54,13 +54,13 @@ pub(crate) fn post_order(
     Ok(order)
 }
 
-// Puts the visit of each of these blocks on the stack.
+// Puts the visit of each of these blocks on the stack, that of the first one last, so that it is taken first.
 fn enter_each(blocks: &[Block], visits: &mut Vec<Visit>) -> Result<(), BuildError>
-    ensures ok { OnOk result (visits.new.items ≡ visits.old.items ++ entered blocks.now) }
+    ensures ok { OnOk result (visits.new.items ≡ visits.old.items ++ entered (reverse blocks.now)) }
     ensures memory_alone { IsOkUnless result BuildError.Memory }
 {
-    for block in blocks {
-        visits.push(Visit::Enter(*block))?;
+    for place in (0..blocks.len()).rev() {
+        visits.push(Visit::Enter(blocks[place]))?;
     }
     Ok(())
 }

@@ -3,11 +3,13 @@ ghost use Rattle.std.specs.Prelude.{◌≡◌, ◌<◌, ◌||◌, ◌∷◌, ◌
 ghost use Rattle.clif_instructions.specs.Instruction.{is_call, operands};
 ghost use Rattle.clif_instructions.specs.Members.{Once};
 ghost use Rattle.clif_ir.specs.Body.{inst_at};
+ghost use Rattle.clif_safepoints.specs.FrontTables.{AreFronts, tables_of};
 ghost use Rattle.clif_safepoints.specs.LastPass.{IsListedBy, IsPut, IsRecorded, IsRow};
 ghost use Rattle.clif_safepoints.specs.Sets.{AreSets, IsSet, in_set_of, is_in};
 ghost use Rattle.clif_safepoints.specs.Tables.{AreRows};
-ghost use Rattle.clif_safepoints.specs.Transfer.{insts_of, is_live_behind, names};
+ghost use Rattle.clif_safepoints.specs.Transfer.{insts_of, is_live_before, is_live_behind, names};
 
+use crate::fronts::Fronts;
 use crate::lists::InstList;
 use crate::number_set::NumberSet;
 use crate::recorded::Recorded;
@@ -16,34 +18,47 @@ use clif_ir::{Function, InstructionData, ValueList};
 use clif_types::{Block, BuildError, EntityRef, Inst};
 use std::alloc::Global;
 
-/// The values for each instruction, by its number: for a call of these blocks those that are live across it.
-/// The only error is `Memory`.
-pub(crate) fn across_by_inst(
+/// What the last pass puts down.
+#[derive(Drop)]
+pub(crate) struct Passed {
+    /// For each instruction, by its number, the values that are live across it, if it is a call.
+    pub(crate) across: Vec<ValueList>,
+    /// The values that are live at the front of each block.
+    pub(crate) fronts: Fronts,
+}
+
+/// What is live across the calls of these blocks, and at the blocks' fronts. The only error is `Memory`.
+pub(crate) fn last_pass(
     func: &Function,
     recorded: &Recorded<'_>,
     live_ins: &[NumberSet],
     insts: &[InstList],
     order: &[Block],
-) -> Result<Vec<ValueList>, BuildError>
+) -> Result<Passed, BuildError>
     requires insts { AreRows (length func.now.blocks) (insts_of func.now) insts.now }
     requires sets { AreSets (length func.now.blocks) (length recorded.now) live_ins.now }
     requires order { All (λ block. block < length func.now.blocks) order.now }
-    ensures ok { IfOk result (λ across. IsListedBy func.now recorded.now live_ins.now order.now across.items) }
+    ensures across { IfOk result (λ passed.
+        IsListedBy func.now recorded.now live_ins.now order.now passed.across.items) }
+    ensures fronts { IfOk result (λ passed.
+        AreFronts func.now recorded.now live_ins.now order.now (tables_of passed.fronts)) }
     ensures memory_alone { IsOkUnless result BuildError.Memory }
 {
     func.law_consistent();
     let alloc = func.allocator();
     let mut across = no_values(alloc, func.inst_count())?;
+    let mut fronts = Fronts::new(alloc, func.block_count())?;
     let mut live = NumberSet::new(alloc, recorded.len())?;
     for block in order {
         let own_insts = insts[block.index()].as_slice();
         record_block(func, recorded, live_ins, own_insts, &mut live, &mut across)?;
+        fronts.put(func, recorded, *block, &mut live)?;
     }
-    Ok(across)
+    Ok(Passed { across, fronts })
 }
 
-// So many empty lists of values.
-fn no_values(alloc: Global, count: usize) -> Result<Vec<ValueList>, BuildError>
+/// So many empty lists of values. The only error is `Memory`.
+pub(crate) fn no_values(alloc: Global, count: usize) -> Result<Vec<ValueList>, BuildError>
     ensures ok { IfOk result (λ lists. AreRows count (λ number. []) lists.items) }
     ensures memory_alone { IsOkUnless result BuildError.Memory }
 {
@@ -54,7 +69,7 @@ fn no_values(alloc: Global, count: usize) -> Result<Vec<ValueList>, BuildError>
     Ok(lists)
 }
 
-// Puts down the values for each call of a block, where `live` is for its scan.
+// Puts down the values for each call of a block, and makes `live` what is live before its first instruction.
 fn record_block(
     func: &Function,
     recorded: &Recorded<'_>,
@@ -70,7 +85,9 @@ fn record_block(
     requires across { length across.old.items ≡ length func.now.insts }
     ensures ok { OnOk result (IsRecorded func.now recorded.now live_ins.now insts.now
         across.old.items across.new.items) }
-    ensures live { OnOk result (length live.new ≡ length recorded.now) }
+    ensures before { OnOk result (IsSet (length recorded.now)
+        (λ place. is_live_before func.now (in_set_of live_ins.now place) (slice_index recorded.now place) insts.now)
+        live.new) }
     ensures memory_alone { IsOkUnless result BuildError.Memory }
 {
     live.clear();
@@ -139,8 +156,8 @@ fn set_row(across: &mut Vec<ValueList>, inst: Inst, values: ValueList)
     across[inst.index()] = values;
 }
 
-// The members of a set of recorded values, by rising number.
-fn members(
+/// The members of a set of recorded values, by rising number. The only error is `Memory`.
+pub(crate) fn members(
     alloc: Global,
     recorded: &Recorded<'_>,
     live: &NumberSet,

@@ -2,10 +2,11 @@
 ghost use Rattle.std.specs.Prelude.{◌≡◌, ◌<◌, ◌++◌, length, IfOk, OnOk, IsOkUnless, EachIndex, slice_index};
 ghost use Rattle.clif_instructions.specs.Edges.{targets};
 ghost use Rattle.clif_safepoints.specs.Tables.{AreRows};
-ghost use Rattle.clif_safepoints.specs.Transfer.{insts_of, successors_of, targets_from};
+ghost use Rattle.clif_safepoints.specs.Order.{first_to_back};
+ghost use Rattle.clif_safepoints.specs.Transfer.{insts_of, successors_of, targets_followed, targets_from};
 
 use crate::lists::{BlockList, InstList};
-use clif_ir::{BlockCall, Function};
+use clif_ir::{BlockCall, Function, InstructionData};
 use clif_types::{Block, BuildError, EntityRef, Inst};
 
 /// The instructions of each block, by its number. The only error is `Memory`.
@@ -57,7 +58,7 @@ pub(crate) fn successors_by_block(
     Ok(table)
 }
 
-// The targets of the edges of instructions, in order.
+// The targets of the edges of instructions, in the order in which a search follows them.
 fn targets_of(func: &Function, insts: &[Inst]) -> Result<BlockList, BuildError>
     requires { EachIndex insts.now (λ k. slice_index insts.now k < length func.now.insts) }
     ensures ok { IfOk result (λ blocks. blocks ≡ targets_from func.now insts.now) }
@@ -65,9 +66,33 @@ fn targets_of(func: &Function, insts: &[Inst]) -> Result<BlockList, BuildError>
 {
     let mut blocks = BlockList::new(func.allocator());
     for inst in insts {
-        push_targets(func.inst_data(*inst).branch_destination(), &mut blocks)?;
+        push_followed(func.inst_data(*inst), &mut blocks)?;
     }
     Ok(blocks)
+}
+
+// Puts the targets of an instruction's edges at the end, in that order.
+fn push_followed(shape: &InstructionData, blocks: &mut BlockList) -> Result<(), BuildError>
+    ensures ok { OnOk result (blocks.new ≡ blocks.old ++ targets_followed shape.now) }
+    ensures memory_alone { IsOkUnless result BuildError.Memory }
+{
+    let edges = shape.branch_destination();
+    match shape.exception_targets() {
+        Some(_) => push_normal_last(edges, blocks),
+        None => push_targets(edges, blocks),
+    }
+}
+
+// Puts the targets of edges at the end, that of the first edge after those of the others.
+fn push_normal_last(edges: &[BlockCall], blocks: &mut BlockList) -> Result<(), BuildError>
+    ensures ok { OnOk result (blocks.new ≡ blocks.old ++ first_to_back (targets edges.now)) }
+    ensures memory_alone { IsOkUnless result BuildError.Memory }
+{
+    let Some((normal, others)) = edges.split_first() else {
+        return Ok(());
+    };
+    push_targets(others, blocks)?;
+    blocks.push(normal.block)
 }
 
 // Puts the targets of edges at the end.

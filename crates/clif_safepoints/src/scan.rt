@@ -53,8 +53,8 @@ fn remove_def(recorded: &Recorded<'_>, value: Value, live: &mut NumberSet)
     }
 }
 
-// Takes these values away.
-fn remove_defs(recorded: &Recorded<'_>, values: &[Value], live: &mut NumberSet)
+/// Takes these values away.
+pub(crate) fn remove_defs(recorded: &Recorded<'_>, values: &[Value], live: &mut NumberSet)
     requires size { length live.old ≡ length recorded.now }
     ensures { IsSet (length recorded.now)
         (λ place. not (stands_in (slice_index recorded.now place) values.now) && is_in live.old place)
