@@ -84,5 +84,6 @@ with_alias_consistent f v original b known exists is_param there apart =
           (resolved-no_alias f.values original known.aliases_end there) apart refl known.aliases_end;
       edges_without_results = known.edges_without_results;
       named_exist = known.named_exist;
+      maps_known = known.maps_known;
       entries_exist = known.entries_exist;
     }

@@ -45,5 +45,6 @@ with_block_consistent f known room =
       aliases_end = known.aliases_end;
       edges_without_results = known.edges_without_results;
       named_exist = known.named_exist;
+      maps_known = known.maps_known;
       entries_exist = known.entries_exist;
     }

@@ -112,6 +112,7 @@ with_branch_argument_consistent f i b v known exists inside =
       layout_once = known.layout_once;
       aliases_end = known.aliases_end;
       named_exist = known.named_exist;
+      maps_known = λ j past. known.maps_known j (omega (arith, count, past));
       entries_exist = λ j.
           at_set (λ (m : InstNode). All (EntryExists f.tables) (entries_of m.shape)) f.insts i node j no_inst exists
           (λ _. subst (All (EntryExists f.tables)) (sym (entries-with_argument b v shape)) (known.entries_exist i))

@@ -50,5 +50,6 @@ with_cold_consistent f b known exists =
       aliases_end = known.aliases_end;
       edges_without_results = known.edges_without_results;
       named_exist = known.named_exist;
+      maps_known = known.maps_known;
       entries_exist = known.entries_exist;
     }

@@ -160,6 +160,7 @@ with_inst_consistent f b at shape types loc known exists fits operands_exist edg
       aliases_end = ways_end-append f.values nodes (leads_inside f known) (alias_count-result_nodes i0 0 types)
           (λ v behind. ap (λ (m : ValueNode). alias_of_origin m.origin) (get_or-append_right f.values nodes v no_value behind) ∙ alias_of-result_nodes i0 0 types (v - n)) known.aliases_end;
       named_exist = known.named_exist;
+      maps_known = λ j past. known.maps_known j (omega (arith, inst_count, past));
       entries_exist = λ i.
           at_push (λ m. All (EntryExists f.tables) (entries_of m.shape)) f.insts node i no_inst
           (λ _. known.entries_exist i)

@@ -78,5 +78,6 @@ with_param_consistent f b ty known exists room =
       aliases_end = ways_end-append f.values (node ∷ []) (leads_inside f known) refl (λ v behind. at_push (λ (m : ValueNode). alias_of_origin m.origin ≡ None) f.values node v no_value (λ here. absurd (omega (arith, here, behind))) (λ _. refl) (λ _. refl)) known.aliases_end;
       edges_without_results = known.edges_without_results;
       named_exist = known.named_exist;
+      maps_known = known.maps_known;
       entries_exist = known.entries_exist;
     }

@@ -34,6 +34,7 @@ with_order_consistent f layout known exist once = record {
   aliases_end = known.aliases_end;
   edges_without_results = known.edges_without_results;
   named_exist = known.named_exist;
+  maps_known = known.maps_known;
   entries_exist = known.entries_exist;
 }
 

@@ -73,6 +73,7 @@ with_shape_consistent f i shape known exists fits =
       layout_once = known.layout_once;
       aliases_end = known.aliases_end;
       named_exist = known.named_exist;
+      maps_known = λ j past. known.maps_known j (omega (arith, count, past));
       entries_exist = λ j.
           at_set (λ (m : InstNode). All (EntryExists f.tables) (entries_of m.shape)) f.insts i node j no_inst exists
           (λ _. fits.entries_exist) (λ _. known.entries_exist j);

@@ -24,3 +24,4 @@ pub mod Threads
 pub mod Linking
 pub mod KeepsWhole
 pub mod KeepsTables
+pub mod KeepsMaps

@@ -1,8 +1,8 @@
 -- What every function keeps.
 -- Source: own, after the crate's documentation of its data flow graph and its layout.
-use Rattle.std.specs.Prelude.{◌≡◌, ◌≢◌, ℕ, ◌<◌, ◌^◌, List, [], length, slice_index, None, is_some, count_by, All}
+use Rattle.std.specs.Prelude.{◌≡◌, ◌≢◌, ℕ, ◌<◌, ◌≤◌, ◌^◌, List, [], length, slice_index, None, is_some, count_by, All}
 use Rattle.clif_tables.specs.Entries.{NamedExist}
-use Rattle.clif_tables.specs.Lists.{TableLists}
+use Rattle.clif_tables.specs.Lists.{TableLists, stack_map_at}
 use Rattle.clif_nodes.specs.declared.nodes.ValueOrigin.{ValueOrigin}
 use Rattle.clif_nodes.specs.declared.nodes.ValueOrigin.TheVariants.{Result, Param, Alias}
 use Rattle.clif_nodes.specs.declared.nodes.ValueNode.{ValueNode}
@@ -78,5 +78,7 @@ pub record IsConsistent (f : Body) : Type 0 where
   pub aliases_end : (v : ℕ) → v < length f.values → alias_of f.values (follow (alias_count f.values) f.values v) ≡ None
   -- what the entries of tables name exists
   pub named_exist : NamedExist f.tables
+  -- a stack map is kept of an instruction that exists
+  pub maps_known : (i : ℕ) → length f.insts ≤ i → stack_map_at f.tables i ≡ []
   -- an instruction with edges has no results
   pub edges_without_results : (i : ℕ) → destinations (inst_at f i).shape ≢ [] → (inst_at f i).results ≡ []

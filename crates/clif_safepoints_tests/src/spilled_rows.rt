@@ -1,7 +1,7 @@
 //! Worked functions and their texts, spilled.
 #![tactic(auto)]
 
-use crate::spills::Make::{Alias, Block, Import, Param, Put};
+use crate::spills::Make::{Alias, Block, Import, ImportAs, Param, Put};
 use crate::spills::Pass::{Ret, V};
 use crate::spills::Put::{Brif, Call, Iconst, Jump, Return, Trap, TryCall};
 use crate::spills::{Edge, Spill, spills_each};
@@ -121,7 +121,7 @@ const IRREDUCIBLE: Spill = Spill {
     returns: &[I64],
     makes: &[
         Import("a", &[I64], &[I32]),
-        Import("b", &[I64], &[I32]),
+        ImportAs("b", 0),
         Block,
         Block,
         Block,

@@ -22,6 +22,8 @@ use std::test::Fail;
 pub enum Make {
     /// Imports a function of this name, and of these types.
     Import(&'static str, &'static [Type], &'static [Type]),
+    /// Imports a function of this name, with a signature that was imported before.
+    ImportAs(&'static str, u32),
     /// Makes a block and puts it at the end of the layout.
     Block,
     /// Marks a block as cold.
@@ -69,7 +71,7 @@ pub struct Spill {
     pub text: &'static str,
 }
 
-fn edge(rt: &impl Abort, alloc: Global, Edge(target, passes): Edge) -> Result<BlockCall, Fail> {
+fn edge_of(rt: &impl Abort, alloc: Global, Edge(target, passes): Edge) -> Result<BlockCall, Fail> {
     let mut call = BlockCall::new(alloc, b(rt, target), &[])?;
     for pass in passes {
         call.args.push(match *pass {
@@ -89,11 +91,11 @@ fn throws(
 ) -> Result<ExceptionTargets, Fail> {
     let mut items = Vec::new(alloc);
     for other in others {
-        items.push(ExceptionTableItem::Default(edge(rt, alloc, *other)?))?;
+        items.push(ExceptionTableItem::Default(edge_of(rt, alloc, *other)?))?;
     }
     let table = ExceptionTableData {
         sig: SigRef::from_u32(0),
-        normal: edge(rt, alloc, normal)?,
+        normal: edge_of(rt, alloc, normal)?,
         items,
     };
     Ok(ExceptionTargets::new(alloc, table)?)
@@ -112,11 +114,11 @@ fn shape_of(rt: &impl Abort, alloc: Global, put: Put) -> Result<InstructionData,
             exception: throws(rt, alloc, normal, others)?,
         },
         Put::Jump(to) => InstructionData::Jump {
-            destination: edge(rt, alloc, to)?,
+            destination: edge_of(rt, alloc, to)?,
         },
         Put::Brif(condition, then, other) => InstructionData::Brif {
             arg: v(rt, condition),
-            blocks: [edge(rt, alloc, then)?, edge(rt, alloc, other)?],
+            blocks: [edge_of(rt, alloc, then)?, edge_of(rt, alloc, other)?],
         },
         Put::Return(args) => InstructionData::MultiAry {
             args: values(rt, alloc, args)?,
@@ -146,6 +148,15 @@ fn import(
     returns: &[Type],
 ) -> Result<(), Fail> {
     let signature = func.import_signature(signature(func.allocator(), params, returns)?)?;
+    import_as(rt, func, name, signature)
+}
+
+fn import_as(
+    rt: &impl Abort,
+    func: &mut Function,
+    name: &str,
+    signature: SigRef,
+) -> Result<(), Fail> {
     assert!(rt; signature.index() < func.tables().signature_count());
     func.import_function(ExtFuncData {
         name: ExternalName::testcase(String::from_str(func.allocator(), name)?),
@@ -167,9 +178,13 @@ fn make_cold(rt: &impl Abort, func: &mut Function, block: u32) {
     func.set_cold_block(block);
 }
 
-fn make(rt: &impl Abort, func: &mut Function, step: Make) -> Result<(), Fail> {
+fn take_step(rt: &impl Abort, func: &mut Function, step: Make) -> Result<(), Fail> {
     match step {
         Make::Import(name, params, returns) => import(rt, func, name, params, returns),
+        Make::ImportAs(name, signature) => {
+            assert!(rt; signature < 1000);
+            import_as(rt, func, name, SigRef::from_u32(signature))
+        }
         Make::Block => make_block(func),
         Make::Cold(block) => {
             make_cold(rt, func, block);
@@ -190,7 +205,7 @@ fn function(rt: &impl Abort, alloc: Global, case: &Spill) -> Result<Function, Fa
     let signature = signature(alloc, case.params, case.returns)?;
     let mut func = Function::with_name_signature(alloc, name, signature);
     for step in case.makes {
-        make(rt, &mut func, *step)?;
+        take_step(rt, &mut func, *step)?;
     }
     Ok(func)
 }
