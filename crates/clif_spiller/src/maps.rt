@@ -1,4 +1,6 @@
 //! Stack maps, and the slots of values that live on after a block.
+ghost use Rattle.std.specs.Prelude.{◌≡◌, ◌≢◌, ◌<◌, length, All, Contains, IsOkUnless, OnOk};
+ghost use Rattle.clif_spiller.specs.Plans.{GoesOn, IsFull, IsPlan, KnowsSlots};
 
 use crate::plan::Plan;
 use clif_ir::Function;
@@ -11,7 +13,15 @@ pub(crate) fn set_map(
     slots: &mut StackSlots,
     plan: &Plan<'_>,
     inst: Inst,
-) -> Result<(), BuildError> {
+) -> Result<(), BuildError>
+    requires inst_exists { inst < length func.old.insts }
+    requires plan { IsPlan func.old plan.now }
+    requires slots { KnowsSlots func.old slots.old }
+    ensures ok { OnOk result (GoesOn (length func.old.blocks)
+        func.old slots.old func.new slots.new) }
+    ensures full { result ≡ Err BuildError.Full → IsFull func.new }
+    ensures never_failed { result ≢ Err BuildError.Failed }
+{
     let mut entries = Vec::new(func.allocator());
     for value in plan.liveness.live_across(inst) {
         let slot = slots.get_or_create_stack_slot(func, *value)?;
@@ -31,7 +41,15 @@ pub(crate) fn take_live_outs(
     slots: &mut StackSlots,
     plan: &Plan<'_>,
     inst: Inst,
-) -> Result<(), BuildError> {
+) -> Result<(), BuildError>
+    requires inst_exists { inst < length func.old.insts }
+    requires plan { IsPlan func.old plan.now }
+    requires slots { KnowsSlots func.old slots.old }
+    ensures ok { OnOk result (GoesOn (length func.old.blocks)
+        func.old slots.old func.new slots.new) }
+    ensures full { result ≡ Err BuildError.Full → IsFull func.new }
+    ensures never_failed { result ≢ Err BuildError.Failed }
+{
     let mut waiting = Vec::new(func.allocator());
     for edge in func.inst_data(inst).branch_destination() {
         push_waiting(slots, plan, plan.liveness.live_in(edge.block), &mut waiting)?;
@@ -49,7 +67,11 @@ fn push_waiting(
     plan: &Plan<'_>,
     values: &[Value],
     waiting: &mut Vec<Value>,
-) -> Result<(), BuildError> {
+) -> Result<(), BuildError>
+    requires { All (Contains plan.now.spilled) waiting.old.items }
+    ensures ok { OnOk result (All (Contains plan.now.spilled) waiting.new.items) }
+    ensures memory_alone { IsOkUnless result BuildError.Memory }
+{
     for value in values {
         if plan.is_spilled(*value) && slots.get(*value).is_none() {
             waiting.push(*value)?;

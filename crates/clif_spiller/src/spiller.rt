@@ -1,5 +1,10 @@
 //! The spiller of safepoints.
 
+ghost use Rattle.std.specs.Prelude.{◌≡◌, ◌≢◌, ℕ, length, Contains, OnOk};
+ghost use Rattle.clif_ir.specs.Body.{resolved};
+ghost use Rattle.clif_spiller.specs.Keeping.{Keeps};
+ghost use Rattle.clif_spiller.specs.Plans.{IsFull, MayBeSpilled};
+
 use crate::blocks::rewrite;
 use crate::plan::Plan;
 use clif_ir::Function;
@@ -42,7 +47,13 @@ impl SafepointSpiller {
         func: &mut Function,
         recorded: &EntitySet<Value>,
         pointer: Type,
-    ) -> Result<(), BuildError> {
+    ) -> Result<(), BuildError>
+        requires recorded { (value : ℕ) → Contains recorded.now value
+            → resolved func.old value ≡ value → MayBeSpilled func.old value }
+        ensures kept { OnOk result (Keeps (length func.old.blocks) func.old func.new) }
+        ensures full { result ≡ Err BuildError.Full → IsFull func.new }
+        ensures never_failed { result ≢ Err BuildError.Failed }
+    {
         self.clear();
         self.liveness.run(func, recorded)?;
         let plan = Plan::new(func, &self.liveness, pointer)?;

@@ -1,7 +1,0 @@
-use Rattle.std.proofs.Common.{◌≡◌, length, take}
-use Rattle.clif_safepoints.specs.LastPass.{IsListedBy}
-use Rattle.clif_safepoints.proofs.last_pass.across_by_inst.Given as goal
-
-abbrev pub invariant-loop-block : goal.invariant-loop-block
-invariant-loop-block l =
-    IsListedBy l.func l.recorded l.live_ins (take l.block-index l.order) l.across.items × (length l.live ≡ length l.recorded)

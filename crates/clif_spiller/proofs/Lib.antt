@@ -1,0 +1,8 @@
+-- What the proofs of this crate share.
+mod Keeping
+mod Giving
+mod Putting
+mod Sizes
+mod Members
+mod Reading
+mod Shapes
