@@ -7,8 +7,10 @@ ghost use Rattle.benches.specs.Variables.{eight, refused, word};
 
 use clif_types::types::{I32, I64};
 use cranelift_frontend::{
-    Block, BuildError, EntityRef, FunctionBuilder, InstBuilder, IntCC, TrapCode, Value, Variable,
+    Block, BuildError, CallConv, EntityRef, ExtFuncData, ExternalName, FuncRef, FunctionBuilder,
+    InstBuilder, IntCC, Signature, TrapCode, Value, Variable,
 };
+use std::alloc::Global;
 
 /// Why a function wasn't built.
 #[derive(Clone, Copy, PartialEq, Eq)]
@@ -271,5 +273,34 @@ pub fn give_back(builder: &mut FunctionBuilder<'_>, value: Value) -> Result<(), 
     open(builder)?;
     exists(builder, value)?;
     builder.ins().return_(&[value])?;
+    Ok(())
+}
+
+/// Imports a function that takes and returns nothing.
+pub fn import_first(alloc: Global, builder: &mut FunctionBuilder<'_>) -> Result<(), Fault>
+    ensures { builder.new.ctx.now.variables ≡ builder.old.ctx.now.variables }
+{
+    let signature = builder.import_signature(Signature::new(alloc, CallConv::SystemV))?;
+    if signature.index() >= builder.func().tables().signature_count() {
+        return Err(Fault::Misuse);
+    }
+    builder.import_function(ExtFuncData {
+        name: ExternalName::user(0, 0),
+        signature,
+        colocated: false,
+        patchable: false,
+    })?;
+    Ok(())
+}
+
+/// Calls the function that was imported first, which takes and returns nothing.
+pub fn call_first(builder: &mut FunctionBuilder<'_>) -> Result<(), Fault>
+    ensures { builder.new.ctx.now.variables ≡ builder.old.ctx.now.variables }
+{
+    open(builder)?;
+    if builder.func().tables().function_count() == 0 {
+        return Err(Fault::Misuse);
+    }
+    builder.ins().call(FuncRef::from_u32(0), &[])?;
     Ok(())
 }

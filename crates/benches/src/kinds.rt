@@ -3,8 +3,8 @@ ghost use Rattle.std.specs.Prelude.{◌≡◌};
 ghost use Rattle.benches.specs.Variables.{eight};
 
 use crate::calls::{
-    Fault, assign, branch, choose, constant, create, enter, float, give_back, guard, inverse, jump,
-    less, narrow, read, seal, sum, widen,
+    Fault, assign, branch, call_first, choose, constant, create, enter, float, give_back, guard,
+    inverse, jump, less, narrow, read, seal, sum, widen,
 };
 use cranelift_frontend::{Block, FunctionBuilder};
 
@@ -27,6 +27,8 @@ pub enum Kind {
     Mixed,
     /// A sum in one block; when the function is finished, constants are put around each instruction.
     Rewritten,
+    /// A block with a sum and a call; when the function is finished, what of all its values is live across calls is found.
+    Marked,
 }
 
 // A variable gets the sum of itself and another one.
@@ -132,6 +134,11 @@ fn turn(builder: &mut FunctionBuilder<'_>, kind: Kind, number: usize) -> Result<
         Kind::ChainLate => {
             add(builder, number)?;
             go_on(builder, false)
+        }
+        Kind::Marked => {
+            add(builder, number)?;
+            call_first(builder)?;
+            go_on(builder, true)
         }
         Kind::Far => go_on(builder, true),
         Kind::Diamonds => diamond(builder, number),

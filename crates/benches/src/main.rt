@@ -1,16 +1,19 @@
 //! `benches KIND TURNS` builds a function of a kind over the builder's calls, and prints how many blocks and
 //! instructions it has; of the kind `mixed` it makes the text too, and prints its length. A function of the kind
-//! `rewritten` is rewritten when it is finished. tools/bench measures it.
+//! `rewritten` is rewritten when it is finished; of one of the kind `marked` it prints how many values are live across
+//! its calls. tools/bench measures it.
 #![tactic(auto)]
 
 ghost use Rattle.std.specs.Prelude.{◌≡◌};
 
 mod calls;
 mod kinds;
+mod marking;
 mod rewriting;
 
-use crate::calls::{Fault, declare_all};
+use crate::calls::{Fault, declare_all, import_first};
 use crate::kinds::{Kind, make};
+use crate::marking::live_across_calls;
 use crate::rewriting::surround_all;
 use cranelift_frontend::{
     CallConv, FinalizeError, Function, FunctionBuilder, FunctionBuilderContext, PointerWidth,
@@ -30,7 +33,7 @@ const CONFIG: TargetFrontendConfig = TargetFrontendConfig {
 fn main(rt: HostRuntime) -> ExitCode {
     let Some((kind, turns)) = arguments(&rt) else {
         let _ = rt.eprintln(
-            "usage: benches block|chain|chain_late|far|diamonds|loops|mixed|rewritten TURNS",
+            "usage: benches block|chain|chain_late|far|diamonds|loops|mixed|rewritten|marked TURNS",
         );
         return ExitCode::from(2);
     };
@@ -49,6 +52,11 @@ fn main(rt: HostRuntime) -> ExitCode {
         };
         let bytes = text.len();
         let _ = println!(rt; "{blocks} {insts} {bytes}");
+    } else if kind == Kind::Marked {
+        let Ok(live) = live_across_calls(alloc, &func) else {
+            return ExitCode::from(1);
+        };
+        let _ = println!(rt; "{blocks} {insts} {live}");
     } else {
         let _ = println!(rt; "{blocks} {insts}");
     }
@@ -72,6 +80,7 @@ fn kind_named(name: &str) -> Option<Kind> {
         "loops" => Some(Kind::Loops),
         "mixed" => Some(Kind::Mixed),
         "rewritten" => Some(Kind::Rewritten),
+        "marked" => Some(Kind::Marked),
         _ => None,
     }
 }
@@ -83,6 +92,9 @@ fn built(alloc: Global, kind: Kind, turns: usize) -> Option<Function> {
     let mut func = Function::with_name_signature(alloc, UserFuncName::user(0, 0), signature);
     let mut builder = FunctionBuilder::new(&mut func, &mut ctx);
     declare_all(&mut builder).ok()?;
+    if kind == Kind::Marked {
+        import_first(alloc, &mut builder).ok()?;
+    }
     let made = make(&mut builder, kind, turns);
     let finished = builder.finalize(CONFIG);
     if made.is_err() || finished.is_err() {

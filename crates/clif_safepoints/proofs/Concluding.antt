@@ -1,65 +1,70 @@
 -- The analysis of a function, from its parts.
-use Rattle.std.proofs.Common.{◌≡◌, ◌+◌, ◌*◌, ◌<◌, ◌≤◌, ◌⊎◌, ℕ, zero, suc, Bool, true, false, List, [], ◌∷◌, ◌++◌, length, map, get_or, refl, sym, ap, subst, ◌∙◌, arith, inl, inr, Option, Some, None, slice_index}
+use Rattle.std.proofs.Common.{◌≡◌, ◌+◌, ◌*◌, ◌<◌, ◌≤◌, ◌⊎◌, ℕ, zero, suc, Bool, true, false, List, [], ◌∷◌, ◌++◌, length, map, get_or, length-append, refl, sym, ap, subst, ◌∙◌, arith, inl, inr, Option, Some, None, slice_index}
 use Rattle.std.specs.Prelude.{Contains, slice_get, if◌then◌else◌, sum_by}
 use Rattle.std.specs.List.{flat_map}
-use Rattle.std.specs.Option.{option_map}
 use Rattle.std.specs.List.Sorted.{IsStrictlyIncreasing}
 use Rattle.std.proofs.lemmas.Bool.{false≢true}
-use Rattle.std.proofs.lemmas.List.{get_or_default}
-use Rattle.std.proofs.lemmas.Option.{get_or_from_slice_get, slice_get-map, slice_get_within}
+use Rattle.std.proofs.lemmas.List.{get_or_default, map-append}
+use Rattle.std.proofs.lemmas.Option.{get_or_from_slice_get, slice_get_within}
 use Rattle.std.proofs.Math.ListN.{get_or-eq_default}
 use Rattle.std.proofs.lemmas.List.Concat.{length-flat_map}
+use Rattle.std.proofs.Math.Path.{fun_ext}
 use Rattle.std.proofs.lemmas.List.Elements.{All-contains, Contains-append_cases, Contains-append_left, Contains-append_right, Contains-get_or}
-use Rattle.clif_instructions.specs.declared.block_call.BlockArg.{BlockArg}
-use Rattle.clif_instructions.specs.declared.block_call.BlockArg.TheVariants as arg
 use Rattle.clif_instructions.specs.declared.block_call.BlockCall.{BlockCall}
 use Rattle.clif_instructions.specs.Edges.{targets}
-use Rattle.clif_instructions.specs.Instruction.{destinations, is_call, operands}
+use Rattle.clif_instructions.specs.declared.instructions.InstructionData.{InstructionData}
+use Rattle.clif_instructions.specs.declared.instructions.InstructionData.TheVariants.{UnaryImm, UnaryIeee, UnaryConst, Unary, Binary, IntCompare, Concat, Split, Convert, Ternary, Load, Store, StackLoad, StackStore, Jump, Brif, BranchTable, MultiAry, Trap, CondTrap, Call, CallIndirect, TryCall, TryCallIndirect}
+use Rattle.clif_instructions.specs.Instruction.{destinations, exception_table, is_call}
 use Rattle.clif_instructions.specs.Members.{stands_in}
 use Rattle.clif_instructions.proofs.Members.{place_of-first}
-use Rattle.clif_ir.specs.Body.{Body, block_at, inst_at, resolved}
-use Rattle.clif_ir.specs.Consistent.{EdgeExists, IsConsistent, PassedExists}
+use Rattle.clif_ir.specs.Body.{Body, block_at, inst_at}
+use Rattle.clif_ir.specs.Consistent.{EdgeExists, IsConsistent}
 use Rattle.clif_ir.specs.Reading.{place_in_block}
-use Rattle.clif_ir.proofs.Aliases.{follow_end, resolved-no_alias}
 use Rattle.clif_meaning.specs.FunctionView.{Placed}
-use Rattle.clif_meaning.specs.Instruction.{Edge, Known}
+use Rattle.clif_meaning.specs.Instruction.{Edge}
 use Rattle.clif_meaning.specs.Path.{IsPath, IsReachable, Leads, Place}
-use Rattle.clif_meaning.specs.View.{argument_of, edge_of, placed_of, view_of}
+use Rattle.clif_meaning.specs.View.{edge_of, operation_of, placed_of, view_of}
 use Rattle.clif_meaning.specs.WellPlaced.{edge_targets, function_flow, placed_at, placed_gives, placed_targets}
-use Rattle.clif_safepoints.specs.Analysis.{IsAnalysis, IsExact, IsReached, IsTracedAcross, edges_from, place_of_inst}
+use Rattle.clif_safepoints.specs.Analysis.{IsAnalysis, IsBlockOrder, IsExact, IsReached, IsTracedAcross, edges_from, place_of_inst}
 use Rattle.clif_safepoints.specs.Fronts.{IsFinished, at}
-use Rattle.clif_safepoints.specs.Graph.{IsClosed, IsOrder, IsWay, leads_to}
+use Rattle.clif_safepoints.specs.Graph.{IsClosed, IsOrder, leads_to}
+use Rattle.clif_safepoints.specs.FrontTables.{AreFronts, FrontTables}
 use Rattle.clif_safepoints.specs.LastPass.{IsListedBy, IsRow, is_live_across, row_at}
-use Rattle.clif_safepoints.specs.Liveness.{IsLiveAcross, IsPassed, IsUsedAhead, every_argument, used_operands}
+use Rattle.clif_safepoints.specs.Liveness.{IsLiveAcross, IsUsedAhead, every_argument}
+use Rattle.clif_safepoints.specs.Order.{IsDepthFirst, IsSorted, IsWay, first_to_back, followed, followed_blocks, followed_targets}
 use Rattle.clif_safepoints.specs.Sets.{in_set_of}
 use Rattle.clif_safepoints.specs.Tables.{AreRows}
-use Rattle.clif_safepoints.specs.Transfer.{insts_of, successors_of, targets_from}
+use Rattle.clif_safepoints.specs.Transfer.{in_order, insts_of, successors_of, targets_followed, targets_from}
+use Rattle.clif_safepoints.proofs.Following.{followed_from, followed_long, followed_to}
+use Rattle.clif_safepoints.proofs.FrontLists.{AreSolved, exact_after, exact_in}
+use Rattle.clif_safepoints.proofs.Unaliased.{ahead_unaliased}
 use Rattle.clif_safepoints.proofs.Paths.{across_from, across_to, block_reached, contained_in_map, contains_at, contains_map, place_of_member, items_are, placed_is, placed_none, reached_inside, size_is, stands_from, stands_to, targets_are}
 use Rattle.clif_safepoints.proofs.Recording.{inst_home}
 
 -- REACHED BLOCKS --------------------------------------------------------------------------------------------------------
 
 -- a target of the instructions of a list, and the place of the instruction whose edge leads there
-target_at : (f : Body) (insts : List ℕ) (t : ℕ) → Contains (targets_from f insts) t → (k inst : ℕ) × (slice_get insts k ≡ Some inst) × Contains (targets (destinations (inst_at f inst).shape)) t
+pub target_at : (f : Body) (insts : List ℕ) (t : ℕ) → Contains (targets_from f insts) t → (k inst : ℕ) × (slice_get insts k ≡ Some inst) × Contains (targets (destinations (inst_at f inst).shape)) t
 target_at f [] t h = absurd (omega (arith, h.1))
-target_at f (i ∷ insts) t h = by (target_at f insts t) (Contains-append_cases (targets (destinations (inst_at f i).shape)) (targets_from f insts) t h)
+target_at f (i ∷ insts) t h = by (target_at f insts t) (Contains-append_cases (targets_followed (inst_at f i).shape) (targets_from f insts) t h)
   where
     by : (Contains (targets_from f insts) t → (k inst : ℕ) × (slice_get insts k ≡ Some inst) × Contains (targets (destinations (inst_at f inst).shape)) t)
-        → Contains (targets (destinations (inst_at f i).shape)) t ⊎ Contains (targets_from f insts) t
+        → Contains (targets_followed (inst_at f i).shape) t ⊎ Contains (targets_from f insts) t
         → (k inst : ℕ) × (slice_get (i ∷ insts) k ≡ Some inst) × Contains (targets (destinations (inst_at f inst).shape)) t
-    by rest (inl here) = (0, i, refl, here)
+    by rest (inl here) = (0, i, refl, followed_to (inst_at f i).shape t here)
     by rest (inr later) = let at = rest later in (suc at.0, at.1, at.2, at.3)
 
 target_from : (f : Body) (insts : List ℕ) (k inst t : ℕ) → slice_get insts k ≡ Some inst → Contains (targets (destinations (inst_at f inst).shape)) t → Contains (targets_from f insts) t
 target_from f [] k inst t at h = cc
 target_from f (i ∷ insts) zero inst t at h =
     let e : inst ≡ i = (let both : Some i ≡ Some inst = at in cc) in
-    Contains-append_left (targets (destinations (inst_at f i).shape)) (targets_from f insts) t (subst (λ x. Contains (targets (destinations (inst_at f x).shape)) t) e h)
+    Contains-append_left (targets_followed (inst_at f i).shape) (targets_from f insts) t
+    (followed_from (inst_at f i).shape t (subst (λ x. Contains (targets (destinations (inst_at f x).shape)) t) e h))
 target_from f (i ∷ insts) (suc k) inst t at h =
-    Contains-append_right (targets (destinations (inst_at f i).shape)) (targets_from f insts) t (target_from f insts k inst t at h)
+    Contains-append_right (targets_followed (inst_at f i).shape) (targets_from f insts) t (target_from f insts k inst t at h)
 
 -- the targets of a place are those of its instruction's edges
-place_targets : (f : Body) (b k inst t : ℕ) → slice_get (insts_of f b) k ≡ Some inst → Contains (targets (destinations (inst_at f inst).shape)) t
+pub place_targets : (f : Body) (b k inst t : ℕ) → slice_get (insts_of f b) k ≡ Some inst → Contains (targets (destinations (inst_at f inst).shape)) t
     → Contains ((function_flow (view_of f)).targets (at b k)) t
 place_targets f b k inst t is h =
     let edge = contained_in_map (λ (e : BlockCall). e.block) (destinations (inst_at f inst).shape) t h in
@@ -103,7 +108,7 @@ leads_from f graph is b t h = by (order b (length f.blocks))
         absurd (let none = subst (λ xs. Contains xs t) e h in omega (arith, none.1))
 
 -- a way leads to blocks that are reached
-way_reaches : (f : Body) (graph : List (List ℕ)) → IsGraphOf f graph → (way : List ℕ) (b : ℕ) → IsWay graph (slice_get f.layout 0) (b ∷ way) → IsReached (view_of f) b
+way_reaches : (f : Body) (graph : List (List ℕ)) → IsGraphOf f graph → (way : List ℕ) (b : ℕ) → IsWay (leads_to graph) (slice_get f.layout 0) (b ∷ way) → IsReached (view_of f) b
 way_reaches f graph is [] b walk = inl walk
 way_reaches f graph is (a ∷ way) b walk =
     let before = way_reaches f graph is way a walk.1 in
@@ -113,12 +118,12 @@ way_reaches f graph is (a ∷ way) b walk =
 
 -- and a path comes to blocks to which ways lead
 path_inside : (f : Body) (graph : List (List ℕ)) (order : List ℕ) → IsGraphOf f graph → IsOrder graph (slice_get f.layout 0) order → (path : List (Place ℕ)) (p : Place ℕ)
-    → IsPath (function_flow (view_of f)) (p ∷ path) → (way : List ℕ) × IsWay graph (slice_get f.layout 0) (p.block ∷ way)
+    → IsPath (function_flow (view_of f)) (p ∷ path) → (way : List ℕ) × IsWay (leads_to graph) (slice_get f.layout 0) (p.block ∷ way)
 path_inside f graph order is ordered [] p start = ([], start.0)
 path_inside f graph order is ordered (q ∷ path) p walk = by (path_inside f graph order is ordered path q walk.1) walk.0
   where
-    by : (way : List ℕ) × IsWay graph (slice_get f.layout 0) (q.block ∷ way) → Leads (function_flow (view_of f)) q p → (way : List ℕ) × IsWay graph (slice_get f.layout 0) (p.block ∷ way)
-    by before (inl next) = (before.0, subst (λ b. IsWay graph (slice_get f.layout 0) (b ∷ before.0)) (sym next.0) before.1)
+    by : (way : List ℕ) × IsWay (leads_to graph) (slice_get f.layout 0) (q.block ∷ way) → Leads (function_flow (view_of f)) q p → (way : List ℕ) × IsWay (leads_to graph) (slice_get f.layout 0) (p.block ∷ way)
+    by before (inl next) = (before.0, subst (λ b. IsWay (leads_to graph) (slice_get f.layout 0) (b ∷ before.0)) (sym next.0) before.1)
     by before (inr edge) =
         let member : Contains order q.block = ordered.all q.block before.0 before.1 in
         let there : q.block < length f.blocks = subst (λ n. q.block < n) is.size (All-contains (λ b. b < length graph) order q.block ordered.exist member) in
@@ -149,72 +154,88 @@ edge_targets_are : (edges : List BlockCall) → map (λ (e : Edge ℕ ℕ). e.ta
 edge_targets_are [] = refl
 edge_targets_are (e ∷ edges) = ap (λ xs. e.block ∷ xs) (edge_targets_are edges)
 
-edges_are : (f : Body) (b : ℕ) → flat_map (λ (placed : Placed). edge_targets placed.instruction) ((view_of f).blocks b).items ≡ successors_of f b
-edges_are f b =
-    ap (flat_map (λ (placed : Placed). edge_targets placed.instruction)) (items_are f b)
-    ∙ flat_of_map (λ (placed : Placed). edge_targets placed.instruction) (placed_of f) (insts_of f b)
-    ∙ flat_alike (λ inst. edge_targets (placed_of f inst).instruction) (λ inst. targets (destinations (inst_at f inst).shape)) (insts_of f b)
-    (λ inst. edge_targets_are (destinations (inst_at f inst).shape))
+-- the blocks to which a block leads, in the order in which a search follows its edges
+first_to_back_map : {X Y : Type 0} (g : X → Y) (xs : List X) → map g (first_to_back xs) ≡ first_to_back (map g xs)
+first_to_back_map g [] = refl
+first_to_back_map g (x ∷ xs) = map-append g xs (x ∷ [])
+
+followed_is : (f : Body) (inst : ℕ) → followed_targets (placed_of f inst) ≡ targets_followed (inst_at f inst).shape
+followed_is f inst = by (inst_at f inst).shape ∙ ap (in_order (exception_table (inst_at f inst).shape)) (edge_targets_are (destinations (inst_at f inst).shape))
+  where
+    by : (shape : InstructionData) → followed (operation_of f.tables shape) (map (λ (e : Edge ℕ ℕ). e.target) (map edge_of (destinations shape)))
+        ≡ in_order (exception_table shape) (map (λ (e : Edge ℕ ℕ). e.target) (map edge_of (destinations shape)))
+    by (UnaryImm imm) = refl
+    by (UnaryIeee opcode bits) = refl
+    by (UnaryConst opcode constant) = refl
+    by (Unary opcode arg) = refl
+    by (Binary opcode args) = refl
+    by (IntCompare condition args) = refl
+    by (Concat args) = refl
+    by (Split arg) = refl
+    by (Convert opcode arg) = refl
+    by (Ternary args) = refl
+    by (Load flags arg offset) = refl
+    by (Store flags args offset) = refl
+    by (StackLoad opcode slot offset) = refl
+    by (StackStore arg slot offset) = refl
+    by (Jump destination) = refl
+    by (Brif arg blocks) = refl
+    by (BranchTable arg table) = refl
+    by (MultiAry args) = refl
+    by (Trap reason) = refl
+    by (CondTrap opcode arg reason) = refl
+    by (Call function args) = refl
+    by (CallIndirect sig args) = refl
+    by (TryCall function args table) = refl
+    by (TryCallIndirect args table) = refl
+
+pub followed_blocks_are : (f : Body) (b : ℕ) → followed_blocks (view_of f) b ≡ successors_of f b
+followed_blocks_are f b =
+    ap (flat_map followed_targets) (items_are f b) ∙ flat_of_map followed_targets (placed_of f) (insts_of f b)
+    ∙ flat_alike (λ inst. followed_targets (placed_of f inst)) (λ inst. targets_followed (inst_at f inst).shape) (insts_of f b) (followed_is f)
+
+-- how many edges leave a block
+edges_long : (f : Body) (insts : List ℕ)
+    → length (flat_map (λ (placed : Placed). edge_targets placed.instruction) (map (placed_of f) insts)) ≡ length (targets_from f insts)
+edges_long f [] = refl
+edges_long f (i ∷ insts) =
+    length-append (edge_targets (placed_of f i).instruction) (flat_map (λ (placed : Placed). edge_targets placed.instruction) (map (placed_of f) insts))
+    ∙ ap (λ n. n + length (flat_map (λ (placed : Placed). edge_targets placed.instruction) (map (placed_of f) insts)))
+    (ap length (edge_targets_are (destinations (inst_at f i).shape)) ∙ sym (followed_long (inst_at f i).shape))
+    ∙ ap (λ n. length (targets_followed (inst_at f i).shape) + n) (edges_long f insts)
+    ∙ sym (length-append (targets_followed (inst_at f i).shape) (targets_from f insts))
 
 edge_count : (f : Body) (order : List ℕ) → length (flat_map (successors_of f) order) ≡ sum_by (edges_from (view_of f)) order
-edge_count f order =
-    ap length (flat_alike (successors_of f) (λ b. flat_map (λ (placed : Placed). edge_targets placed.instruction) ((view_of f).blocks b).items) order (λ b. sym (edges_are f b)))
-    ∙ length-flat_map (λ b. flat_map (λ (placed : Placed). edge_targets placed.instruction) ((view_of f).blocks b).items) order
-
--- VALUES ----------------------------------------------------------------------------------------------------------------
-
--- what an operand or an argument stands for is no alias
-pub resolved_twice : (f : Body) → IsConsistent f → (x : ℕ) → x < length f.values → resolved f (resolved f x) ≡ resolved f x
-resolved_twice f kept x inside = follow_end f.values (length f.values) (resolved f x) (resolved-no_alias f.values x kept.aliases_end inside)
-
-used_unaliased : (f : Body) → IsConsistent f → (v b k : ℕ) → Contains (used_operands (resolved f) (placed_at (view_of f) (at b k))) v → resolved f v ≡ v
-used_unaliased f kept v b k h = by (slice_get (insts_of f b) k) refl
+edge_count f order = length-flat_map (successors_of f) order ∙ ap (λ (count : ℕ → ℕ). sum_by count order) (fun_ext (λ b. sym (own b)))
   where
-    named : (inst : ℕ) → Contains (map (resolved f) (operands (inst_at f inst).shape)) v → resolved f v ≡ v
-    named inst m =
-        let from = contained_in_map (resolved f) (operands (inst_at f inst).shape) v m in
-        let exists : from.0 < length f.values =
-        subst (λ x. x < length f.values) (get_or_default (operands (inst_at f inst).shape) from.1.0 0 from.0 from.1.1 ∙ from.1.2) (kept.operands_exist inst from.1.0 from.1.1) in
-        subst (λ x. resolved f x ≡ x) from.2 (resolved_twice f kept from.0 exists)
+    own : (b : ℕ) → edges_from (view_of f) b ≡ length (successors_of f b)
+    own b = ap (λ items. length (flat_map (λ (placed : Placed). edge_targets placed.instruction) items)) (items_are f b) ∙ edges_long f (insts_of f b)
 
-    by : (o : Option ℕ) → slice_get (insts_of f b) k ≡ o → resolved f v ≡ v
-    by (Some inst) is = named inst (subst (λ (o : Option Placed). Contains (used_operands (resolved f) o) v) (placed_is f b k inst is) h)
-    by None is = absurd (omega (arith, (subst (λ (o : Option Placed). Contains (used_operands (resolved f) o) v) (placed_none f b k is) h).1))
-
-argument_exists : (f : Body) (x : BlockArg) (operand : ℕ) → argument_of x ≡ Known operand → PassedExists f x → operand < length f.values
-argument_exists f (arg.Value w) operand is exists = subst (λ y. y < length f.values) (let e : w ≡ operand = cc in e) exists
-argument_exists f (arg.TryCallRet index) operand is exists = cc
-argument_exists f (arg.TryCallExn index) operand is exists = cc
-
-unmap : {X Y : Type 0} (g : X → Y) (o : Option X) (y : Y) → option_map g o ≡ Some y → (x : X) × (o ≡ Some x) × (g x ≡ y)
-unmap g None y h = cc
-unmap g (Some x) y h = (x, refl, cc)
-
-passed_unaliased : (f : Body) → IsConsistent f → (v b k : ℕ) → IsPassed every_argument (resolved f) v (placed_at (view_of f) (at b k)) → resolved f v ≡ v
-passed_unaliased f kept v b k h = by (slice_get (insts_of f b) k) refl
+-- the order as the machines see the function
+leads_alike : (f : Body) (graph : List (List ℕ)) → IsConsistent f → IsGraphOf f graph → leads_to graph ≡ followed_blocks (view_of f)
+leads_alike f graph kept is = fun_ext (λ b. by b (order b (length f.blocks)) ∙ sym (followed_blocks_are f b))
   where
-    named : (inst : ℕ) → IsPassed every_argument (resolved f) v (Some (placed_of f inst)) → resolved f v ≡ v
-    named inst given =
-        let call = contained_in_map edge_of (destinations (inst_at f inst).shape) given.0 given.3 in
-        let argument = unmap argument_of (slice_get call.0.args given.1) (Known given.2)
-        (sym (slice_get-map argument_of call.0.args given.1) ∙ ap (λ (e : Edge ℕ ℕ). slice_get e.arguments given.1) call.2 ∙ given.4) in
-        let edge : EdgeExists f call.0 = All-contains (λ e. EdgeExists f e) (destinations (inst_at f inst).shape) call.0 (kept.edges_exist inst) call.1 in
-        let exists : PassedExists f argument.0 = All-contains (λ x. PassedExists f x) call.0.args argument.0 edge.1 (contains_at call.0.args given.1 argument.0 argument.1) in
-        subst (λ x. resolved f x ≡ x) given.5 (resolved_twice f kept given.2 (argument_exists f argument.0 given.2 argument.2 exists))
+    order : (i j : ℕ) → (i < j) ⊎ (j ≤ i)
+    order i j = grind arith
 
-    by : (o : Option ℕ) → slice_get (insts_of f b) k ≡ o → resolved f v ≡ v
-    by (Some inst) is = named inst (subst (λ (o : Option Placed). IsPassed every_argument (resolved f) v o) (placed_is f b k inst is) h)
-    by None is = absurd (subst (λ (o : Option Placed). IsPassed every_argument (resolved f) v o) (placed_none f b k is) h)
+    away : (b : ℕ) → length f.blocks ≤ b → (c : Bool) → stands_in b f.layout ≡ c → targets_from f (if c then (block_at f b).insts else []) ≡ []
+    away b past true stands =
+        let at = stands_to b f.layout stands in
+        let below = kept.layout_exists at.0 at.1 in
+        let same : slice_index f.layout at.0 ≡ b = get_or_default f.layout at.0 0 b at.1 ∙ at.2 in absurd (omega (arith, past, below, same))
+    away b past false stands = refl
 
-ahead_unaliased : (f : Body) → IsConsistent f → (v : ℕ) (path : List (Place ℕ)) (p : Place ℕ) → IsUsedAhead every_argument (view_of f) v p path → resolved f v ≡ v
-ahead_unaliased f kept v [] p h = passed_unaliased f kept v p.block p.index h
-ahead_unaliased f kept v (q ∷ path) p h = by (ahead_unaliased f kept v path q) h.2
-  where
-    by : (IsUsedAhead every_argument (view_of f) v q path → resolved f v ≡ v)
-        → Contains (used_operands (resolved f) (placed_at (view_of f) q)) v ⊎ ((¬ Contains (placed_gives (placed_at (view_of f) q)) v) × IsUsedAhead every_argument (view_of f) v q path)
-        → resolved f v ≡ v
-    by rest (inl used) = used_unaliased f kept v q.block q.index used
-    by rest (inr later) = rest later.1
+    by : (b : ℕ) → (b < length f.blocks) ⊎ (length f.blocks ≤ b) → leads_to graph b ≡ successors_of f b
+    by b (inl inside) = is.rows b inside
+    by b (inr past) = get_or-eq_default graph [] (subst (λ n. n ≤ b) (sym is.size) past) ∙ sym (away b past (stands_in b f.layout) refl)
+
+pub block_order : (f : Body) (graph : List (List ℕ)) (order : List ℕ) → IsConsistent f → IsGraphOf f graph → IsOrder graph (slice_get f.layout 0) order → IsBlockOrder (view_of f) order
+block_order f graph order kept is ordered = record {
+  depth_first = subst (λ leads. IsDepthFirst leads (slice_get f.layout 0) order) (leads_alike f graph kept is) ordered.depth_first;
+  once = ordered.once;
+  reached = λ b. (order_reached f graph order is ordered b, reached_order f graph order is ordered b);
+  sorted = subst (λ leads. IsSorted leads (slice_get f.layout 0) order) (leads_alike f graph kept is) ordered.sorted;
+}
 
 -- INSTRUCTIONS ----------------------------------------------------------------------------------------------------------
 
@@ -291,17 +312,18 @@ traced_found f kept recorded graph order is ordered inst v h =
 -- THE ANALYSIS ----------------------------------------------------------------------------------------------------------
 
 -- all that its parts told
-pub record Parts (f : Body) (recorded : List ℕ) (graph : List (List ℕ)) (order : List ℕ) (sets : List (List Bool)) (rows : List (List ℕ)) (handled : ℕ) : Type 0 where
+pub record Parts (f : Body) (recorded : List ℕ) (graph : List (List ℕ)) (order : List ℕ) (sets : List (List Bool)) (rows : List (List ℕ)) (tables : FrontTables) (handled : ℕ) : Type 0 where
   pub kept : IsConsistent f
   pub rising : IsStrictlyIncreasing recorded
   pub graph_is : IsGraphOf f graph
   pub ordered : IsOrder graph (slice_get f.layout 0) order
   pub finished : IsFinished f recorded order sets handled
   pub listed : IsListedBy f recorded sets order rows
+  pub fronts : AreFronts f recorded sets order tables
 
-exact_found : (f : Body) (recorded : List ℕ) (graph : List (List ℕ)) (order : List ℕ) (sets : List (List Bool)) (rows : List (List ℕ)) (handled : ℕ) → Parts f recorded graph order sets rows handled
+exact_found : (f : Body) (recorded : List ℕ) (graph : List (List ℕ)) (order : List ℕ) (sets : List (List Bool)) (rows : List (List ℕ)) (tables : FrontTables) (handled : ℕ) → Parts f recorded graph order sets rows tables handled
     → (inst place : ℕ) → IsFoundAt f order inst place → IsExact f recorded inst (row_at rows inst)
-exact_found f recorded graph order sets rows handled parts inst place found = record {
+exact_found f recorded graph order sets rows tables handled parts inst place found = record {
   rising = row.rising;
   members = λ v. (λ h. traced v ((row.members v).0 h), λ h. (row.members v).1 (listed v h));
 }
@@ -350,9 +372,9 @@ exact_found f recorded graph order sets rows handled parts inst place found = re
               live.1 (inst_at f inst).block place inst reached found.here live.0 live.2,
         )
 
-exact_none : (f : Body) (recorded : List ℕ) (graph : List (List ℕ)) (order : List ℕ) (sets : List (List Bool)) (rows : List (List ℕ)) (handled : ℕ) → Parts f recorded graph order sets rows handled
+exact_none : (f : Body) (recorded : List ℕ) (graph : List (List ℕ)) (order : List ℕ) (sets : List (List Bool)) (rows : List (List ℕ)) (tables : FrontTables) (handled : ℕ) → Parts f recorded graph order sets rows tables handled
     → (inst : ℕ) → ((place : ℕ) → IsFoundAt f order inst place → ⊥) → IsExact f recorded inst (row_at rows inst)
-exact_none f recorded graph order sets rows handled parts inst none = subst (λ row. IsExact f recorded inst row) (sym empty) (record {
+exact_none f recorded graph order sets rows tables handled parts inst none = subst (λ row. IsExact f recorded inst row) (sym empty) (record {
   rising = λ k inside. absurd (omega (arith, inside));
   members = λ v. (λ h. absurd (omega (arith, h.1)), λ h. absurd (let found = traced_found f parts.kept recorded graph order parts.graph_is parts.ordered inst v h in none found.0 found.1));
 })
@@ -366,9 +388,13 @@ exact_none f recorded graph order sets rows handled parts inst none = subst (λ 
           call = call;
         }))
 
-pub analysis_from_parts : (f : Body) (recorded : List ℕ) (graph : List (List ℕ)) (order : List ℕ) (sets : List (List Bool)) (rows : List (List ℕ)) (handled : ℕ)
-    → Parts f recorded graph order sets rows handled → IsAnalysis f recorded (record { across = rows; handled = handled })
-analysis_from_parts f recorded graph order sets rows handled parts = record {
+pub analysis_from_parts : (f : Body) (recorded : List ℕ) (graph : List (List ℕ)) (order : List ℕ) (sets : List (List Bool)) (rows : List (List ℕ)) (tables : FrontTables) (handled : ℕ)
+    → Parts f recorded graph order sets rows tables handled
+    → IsAnalysis f recorded (record { order = order; live_in = tables.live_in; after_params = tables.after_params; across = rows; handled = handled })
+analysis_from_parts f recorded graph order sets rows tables handled parts = record {
+  order = block_order f graph order parts.kept parts.graph_is parts.ordered;
+  live_in = exact_in f recorded order sets handled tables solved parts.fronts;
+  after_params = exact_after f recorded order sets handled tables solved parts.fronts;
   exact = λ inst. by inst (found_or_not f order inst);
   handled = record {
     blocks = order;
@@ -379,9 +405,17 @@ analysis_from_parts f recorded graph order sets rows handled parts = record {
   };
 }
   where
+    solved : AreSolved f recorded order sets handled
+    solved = record {
+      kept = parts.kept;
+      finished = parts.finished;
+      reached = order_reached f graph order parts.graph_is parts.ordered;
+      all = reached_order f graph order parts.graph_is parts.ordered;
+    }
+
     by : (inst : ℕ) → ((place : ℕ) × IsFoundAt f order inst place) ⊎ ((place : ℕ) → IsFoundAt f order inst place → ⊥) → IsExact f recorded inst (row_at rows inst)
-    by inst (inl found) = exact_found f recorded graph order sets rows handled parts inst found.0 found.1
-    by inst (inr none) = exact_none f recorded graph order sets rows handled parts inst none
+    by inst (inl found) = exact_found f recorded graph order sets rows tables handled parts inst found.0 found.1
+    by inst (inr none) = exact_none f recorded graph order sets rows tables handled parts inst none
 
 -- the targets of edges exist
 pub closed_graph : (f : Body) (graph : List (List ℕ)) → IsConsistent f → AreRows (length f.blocks) (successors_of f) graph → IsClosed graph

@@ -1,7 +1,6 @@
 -- Sets as marks: one more member, and tests over lists one element at a time.
-use Rattle.std.proofs.Common.{◌≡◌, ◌≢◌, ◌+◌, ◌<◌, ◌≤◌, ℕ, Bool, true, false, not, ◌||◌, ◌&&◌, List, [], ◌∷◌, length, get_or, set, take, refl, sym, ap, subst, ◌∙◌, arith, eqb, slice_index, slice_set, ◌⊎◌, inl, inr, cond}
+use Rattle.std.proofs.Common.{◌≡◌, ◌≢◌, ◌+◌, ◌<◌, ◌≤◌, ℕ, zero, suc, Bool, true, false, not, ◌||◌, ◌&&◌, List, [], ◌∷◌, length, get_or, set, take, refl, sym, ap, subst, ◌∙◌, arith, eqb, slice_index, slice_set, ◌⊎◌, inl, inr}
 use Rattle.std.specs.List.{list_any}
-use Rattle.std.proofs.lemmas.List.Sums.{sum_by-set}
 use Rattle.std.specs.List.Sorted.{IsStrictlyIncreasing}
 use Rattle.std.proofs.Math.ListN.{length-set}
 use Rattle.std.proofs.lemmas.List.{get_or-set_other}
@@ -11,7 +10,7 @@ use Rattle.std.proofs.lemmas.Bool.Decides.{eqb_tells}
 use Rattle.std.proofs.lemmas.Map.Keys.{below_from_sorted, sorted_from_strictly_increasing}
 use Rattle.std.proofs.lemmas.List.{take_more, take_all}
 use Rattle.std.proofs.lemmas.List.Folds.{list_any-append}
-use Rattle.clif_safepoints.specs.Sets.{Grows, IsSet, is_in, member_count}
+use Rattle.clif_number_sets.specs.Sets.{IsSet, is_in}
 
 or_false : (a : Bool) → (a || false) ≡ a
 or_false true = refl
@@ -164,80 +163,8 @@ added_twice n f g old mid new before now = record {
     or_assoc true b c = refl
     or_assoc false b c = refl
 
--- So far the members of the others below a place are added; a flag tells whether one of them was new.
-pub record Added (others old : List Bool) (place : ℕ) (new : List Bool) (grown : Bool) : Type 0 where
-  pub size : length new ≡ length old
-  pub done : (k : ℕ) → k < place → is_in new k ≡ (is_in others k || is_in old k)
-  pub rest : (k : ℕ) → place ≤ k → is_in new k ≡ is_in old k
-  pub count : member_count old ≤ member_count new
-  pub grows : grown ≡ true → Grows old new
-  pub same : grown ≡ false → new ≡ old
-
-pub added_none : (others old : List Bool) → Added others old 0 old false
-added_none others old = record {
-  size = refl;
-  done = λ k below. absurd (omega arith);
-  rest = λ k above. refl;
-  count = omega arith;
-  grows = λ e. cc;
-  same = λ e. refl;
-}
-
--- the mark at the place stays as it is
-pub added_kept : (others old : List Bool) (place : ℕ) (new : List Bool) (grown : Bool) → Added others old place new grown
-    → is_in new place ≡ (is_in others place || is_in new place) → Added others old (place + 1) new grown
-added_kept others old place new grown so_far here = record {
-  size = so_far.size;
-  done = λ k below. by k below (order k place);
-  rest = λ k above. so_far.rest k (omega arith);
-  count = so_far.count;
-  grows = so_far.grows;
-  same = so_far.same;
-}
-  where
-    order : (i j : ℕ) → (i < j) ⊎ (j ≤ i)
-    order i j = grind arith
-
-    by : (k : ℕ) → k < place + 1 → (k < place) ⊎ (place ≤ k) → is_in new k ≡ (is_in others k || is_in old k)
-    by k below (inl before) = so_far.done k before
-    by k below (inr behind) =
-        let e : place ≡ k = omega arith in
-        subst (λ m. is_in new m ≡ (is_in others m || is_in old m)) e (here ∙ ap (λ (b : Bool). is_in others place || b) (so_far.rest place (omega arith)))
-
--- a new member
-pub added_one : (others old : List Bool) (place : ℕ) (new : List Bool) (grown : Bool) → Added others old place new grown
-    → place < length new → is_in others place ≡ true → is_in new place ≡ false → Added others old (place + 1) (slice_set new place true) true
-added_one others old place new grown so_far inside other fresh = record {
-  size = length-set new place true ∙ so_far.size;
-  done = λ k below. by k below (order k place);
-  rest = λ k above. get_or-set_other new place k true false (λ e. absurd (omega arith)) ∙ so_far.rest k (omega arith);
-  count = let less = counted in omega (arith, less, so_far.count);
-  grows = λ e. let less = counted in omega (arith, less, so_far.count);
-  same = λ e. cc;
-}
-  where
-    order : (i j : ℕ) → (i < j) ⊎ (j ≤ i)
-    order i j = grind arith
-
-    one : (mark : Bool) → mark ≡ false → member_count (set new place true) + cond mark 1 0 ≡ member_count new + 1 → member_count (set new place true) ≡ member_count new + 1
-    one true e h = cc
-    one false e h = omega arith
-
-    counted : member_count (set new place true) ≡ member_count new + 1
-    counted = one (is_in new place) fresh (sum_by-set (λ (mark : Bool). cond mark 1 0) new place true false inside)
-
-    by : (k : ℕ) → k < place + 1 → (k < place) ⊎ (place ≤ k) → is_in (set new place true) k ≡ (is_in others k || is_in old k)
-    by k below (inl before) = get_or-set_other new place k true false (λ e. absurd (omega arith)) ∙ so_far.done k before
-    by k below (inr behind) =
-        let e : k ≡ place = omega arith in
-        get_or-set_at new place k true false e inside ∙ sym (ap (λ (m : ℕ). is_in others m || is_in old m) e ∙ ap (λ (b : Bool). b || is_in old place) other)
-
-pub added_all : (others old new : List Bool) (grown : Bool) (place : ℕ) → length old ≤ place → Added others old place new grown
-    → IsSet (length old) (λ k. is_in others k || is_in old k) new
-added_all others old new grown place past done = record { size = done.size; members = λ k below. done.done k (omega arith) }
-
--- the same of equal sets and flags
-pub added_as : {others old new new' : List Bool} {grown grown' : Bool} (place : ℕ) → Added others old place new grown → new' ≡ new → grown' ≡ grown
-    → Added others old place new' grown'
-added_as {others} {old} {new} {new'} {grown} {grown'} place so_far same flag =
-    subst (λ g. Added others old place new' g) (sym flag) (subst (λ s. Added others old place s grown) (sym same) so_far)
+-- a member is below the size
+pub member_below : (marks : List Bool) (place : ℕ) → is_in marks place ≡ true → place < length marks
+member_below [] place h = cc
+member_below (mark ∷ marks) zero h = omega arith
+member_below (mark ∷ marks) (suc place) h = let more = member_below marks place h in omega (arith, more)

@@ -363,7 +363,7 @@ Tells f live_at v path =
     → IsUsedAhead every_argument (view_of f) v (at b k) path → is_live_behind f live_at v inst (is_live_before f live_at v (drop (suc k) (insts_of f b))) ≡ true
 
 -- before the next place of a path
-there : (f : Body) (live_at : ℕ → Bool) (v : ℕ) (path : List (Place ℕ)) → Tells f live_at v path → (c m : ℕ) → IsReached (view_of f) c → m < length (insts_of f c)
+pub there : (f : Body) (live_at : ℕ → Bool) (v : ℕ) (path : List (Place ℕ)) → Tells f live_at v path → (c m : ℕ) → IsReached (view_of f) c → m < length (insts_of f c)
     → IsLiveAt f v (at c m) path → is_live_before f live_at v (drop m (insts_of f c)) ≡ true
 there f live_at v path tells c m reached inside live =
     before_from f live_at v c m (get_or (insts_of f c) m 0) path (inst_within f c m inside)

@@ -16,7 +16,8 @@ use Rattle.clif_instructions.specs.Members.{Once, stands_in}
 use Rattle.clif_ir.specs.Body.{Body, block_at, inst_at}
 use Rattle.clif_ir.specs.Consistent.{IsConsistent}
 use Rattle.clif_safepoints.specs.LastPass.{IsListedBy, IsPut, IsRecorded, IsRow, is_live_across, row_at}
-use Rattle.clif_safepoints.specs.Sets.{in_set_of, is_in}
+use Rattle.clif_number_sets.specs.Sets.{is_in}
+use Rattle.clif_safepoints.specs.Sets.{in_set_of}
 use Rattle.clif_safepoints.specs.Transfer.{insts_of, is_live_before, is_live_behind}
 use Rattle.clif_safepoints.specs.Tables.{AreRows}
 use Rattle.clif_safepoints.proofs.Paths.{place_of_member, stands_from, stands_to}
@@ -37,19 +38,21 @@ row_none values test = record {
   to = λ k below inside h. absurd (omega (arith, below));
 }
 
-pub row_skip : (values : List ℕ) (test : ℕ → Bool) (place : ℕ) (row : List ℕ) → test place ≡ false → RowTo values test place row → RowTo values test (place + 1) row
-row_skip values test place row fails so_far = record {
+-- there is no member between two places
+pub row_jump : (values : List ℕ) (test : ℕ → Bool) (place found : ℕ) (row : List ℕ) → place ≤ found → ((k : ℕ) → place ≤ k → k < found → test k ≡ false) → RowTo values test place row
+    → RowTo values test found row
+row_jump values test place found row up none so_far = record {
   rising = so_far.rising;
-  from = λ v h. let old = so_far.from v h in (old.0, omega (arith, old.1), old.2, old.3, old.4);
+  from = λ v h. let old = so_far.from v h in (old.0, omega (arith, old.1, up), old.2, old.3, old.4);
   to = λ k below inside h. by k below inside h (order k place);
 }
   where
     order : (i j : ℕ) → (i < j) ⊎ (j ≤ i)
     order i j = grind arith
 
-    by : (k : ℕ) → k < place + 1 → k < length values → test k ≡ true → (k < place) ⊎ (place ≤ k) → Contains row (slice_index values k)
+    by : (k : ℕ) → k < found → k < length values → test k ≡ true → (k < place) ⊎ (place ≤ k) → Contains row (slice_index values k)
     by k below inside h (inl before) = so_far.to k before inside h
-    by k below inside h (inr behind) = let e : place ≡ k = omega (arith, below, behind) in absurd (false≢true (sym fails ∙ ap test e ∙ h))
+    by k below inside h (inr past) = absurd (false≢true (sym (none k past below) ∙ h))
 
 pub row_push : (values : List ℕ) (test : ℕ → Bool) (place x : ℕ) (row : List ℕ) → IsStrictlyIncreasing values → place < length values → slice_index values place ≡ x → test place ≡ true
     → RowTo values test place row → RowTo values test (place + 1) (row ++ x ∷ [])
@@ -89,19 +92,26 @@ row_push values test place x row up inside' is passes so_far = record {
         let e : place ≡ k = omega (arith, below, behind) in
         subst (λ v. Contains (row ++ x ∷ []) v) (sym is ∙ ap (slice_index values) e) (Contains-push row x)
 
-pub row_step : (values : List ℕ) (test : ℕ → Bool) (place : ℕ) (row new : List ℕ) → IsStrictlyIncreasing values → place < length values
-    → new ≡ (if test place then row ++ slice_index values place ∷ [] else row) → RowTo values test place row → RowTo values test (place + 1) new
-row_step values test place row new up inside is so_far = by (test place) refl is
-  where
-    by : (c : Bool) → test place ≡ c → new ≡ (if c then row ++ slice_index values place ∷ [] else row) → RowTo values test (place + 1) new
-    by true passes same = subst (λ r. RowTo values test (place + 1) r) (sym same) (row_push values test place (slice_index values place) row up inside refl passes so_far)
-    by false fails same = subst (λ r. RowTo values test (place + 1) r) (sym same) (row_skip values test place row fails so_far)
+-- one member more: the next one
+pub row_next : (values : List ℕ) (test : ℕ → Bool) (place found : ℕ) (row new : List ℕ) → IsStrictlyIncreasing values → found < length values → place ≤ found → test found ≡ true
+    → ((k : ℕ) → place ≤ k → k < found → test k ≡ false) → new ≡ row ++ slice_index values found ∷ [] → RowTo values test place row → RowTo values test (found + 1) new
+row_next values test place found row new up inside below passes none more so_far =
+    subst (λ r. RowTo values test (found + 1) r) (sym more)
+    (row_push values test found (slice_index values found) row up inside refl passes (row_jump values test place found row below none so_far))
 
-pub row_all : (values : List ℕ) (test : ℕ → Bool) (place : ℕ) (row : List ℕ) → length values ≤ place → RowTo values test place row → IsRow values test row
-row_all values test place row past done = record {
-  rising = done.rising;
-  members = λ v. (λ h. (let old = done.from v h in (old.0, old.2, old.3, old.4)), λ h. subst (λ x. Contains row x) h.2 (done.to h.0 (omega (arith, h.1, past)) h.1 h.3));
+-- and no further one
+pub row_last : (values : List ℕ) (test : ℕ → Bool) (place : ℕ) (row : List ℕ) → ((k : ℕ) → place ≤ k → test k ≡ false) → RowTo values test place row → IsRow values test row
+row_last values test place row none so_far = record {
+  rising = so_far.rising;
+  members = λ v. (λ h. (let old = so_far.from v h in (old.0, old.2, old.3, old.4)), λ h. subst (λ x. Contains row x) h.2 (by h.0 h.1 h.3 (order h.0 place)));
 }
+  where
+    order : (i j : ℕ) → (i < j) ⊎ (j ≤ i)
+    order i j = grind arith
+
+    by : (k : ℕ) → k < length values → test k ≡ true → (k < place) ⊎ (place ≤ k) → Contains row (slice_index values k)
+    by k inside h (inl before) = so_far.to k before inside h
+    by k inside h (inr past) = absurd (false≢true (sym (none k past) ∙ h))
 
 -- a row by a test that agrees
 pub row_alike : (values : List ℕ) (p q : ℕ → Bool) (row : List ℕ) → ((k : ℕ) → k < length values → p k ≡ q k) → IsRow values p row → IsRow values q row

@@ -5,7 +5,7 @@ use Rattle.std.proofs.lemmas.List.{drop_all}
 use Rattle.clif_instructions.specs.Instruction.{operands}
 use Rattle.clif_instructions.specs.Members.{stands_in}
 use Rattle.clif_ir.specs.Body.{Body, block_at, inst_at}
-use Rattle.clif_safepoints.specs.Sets.{IsSet, is_in}
+use Rattle.clif_number_sets.specs.Sets.{IsSet, is_in}
 use Rattle.clif_safepoints.specs.Transfer.{insts_of, is_live_before, is_live_behind, is_live_in, names}
 
 -- what is live before the instructions of a block from a place on

@@ -17,8 +17,10 @@ use Rattle.clif_instructions.specs.Members.{stands_in}
 use Rattle.clif_ir.specs.Body.{Body, block_at, inst_at}
 use Rattle.clif_safepoints.specs.Graph.{arcs, leads_to, sources_of}
 use Rattle.clif_safepoints.specs.Progress.{IsHandled, IsTaken, Progress, one_more, pushed_all}
-use Rattle.clif_safepoints.specs.Sets.{AreSets, Grows, IsSet, in_set_of, is_in, member_count}
-use Rattle.clif_safepoints.specs.Transfer.{argument_passes, edge_needs, insts_of, is_live_before, is_live_in, names, successors_of, targets_from}
+use Rattle.clif_number_sets.specs.Sets.{Grows, IsSet, is_in, member_count}
+use Rattle.clif_safepoints.specs.Sets.{AreSets, in_set_of}
+use Rattle.clif_safepoints.specs.Transfer.{argument_passes, edge_needs, insts_of, is_live_before, is_live_in, names, successors_of, targets_followed, targets_from}
+use Rattle.clif_safepoints.proofs.Following.{followed_from}
 use Rattle.clif_safepoints.specs.Fronts.{IsFinished, IsLiveFront, IsStart}
 use Rattle.clif_safepoints.proofs.Paths.{contained_in_map, front_to, or_cases, or_left}
 use Rattle.clif_safepoints.proofs.Visits.{bit, times, times_append}
@@ -47,10 +49,10 @@ before_alike f l m v (inst ∷ insts) same =
     let edges : list_any (edge_needs f l v) (destinations (inst_at f inst).shape) ≡ list_any (edge_needs f m v) (destinations (inst_at f inst).shape) =
     any_alike (edge_needs f l v) (edge_needs f m v) (destinations (inst_at f inst).shape)
     (λ edge h. ap (λ (b : Bool). b || list_any (argument_passes f v) edge.args)
-    (same edge.block (Contains-append_left (targets (destinations (inst_at f inst).shape)) (targets_from f insts) edge.block
-    (target_of (destinations (inst_at f inst).shape) edge h)))) in
+    (same edge.block (Contains-append_left (targets_followed (inst_at f inst).shape) (targets_from f insts) edge.block
+    (followed_from (inst_at f inst).shape edge.block (target_of (destinations (inst_at f inst).shape) edge h))))) in
     let rest : is_live_before f l v insts ≡ is_live_before f m v insts = before_alike f l m v insts
-    (λ t h. same t (Contains-append_right (targets (destinations (inst_at f inst).shape)) (targets_from f insts) t h)) in
+    (λ t h. same t (Contains-append_right (targets_followed (inst_at f inst).shape) (targets_from f insts) t h)) in
     ap (λ (b : Bool). names f (operands (inst_at f inst).shape) v || (not (stands_in v (inst_at f inst).results) && (b || is_live_before f l v insts))) edges
     ∙ ap (λ (b : Bool). names f (operands (inst_at f inst).shape) v
     || (not (stands_in v (inst_at f inst).results) && (list_any (edge_needs f m v) (destinations (inst_at f inst).shape) || b))) rest

@@ -8,7 +8,8 @@ use Rattle.std.proofs.lemmas.Bool.{false≢true}
 use Rattle.std.proofs.lemmas.Bool.Decides.{eqb_tells}
 use Rattle.std.proofs.Math.ListN.{length-set, get_or-eq_default}
 use Rattle.clif_safepoints.specs.Fronts.{AreEmpty, IsStart}
-use Rattle.clif_safepoints.specs.Sets.{in_set_of, is_in}
+use Rattle.clif_number_sets.specs.Sets.{is_in}
+use Rattle.clif_safepoints.specs.Sets.{in_set_of}
 
 -- the blocks from a place of the order on wait
 pub record Waits (blocks : ℕ) (order : List ℕ) (place : ℕ) (stack : List ℕ) (waits : List Bool) : Type 0 where

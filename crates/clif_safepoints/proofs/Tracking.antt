@@ -24,7 +24,7 @@ use Rattle.clif_meaning.specs.View.{view_of}
 use Rattle.clif_meaning.specs.WellPlaced.{function_flow}
 use Rattle.clif_safepoints.specs.Analysis.{IsReached, place_of_inst}
 use Rattle.clif_safepoints.specs.Contexts.{item_is_tracked}
-use Rattle.clif_safepoints.specs.Sets.{is_in}
+use Rattle.clif_number_sets.specs.Sets.{is_in}
 use Rattle.clif_safepoints.specs.Transfer.{insts_of}
 use Rattle.clif_safepoints.proofs.Paths.{block_reached, or_cases, or_left, or_right, reached_inside, size_is, stands_from, stands_to}
 use Rattle.clif_safepoints.proofs.Concluding.{path_size}

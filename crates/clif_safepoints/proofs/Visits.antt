@@ -1,8 +1,8 @@
 -- The way through a graph in post-order.
-use Rattle.std.proofs.Common.{◌≡◌, ◌≢◌, ◌+◌, ◌<◌, ◌≤◌, ◌⊎◌, ◌==◌, ℕ, zero, suc, Bool, true, false, cond, List, [], ◌∷◌, ◌++◌, length, get_or, refl, sym, ap, subst, ◌∙◌, arith, inl, inr, Option, Some, eqb, set, replicate, zero-add, length-append}
+use Rattle.std.proofs.Common.{◌≡◌, ◌≢◌, ◌+◌, ◌-◌, ◌<◌, ◌≤◌, ◌⊎◌, ◌==◌, ℕ, zero, suc, Bool, true, false, cond, List, [], ◌∷◌, ◌++◌, length, get_or, reverse, refl, sym, ap, subst, ◌∙◌, arith, inl, inr, Option, Some, eqb, set, replicate, zero-add, length-append}
 use Rattle.std.specs.Prelude.{Contains}
 use Rattle.std.specs.List.{flat_map}
-use Rattle.std.proofs.lemmas.List.{append-nil, get_or-set_other, get_or_default, length-map, length-replicate}
+use Rattle.std.proofs.lemmas.List.{append-nil, get_or-set_other, get_or-reverse, get_or_default, length-map, length-replicate, length-reverse, reverse-reverse}
 use Rattle.std.proofs.lemmas.List.Elements.{Contains-append_cases, Contains-append_left, Contains-append_right, Contains-push_cases}
 use Rattle.std.proofs.Math.ListN.{length-set}
 use Rattle.std.proofs.lemmas.Grind.{flat_map-append, get_or-set_at}
@@ -11,8 +11,9 @@ use Rattle.std.proofs.lemmas.Bool.Decides.{eqb_tells}
 use Rattle.clif_instructions.specs.Members.{Once}
 use Rattle.clif_safepoints.specs.declared.graph.Visit.{Visit}
 use Rattle.clif_safepoints.specs.declared.graph.Visit.TheVariants.{Enter, Leave}
-use Rattle.clif_safepoints.specs.Graph.{IsClosed, IsOrder, IsWay, leads_to}
-use Rattle.clif_safepoints.specs.Sets.{is_in}
+use Rattle.clif_safepoints.specs.Graph.{IsClosed, IsOrder, leads_to}
+use Rattle.clif_safepoints.specs.Order.{IsDepthFirst, IsSorted, IsWay}
+use Rattle.clif_number_sets.specs.Sets.{is_in}
 use Rattle.clif_safepoints.specs.Visits.{entered}
 
 abbrev pub bit : Bool → ℕ
@@ -40,7 +41,7 @@ leaving visits = flat_map leave_of visits
 
 -- a way to the block
 abbrev pub HasWay : List (List ℕ) → Option ℕ → ℕ → Type 0
-HasWay graph entry b = (way : List ℕ) × IsWay graph entry (b ∷ way)
+HasWay graph entry b = (way : List ℕ) × IsWay (leads_to graph) entry (b ∷ way)
 
 -- What holds between visits. A block that was seen is open or done, once; what it leads to was seen, or is still to be entered.
 pub record IsVisiting (graph : List (List ℕ)) (entry : Option ℕ) (seen : List Bool) (visits : List Visit) (order : List ℕ) : Type 0 where
@@ -136,6 +137,15 @@ mark_cases seen b q inside = by (eqb_tells q b)
     by (inl same) = inl (same.1, get_or-set_at seen b q true false same.1 inside)
     by (inr other) = inr (other.1, get_or-set_other seen b q true false other.1)
 
+-- a list and the list turned round
+pub contains_turned : (xs : List ℕ) (x : ℕ) → Contains (reverse xs) x → Contains xs x
+contains_turned xs x h =
+    let inside : h.0 < length xs = subst (λ n. h.0 < n) (length-reverse xs) h.1 in
+    (length xs - 1 - h.0, omega (arith, inside), sym (get_or-reverse xs h.0 x inside) ∙ h.2)
+
+pub contains_reverse : (xs : List ℕ) (x : ℕ) → Contains xs x → Contains (reverse xs) x
+contains_reverse xs x h = contains_turned (reverse xs) x (subst (λ ys. Contains ys x) (sym (reverse-reverse xs)) h)
+
 -- VISITS ----------------------------------------------------------------------------------------------------------------
 
 last_enter : (rest : List Visit) (v : Visit) → entering (rest ++ v ∷ []) ≡ entering rest ++ enter_of v
@@ -219,7 +229,7 @@ visits_skip graph entry seen rest order b known so_far = record {
     by t (inr h) = or_last t (rest_or_last rest b t h)
 
 pub visits_enter : (graph : List (List ℕ)) (entry : Option ℕ) (seen : List Bool) (rest : List Visit) (order : List ℕ) (b : ℕ) → IsClosed graph → is_in seen b ≡ false
-    → IsVisiting graph entry seen (rest ++ Enter b ∷ []) order → IsVisiting graph entry (set seen b true) ((rest ++ Leave b ∷ []) ++ entered (leads_to graph b)) order
+    → IsVisiting graph entry seen (rest ++ Enter b ∷ []) order → IsVisiting graph entry (set seen b true) ((rest ++ Leave b ∷ []) ++ entered (reverse (leads_to graph b))) order
 visits_enter graph entry seen rest order b closed fresh so_far = record {
   size = length-set seen b true ∙ so_far.size;
   placed = λ q. count q (mark_cases seen b q inside);
@@ -236,30 +246,30 @@ visits_enter graph entry seen rest order b closed fresh so_far = record {
     inside : b < length seen
     inside = subst (λ n. b < n) (sym so_far.size) (so_far.enter_there b waits)
 
-    enters : entering ((rest ++ Leave b ∷ []) ++ entered (leads_to graph b)) ≡ entering rest ++ leads_to graph b
+    enters : entering ((rest ++ Leave b ∷ []) ++ entered (reverse (leads_to graph b))) ≡ entering rest ++ reverse (leads_to graph b)
     enters =
-        flat_map-append enter_of (rest ++ Leave b ∷ []) (entered (leads_to graph b))
-        ∙ ap (λ xs. xs ++ entering (entered (leads_to graph b))) (last_enter rest (Leave b) ∙ append-nil (entering rest))
-        ∙ ap (λ xs. entering rest ++ xs) (entering_entered (leads_to graph b))
+        flat_map-append enter_of (rest ++ Leave b ∷ []) (entered (reverse (leads_to graph b)))
+        ∙ ap (λ xs. xs ++ entering (entered (reverse (leads_to graph b)))) (last_enter rest (Leave b) ∙ append-nil (entering rest))
+        ∙ ap (λ xs. entering rest ++ xs) (entering_entered (reverse (leads_to graph b)))
 
-    leaves : leaving ((rest ++ Leave b ∷ []) ++ entered (leads_to graph b)) ≡ leaving rest ++ b ∷ []
+    leaves : leaving ((rest ++ Leave b ∷ []) ++ entered (reverse (leads_to graph b))) ≡ leaving rest ++ b ∷ []
     leaves =
-        flat_map-append leave_of (rest ++ Leave b ∷ []) (entered (leads_to graph b))
-        ∙ ap (λ xs. xs ++ leaving (entered (leads_to graph b))) (last_leave rest (Leave b))
-        ∙ ap (λ xs. (leaving rest ++ b ∷ []) ++ xs) (leaving_entered (leads_to graph b)) ∙ append-nil (leaving rest ++ b ∷ [])
+        flat_map-append leave_of (rest ++ Leave b ∷ []) (entered (reverse (leads_to graph b)))
+        ∙ ap (λ xs. xs ++ leaving (entered (reverse (leads_to graph b)))) (last_leave rest (Leave b))
+        ∙ ap (λ xs. (leaving rest ++ b ∷ []) ++ xs) (leaving_entered (reverse (leads_to graph b))) ∙ append-nil (leaving rest ++ b ∷ [])
 
     before : (q : ℕ) → times q (leaving rest) + times q order ≡ bit (is_in seen q)
     before q = ap (λ xs. times q xs + times q order) (sym (last_leave rest (Enter b) ∙ append-nil (leaving rest))) ∙ so_far.placed q
 
     count : (q : ℕ) → ((q ≡ b) × (is_in (set seen b true) q ≡ true)) ⊎ ((q ≢ b) × (is_in (set seen b true) q ≡ is_in seen q))
-        → times q (leaving ((rest ++ Leave b ∷ []) ++ entered (leads_to graph b))) + times q order ≡ bit (is_in (set seen b true) q)
+        → times q (leaving ((rest ++ Leave b ∷ []) ++ entered (reverse (leads_to graph b)))) + times q order ≡ bit (is_in (set seen b true) q)
     count q (inl same) =
-        let now : times q (leaving ((rest ++ Leave b ∷ []) ++ entered (leads_to graph b))) ≡ times q (leaving rest) + times q (b ∷ []) = ap (times q) leaves ∙ times_append q (leaving rest) (b ∷ []) in
+        let now : times q (leaving ((rest ++ Leave b ∷ []) ++ entered (reverse (leads_to graph b)))) ≡ times q (leaving rest) + times q (b ∷ []) = ap (times q) leaves ∙ times_append q (leaving rest) (b ∷ []) in
         let one : times q (b ∷ []) ≡ 1 = ap (λ x. times x (b ∷ [])) same.0 ∙ times_here b in
         let none : bit (is_in seen q) ≡ 0 = ap (λ x. bit (is_in seen x)) same.0 ∙ ap bit fresh in
         let old = before q in let new : bit (is_in (set seen b true) q) ≡ 1 = ap bit same.1 in omega (arith, now, one, none, old, new)
     count q (inr other) =
-        let now : times q (leaving ((rest ++ Leave b ∷ []) ++ entered (leads_to graph b))) ≡ times q (leaving rest) + times q (b ∷ []) = ap (times q) leaves ∙ times_append q (leaving rest) (b ∷ []) in
+        let now : times q (leaving ((rest ++ Leave b ∷ []) ++ entered (reverse (leads_to graph b)))) ≡ times q (leaving rest) + times q (b ∷ []) = ap (times q) leaves ∙ times_append q (leaving rest) (b ∷ []) in
         let one : times q (b ∷ []) ≡ 0 = times_other q b (λ e. other.0 (sym e)) in
         let old = before q in let new : bit (is_in (set seen b true) q) ≡ bit (is_in seen q) = ap bit other.1 in omega (arith, now, one, old, new)
 
@@ -267,8 +277,12 @@ visits_enter graph entry seen rest order b closed fresh so_far = record {
     way q (inl same) h = subst (λ x. HasWay graph entry x) (sym same.0) (so_far.enter_way b waits)
     way q (inr other) h = so_far.seen_way q (sym other.1 ∙ h)
 
-    rest_or_new : (q : ℕ) → Contains (entering ((rest ++ Leave b ∷ []) ++ entered (leads_to graph b))) q → Contains (entering rest) q ⊎ Contains (leads_to graph b) q
-    rest_or_new q h = Contains-append_cases (entering rest) (leads_to graph b) q (subst (λ xs. Contains xs q) enters h)
+    rest_or_new : (q : ℕ) → Contains (entering ((rest ++ Leave b ∷ []) ++ entered (reverse (leads_to graph b)))) q → Contains (entering rest) q ⊎ Contains (leads_to graph b) q
+    rest_or_new q h = turned (Contains-append_cases (entering rest) (reverse (leads_to graph b)) q (subst (λ xs. Contains xs q) enters h))
+      where
+        turned : Contains (entering rest) q ⊎ Contains (reverse (leads_to graph b)) q → Contains (entering rest) q ⊎ Contains (leads_to graph b) q
+        turned (inl old) = inl old
+        turned (inr leads) = inr (contains_turned (leads_to graph b) q leads)
 
     new_way : (q : ℕ) → Contains (entering rest) q ⊎ Contains (leads_to graph b) q → HasWay graph entry q
     new_way q (inl old) = so_far.enter_way q (in_rest rest (Enter b) q old)
@@ -285,35 +299,38 @@ visits_enter graph entry seen rest order b closed fresh so_far = record {
         by (inl same) = same.1
         by (inr other) = other.1 ∙ h
 
-    old_or_here : (t : ℕ) → Contains (entering rest) t ⊎ (b ≡ t) → (is_in (set seen b true) t ≡ true) ⊎ Contains (entering ((rest ++ Leave b ∷ []) ++ entered (leads_to graph b))) t
-    old_or_here t (inl old) = inr (subst (λ xs. Contains xs t) (sym enters) (Contains-append_left (entering rest) (leads_to graph b) t old))
+    old_or_here : (t : ℕ) → Contains (entering rest) t ⊎ (b ≡ t) → (is_in (set seen b true) t ≡ true) ⊎ Contains (entering ((rest ++ Leave b ∷ []) ++ entered (reverse (leads_to graph b)))) t
+    old_or_here t (inl old) = inr (subst (λ xs. Contains xs t) (sym enters) (Contains-append_left (entering rest) (reverse (leads_to graph b)) t old))
     old_or_here t (inr same) = inl (get_or-set_at seen b t true false (sym same) inside)
 
     still : (t : ℕ) → (is_in seen t ≡ true) ⊎ Contains (entering (rest ++ Enter b ∷ [])) t
-        → (is_in (set seen b true) t ≡ true) ⊎ Contains (entering ((rest ++ Leave b ∷ []) ++ entered (leads_to graph b))) t
+        → (is_in (set seen b true) t ≡ true) ⊎ Contains (entering ((rest ++ Leave b ∷ []) ++ entered (reverse (leads_to graph b)))) t
     still t (inl h) = inl (kept t h)
     still t (inr h) = old_or_here t (rest_or_last rest b t h)
 
     on : (q t : ℕ) → ((q ≡ b) × (is_in (set seen b true) q ≡ true)) ⊎ ((q ≢ b) × (is_in (set seen b true) q ≡ is_in seen q)) → is_in (set seen b true) q ≡ true
-        → Contains (leads_to graph q) t → (is_in (set seen b true) t ≡ true) ⊎ Contains (entering ((rest ++ Leave b ∷ []) ++ entered (leads_to graph b))) t
+        → Contains (leads_to graph q) t → (is_in (set seen b true) t ≡ true) ⊎ Contains (entering ((rest ++ Leave b ∷ []) ++ entered (reverse (leads_to graph b)))) t
     on q t (inl same) h leads =
-        inr (subst (λ xs. Contains xs t) (sym enters) (Contains-append_right (entering rest) (leads_to graph b) t (subst (λ x. Contains (leads_to graph x) t) same.0 leads)))
+        inr (subst (λ xs. Contains xs t) (sym enters) (Contains-append_right (entering rest) (reverse (leads_to graph b)) t
+        (contains_reverse (leads_to graph b) t (subst (λ x. Contains (leads_to graph x) t) same.0 leads))))
     on q t (inr other) h leads = still t (so_far.onward q t (sym other.1 ∙ h) leads)
 
 -- the measure falls
 pub visits_fewer : (graph : List (List ℕ)) (seen : List Bool) (rest : List Visit) (b : ℕ) → b < length graph → length seen ≡ length graph → is_in seen b ≡ false
-    → unseen graph (set seen b true) + length ((rest ++ Leave b ∷ []) ++ entered (leads_to graph b)) < unseen graph seen + length (rest ++ Enter b ∷ [])
+    → unseen graph (set seen b true) + length ((rest ++ Leave b ∷ []) ++ entered (reverse (leads_to graph b))) < unseen graph seen + length (rest ++ Enter b ∷ [])
 visits_fewer graph seen rest b inside size fresh =
     let less = unseen_set graph seen b inside size fresh in
-    let now : length ((rest ++ Leave b ∷ []) ++ entered (leads_to graph b)) ≡ length (rest ++ Leave b ∷ []) + length (entered (leads_to graph b)) =
-    length-append (rest ++ Leave b ∷ []) (entered (leads_to graph b)) in
+    let now : length ((rest ++ Leave b ∷ []) ++ entered (reverse (leads_to graph b))) ≡ length (rest ++ Leave b ∷ []) + length (entered (reverse (leads_to graph b))) =
+    length-append (rest ++ Leave b ∷ []) (entered (reverse (leads_to graph b))) in
     let one : length (rest ++ Leave b ∷ []) ≡ length rest + 1 = length-append rest (Leave b ∷ []) in
     let two : length (rest ++ Enter b ∷ []) ≡ length rest + 1 = length-append rest (Enter b ∷ []) in
-    let new : length (entered (leads_to graph b)) ≡ length (leads_to graph b) = length-map (leads_to graph b) Enter in
+    let new : length (entered (reverse (leads_to graph b))) ≡ length (leads_to graph b) =
+    length-map (reverse (leads_to graph b)) Enter ∙ length-reverse (leads_to graph b) in
     omega (arith, less, now, one, two, new)
 
-pub visits_end : (graph : List (List ℕ)) (entry : Option ℕ) (seen : List Bool) (order : List ℕ) → IsVisiting graph entry seen [] order → IsOrder graph entry order
-visits_end graph entry seen order done = record {
+pub visits_end : (graph : List (List ℕ)) (entry : Option ℕ) (seen : List Bool) (order : List ℕ) → IsVisiting graph entry seen [] order → IsDepthFirst (leads_to graph) entry order → IsSorted (leads_to graph) entry order
+    → IsOrder graph entry order
+visits_end graph entry seen order done depth_first sorted = record {
   once = once_from_times order (λ b. most b (is_in seen b) (done.placed b));
   exist = λ k d inside.
       let at : get_or order k d ≡ get_or order k 0 = get_or_default order k d 0 inside in
@@ -321,6 +338,8 @@ visits_end graph entry seen order done = record {
       (subst (λ n. get_or order k 0 < n) done.size (marked_within seen (get_or order k 0) (is_seen (get_or order k 0) k inside refl)));
   reached = λ b h. done.seen_way b (is_seen b h.0 h.1 (get_or_default order h.0 0 b h.1 ∙ h.2));
   all = λ b way walk. times_contains b order (some b (is_in seen b) (done.placed b) (walked way b walk));
+  depth_first = depth_first;
+  sorted = sorted;
 }
   where
     most : (b : ℕ) (mark : Bool) → 0 + times b order ≡ bit mark → times b order ≤ 1
@@ -347,7 +366,7 @@ visits_end graph entry seen order done = record {
     nothing b (inl h) = h
     nothing b (inr h) = absurd (omega (arith, h.1))
 
-    walked : (way : List ℕ) (b : ℕ) → IsWay graph entry (b ∷ way) → is_in seen b ≡ true
+    walked : (way : List ℕ) (b : ℕ) → IsWay (leads_to graph) entry (b ∷ way) → is_in seen b ≡ true
     walked [] b walk = nothing b (done.begun b walk)
     walked (a ∷ way) b walk = nothing b (done.onward a b (walked way a walk.1) walk.0)
 

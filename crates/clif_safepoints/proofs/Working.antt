@@ -8,7 +8,8 @@ use Rattle.std.proofs.lemmas.Bool.Decides.{eqb_tells}
 use Rattle.std.proofs.Math.ListN.{length-set}
 use Rattle.clif_ir.specs.Body.{Body}
 use Rattle.clif_safepoints.specs.Progress.{IsHandled, Progress, one_more, pushed, pushed_all}
-use Rattle.clif_safepoints.specs.Sets.{AreSets, Grows, IsSet, in_set_of, is_in}
+use Rattle.clif_number_sets.specs.Sets.{Grows, IsSet, is_in}
+use Rattle.clif_safepoints.specs.Sets.{AreSets, in_set_of}
 use Rattle.clif_safepoints.specs.Transfer.{is_live_in}
 
 -- one more block is pushed

@@ -79,7 +79,8 @@ pub record IsTracedAfterParams (f : Body) (recorded : List ℕ) (block value : �
 -- before the parameters are given, too: it is none of them
 abbrev pub IsTracedIn : Body → List ℕ → (block value : ℕ) → Type 0
 IsTracedIn f recorded block value =
-    IsTracedAfterParams f recorded block value × (¬ Contains ((view_of f).blocks block).parameters value)
+    IsTracedAfterParams f recorded block value
+    × (¬ Contains ((view_of f).blocks block).parameters value)
 
 -- a list is exact: those that are to be found, by rising number and once each
 pub record IsExactList (IsToBeFound : ℕ → Type 0) (values : List ℕ) : Type 0 where

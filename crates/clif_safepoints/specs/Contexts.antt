@@ -9,7 +9,7 @@ use Rattle.clif_meaning.specs.Path.{IsReachable}
 use Rattle.clif_meaning.specs.View.{view_of}
 use Rattle.clif_meaning.specs.WellPlaced.{function_flow}
 use Rattle.clif_safepoints.specs.Analysis.{IsReached, place_of_inst}
-use Rattle.clif_safepoints.specs.Sets.{is_in}
+use Rattle.clif_number_sets.specs.Sets.{is_in}
 
 -- a path from the entry comes to the instruction, and one of its contexts, after aliases, is recorded
 pub record HasTrackedContext (f : Body) (recorded : List ℕ) (inst : ℕ) : Type 0 where

@@ -31,9 +31,10 @@ pub record IsRowPut (values : List ℕ) (test : ℕ → Bool) (block : ℕ) (old
   pub others : (b : ℕ) → b ≢ block → row_at new b ≡ row_at old b
   pub row : IsRow values test (row_at new block)
 
--- where the test tells what is live after a block's parameters, what is live before them
+-- where the test holds of what is live after a block's parameters, what is live before them
 abbrev pub before_params : Body → List ℕ → (ℕ → Bool) → ℕ → ℕ → Bool
-before_params f values test block place = not (stands_in (slice_index values place) (block_at f block).params) && test place
+before_params f values test block place =
+    not (stands_in (slice_index values place) (block_at f block).params) && test place
 
 -- one block got both of its rows
 pub record IsFrontPut (f : Body) (values : List ℕ) (test : ℕ → Bool) (block : ℕ) (old new : FrontTables) : Type 0 where

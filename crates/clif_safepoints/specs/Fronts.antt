@@ -5,7 +5,8 @@ use Rattle.clif_meaning.specs.Path.{Place}
 use Rattle.clif_meaning.specs.View.{view_of}
 use Rattle.clif_meaning.specs.WellPlaced.{placed_at, placed_gives}
 use Rattle.clif_safepoints.specs.Liveness.{IsUsedAhead, every_argument, used_operands}
-use Rattle.clif_safepoints.specs.Sets.{AreSets, in_set_of, is_in}
+use Rattle.clif_number_sets.specs.Sets.{is_in}
+use Rattle.clif_safepoints.specs.Sets.{AreSets, in_set_of}
 use Rattle.clif_safepoints.specs.Transfer.{insts_of, is_live_in, successors_of}
 
 abbrev pub at : ℕ → ℕ → Place ℕ

@@ -1,5 +1,5 @@
 -- A graph as the lists of the blocks to which each block leads. Source: own; the usual words of graphs.
-use Rattle.std.specs.Prelude.{◌≡◌, ◌<◌, ◌==◌, ℕ, List, [], ◌∷◌, length, map, flat_map, Option, Some, All, Contains, slice_index_or}
+use Rattle.std.specs.Prelude.{◌<◌, ◌==◌, ℕ, List, [], ◌∷◌, length, map, flat_map, Option, All, Contains, slice_index_or}
 use Rattle.std.specs.List.{filter}
 use Rattle.clif_instructions.specs.Members.{Once}
 use Rattle.clif_safepoints.specs.Order.{IsDepthFirst, IsSorted, IsWay}

@@ -5,6 +5,7 @@ pub mod Order
 pub mod Sets
 pub mod Graph
 pub mod Tables
+pub mod Numbered
 pub mod Contexts
 pub mod Visits
 pub mod Examples

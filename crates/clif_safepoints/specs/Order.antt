@@ -1,7 +1,6 @@
 -- The order in which a depth-first search from the entry leaves the blocks: each after all that were entered from it. Source: the
 -- usual depth-first search, in post-order. As in Cranelift the first edge is followed first.
-use Rattle.std.specs.Prelude.{◌≡◌, ◌≤◌, ◌↔◌, ℕ, List, [], ◌∷◌, ◌++◌, flat_map, Option, Some, None, Contains, slice_get}
-use Rattle.clif_instructions.specs.Members.{Once}
+use Rattle.std.specs.Prelude.{◌≡◌, ◌≤◌, ℕ, List, [], ◌∷◌, ◌++◌, flat_map, Option, Some, None, Contains, slice_get}
 use Rattle.clif_meaning.specs.FunctionView.{FunctionView, Placed}
 use Rattle.clif_meaning.specs.Instruction.{Operation, TryCall, TryCallIndirect}
 use Rattle.clif_meaning.specs.WellPlaced.{edge_targets}
@@ -63,7 +62,8 @@ pub data DepthFirst (leads : ℕ → List ℕ) : List ℕ → (before after : Vi
 abbrev pub IsDepthFirst : (leads : ℕ → List ℕ) (entry : Option ℕ) (order : List ℕ) → Type 0
 IsDepthFirst leads None order = order ≡ []
 IsDepthFirst leads (Some entry) order =
-    (entered : List ℕ) × DepthFirst leads (entry ∷ []) nothing_visited (record { entered = entered; left = order })
+    (entered : List ℕ)
+    × DepthFirst leads (entry ∷ []) nothing_visited (record { entered = entered; left = order })
 
 -- DOMINATION ------------------------------------------------------------------------------------------------------------
 
@@ -71,14 +71,22 @@ IsDepthFirst leads (Some entry) order =
 abbrev pub IsWay : (leads : ℕ → List ℕ) → Option ℕ → List ℕ → Type 0
 IsWay leads entry [] = ⊥
 IsWay leads entry (block ∷ []) = entry ≡ Some block
-IsWay leads entry (block ∷ before ∷ way) = Contains (leads before) block × IsWay leads entry (before ∷ way)
+IsWay leads entry (block ∷ before ∷ way) =
+    Contains (leads before) block × IsWay leads entry (before ∷ way)
 
 -- every way from the entry to the block passes the other one, or that is the block
 abbrev pub Dominates : (leads : ℕ → List ℕ) → Option ℕ → (other block : ℕ) → Type 0
-Dominates leads entry other block = (way : List ℕ) → IsWay leads entry (block ∷ way) → Contains (block ∷ way) other
+Dominates leads entry other block =
+    (way : List ℕ) → IsWay leads entry (block ∷ way) → Contains (block ∷ way) other
 
 -- what dominates a block of the list is in it, and no earlier than the block
 abbrev pub IsSorted : (leads : ℕ → List ℕ) → Option ℕ → List ℕ → Type 0
 IsSorted leads entry order =
     (i block other : ℕ) → slice_get order i ≡ Some block → Dominates leads entry other block
     → (j : ℕ) × (i ≤ j) × (slice_get order j ≡ Some other)
+
+-- blocks have one such order at most
+abbrev pub HasOneOrder : Type 0
+HasOneOrder =
+    (leads : ℕ → List ℕ) (entry : Option ℕ) (order other : List ℕ)
+    → IsDepthFirst leads entry order → IsDepthFirst leads entry other → order ≡ other

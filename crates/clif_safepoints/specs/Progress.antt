@@ -2,7 +2,8 @@
 use Rattle.std.specs.Prelude.{◌≡◌, ◌+◌, ◌-◌, ◌^◌, ◌||◌, ◌⊎◌, ℕ, Bool, true, false, List, [], ◌∷◌, ◌++◌, length, min, if◌then◌else◌, slice_index, slice_index_or, slice_set, Option, Some, None}
 use Rattle.clif_ir.specs.Body.{Body}
 use Rattle.clif_safepoints.specs.declared.work_list.WorkList.{WorkList}
-use Rattle.clif_safepoints.specs.Sets.{Grows, IsSet, in_set_of, is_in}
+use Rattle.clif_number_sets.specs.Sets.{Grows, IsSet, is_in}
+use Rattle.clif_safepoints.specs.Sets.{in_set_of}
 use Rattle.clif_safepoints.specs.Transfer.{is_live_in}
 
 -- what is live at the front of each block so far, the blocks that wait, the next one last, a mark for each of them, and

@@ -1,27 +1,6 @@
--- Sets as marks, one for each place. Source: own.
-use Rattle.std.specs.Prelude.{◌≡◌, ◌<◌, ℕ, Bool, true, false, List, [], length, slice_index_or}
-use Rattle.std.specs.List.{count_by}
-
--- the place is a member
-abbrev pub is_in : List Bool → ℕ → Bool
-is_in set place = slice_index_or set place false
-
--- how many members there are
-abbrev pub member_count : List Bool → ℕ
-member_count set = count_by (λ mark. mark) set
-
--- of so many places the members are those for which the test holds
-pub record IsSet (places : ℕ) (test : ℕ → Bool) (set : List Bool) : Type 0 where
-  pub size : length set ≡ places
-  pub members : (place : ℕ) → place < places → is_in set place ≡ test place
-
--- it has more members than before
-abbrev pub Grows : List Bool → List Bool → Type 0
-Grows old new = member_count old < member_count new
-
--- the members of the first set are in the second
-abbrev pub IsWithin : List Bool → List Bool → Type 0
-IsWithin set other = (place : ℕ) → is_in set place ≡ true → is_in other place ≡ true
+-- Sets of places, one for each block. Source: own.
+use Rattle.std.specs.Prelude.{◌≡◌, ◌<◌, ℕ, Bool, List, [], length, slice_index_or}
+use Rattle.clif_number_sets.specs.Sets.{is_in}
 
 -- so many sets of so many places
 pub record AreSets (blocks places : ℕ) (sets : List (List Bool)) : Type 0 where

@@ -8,10 +8,10 @@ ghost use Rattle.clif_ir.specs.Consistent.{ValueExists};
 ghost use Rattle.clif_safepoints.specs.Contexts.{AreReached, HasTrackedContext, IsFirstTracked, item_is_tracked};
 
 use crate::graph::post_order;
-use crate::number_set::NumberSet;
 use crate::reading::{insts_by_block, successors_by_block};
 use clif_instructions::exception_table::ExceptionItem;
 use clif_ir::Function;
+use clif_number_sets::number_set::NumberSet;
 use clif_types::{BuildError, EntityRef, EntitySet, Inst, Value};
 
 /// The first try call, by its number, that is reached and one of whose contexts is recorded.

@@ -1,9 +1,9 @@
 //! The values that are live at the fronts of blocks, as the last pass puts them down.
 use crate::last_pass::{members, no_values};
-use crate::number_set::NumberSet;
 use crate::recorded::Recorded;
 use crate::scan::remove_defs;
 use clif_ir::{Function, ValueList};
+use clif_number_sets::number_set::NumberSet;
 use clif_types::{Block, BuildError, EntityRef};
 use std::alloc::Global;
 
@@ -19,7 +19,7 @@ pub(crate) struct Fronts {
 impl Fronts {
     ghost use Rattle.std.specs.Prelude.{◌≡◌, ◌<◌, length, IfOk, OnOk, IsOkUnless};
     ghost use Rattle.clif_safepoints.specs.FrontTables.{AreNoFronts, HaveSize, IsFrontPut, tables_of};
-    ghost use Rattle.clif_safepoints.specs.Sets.{is_in};
+    ghost use Rattle.clif_number_sets.specs.Sets.{is_in};
 
     /// No values for so many blocks. The only error is `Memory`.
     pub(crate) fn new(alloc: Global, blocks: usize) -> Result<Fronts, BuildError>

@@ -6,7 +6,7 @@ ghost use Rattle.clif_safepoints.specs.Tables.{AreRows};
 ghost use Rattle.clif_safepoints.specs.Visits.{entered};
 
 use crate::lists::BlockList;
-use crate::number_set::NumberSet;
+use clif_number_sets::number_set::NumberSet;
 use clif_types::{Block, BuildError, EntityRef};
 use std::alloc::Global;
 

@@ -5,16 +5,18 @@ ghost use Rattle.clif_instructions.specs.Members.{Once};
 ghost use Rattle.clif_ir.specs.Body.{inst_at};
 ghost use Rattle.clif_safepoints.specs.FrontTables.{AreFronts, tables_of};
 ghost use Rattle.clif_safepoints.specs.LastPass.{IsListedBy, IsPut, IsRecorded, IsRow};
-ghost use Rattle.clif_safepoints.specs.Sets.{AreSets, IsSet, in_set_of, is_in};
+ghost use Rattle.clif_number_sets.specs.Sets.{IsSet, is_in};
+ghost use Rattle.clif_safepoints.specs.Sets.{AreSets, in_set_of};
 ghost use Rattle.clif_safepoints.specs.Tables.{AreRows};
 ghost use Rattle.clif_safepoints.specs.Transfer.{insts_of, is_live_before, is_live_behind, names};
 
 use crate::fronts::Fronts;
 use crate::lists::InstList;
-use crate::number_set::NumberSet;
 use crate::recorded::Recorded;
 use crate::scan::{step_before, step_behind};
 use clif_ir::{Function, InstructionData, ValueList};
+use clif_number_sets::number_row::NumberRow;
+use clif_number_sets::number_set::NumberSet;
 use clif_types::{Block, BuildError, EntityRef, Inst};
 use std::alloc::Global;
 
@@ -31,7 +33,7 @@ pub(crate) struct Passed {
 pub(crate) fn last_pass(
     func: &Function,
     recorded: &Recorded<'_>,
-    live_ins: &[NumberSet],
+    live_ins: &[NumberRow],
     insts: &[InstList],
     order: &[Block],
 ) -> Result<Passed, BuildError>
@@ -73,7 +75,7 @@ pub(crate) fn no_values(alloc: Global, count: usize) -> Result<Vec<ValueList>, B
 fn record_block(
     func: &Function,
     recorded: &Recorded<'_>,
-    live_ins: &[NumberSet],
+    live_ins: &[NumberRow],
     insts: &[Inst],
     live: &mut NumberSet,
     across: &mut Vec<ValueList>,
@@ -86,7 +88,8 @@ fn record_block(
     ensures ok { OnOk result (IsRecorded func.now recorded.now live_ins.now insts.now
         across.old.items across.new.items) }
     ensures before { OnOk result (IsSet (length recorded.now)
-        (λ place. is_live_before func.now (in_set_of live_ins.now place) (slice_index recorded.now place) insts.now)
+        (λ place. is_live_before func.now (in_set_of live_ins.now place)
+        (slice_index recorded.now place) insts.now)
         live.new) }
     ensures memory_alone { IsOkUnless result BuildError.Memory }
 {
@@ -101,7 +104,7 @@ fn record_block(
 fn record_inst(
     func: &Function,
     recorded: &Recorded<'_>,
-    live_ins: &[NumberSet],
+    live_ins: &[NumberRow],
     inst: Inst,
     live: &mut NumberSet,
     across: &mut Vec<ValueList>,
@@ -156,7 +159,8 @@ fn set_row(across: &mut Vec<ValueList>, inst: Inst, values: ValueList)
     across[inst.index()] = values;
 }
 
-/// The members of a set of recorded values, by rising number. The only error is `Memory`.
+/// The members of a set of recorded values, by rising number. It takes time for them and for the words of the set. The only
+/// error is `Memory`.
 pub(crate) fn members(
     alloc: Global,
     recorded: &Recorded<'_>,
@@ -167,30 +171,14 @@ pub(crate) fn members(
     ensures memory_alone { IsOkUnless result BuildError.Memory }
 {
     recorded.law_rising();
+    recorded.law_fits();
     let mut values = ValueList::new(alloc);
-    for place in 0..recorded.len() {
-        push_member(recorded, live, place, &mut values)?;
+    let mut from = 0;
+    while let Some(place) = live.next_from(from) {
+        values.push(recorded.at(place))?;
+        from = place + 1;
     }
     Ok(values)
-}
-
-// Puts the value at a place at the end, if it is a member.
-fn push_member(
-    recorded: &Recorded<'_>,
-    live: &NumberSet,
-    place: usize,
-    values: &mut ValueList,
-) -> Result<(), BuildError>
-    requires exists { place < length recorded.now }
-    requires size { length live.now ≡ length recorded.now }
-    ensures ok { OnOk result (values.new ≡
-        (if is_in live.now place then values.old ++ slice_index recorded.now place ∷ [] else values.old)) }
-    ensures memory_alone { IsOkUnless result BuildError.Memory }
-{
-    if live.contains(place) {
-        values.push(recorded.at(place))?;
-    }
-    Ok(())
 }
 
 // Whether a collector may run at an instruction.

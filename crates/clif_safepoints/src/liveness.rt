@@ -141,7 +141,7 @@ fn analyse(func: &Function, recorded: &EntitySet<Value>) -> Result<LivenessAnaly
     let successors = successor_lists.as_slice();
     let blocks = post_order(alloc, func.entry_block(), successors)?;
     let order = blocks.as_slice();
-    let recorded = Recorded::new(alloc, recorded)?;
+    let recorded = Recorded::new(func, recorded)?;
     recorded.law_rising();
     let work = live_ins(func, &recorded, insts, successors, order)?;
     let passed = last_pass(func, &recorded, work.sets.as_slice(), insts, order)?;

@@ -5,12 +5,14 @@ ghost use Rattle.clif_instructions.specs.Instruction.{destinations, operands};
 ghost use Rattle.clif_instructions.specs.Members.{stands_in};
 ghost use Rattle.clif_ir.specs.Body.{inst_at, resolved};
 ghost use Rattle.clif_ir.specs.Consistent.{EdgeExists, PassedExists};
-ghost use Rattle.clif_safepoints.specs.Sets.{AreSets, IsSet, in_set_of, is_in};
+ghost use Rattle.clif_number_sets.specs.Sets.{IsSet, is_in};
+ghost use Rattle.clif_safepoints.specs.Sets.{AreSets, in_set_of};
 ghost use Rattle.clif_safepoints.specs.Transfer.{argument_passes, edge_needs, insts_of, is_live_behind, is_live_in, names};
 
-use crate::number_set::NumberSet;
 use crate::recorded::Recorded;
 use clif_ir::{BlockArg, BlockCall, Function};
+use clif_number_sets::number_row::NumberRow;
+use clif_number_sets::number_set::NumberSet;
 use clif_types::{Block, EntityRef, Inst, Value};
 
 // Adds what a value resolves to, if that is recorded.
@@ -97,7 +99,7 @@ fn add_arguments(func: &Function, recorded: &Recorded<'_>, args: &[BlockArg], li
 fn add_edge(
     func: &Function,
     recorded: &Recorded<'_>,
-    live_ins: &[NumberSet],
+    live_ins: &[NumberRow],
     edge: &BlockCall,
     live: &mut NumberSet,
 )
@@ -117,7 +119,7 @@ fn add_edge(
 fn add_edges(
     func: &Function,
     recorded: &Recorded<'_>,
-    live_ins: &[NumberSet],
+    live_ins: &[NumberRow],
     edges: &[BlockCall],
     live: &mut NumberSet,
 )
@@ -139,7 +141,7 @@ fn add_edges(
 pub(crate) fn step_behind(
     func: &Function,
     recorded: &Recorded<'_>,
-    live_ins: &[NumberSet],
+    live_ins: &[NumberRow],
     inst: Inst,
     live: &mut NumberSet,
 )
@@ -177,7 +179,7 @@ pub(crate) fn step_before(
 pub(crate) fn scan_block(
     func: &Function,
     recorded: &Recorded<'_>,
-    live_ins: &[NumberSet],
+    live_ins: &[NumberRow],
     block: Block,
     insts: &[Inst],
     live: &mut NumberSet,

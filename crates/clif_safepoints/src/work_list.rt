@@ -8,10 +8,11 @@ ghost use Rattle.clif_safepoints.specs.Transfer.{insts_of, successors_of};
 
 use crate::graph::predecessors;
 use crate::lists::{BlockList, InstList};
-use crate::number_set::NumberSet;
 use crate::recorded::Recorded;
 use crate::scan::scan_block;
 use clif_ir::Function;
+use clif_number_sets::number_row::NumberRow;
+use clif_number_sets::number_set::NumberSet;
 use clif_types::{Block, BuildError, EntityRef, Inst};
 use std::alloc::Global;
 
@@ -19,7 +20,7 @@ use std::alloc::Global;
 #[derive(Drop)]
 pub(crate) struct WorkList {
     /// For each block the places of the recorded values.
-    pub(crate) sets: Vec<NumberSet>,
+    pub(crate) sets: Vec<NumberRow>,
     // The blocks that wait, the next one last, each once.
     pub(crate) stack: Vec<Block>,
     // The same blocks.
@@ -93,7 +94,7 @@ impl WorkList {
         scan_block(func, recorded, self.sets.as_slice(), block, insts, live);
         // It never comes near its greatest number.
         self.handled = self.handled.saturating_add(1);
-        if self.sets[block.index()].add_all(live) {
+        if self.sets[block.index()].add_all(live)? {
             self.push_all(sources)?;
         }
         Ok(())
@@ -159,13 +160,13 @@ fn start(
 }
 
 // So many empty sets of so many places.
-fn empty_sets(alloc: Global, count: usize, places: usize) -> Result<Vec<NumberSet>, BuildError>
+fn empty_sets(alloc: Global, count: usize, places: usize) -> Result<Vec<NumberRow>, BuildError>
     ensures ok { IfOk result (λ sets. AreEmpty count places sets.items) }
     ensures memory_alone { IsOkUnless result BuildError.Memory }
 {
     let mut sets = Vec::new(alloc);
     for _number in 0..count {
-        sets.push(NumberSet::new(alloc, places)?)?;
+        sets.push(NumberRow::new(alloc, places))?;
     }
     Ok(sets)
 }

@@ -4,6 +4,8 @@
 #[cfg(test)]
 mod contexts;
 #[cfg(test)]
+mod fronts;
+#[cfg(test)]
 mod paths;
 #[cfg(test)]
 mod random;

@@ -151,9 +151,31 @@ pub fn is_live_across(
     if is_passed(rt, func, inst, value) {
         return Ok(true);
     }
-    let mut seen = Vec::new(func.allocator());
     let mut ahead = Vec::new(func.allocator());
     follow(rt, func, inst, Some(&value), &mut ahead)?;
+    comes_to_use(rt, func, ahead, value)
+}
+
+/// Whether some path from the first instruction of a block on comes to a use of a value before a definition.
+pub fn is_live_at_front(
+    rt: &impl Abort,
+    func: &Function,
+    block: Block,
+    value: Value,
+) -> Result<bool, Fail> {
+    let mut ahead = Vec::new(func.allocator());
+    enter(rt, func, block, None, &mut ahead)?;
+    comes_to_use(rt, func, ahead, value)
+}
+
+// Whether some path from before one of these instructions on comes to a use of a value before a definition.
+fn comes_to_use(
+    rt: &impl Abort,
+    func: &Function,
+    mut ahead: Vec<Inst>,
+    value: Value,
+) -> Result<bool, Fail> {
+    let mut seen = Vec::new(func.allocator());
     for _ in 0..MOST_STEPS {
         let Some(inst) = ahead.pop() else { break };
         if seen.contains(&inst) {
@@ -173,4 +195,79 @@ pub fn is_live_across(
     }
     assert!(rt; ahead.is_empty());
     Ok(false)
+}
+
+// Puts the targets of an instruction's edges at the end: of a try call the normal one last.
+fn push_in_order(shape: &InstructionData, targets: &mut Vec<Block>) -> Result<(), Fail> {
+    let late = match shape {
+        InstructionData::TryCall { .. } => 1,
+        _ => 0,
+    };
+    let edges = shape.branch_destination();
+    for edge in edges.iter().skip(late) {
+        targets.push(edge.block)?;
+    }
+    for edge in edges.iter().take(late) {
+        targets.push(edge.block)?;
+    }
+    Ok(())
+}
+
+// The blocks to which a block leads, with repeats, in the order in which a search follows its edges.
+fn targets_in_order(rt: &impl Abort, func: &Function, block: Block) -> Result<Vec<Block>, Fail> {
+    asserts_block(rt, func, block);
+    let mut targets = Vec::new(func.allocator());
+    let mut next = func.first_inst(block);
+    for _ in 0..MOST_STEPS {
+        let Some(inst) = next else { break };
+        push_in_order(shape_of(rt, func, inst), &mut targets)?;
+        asserts_inst(rt, func, inst);
+        next = func.next_inst(inst);
+    }
+    assert!(rt; next.is_none());
+    Ok(targets)
+}
+
+// A block that was entered, and how many of its edges were followed.
+#[derive(Drop)]
+struct Open {
+    block: Block,
+    followed: usize,
+}
+
+/// The blocks in the order in which a depth-first search from the entry leaves them.
+pub fn depth_first(rt: &impl Abort, func: &Function) -> Result<Vec<Block>, Fail> {
+    let mut seen = Vec::new(func.allocator());
+    let mut open = Vec::new(func.allocator());
+    let mut order = Vec::new(func.allocator());
+    if let Some(entry) = func.entry_block() {
+        seen.push(entry)?;
+        open.push(Open {
+            block: entry,
+            followed: 0,
+        })?;
+    }
+    for _ in 0..MOST_STEPS {
+        let Some(Open { block, followed }) = open.pop() else {
+            break
+        };
+        let targets = targets_in_order(rt, func, block)?;
+        let Some(target) = targets.get(followed) else {
+            order.push(block)?;
+            continue;
+        };
+        open.push(Open {
+            block,
+            followed: followed.saturating_add(1),
+        })?;
+        if !seen.contains(target) {
+            seen.push(*target)?;
+            open.push(Open {
+                block: *target,
+                followed: 0,
+            })?;
+        }
+    }
+    assert!(rt; open.is_empty());
+    Ok(order)
 }

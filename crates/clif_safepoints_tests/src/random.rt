@@ -4,7 +4,7 @@
 ghost use Rattle.std.specs.Prelude.{ℕ};
 ghost use Rattle.clif_instructions.specs.Members.{IsPlaceOf};
 
-use crate::paths::{is_live_across, reached, resolved, shape_of};
+use crate::paths::{depth_first, is_live_across, is_live_at_front, reached, resolved, shape_of};
 use crate::steps::{alias, function, import, make_block, put_shape, set_of};
 use clif_instructions::insert_at::InsertAt;
 use clif_ir::{
@@ -23,6 +23,9 @@ use std::test::Fail;
 
 // How many functions are made.
 const FUNCTIONS: usize = 300;
+
+// How many values are recorded: sets of one word, of a few, and around the borders of words.
+const SIZES: [usize; 7] = [0, 1, 8, 63, 64, 65, 200];
 
 // What was found in all functions.
 #[derive(Default, Drop)]
@@ -289,12 +292,33 @@ fn end_blocks(
     Ok(())
 }
 
-// A function that has a value at least.
-fn any_function(rt: &impl Abort, alloc: Global, random: &mut Pcg32) -> Result<Function, Fail> {
+// So many further parameters, each of some block.
+fn make_more_params(
+    rt: &impl Abort,
+    random: &mut Pcg32,
+    func: &mut Function,
+    count: usize,
+) -> Result<(), Fail> {
+    for _ in 0..count {
+        let block = any_block(rt, random, func);
+        assert!(rt; block.index() < func.block_count());
+        func.append_block_param(block, I32)?;
+    }
+    Ok(())
+}
+
+// A function that has more than so many values.
+fn any_function(
+    rt: &impl Abort,
+    alloc: Global,
+    random: &mut Pcg32,
+    values: usize,
+) -> Result<Function, Fail> {
     let mut func = function(rt, alloc, &[])?;
     import_functions(rt, &mut func)?;
     make_blocks(random, &mut func)?;
     make_params(rt, random, &mut func)?;
+    make_more_params(rt, random, &mut func, values)?;
     let first = any_block(rt, random, &func);
     let number = InstructionData::UnaryImm { imm: 0 };
     put_shape(rt, &mut func, first, number, InsertAt::Back)?;
@@ -307,15 +331,48 @@ fn any_function(rt: &impl Abort, alloc: Global, random: &mut Pcg32) -> Result<Fu
     Ok(func)
 }
 
-// The numbers of about half of the values, aliases among them.
-fn any_recorded(rt: &impl Abort, random: &mut Pcg32, func: &Function) -> Result<Vec<u32>, Fail> {
+// The numbers of so many values, aliases among them.
+fn any_recorded(
+    rt: &impl Abort,
+    random: &mut Pcg32,
+    func: &Function,
+    count: usize,
+) -> Result<Vec<u32>, Fail> {
     let mut numbers = Vec::new(func.allocator());
-    for number in 0..func.value_count() {
-        if one_in(random, 2) {
+    let total = func.value_count();
+    for number in 0..total {
+        let left = total.saturating_sub(number);
+        if below(random, left) < count.saturating_sub(numbers.len()) {
             numbers.push(value_at(rt, number).as_u32())?;
         }
     }
+    assert_eq!(rt; numbers.len(), count);
     Ok(numbers)
+}
+
+// The recorded values to be found at the front of a block that is reached, those that are its parameters where these
+// are asked for, too.
+fn front_values(
+    rt: &impl Abort,
+    func: &Function,
+    recorded: &[u32],
+    block: Block,
+    with_params: bool,
+) -> Result<Vec<u32>, Fail> {
+    let mut live = Vec::new(func.allocator());
+    for number in recorded {
+        assert!(rt; *number < 1000);
+        let value = Value::from_u32(*number);
+        assert!(rt; block.index() < func.block_count());
+        let asked = with_params || !func.block_params(block).contains(&value);
+        if asked
+            && resolved(rt, func, value) == value
+            && is_live_at_front(rt, func, block, value)?
+        {
+            live.push(*number)?;
+        }
+    }
+    Ok(live)
 }
 
 // The recorded values to be found for a call that is reached, in the order in which they are recorded.
@@ -374,6 +431,44 @@ fn tells_inst(rt: &impl Abort, made: &Made, inst: Inst, tally: &mut Tally) -> Re
     Ok(())
 }
 
+// Asserts the order of the blocks, and which of them are reached.
+fn tells_order(rt: &impl Abort, made: &Made) -> Result<(), Fail> {
+    let expected = depth_first(rt, &made.func)?;
+    let found = made.analysis.order();
+    assert_eq!(rt; found.len(), expected.len(), "seed {}", made.seed);
+    for (block, expected) in found.iter().zip(expected.as_slice()) {
+        assert_eq!(rt; block.as_u32(), expected.as_u32(), "seed {}", made.seed);
+    }
+    Ok(())
+}
+
+// Asserts that these values were found at the front of a block.
+fn tells_values(rt: &impl Abort, seed: u64, block: Block, found: &[Value], expected: &[u32]) {
+    assert_eq!(rt;
+        found.len(),
+        expected.len(),
+        "values at {block} of seed {seed}"
+    );
+    for (value, number) in found.iter().zip(expected) {
+        assert_eq!(rt; value.as_u32(), *number, "at {block} of seed {seed}");
+    }
+}
+
+// Asserts what is found at the front of a block.
+fn tells_front(rt: &impl Abort, made: &Made, block: Block) -> Result<(), Fail> {
+    let mut recorded = made.recorded.as_slice();
+    if !made.analysis.order().contains(&block) {
+        recorded = &[];
+    }
+    let before = front_values(rt, &made.func, recorded, block, false)?;
+    let found = made.analysis.live_in(block);
+    tells_values(rt, made.seed, block, found, before.as_slice());
+    let after = front_values(rt, &made.func, recorded, block, true)?;
+    let found = made.analysis.live_after_params(block);
+    tells_values(rt, made.seed, block, found, after.as_slice());
+    Ok(())
+}
+
 // The targets of edges that leave these instructions, with repeats.
 fn targets_of(rt: &impl Abort, func: &Function, insts: &[Inst]) -> Result<Vec<Block>, Fail> {
     let mut targets = Vec::new(func.allocator());
@@ -419,8 +514,9 @@ fn tells_handled(rt: &impl Abort, made: &Made) -> Result<(), Fail> {
 // Makes the function of a seed, and has it analysed.
 fn make(rt: &impl Abort, alloc: Global, seed: u64) -> Result<Made, Fail> {
     let mut random = Pcg32::seed_from_u64(seed);
-    let func = any_function(rt, alloc, &mut random)?;
-    let recorded = any_recorded(rt, &mut random, &func)?;
+    let count = SIZES[(seed % 7) as usize];
+    let func = any_function(rt, alloc, &mut random, count)?;
+    let recorded = any_recorded(rt, &mut random, &func, count)?;
     let set = set_of(rt, alloc, recorded.as_slice())?;
     let mut analysis = LivenessAnalysis::new(alloc);
     analysis.run(&func, &set)?;
@@ -440,6 +536,10 @@ fn compare(rt: &impl Abort, alloc: Global, seed: u64, tally: &mut Tally) -> Resu
     for number in 0..made.func.inst_count() {
         tells_inst(rt, &made, inst_at(rt, number), tally)?;
     }
+    for number in 0..made.func.block_count() {
+        tells_front(rt, &made, block_at(rt, number))?;
+    }
+    tells_order(rt, &made)?;
     tells_handled(rt, &made)
 }
 

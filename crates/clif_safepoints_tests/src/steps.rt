@@ -323,11 +323,12 @@ pub fn set_of(rt: &impl Abort, alloc: Global, numbers: &[u32]) -> Result<EntityS
 // Asserts what is found for an instruction.
 fn tells(rt: &impl Abort, case: &str, analysis: &LivenessAnalysis, number: u32, expected: &[u32]) {
     assert!(rt; number < 1000);
-    let found = analysis.live_across(Inst::from_u32(number));
-    assert_eq!(rt; found.len(), expected.len(), "{case}");
-    for (value, number) in found.iter().zip(expected) {
-        assert_eq!(rt; value.as_u32(), *number, "{case}");
-    }
+    are_values(
+        rt,
+        case,
+        analysis.live_across(Inst::from_u32(number)),
+        expected,
+    );
 }
 
 /// A function, and what the analysis finds in it.
@@ -362,6 +363,56 @@ pub fn finds_each(rt: &impl Abort, alloc: Global, cases: &[Case]) -> Result<(), 
         finds(rt, alloc, case)?;
     }
     Ok(())
+}
+
+// Asserts that these values were found.
+fn are_values(rt: &impl Abort, case: &str, found: &[Value], expected: &[u32]) {
+    assert_eq!(rt; found.len(), expected.len(), "{case}");
+    for (value, number) in found.iter().zip(expected) {
+        assert_eq!(rt; value.as_u32(), *number, "{case}");
+    }
+}
+
+// Asserts that these blocks were found.
+fn are_blocks(rt: &impl Abort, case: &str, found: &[Block], expected: &[u32]) {
+    assert_eq!(rt; found.len(), expected.len(), "{case}");
+    for (block, number) in found.iter().zip(expected) {
+        assert_eq!(rt; block.as_u32(), *number, "{case}");
+    }
+}
+
+/// A block, what is live before its parameters are given, and what is live after that.
+pub struct Front(pub u32, pub &'static [u32], pub &'static [u32]);
+
+/// A function, the order in which its blocks are left, and what is live at their fronts.
+pub struct FrontCase {
+    pub name: &'static str,
+    pub steps: &'static [Step<'static>],
+    pub recorded: &'static [u32],
+    pub order: &'static [u32],
+    pub fronts: &'static [Front],
+}
+
+/// Asserts what the analysis finds of the order and the fronts in each case.
+pub fn finds_fronts(rt: &impl Abort, alloc: Global, cases: &[FrontCase]) -> Result<(), Fail> {
+    for case in cases {
+        let func = function(rt, alloc, case.steps)?;
+        let recorded = set_of(rt, alloc, case.recorded)?;
+        let mut analysis = LivenessAnalysis::new(alloc);
+        analysis.run(&func, &recorded)?;
+        are_blocks(rt, case.name, analysis.order(), case.order);
+        are_fronts(rt, case, &analysis);
+    }
+    Ok(())
+}
+
+// Asserts what is found at the fronts of a case's blocks.
+fn are_fronts(rt: &impl Abort, case: &FrontCase, analysis: &LivenessAnalysis) {
+    for Front(block, before, after) in case.fronts {
+        let block = b(rt, *block);
+        are_values(rt, case.name, analysis.live_in(block), before);
+        are_values(rt, case.name, analysis.live_after_params(block), after);
+    }
 }
 
 /// Asserts which try call is told for its recorded context in the function that the steps make.

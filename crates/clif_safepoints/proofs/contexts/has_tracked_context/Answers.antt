@@ -4,7 +4,7 @@ use Rattle.clif_instructions.specs.Members.{stands_in}
 use Rattle.clif_ir.specs.Body.{inst_at}
 use Rattle.clif_meaning.specs.View.{view_of}
 use Rattle.clif_safepoints.specs.Analysis.{IsReached}
-use Rattle.clif_safepoints.specs.Sets.{is_in}
+use Rattle.clif_number_sets.specs.Sets.{is_in}
 use Rattle.clif_safepoints.proofs.Tracking.{inst_reachable, reachable_inst}
 use Rattle.clif_safepoints.proofs.contexts.has_tracked_context.Goals as goal
 

@@ -3,7 +3,7 @@ use Rattle.std.specs.Prelude.{Contains, slice_get}
 use Rattle.std.proofs.Math.ListN.{length-set}
 use Rattle.std.proofs.lemmas.List.{length-replicate, take_all}
 use Rattle.clif_safepoints.specs.Graph.{IsOrder}
-use Rattle.clif_safepoints.specs.Sets.{is_in}
+use Rattle.clif_number_sets.specs.Sets.{is_in}
 use Rattle.clif_safepoints.specs.Tables.{AreRows}
 use Rattle.clif_safepoints.specs.Transfer.{successors_of}
 use Rattle.clif_safepoints.proofs.Concluding.{closed_graph, order_reached, reached_order}

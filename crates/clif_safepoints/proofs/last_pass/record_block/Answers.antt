@@ -1,7 +1,8 @@
-use Rattle.std.proofs.Common.{false, length, arith, subst, ◌∙◌}
-use Rattle.clif_safepoints.specs.Sets.{IsSet, in_set_of}
+use Rattle.std.proofs.Common.{◌≡◌, false, length, arith, subst, ◌∙◌}
+use Rattle.clif_number_sets.specs.Sets.{IsSet}
+use Rattle.clif_safepoints.specs.Sets.{in_set_of}
 use Rattle.clif_safepoints.proofs.Recording.{recorded_all, recorded_more, recorded_none}
-use Rattle.clif_safepoints.proofs.Scanning.{at_end, one_before_at_once}
+use Rattle.clif_safepoints.proofs.Scanning.{IsLiveFrom, at_end, one_before_at_once}
 use Rattle.clif_safepoints.proofs.last_pass.record_block.Goals as goal
 
 pub loop-place-init : goal.loop-place-init
@@ -27,3 +28,8 @@ pub returns-clause-ok : goal.returns-clause-ok
 returns-clause-ok c =
     recorded_all c.args.func.now c.args.recorded.now c.args.live_ins.now c.args.insts.now c.loop-place.place c.args.across.now.items c.loop-place.across.items
     c.loop-place-test.false c.loop-place.invariant.1
+
+pub returns-clause-before : goal.returns-clause-before
+returns-clause-before c =
+    subst (λ n. IsLiveFrom c.args.func.now (in_set_of c.args.live_ins.now) c.args.recorded.now c.args.insts.now n c.loop-place.live)
+    (let e : c.loop-place.place ≡ 0 = omega arith in e) c.loop-place.invariant.0

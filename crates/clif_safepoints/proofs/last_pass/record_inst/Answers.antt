@@ -1,5 +1,6 @@
 use Rattle.std.proofs.Common.{slice_index}
-use Rattle.clif_safepoints.specs.Sets.{in_set_of, is_in}
+use Rattle.clif_number_sets.specs.Sets.{is_in}
+use Rattle.clif_safepoints.specs.Sets.{in_set_of}
 use Rattle.clif_safepoints.specs.Transfer.{is_live_behind}
 use Rattle.clif_safepoints.proofs.Recording.{put_alike}
 use Rattle.clif_safepoints.proofs.last_pass.record_inst.Goals as goal

@@ -1,11 +1,14 @@
-use Rattle.std.proofs.Common.{◌≡◌, length, subst, sym}
+use Rattle.std.proofs.Common.{◌≡◌, ℕ, List, length, subst, sym}
 use Rattle.std.specs.Prelude.{slice_get}
-use Rattle.clif_safepoints.specs.Analysis.{IsAnalysis}
+use Rattle.clif_safepoints.specs.Analysis.{Findings, IsAnalysis}
+use Rattle.clif_safepoints.specs.FrontTables.{AreFronts, tables_of}
 use Rattle.clif_safepoints.specs.Graph.{IsClosed, IsOrder}
 use Rattle.clif_safepoints.specs.LastPass.{IsListedBy}
 use Rattle.clif_safepoints.specs.Tables.{AreRows}
 use Rattle.clif_safepoints.specs.Transfer.{successors_of}
+use Rattle.clif_safepoints.specs.Numbered.{numbered}
 use Rattle.clif_safepoints.proofs.Concluding.{analysis_from_parts, closed_graph}
+use Rattle.clif_safepoints.proofs.Numbered.{analysis_of_all}
 use Rattle.clif_safepoints.proofs.liveness.analyse.Goals as goal
 use Rattle.clif_safepoints.proofs.liveness.analyse.Goals.{After-as_slice-order, After-as_slice-successors}
 
@@ -30,18 +33,32 @@ live_ins-requires-clause-closed c = closed (goal.at.live_ins-requires-clause-clo
 
 pub returns-clause-ok : goal.returns-clause-ok
 returns-clause-ok c =
-    let recorded : c.in_ok-recorded.recorded ≡ c.args.recorded.now = c.in_ok-recorded.ensures.ok in
+    let recorded : c.in_ok-recorded.recorded ≡ numbered c.args.func.now c.args.recorded.now = c.in_ok-recorded.ensures.ok in
     let order = ordered (goal.at.returns-clause-ok c).After-as_slice-order in
     let rows = graph_rows (goal.at.returns-clause-ok c).After-as_slice-successors in
-    let listed : IsListedBy c.args.func.now c.in_ok-recorded.recorded c.in_ok-work.work.sets.items c.as_slice-order.result.now c.in_ok-across.across.items =
-    subst (λ sets. IsListedBy c.args.func.now c.in_ok-recorded.recorded sets c.as_slice-order.result.now c.in_ok-across.across.items) c.as_slice.ensures.value c.in_ok-across.ensures.ok in
-    subst (λ values. IsAnalysis c.args.func.now values (record { across = c.in_ok-across.across.items; handled = c.in_ok-work.work.handled })) recorded
+    let listed : IsListedBy c.args.func.now c.in_ok-recorded.recorded c.in_ok-work.work.sets.items c.as_slice-order.result.now c.in_ok-passed.passed.across.items =
+    subst (λ sets. IsListedBy c.args.func.now c.in_ok-recorded.recorded sets c.as_slice-order.result.now c.in_ok-passed.passed.across.items) c.as_slice.ensures.value
+    c.in_ok-passed.ensures.across in
+    let fronts : AreFronts c.args.func.now c.in_ok-recorded.recorded c.in_ok-work.work.sets.items c.as_slice-order.result.now (tables_of c.in_ok-passed.passed.fronts) =
+    subst (λ sets. AreFronts c.args.func.now c.in_ok-recorded.recorded sets c.as_slice-order.result.now (tables_of c.in_ok-passed.passed.fronts)) c.as_slice.ensures.value
+    c.in_ok-passed.ensures.fronts in
+    let found : List ℕ → Findings = λ blocks. record {
+      order = blocks;
+      live_in = c.in_ok-passed.passed.fronts.live_in.items;
+      after_params = c.in_ok-passed.passed.fronts.after_params.items;
+      across = c.in_ok-passed.passed.across.items;
+      handled = c.in_ok-work.work.handled;
+    } in
+    subst (λ blocks. IsAnalysis c.args.func.now c.args.recorded.now (found blocks)) c.as_slice-order.ensures.value
+    (analysis_of_all c.args.func.now c.args.recorded.now (found c.as_slice-order.result.now)
+    (subst (λ values. IsAnalysis c.args.func.now values (found c.as_slice-order.result.now)) recorded
     (analysis_from_parts c.args.func.now c.in_ok-recorded.recorded c.as_slice-successors.result.now c.as_slice-order.result.now c.in_ok-work.work.sets.items
-    c.in_ok-across.across.items c.in_ok-work.work.handled (record {
+    c.in_ok-passed.passed.across.items (tables_of c.in_ok-passed.passed.fronts) c.in_ok-work.work.handled (record {
       kept = c.law_consistent.ensures;
       rising = c.law_rising.ensures;
       graph_is = record { size = rows.size; rows = rows.rows };
       ordered = order;
       finished = c.in_ok-work.ensures.ok;
       listed = listed;
-    }))
+      fronts = fronts;
+    }))))

@@ -1,7 +1,7 @@
 use Rattle.std.proofs.Common.{◌||◌, length, slice_index, take}
 use Rattle.std.specs.List.{list_any}
 use Rattle.clif_safepoints.specs.Transfer.{argument_passes}
-use Rattle.clif_safepoints.specs.Sets.{IsSet, is_in}
+use Rattle.clif_number_sets.specs.Sets.{IsSet, is_in}
 use Rattle.clif_safepoints.proofs.scan.add_arguments.Given as goal
 
 abbrev pub invariant-loop-arg : goal.invariant-loop-arg

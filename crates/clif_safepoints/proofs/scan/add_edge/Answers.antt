@@ -1,7 +1,8 @@
 use Rattle.std.proofs.Common.{◌≡◌, ◌<◌, ◌||◌, Bool, List, [], sym, subst, length, slice_index, slice_index_or}
 use Rattle.std.specs.List.{list_any}
 use Rattle.clif_instructions.specs.declared.block_call.BlockArg.{BlockArg}
-use Rattle.clif_safepoints.specs.Sets.{IsSet, in_set_of, is_in}
+use Rattle.clif_number_sets.specs.Sets.{IsSet, is_in}
+use Rattle.clif_safepoints.specs.Sets.{in_set_of}
 use Rattle.clif_safepoints.specs.Transfer.{argument_passes}
 use Rattle.clif_safepoints.proofs.Marks.{added_twice}
 use Rattle.clif_safepoints.proofs.Rows.{row_at}
@@ -17,4 +18,4 @@ returns c =
     IsSet (length c.args.recorded.now) (λ k. list_any (argument_passes c.args.func.now (slice_index c.args.recorded.now k)) args || is_in c.args.live.now k) c.add_arguments.new.live in
     added_twice (length c.args.recorded.now) (λ k. in_set_of c.args.live_ins.now k c.args.edge.now.block)
     (λ k. list_any (argument_passes c.args.func.now (slice_index c.args.recorded.now k)) c.args.edge.now.args) c.args.live.now c.add_arguments.new.live c.add_all.new.self
-    (subst Q c.as_slice.ensures c.add_arguments.ensures) (subst P row c.add_all.ensures.union)
+    (subst Q c.as_slice.ensures c.add_arguments.ensures) (subst P row c.add_all.ensures)

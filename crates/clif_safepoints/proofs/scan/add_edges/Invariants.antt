@@ -1,7 +1,8 @@
 use Rattle.std.proofs.Common.{◌||◌, length, slice_index, take}
 use Rattle.std.specs.List.{list_any}
 use Rattle.clif_safepoints.specs.Transfer.{edge_needs}
-use Rattle.clif_safepoints.specs.Sets.{IsSet, in_set_of, is_in}
+use Rattle.clif_number_sets.specs.Sets.{IsSet, is_in}
+use Rattle.clif_safepoints.specs.Sets.{in_set_of}
 use Rattle.clif_safepoints.proofs.scan.add_edges.Given as goal
 
 abbrev pub invariant-loop-edge : goal.invariant-loop-edge

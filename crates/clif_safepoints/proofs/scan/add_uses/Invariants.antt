@@ -1,7 +1,7 @@
 use Rattle.std.proofs.Common.{◌||◌, ◌==◌, length, slice_index, take}
 use Rattle.std.specs.List.{list_any}
 use Rattle.clif_ir.specs.Body.{resolved}
-use Rattle.clif_safepoints.specs.Sets.{IsSet, is_in}
+use Rattle.clif_number_sets.specs.Sets.{IsSet, is_in}
 use Rattle.clif_safepoints.proofs.scan.add_uses.Given as goal
 
 abbrev pub invariant-loop-value : goal.invariant-loop-value

@@ -1,6 +1,6 @@
 use Rattle.std.proofs.Common.{◌&&◌, not, ◌==◌, length, slice_index, take}
 use Rattle.std.specs.List.{list_any}
-use Rattle.clif_safepoints.specs.Sets.{IsSet, is_in}
+use Rattle.clif_number_sets.specs.Sets.{IsSet, is_in}
 use Rattle.clif_safepoints.proofs.scan.remove_defs.Given as goal
 
 abbrev pub invariant-loop-value : goal.invariant-loop-value

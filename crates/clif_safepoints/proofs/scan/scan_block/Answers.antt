@@ -1,6 +1,7 @@
 use Rattle.std.proofs.Common.{◌≡◌, ◌&&◌, List, ℕ, false, not, length, slice_index, arith, subst}
 use Rattle.clif_instructions.specs.Members.{stands_in}
-use Rattle.clif_safepoints.specs.Sets.{IsSet, in_set_of, is_in}
+use Rattle.clif_number_sets.specs.Sets.{IsSet, is_in}
+use Rattle.clif_safepoints.specs.Sets.{in_set_of}
 use Rattle.clif_safepoints.proofs.Scanning.{IsLiveFrom, at_end, at_front, one_before}
 use Rattle.clif_safepoints.proofs.scan.scan_block.Goals as goal
 

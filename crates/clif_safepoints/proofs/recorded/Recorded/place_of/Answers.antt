@@ -1,4 +1,8 @@
-use Rattle.std.proofs.Common.{◌≡◌, ◌<◌, ◌≤◌, ◌⊎◌, ℕ, List, inl, inr, length, get_or, slice_index, arith, subst, ◌∙◌, Err}
+use Rattle.std.proofs.Common.{true, ◌≡◌, ◌<◌, ◌≤◌, ◌⊎◌, ℕ, List, inl, inr, length, get_or, slice_index, arith, subst, ◌∙◌, Err}
+use Rattle.std.specs.Prelude.{All, Contains}
+use Rattle.std.proofs.lemmas.Bool.{false≢true}
+use Rattle.clif_types.specs.EntitySet.{has}
+use Rattle.clif_safepoints.proofs.Paths.{stands_from}
 use Rattle.std.specs.List.Sorted.{IsBinarySearchResult, IsStrictlyIncreasing}
 use Rattle.std.specs.Ordering.{nat_cmp}
 use Rattle.std.proofs.lemmas.Map.Keys.{non_decreasing_from_sorted, sorted_from_strictly_increasing}
@@ -26,3 +30,12 @@ returns-in-Err-clause-none c = λ none.
     let rising : IsStrictlyIncreasing c.args.self.now = subst (λ values. IsStrictlyIncreasing values) c.self.view_is c.self.invariant.1 in
     let position : P c.args.self.now = subst P (c.deref.ensures.value ∙ c.self.view_is) c.in-Err.ensures.position in
     missed c.args.self.now c.args.value c.in-Err.field-0 rising position
+
+-- what the set lacks is no value
+pub returns-then-not-contains-clause-none : goal.returns-then-not-contains-clause-none
+returns-then-not-contains-clause-none c = λ none place inside same.
+    let kept : Contains c.self.inside.set.now (slice_index c.args.self.now place) =
+    subst (λ xs. All (Contains c.self.inside.set.now) xs) c.self.view_is c.self.invariant.0 place 0 inside in
+    let member : has c.self.inside.set.now c.args.value ≡ true =
+    stands_from c.args.value c.self.inside.set.now (subst (λ v. Contains c.self.inside.set.now v) same kept) in
+    false≢true (c.if-not-contains.ensures ∙ member)
