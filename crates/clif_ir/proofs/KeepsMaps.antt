@@ -24,20 +24,20 @@ module _ {A : Type 0} (number other : ℕ) (list : A) (apart : other ≢ number)
   misses : (n : ℕ) → n ≡ number → is_at (nat_cmp other) n ≡ false
   misses n same = not_equal _ (λ is. apart (nat_cmp-IsAntisymmetric other n (equal-is _ is) ∙ same))
 
-  found : List (ℕ × A) → Option A
+  abbrev found : List (ℕ × A) → Option A
   found lists = lookup (is_at (nat_cmp other)) lists
 
   stays : (lists : List (ℕ × A)) → found (insert_entry nat_cmp lists number list) ≡ found lists
   stays [] = lookup_tail (is_at (nat_cmp other)) (number, list) [] (misses number refl)
-  stays (e ∷ es) = at (nat_cmp number e.0) refl
+  stays (e ∷ es) = at (nat_cmp number e.0) refl (stays es)
     where
-      at : (o : Ordering) → nat_cmp number e.0 ≡ o
+      at : (o : Ordering) → nat_cmp number e.0 ≡ o → found (insert_entry nat_cmp es number list) ≡ found es
           → found (match_ordering o ((number, list) ∷ e ∷ es) ((e.0, list) ∷ es) (e ∷ insert_entry nat_cmp es number list)) ≡ found (e ∷ es)
-      at Less is = lookup_tail (is_at (nat_cmp other)) (number, list) (e ∷ es) (misses number refl)
-      at Equal is =
+      at Less is rest = lookup_tail (is_at (nat_cmp other)) (number, list) (e ∷ es) (misses number refl)
+      at Equal is rest =
           let same : e.0 ≡ number = sym (nat_cmp-IsAntisymmetric number e.0 is) in
           lookup_tail (is_at (nat_cmp other)) (e.0, list) es (misses e.0 same) ∙ sym (lookup_tail (is_at (nat_cmp other)) e es (misses e.0 same))
-      at Greater is = λ i. cond (is_at (nat_cmp other) e.0) (Some e.1) (stays es i)
+      at Greater is rest = λ i. cond (is_at (nat_cmp other) e.0) (Some e.1) (rest i)
 
 pub maps-with_stack_map : (t : TableLists) (inst count : ℕ) (map : List UserStackMapEntry) → inst < count
     → ((i : ℕ) → count ≤ i → stack_map_at t i ≡ []) → (i : ℕ) → count ≤ i → stack_map_at (with_stack_map t inst map) i ≡ []

@@ -1,6 +1,6 @@
 -- What stays of a function through changes one after the other, and what is known of slots and plans with it.
 use Rattle.std.proofs.Common.{◌≡◌, ◌≢◌, ◌<◌, ◌≤◌, ◌∙◌, ◌+◌, ◌-◌, ℕ, zero, suc, List, [], ◌∷◌, ◌++◌, length, get_or, set, inl, inr, refl, sym, ap, subst, arith, length-append, append_assoc}
-use Rattle.std.specs.Prelude.{slice_get, slice_index_or, None, true, Result, Ok, Err, IfOk, OnOk}
+use Rattle.std.specs.Prelude.{slice_get, slice_index_or, Option, None, Some, true, Result, Ok, Err, IfOk, IfSome, OnOk}
 use Rattle.std.proofs.Math.ListN.{get_or-append}
 use Rattle.std.proofs.Math.Seq.{get_or-append_right}
 use Rattle.std.proofs.lemmas.Grind.{common_steps}
@@ -326,3 +326,7 @@ if_ok_further P Q (Err e) f holds = tt
 pub if_ok_always : {A E Q : Type 0} (r : Result A E) → Q → IfOk r (λ _. Q)
 if_ok_always (Ok x) holds = holds
 if_ok_always (Err e) holds = tt
+
+pub if_some_further : {A : Type 0} (P Q : A → Type 0) (found : Option A) → ((x : A) → P x → Q x) → IfSome found P → IfSome found Q
+if_some_further P Q (Some x) f holds = f x holds
+if_some_further P Q None f holds = tt

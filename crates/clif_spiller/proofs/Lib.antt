@@ -6,3 +6,7 @@ mod Sizes
 mod Members
 mod Reading
 mod Shapes
+mod Passing
+mod Inside
+mod Starting
+mod Reached

@@ -15,7 +15,7 @@ use Rattle.clif_spiller.proofs.Keeping.{at_set_or_not, length_set}
 no_table : {table : ExceptionShape} → ◌≡◌ {A = Option ExceptionShape} None (Some table) → ⊥
 no_table is = cc
 
-items_in : Option ExceptionShape → List ExceptionItem
+abbrev items_in : Option ExceptionShape → List ExceptionItem
 items_in None = []
 items_in (Some table) = table.items
 
@@ -222,3 +222,9 @@ contains_context (item ∷ items) zero v is =
     let same : item ≡ kept.Context v = cc in
     Contains-append_left (item_context item) (flat_map item_context items) v (subst (λ (x : ExceptionItem). Contains (item_context x) v) (sym same) (0, omega arith, refl))
 contains_context (item ∷ items) (suc i) v is = Contains-append_right (item_context item) (flat_map item_context items) v (contains_context items i v is)
+
+-- inside a list what stands for nothing doesn't matter
+pub get_or_inside : {A : Type 0} (xs : List A) (i : ℕ) (d e : A) → i < length xs → get_or xs i d ≡ get_or xs i e
+get_or_inside [] i d e inside = absurd (omega (arith, inside))
+get_or_inside (x ∷ xs) zero d e inside = refl
+get_or_inside (x ∷ xs) (suc i) d e inside = get_or_inside xs i d e (omega (arith, inside))

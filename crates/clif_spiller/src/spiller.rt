@@ -54,6 +54,7 @@ impl SafepointSpiller {
         ensures full { result ≡ Err BuildError.Full → IsFull func.new }
         ensures never_failed { result ≢ Err BuildError.Failed }
     {
+        func.law_consistent();
         self.clear();
         self.liveness.run(func, recorded)?;
         let plan = Plan::new(func, &self.liveness, pointer)?;

@@ -215,4 +215,5 @@ row_consistent = record {
   edges_without_results = edges_without_results;
   entries_exist = entries_exist;
   named_exist = record { signatures = λ k function inside. absurd (omega (arith, inside)); slots = λ k map inside. absurd (omega (arith, inside)) };
+  maps_known = λ i past. refl;
 }

@@ -1,12 +1,5 @@
-use Rattle.std.proofs.Common.{◌≡◌, length}
-use Rattle.clif_instructions.specs.Edges.{edge_at}
-use Rattle.clif_instructions.specs.Instruction.{destinations}
-use Rattle.clif_ir.specs.Body.{inst_at}
-use Rattle.clif_spiller.specs.Plans.{GoesOn}
+use Rattle.clif_spiller.proofs.Passing.{PassesOn}
 use Rattle.clif_spiller.proofs.uses.reload_arguments.Given as goal
 
 abbrev pub invariant-loop-place : goal.invariant-loop-place
-invariant-loop-place l =
-    GoesOn (length l.initial.func.blocks) l.initial.func l.initial.slots l.func l.slots
-    × (length (destinations (inst_at l.func l.inst).shape) ≡ length (destinations (inst_at l.initial.func l.inst).shape))
-    × (length (edge_at (destinations (inst_at l.func l.inst).shape) l.edge).args ≡ length (edge_at (destinations (inst_at l.initial.func l.inst).shape) l.edge).args)
+invariant-loop-place l = PassesOn l.initial.func l.initial.slots l.inst l.edge l.func l.slots
