@@ -4,6 +4,8 @@
 #[cfg(test)]
 mod contexts;
 #[cfg(test)]
+mod fits;
+#[cfg(test)]
 mod fronts;
 #[cfg(test)]
 mod paths;

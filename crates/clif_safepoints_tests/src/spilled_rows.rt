@@ -4,7 +4,7 @@
 use crate::spills::Make::{Alias, Block, Import, ImportAs, Param, Put};
 use crate::spills::Pass::{Ret, V};
 use crate::spills::Put::{Brif, Call, Iconst, Jump, Return, Trap, TryCall};
-use crate::spills::{Edge, Spill, spills_each};
+use crate::spills::{Edge, Spill, spills_each, spills_many};
 use clif_types::types::{I32, I64};
 use std::test::Fail;
 
@@ -381,4 +381,12 @@ fn rows_with_spills(rt: HostRuntime) -> Result<(), Fail> {
         &ZERO_MARKED,
     ];
     spills_each(&rt, rt.alloc(), &cases)
+}
+
+#[test]
+fn as_many_slots_as_values(rt: HostRuntime) -> Result<(), Fail> {
+    for count in [63, 64, 65] {
+        spills_many(&rt, rt.alloc(), count)?;
+    }
+    Ok(())
 }

@@ -1,6 +1,7 @@
 //! Functions that are made by tables of steps and spilled, and their texts.
 #![tactic(auto)]
 
+use crate::fits::asserts_all_fit;
 use crate::steps::{alias, b, block_of, function_of, make_block, put_typed, set_of, v, values};
 use clif_instructions::insert_at::InsertAt;
 use clif_ir::{
@@ -8,10 +9,10 @@ use clif_ir::{
     InstructionData,
 };
 use clif_spiller::SafepointSpiller;
-use clif_types::types::I64;
+use clif_types::types::{I32, I64};
 use clif_types::{
-    AbiParam, CallConv, EntityRef, ExtFuncData, ExternalName, SigRef, Signature, TrapCode, Type,
-    UserFuncName,
+    AbiParam, CallConv, EntityRef, EntitySet, ExtFuncData, ExternalName, Inst, SigRef, Signature,
+    TrapCode, Type, UserFuncName,
 };
 use std::alloc::Global;
 use std::process::Abort;
@@ -217,10 +218,60 @@ pub fn spills_each(rt: &impl Abort, alloc: Global, cases: &[&Spill]) -> Result<(
         for _ in 0..2 {
             let mut func = function(rt, alloc, case)?;
             let recorded = set_of(rt, alloc, case.recorded)?;
+            asserts_all_fit(rt, &func, &recorded);
             spiller.run(&mut func, &recorded, I64)?;
             let text = format!(in alloc; "{}", func.display())?;
             assert_eq!(rt; text.as_str(), case.text);
         }
+    }
+    Ok(())
+}
+
+// A function that makes so many values, calls out once, and then uses each of them once.
+fn many(rt: &impl Abort, alloc: Global, count: u32) -> Result<Function, Fail> {
+    let name = UserFuncName::testcase(String::from_str(alloc, "many")?);
+    let mut func = Function::with_name_signature(alloc, name, signature(alloc, &[], &[])?);
+    import(rt, &mut func, "g", &[], &[])?;
+    import(rt, &mut func, "use", &[I32], &[])?;
+    make_block(&mut func)?;
+    for _ in 0..count {
+        append(rt, &mut func, Put::Iconst(1))?;
+    }
+    append(rt, &mut func, Put::Call(0, &[]))?;
+    for number in 0..count {
+        let args = values(rt, alloc, &[number])?;
+        let func_ref = function_of(rt, 1);
+        let shape = InstructionData::Call { func_ref, args };
+        put_typed(rt, &mut func, b(rt, 0), shape, InsertAt::Back, I32)?;
+    }
+    append(rt, &mut func, Put::Return(&[]))?;
+    Ok(func)
+}
+
+// Puts an instruction at the end of the first block.
+fn append(rt: &impl Abort, func: &mut Function, put: Put) -> Result<(), Fail> {
+    let shape = shape_of(rt, func.allocator(), put)?;
+    put_typed(rt, func, b(rt, 0), shape, InsertAt::Back, I32)
+}
+
+/// Asserts that so many values which live across one call have an entry each in its stack map, and a slot each.
+pub fn spills_many(rt: &impl Abort, alloc: Global, count: u32) -> Result<(), Fail> {
+    let mut func = many(rt, alloc, count)?;
+    let mut recorded = EntitySet::new(alloc);
+    for number in 0..count {
+        recorded.insert(v(rt, number))?;
+    }
+    let mut spiller = SafepointSpiller::new(alloc);
+    asserts_all_fit(rt, &func, &recorded);
+    spiller.run(&mut func, &recorded, I64)?;
+    assert_eq!(rt; func.tables().stack_slot_count(), count as usize);
+    let call = Inst::from_u32(count);
+    assert!(rt; call.index() < func.inst_count());
+    let entries = func.stack_map(call);
+    assert_eq!(rt; entries.len(), count as usize);
+    // The value that is used last takes the first slot.
+    for (place, entry) in entries.iter().enumerate() {
+        assert_eq!(rt; entry.slot.index() + place + 1, count as usize);
     }
     Ok(())
 }

@@ -39,7 +39,7 @@ reached_exists f known b (inl entry) =
     let inside = slice_get_within f.layout 0 b entry in
     let same : slice_index f.layout 0 ≡ b = get_or_from_slice_get f.layout 0 b 0 entry in
     subst (λ n. n < length f.blocks) same (known.layout_exists 0 inside)
-reached_exists f known b (inr (p, (reachable, member))) = by (placed_at (view_of f) p) refl member
+reached_exists f known b (inr (p, reachable, member)) = by (placed_at (view_of f) p) refl member
   where
     by : (found : Option Placed) → placed_at (view_of f) p ≡ found → Contains (placed_targets found) b → b < length f.blocks
     by None is none = absurd (omega (arith, none.1))

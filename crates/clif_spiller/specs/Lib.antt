@@ -2,3 +2,4 @@
 pub mod Inserting
 pub mod Plans
 pub mod Keeping
+pub mod Spilling

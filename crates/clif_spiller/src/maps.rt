@@ -73,9 +73,27 @@ fn push_waiting(
     ensures memory_alone { IsOkUnless result BuildError.Memory }
 {
     for value in values {
-        if plan.is_spilled(*value) && slots.get(*value).is_none() {
-            waiting.push(*value)?;
-        }
+        push_if_waiting(slots, plan, *value, waiting)?;
+    }
+    Ok(())
+}
+
+// Puts a value at the end, if it is spilled and has no slot.
+fn push_if_waiting(
+    slots: &StackSlots,
+    plan: &Plan<'_>,
+    value: Value,
+    waiting: &mut Vec<Value>,
+) -> Result<(), BuildError>
+    requires { All (Contains plan.now.spilled) waiting.old.items }
+    ensures ok { OnOk result (All (Contains plan.now.spilled) waiting.new.items) }
+    ensures memory_alone { IsOkUnless result BuildError.Memory }
+{
+    if !plan.is_spilled(value) {
+        return Ok(());
+    }
+    if slots.get(value).is_none() {
+        waiting.push(value)?;
     }
     Ok(())
 }

@@ -4,6 +4,7 @@ ghost use Rattle.std.specs.Prelude.{◌≡◌, ◌≢◌, ℕ, length, Contains,
 ghost use Rattle.clif_ir.specs.Body.{resolved};
 ghost use Rattle.clif_spiller.specs.Keeping.{Keeps};
 ghost use Rattle.clif_spiller.specs.Plans.{IsFull, MayBeSpilled};
+ghost use Rattle.clif_spiller.specs.Spilling.{HasSpilledNothing};
 
 use crate::blocks::rewrite;
 use crate::plan::Plan;
@@ -22,7 +23,9 @@ pub struct SafepointSpiller {
 
 impl SafepointSpiller {
     /// A spiller that has spilled nothing. It takes no memory.
-    pub fn new(alloc: Global) -> SafepointSpiller {
+    pub fn new(alloc: Global) -> SafepointSpiller
+        ensures { HasSpilledNothing result }
+    {
         SafepointSpiller {
             liveness: LivenessAnalysis::new(alloc),
             slots: StackSlots::new(alloc),
@@ -30,7 +33,9 @@ impl SafepointSpiller {
     }
 
     /// Forgets what was spilled. It takes no memory.
-    pub fn clear(&mut self) {
+    pub fn clear(&mut self)
+        ensures { HasSpilledNothing self.new }
+    {
         self.liveness.clear();
         self.slots.clear();
     }

@@ -1,4 +1,4 @@
-use Rattle.std.proofs.Common.{◌≡◌, ◌<◌, ◌∙◌, ℕ, List, length, get_or, sym, ap, subst, arith}
+use Rattle.std.proofs.Common.{◌≡◌, ◌<◌, ◌-◌, ◌∙◌, ℕ, List, length, get_or, sym, ap, subst, arith}
 use Rattle.clif_instructions.specs.Members.{Stands}
 use Rattle.clif_spiller.specs.Plans.{insts_inside}
 use Rattle.clif_spiller.proofs.Inside.{block_inside, inst_exists}
@@ -14,9 +14,9 @@ loop-place-init c = goes_on_refl (length c.args.func.now.blocks) c.args.func.now
 
 pub rewrite_inst-requires-clause-inst_exists : goal.rewrite_inst-requires-clause-inst_exists
 rewrite_inst-requires-clause-inst_exists c =
-    let at : ℕ = c.loop-place.place in
+    let at : ℕ = c.loop-place.place - 1 in
     let inst : ℕ = c.index-insts-place.result in
-    let inside : at < length (insts_inside c.args.func.now c.args.block) = subst (λ xs. at < length xs) c.requires.insts ? in
+    let inside : at < length (insts_inside c.args.func.now c.args.block) = subst (λ xs. at < length xs) c.requires.insts (omega (arith, c.loop-place-test.true, c.loop-place.auto.place)) in
     let exists : inst < length c.args.func.now.insts =
     subst (λ i. i < length c.args.func.now.insts) (ap (λ xs. get_or xs at inst) (sym c.requires.insts) ∙ sym c.index-insts-place.is)
     (inst_exists c.args.func.now c.args.block at inst c.law_consistent.ensures inside) in
@@ -28,8 +28,10 @@ rewrite_inst-requires-clause-plan c =
 
 pub rewrite_inst-requires-clause-inside : goal.rewrite_inst-requires-clause-inside
 rewrite_inst-requires-clause-inside c =
-    let inside : c.loop-place.place < length (insts_inside c.args.func.now c.args.block) = subst (λ xs. c.loop-place.place < length xs) c.requires.insts ? in
-    c.loop-place.invariant.keeps.layout c.args.block (block_inside c.args.func.now c.args.block c.loop-place.place inside)
+    let at : ℕ = c.loop-place.place - 1 in
+    let inside : at < length (insts_inside c.args.func.now c.args.block) =
+    subst (λ xs. at < length xs) c.requires.insts (omega (arith, c.loop-place-test.true, c.loop-place.auto.place)) in
+    c.loop-place.invariant.keeps.layout c.args.block (block_inside c.args.func.now c.args.block at inside)
 
 pub loop-place-preserved : goal.loop-place-preserved
 loop-place-preserved c =

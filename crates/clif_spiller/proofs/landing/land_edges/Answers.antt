@@ -22,4 +22,6 @@ land_edge-requires-then-count-gt0-clause-plan c =
     plan_stays (length c.args.func.now.blocks) c.args.func.now c.loop-edge.func c.loop-edge.invariant.0.keeps c.args.plan.now c.requires.plan
 
 pub returns-in_ok-land_edge-clause-ok : goal.returns-in_ok-land_edge-clause-ok
-returns-in_ok-land_edge-clause-ok c = ?
+returns-in_ok-land_edge-clause-ok c =
+    goes_further c.args.func.now c.args.slots.now c.loop-edge.func c.loop-edge.slots c.land_edge-then-count-gt0.new.func c.land_edge-then-count-gt0.new.slots
+    c.loop-edge.invariant.0 c.in_ok-land_edge.ensures.ok

@@ -39,7 +39,7 @@ counted c =
     let call : BlockCall = c.index-branch_destination-edge.result in
     ap (λ (xs : List BlockArg). length xs) c.as_slice-count.ensures
     ∙ ap (λ (x : BlockCall). length x.args)
-    (c.index-branch_destination-edge.is ∙ ap (λ (xs : List BlockCall). get_or xs c.args.edge call) (c.branch_destination.ensures ∙ ap destinations c.inst_data.ensures.exact)
+    (ap (λ (xs : List BlockCall). get_or xs c.args.edge call) (c.branch_destination.ensures ∙ ap destinations c.inst_data.ensures.exact)
     ∙ get_or_inside edges c.args.edge call no_edge c.requires.edge_exists)
 
 pub replace_branch_argument-requires-clause-inst_exists : goal.replace_branch_argument-requires-clause-inst_exists
