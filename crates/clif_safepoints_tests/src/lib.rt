@@ -4,6 +4,8 @@
 #[cfg(test)]
 mod contexts;
 #[cfg(test)]
+mod fits;
+#[cfg(test)]
 mod fronts;
 #[cfg(test)]
 mod paths;
@@ -15,5 +17,9 @@ mod rows;
 mod shapes;
 #[cfg(test)]
 mod slots;
+#[cfg(test)]
+mod spilled_rows;
+#[cfg(test)]
+mod spills;
 #[cfg(test)]
 mod steps;

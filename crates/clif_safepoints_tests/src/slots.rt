@@ -6,7 +6,7 @@ ghost use Rattle.clif_ir.specs.Body.{value_at};
 ghost use Rattle.clif_stack_slots.specs.Sizes.{FitsStackMap};
 
 use clif_ir::Function;
-use clif_stack_slots::{SlotSize, StackSlots};
+use clif_stack_slots::{SlotSize, SlotSizeMap, StackSlots};
 use clif_types::types::{I8, I8X16, I16, I32, I32X8, I64, INVALID};
 use clif_types::{Block, EntityRef, StackSlot, Type, Value};
 use std::process::Abort;
@@ -149,4 +149,18 @@ fn other_types_are_refused(rt: HostRuntime) -> Result<(), Fail> {
     }
     assert!(&rt; SlotSize::try_from(I16) == Ok(SlotSize::Size16));
     Ok(())
+}
+
+#[test]
+fn each_size_has_a_thing(rt: HostRuntime) {
+    let map = SlotSizeMap::of_each([1u32, 2, 4, 8, 16]);
+    for size in [
+        SlotSize::Size8,
+        SlotSize::Size16,
+        SlotSize::Size32,
+        SlotSize::Size64,
+        SlotSize::Size128,
+    ] {
+        assert!(&rt; *map.get(size) == size.bytes());
+    }
 }

@@ -57,17 +57,20 @@ pub enum Plain<'a> {
 #[derive(Clone, Copy)]
 pub struct To<'a>(pub u32, pub &'a [u32]);
 
-fn v(rt: &impl Abort, number: u32) -> Value {
+/// The value of a number.
+pub fn v(rt: &impl Abort, number: u32) -> Value {
     assert!(rt; number < 1000);
     Value::from_u32(number)
 }
 
-fn b(rt: &impl Abort, number: u32) -> Block {
+/// The block of a number.
+pub fn b(rt: &impl Abort, number: u32) -> Block {
     assert!(rt; number < 1000);
     Block::from_u32(number)
 }
 
-fn block_of(rt: &impl Abort, func: &Function, number: u32) -> Block
+/// A block of a function, by its number.
+pub fn block_of(rt: &impl Abort, func: &Function, number: u32) -> Block
     ensures { result < length func.now.blocks }
 {
     let block = b(rt, number);
@@ -83,7 +86,8 @@ fn value_of(rt: &impl Abort, func: &Function, number: u32) -> Value
     value
 }
 
-fn values(rt: &impl Abort, alloc: Global, numbers: &[u32]) -> Result<ValueList, Fail> {
+/// The values of these numbers.
+pub fn values(rt: &impl Abort, alloc: Global, numbers: &[u32]) -> Result<ValueList, Fail> {
     let mut list = ValueList::new(alloc);
     for number in numbers {
         list.push(v(rt, *number))?;
@@ -99,7 +103,8 @@ fn edge(rt: &impl Abort, alloc: Global, to: To<'_>) -> Result<BlockCall, Fail> {
     Ok(call)
 }
 
-fn function_of(rt: &impl Abort, number: u32) -> FuncRef {
+/// The imported function of a number.
+pub fn function_of(rt: &impl Abort, number: u32) -> FuncRef {
     assert!(rt; number < 1000);
     FuncRef::from_u32(number)
 }
@@ -197,12 +202,26 @@ pub fn put_shape(
 ) -> Result<(), Fail>
     requires { (count : ℕ) → IsPlaceOf at count }
 {
+    put_typed(rt, func, block, shape, at, I32)
+}
+
+/// Puts an instruction of this controlling type into a block.
+pub fn put_typed(
+    rt: &impl Abort,
+    func: &mut Function,
+    block: Block,
+    shape: InstructionData,
+    at: InsertAt,
+    ty: Type,
+) -> Result<(), Fail>
+    requires { (count : ℕ) → IsPlaceOf at count }
+{
     assert!(rt; block.index() < func.block_count());
     assert!(rt; has_operands(func, shape.arguments()));
     assert!(rt; has_edges(func, shape.branch_destination()));
     assert!(rt; func.has_contexts(&shape));
     assert!(rt; func.has_entries(&shape));
-    func.insert_inst(block, at, shape, I32, SourceLoc::new(0))?;
+    func.insert_inst(block, at, shape, ty, SourceLoc::new(0))?;
     Ok(())
 }
 

@@ -1,0 +1,11 @@
+use Rattle.std.proofs.Common.{◌≡◌}
+use Rattle.std.specs.Prelude.{All}
+use Rattle.clif_ir.specs.Body.{inst_at}
+use Rattle.clif_spiller.specs.Plans.{GoesOn, OwnArgument}
+use Rattle.clif_spiller.proofs.landing.land_arguments.Given as goal
+
+abbrev pub invariant-loop-place : goal.invariant-loop-place
+invariant-loop-place l =
+    GoesOn l.landing.block l.initial.func l.initial.slots l.func l.slots
+    × ((inst_at l.func l.inst).shape ≡ (inst_at l.initial.func l.inst).shape) × (l.func.layout ≡ l.initial.func.layout)
+    × All OwnArgument l.own

@@ -1,0 +1,28 @@
+use Rattle.std.proofs.Common.{◌≡◌, ◌<◌, length, get_or, sym, subst}
+use Rattle.std.specs.Prelude.{All}
+use Rattle.std.proofs.lemmas.List.Elements.{Contains-get_or}
+use Rattle.clif_safepoints.specs.Analysis.{Findings}
+use Rattle.clif_spiller.specs.Plans.{AreNamed}
+use Rattle.clif_spiller.proofs.Reached.{reached_exists}
+use Rattle.clif_spiller.proofs.Starting.{found_exists, found_may, knows_none}
+use Rattle.clif_spiller.proofs.spiller.SafepointSpiller.run.Goals as goal
+
+pub new-requires : goal.new-requires
+new-requires c = record { named = found_exists c.args.func.now c.args.recorded.now c.run.new.self c.in_ok-run.ensures.ok }
+
+pub rewrite-requires-clause-plan : goal.rewrite-requires-clause-plan
+rewrite-requires-clause-plan c = record {
+  named = subst (λ (found : Findings). AreNamed found c.in_ok-plan.plan.spilled) (sym c.in_ok-plan.ensures.liveness) c.in_ok-plan.ensures.named;
+  spillable = λ v member.
+      let at = (c.in_ok-plan.ensures.named v).0 member in
+      found_may c.args.func.now c.args.recorded.now c.run.new.self c.in_ok-run.ensures.ok c.requires.recorded at.0 v at.1;
+}
+
+pub rewrite-requires-clause-slots : goal.rewrite-requires-clause-slots
+rewrite-requires-clause-slots c = knows_none c.args.func.now c.clear.new.self.slots c.clear.ensures.slots
+
+pub rewrite-requires-clause-order : goal.rewrite-requires-clause-order
+rewrite-requires-clause-order c =
+    subst (λ (found : Findings). All (λ block. block < length c.args.func.now.blocks) found.order) (sym c.in_ok-plan.ensures.liveness)
+    (λ k d inside. reached_exists c.args.func.now c.law_consistent.ensures (get_or c.run.new.self.order k d)
+    ((c.in_ok-run.ensures.ok.order.reached (get_or c.run.new.self.order k d)).0 (Contains-get_or c.run.new.self.order k d inside)))

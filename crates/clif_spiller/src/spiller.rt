@@ -1,0 +1,68 @@
+//! The spiller of safepoints.
+
+ghost use Rattle.std.specs.Prelude.{◌≡◌, ◌≢◌, ℕ, length, Contains, OnOk};
+ghost use Rattle.clif_ir.specs.Body.{resolved};
+ghost use Rattle.clif_spiller.specs.Keeping.{Keeps};
+ghost use Rattle.clif_spiller.specs.Plans.{IsFull, MayBeSpilled};
+ghost use Rattle.clif_spiller.specs.Spilling.{HasSpilledNothing};
+
+use crate::blocks::rewrite;
+use crate::plan::Plan;
+use clif_ir::Function;
+use clif_safepoints::liveness::LivenessAnalysis;
+use clif_stack_slots::StackSlots;
+use clif_types::{BuildError, EntitySet, Type, Value};
+use std::alloc::Global;
+
+/// What spills values that live across calls. One serves for many functions, and keeps its memory.
+#[derive(Drop)]
+pub struct SafepointSpiller {
+    liveness: LivenessAnalysis,
+    slots: StackSlots,
+}
+
+impl SafepointSpiller {
+    /// A spiller that has spilled nothing. It takes no memory.
+    pub fn new(alloc: Global) -> SafepointSpiller
+        ensures { HasSpilledNothing result }
+    {
+        SafepointSpiller {
+            liveness: LivenessAnalysis::new(alloc),
+            slots: StackSlots::new(alloc),
+        }
+    }
+
+    /// Forgets what was spilled. It takes no memory.
+    pub fn clear(&mut self)
+        ensures { HasSpilledNothing self.new }
+    {
+        self.liveness.clear();
+        self.slots.clear();
+    }
+
+    /// Spills the recorded values that live across a call that is reached, and gives each such call its stack map.
+    /// `pointer` is the type of addresses.
+    ///
+    /// # Errors
+    ///
+    /// `Memory`, where memory is refused, or `Full`, where a table of the function has 2^32 - 1 entries. The function
+    /// is consistent then, and otherwise nothing is said of it.
+    pub fn run(
+        &mut self,
+        func: &mut Function,
+        recorded: &EntitySet<Value>,
+        pointer: Type,
+    ) -> Result<(), BuildError>
+        requires recorded { (value : ℕ) → Contains recorded.now value
+            → resolved func.old value ≡ value → MayBeSpilled func.old value }
+        ensures kept { OnOk result (Keeps (length func.old.blocks) func.old func.new) }
+        ensures full { result ≡ Err BuildError.Full → IsFull func.new }
+        ensures never_failed { result ≢ Err BuildError.Failed }
+    {
+        func.law_consistent();
+        self.clear();
+        self.liveness.run(func, recorded)?;
+        let plan = Plan::new(func, &self.liveness, pointer)?;
+        rewrite(func, &mut self.slots, &plan)
+    }
+}
