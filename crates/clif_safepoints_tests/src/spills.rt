@@ -1,7 +1,7 @@
 //! Functions that are made by tables of steps and spilled, and their texts.
 #![tactic(auto)]
 
-use crate::fits::asserts_all_fit;
+use crate::fits::all_fit;
 use crate::steps::{alias, b, block_of, function_of, make_block, put_typed, set_of, v, values};
 use clif_instructions::insert_at::InsertAt;
 use clif_ir::{
@@ -218,7 +218,7 @@ pub fn spills_each(rt: &impl Abort, alloc: Global, cases: &[&Spill]) -> Result<(
         for _ in 0..2 {
             let mut func = function(rt, alloc, case)?;
             let recorded = set_of(rt, alloc, case.recorded)?;
-            asserts_all_fit(rt, &func, &recorded);
+            assert!(rt; all_fit(&func, &recorded));
             spiller.run(&mut func, &recorded, I64)?;
             let text = format!(in alloc; "{}", func.display())?;
             assert_eq!(rt; text.as_str(), case.text);
@@ -262,7 +262,7 @@ pub fn spills_many(rt: &impl Abort, alloc: Global, count: u32) -> Result<(), Fai
         recorded.insert(v(rt, number))?;
     }
     let mut spiller = SafepointSpiller::new(alloc);
-    asserts_all_fit(rt, &func, &recorded);
+    assert!(rt; all_fit(&func, &recorded));
     spiller.run(&mut func, &recorded, I64)?;
     assert_eq!(rt; func.tables().stack_slot_count(), count as usize);
     let call = Inst::from_u32(count);
