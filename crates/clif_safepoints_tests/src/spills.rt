@@ -265,6 +265,7 @@ pub fn spills_many(rt: &impl Abort, alloc: Global, count: u32) -> Result<(), Fai
     assert!(rt; all_fit(&func, &recorded));
     spiller.run(&mut func, &recorded, I64)?;
     assert_eq!(rt; func.tables().stack_slot_count(), count as usize);
+    assert!(rt; count < 1000);
     let call = Inst::from_u32(count);
     assert!(rt; call.index() < func.inst_count());
     let entries = func.stack_map(call);
