@@ -103,7 +103,7 @@ resolved-no_alias values v ends inside =
     ap (alias_of values) (follow-ended values (alias_count values) (length values) v (ends v inside) enough) ∙ ends v inside
 
 -- one value more is an alias
-alias_count-set : (values : List ValueNode) (v : ℕ) (node : ValueNode) → v < length values → alias_of values v ≡ None
+pub alias_count-set : (values : List ValueNode) (v : ℕ) (node : ValueNode) → v < length values → alias_of values v ≡ None
     → is_some (alias_of_origin node.origin) ≡ true → alias_count (set values v node) ≡ alias_count values + 1
 alias_count-set [] v node inside none some = absurd (omega (arith, inside))
 alias_count-set (n ∷ ns) zero node inside none some =

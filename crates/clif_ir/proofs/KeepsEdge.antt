@@ -1,5 +1,5 @@
 -- An edge that is replaced, and a context that is, keep a function consistent.
-use Rattle.std.proofs.Common.{◌≡◌, ◌≢◌, ℕ, zero, suc, ◌<◌, List, [], ◌∷◌, ◌++◌, length, refl, ap, arith, sym, subst}
+use Rattle.std.proofs.Common.{◌≡◌, ◌≢◌, ℕ, ◌<◌, List, [], length, refl, ap, arith, sym, subst}
 use Rattle.std.specs.Prelude.{slice_index, slice_set, All, flat_map}
 use Rattle.clif_instructions.specs.declared.block_call.BlockCall.{BlockCall}
 use Rattle.clif_instructions.specs.declared.exception_table.ExceptionItem.{ExceptionItem}
@@ -7,7 +7,7 @@ use Rattle.clif_instructions.specs.declared.exception_table.ExceptionItem.TheVar
 use Rattle.clif_instructions.specs.declared.instructions.InstructionData.{InstructionData}
 use Rattle.clif_instructions.specs.declared.instructions.InstructionData.TheVariants.{Jump, Brif, BranchTable, TryCall, TryCallIndirect}
 use Rattle.clif_instructions.specs.ExceptionTables.{item_context}
-use Rattle.clif_instructions.specs.Instruction.{contexts, entries_of, items_of, operands, destinations, with_context, with_edge}
+use Rattle.clif_instructions.specs.Instruction.{contexts, entries_of, operands, destinations, with_context, with_edge}
 use Rattle.clif_ir.specs.Body.{Body, inst_at}
 use Rattle.clif_ir.specs.Changes.{with_context_of, with_edge_at}
 use Rattle.clif_ir.specs.Consistent.{IsConsistent, EdgeExists, EntryExists, ValueExists}

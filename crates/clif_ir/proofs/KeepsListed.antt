@@ -1,125 +1,103 @@
--- The pairs of aliases stay in step with the values.
-use Rattle.std.proofs.Common.{◌≡◌, ℕ, zero, suc, ◌-◌, ◌<◌, List, [], ◌∷◌, ◌++◌, length, set, refl, ap, sym, ◌∙◌, subst, inl, inr}
-use Rattle.std.specs.Prelude.{Some, None, Contains}
-use Rattle.std.specs.declared.cmp.Ordering.{Ordering}
-use Rattle.std.specs.declared.cmp.Ordering.TheVariants.{Less, Equal, Greater}
-use Rattle.std.specs.Ordering.{match_ordering}
-use Rattle.std.specs.BTreeSet.{insert_key}
+-- The list of aliases stays in step with the values.
+use Rattle.std.proofs.Common.{◌≡◌, ℕ, zero, suc, ◌+◌, ◌-◌, ◌<◌, ◌≤◌, List, [], ◌∷◌, ◌++◌, length, set, refl, ap, arith, sym, ◌∙◌, subst, inl, inr}
+use Rattle.std.specs.Prelude.{Some, None, IsSome, is_some, cond, Contains}
 use Rattle.std.proofs.lemmas.Bool.{cases_eq}
-use Rattle.std.proofs.lemmas.List.Elements.{All-weaker, Contains-append_left, Contains-append_right, Contains-append_cases, Contains-push}
-use Rattle.std.proofs.lemmas.Map.Lookups.{CmpEqualImpliesEq}
-use Rattle.std.proofs.lemmas.Map.Views.{All-insert_key}
+use Rattle.std.proofs.lemmas.Grind.{common_steps}
+use Rattle.std.proofs.lemmas.List.Elements.{All-weaker, All-push, Contains-append_left, Contains-push}
+use Rattle.std.proofs.lemmas.List.Sums.{count_by-le-length, sum_by-cons}
 use Rattle.clif_nodes.specs.declared.nodes.ValueNode.{ValueNode}
+use Rattle.clif_nodes.specs.declared.nodes.ValueOrigin.TheVariants.{Alias}
 use Rattle.clif_ir.specs.Body.{alias_of, alias_of_origin}
+use Rattle.clif_ir.specs.Consistent.{alias_count}
 use Rattle.clif_nodes.specs.Nodes.{no_value, result_nodes}
 use Rattle.clif_ir.specs.Whole.{IsListed}
 use Rattle.clif_types.specs.declared.types.«Type».{«Type»}
+use Rattle.clif_ir.proofs.Aliases.{alias_count-set, alias_of-set_other, alias_of-set_same}
 use Rattle.clif_ir.proofs.KeepsInst.{alias_of-result_nodes}
-use Rattle.clif_instructions.proofs.Lists.{at_append, at_past, at_set}
+use Rattle.clif_instructions.proofs.Lists.{at_append, at_past}
 
--- an entry of a list stands in it with one more at its head, and so does that one
-here : {X : Type 0} (x : X) (xs : List X) → Contains (x ∷ xs) x
-here x xs = Contains-append_left (x ∷ []) xs x (Contains-push [] x)
+-- the same values and aliases under other names
+pub listed_with : (values' values : List ValueNode) (aliases' aliases : List ℕ) → values' ≡ values → aliases' ≡ aliases
+    → IsListed values' aliases' → IsListed values aliases
+listed_with values' values aliases' aliases same_values same_aliases listed =
+    subst (λ p. IsListed values p) same_aliases (subst (λ v. IsListed v aliases') same_values listed)
 
-there : {X : Type 0} (x : X) (xs : List X) (q : X) → Contains xs q → Contains (x ∷ xs) q
-there x xs q = Contains-append_right (x ∷ []) xs q
-
--- what is put into a list in order stands in it
-pub insert_key-new : {K : Type 0} (cmp : K → K → Ordering) → CmpEqualImpliesEq cmp → (k : K) (ks : List K) → Contains (insert_key cmp ks k) k
-insert_key-new cmp exact k [] = here k []
-insert_key-new {K} cmp exact k (x ∷ xs) = by (cmp k x) refl (insert_key-new cmp exact k xs)
-  where
-    by : (r : Ordering) → cmp k x ≡ r → Contains (insert_key cmp xs k) k
-        → Contains (match_ordering r (k ∷ x ∷ xs) (x ∷ xs) (x ∷ insert_key cmp xs k)) k
-    by Less e rest = here k (x ∷ xs)
-    by Equal e rest = subst (λ (y : K). Contains (y ∷ xs) k) (exact k x e) (here k xs)
-    by Greater e rest = there x (insert_key cmp xs k) k rest
-
--- and so does what stood there
-pub insert_key-old : {K : Type 0} (cmp : K → K → Ordering) (k : K) (ks : List K) (q : K) → Contains ks q → Contains (insert_key cmp ks k) q
-insert_key-old cmp k [] q stood = there k [] q stood
-insert_key-old {K} cmp k (x ∷ xs) q stood = by (cmp k x) (λ t. insert_key-old cmp k xs q t)
-  where
-    by : (r : Ordering) → (Contains xs q → Contains (insert_key cmp xs k) q)
-        → Contains (match_ordering r (k ∷ x ∷ xs) (x ∷ xs) (x ∷ insert_key cmp xs k)) q
-    by Less rest = there k (x ∷ xs) q stood
-    by Equal rest = stood
-    by Greater rest = elim (Contains-append_cases (x ∷ []) xs q stood) [
-      | inl first ↦ Contains-append_left (x ∷ []) (insert_key cmp xs k) q first
-      | inr later ↦ there x (insert_key cmp xs k) q (rest later)
-    ]
-
-none_is_no_some : {v : ℕ} → None ≡ Some v → ⊥
-none_is_no_some same = cc
-
--- the same values and pairs under other names
-pub listed_with : (values' values : List ValueNode) (pairs' pairs : List (ℕ × ℕ)) → values' ≡ values → pairs' ≡ pairs
-    → IsListed values' pairs' → IsListed values pairs
-listed_with values' values pairs' pairs same_values same_pairs listed =
-    subst (λ p. IsListed values p) same_pairs (subst (λ v. IsListed v pairs') same_values listed)
-
--- the same pairs where each value is an alias of the same one
-pub listed_same : (values values' : List ValueNode) (pairs : List (ℕ × ℕ)) → ((v : ℕ) → alias_of values' v ≡ alias_of values v)
-    → IsListed values pairs → IsListed values' pairs
-listed_same values values' pairs same listed = record {
-  sound = All-weaker (λ (pair : ℕ × ℕ). alias_of values pair.1 ≡ Some pair.0) (λ (pair : ℕ × ℕ). alias_of values' pair.1 ≡ Some pair.0)
-      (λ (pair : ℕ × ℕ) was. same pair.1 ∙ was) pairs listed.sound;
-  complete = λ v original is. listed.complete v original (sym (same v) ∙ is);
-}
+-- values of which none is an alias
+none_counted : (values : List ValueNode) → ((k : ℕ) → alias_of values k ≡ None) → alias_count values ≡ 0
+none_counted [] none = refl
+none_counted (n ∷ ns) none =
+    let first : ◌≡◌ {A = ℕ} (cond (is_some (alias_of_origin n.origin)) 1 0) 0 = ap (λ o. cond (is_some o) 1 0) (none zero) in
+    let rest : alias_count ns ≡ 0 = none_counted ns (λ k. none (suc k)) in
+    let whole : alias_count (n ∷ ns) ≡ cond (is_some (alias_of_origin n.origin)) 1 0 + alias_count ns = sum_by-cons _ n ns in
+    omega (arith, first, rest, whole)
 
 -- more values, none of which is an alias
-pub listed_more : (values more : List ValueNode) (pairs : List (ℕ × ℕ)) → ((k : ℕ) → alias_of more k ≡ None)
-    → IsListed values pairs → IsListed (values ++ more) pairs
-listed_more values more pairs none = listed_same values (values ++ more) pairs (λ v.
+pub listed_more : (values more : List ValueNode) (aliases : List ℕ) → ((k : ℕ) → alias_of more k ≡ None)
+    → IsListed values aliases → IsListed (values ++ more) aliases
+listed_more values more aliases none listed =
+    let same : (v : ℕ) → alias_of (values ++ more) v ≡ alias_of values v = λ v.
     at_append (λ (n : ValueNode). alias_of_origin n.origin ≡ alias_of values v) values more v no_value (λ _. refl)
-    (λ past. none (v - length values) ∙ sym (ap (λ (n : ValueNode). alias_of_origin n.origin) (at_past values v no_value past))))
+    (λ past. none (v - length values) ∙ sym (ap (λ (n : ValueNode). alias_of_origin n.origin) (at_past values v no_value past))) in
+    let new : alias_count more ≡ 0 = none_counted more none in
+    let count : alias_count (values ++ more) ≡ alias_count values = grind (arith, common_steps, new) in
+    record {
+      sound = All-weaker (λ v. IsSome (alias_of values v)) (λ v. IsSome (alias_of (values ++ more) v)) (λ v was. ap is_some (same v) ∙ was) aliases listed.sound;
+      complete = λ v is. listed.complete v (ap is_some (sym (same v)) ∙ is);
+      count_is = listed.count_is ∙ sym count;
+    }
 
 one_none : (node : ValueNode) → alias_of_origin node.origin ≡ None → (k : ℕ) → alias_of (node ∷ []) k ≡ None
 one_none node none zero = none
 one_none node none (suc k) = refl
 
 -- one more value, which is no alias
-pub listed_push : (values values' : List ValueNode) (node : ValueNode) (pairs : List (ℕ × ℕ)) → values' ≡ values ++ node ∷ [] → alias_of_origin node.origin ≡ None
-    → IsListed values pairs → IsListed values' pairs
-listed_push values values' node pairs more none listed =
-    subst (λ v. IsListed v pairs) (sym more) (listed_more values (node ∷ []) pairs (one_none node none) listed)
+pub listed_push : (values values' : List ValueNode) (node : ValueNode) (aliases : List ℕ) → values' ≡ values ++ node ∷ [] → alias_of_origin node.origin ≡ None
+    → IsListed values aliases → IsListed values' aliases
+listed_push values values' node aliases more none listed =
+    subst (λ v. IsListed v aliases) (sym more) (listed_more values (node ∷ []) aliases (one_none node none) listed)
 
 -- the results of a new instruction
-pub listed_results : (values values' : List ValueNode) (i : ℕ) (types : List «Type») (pairs : List (ℕ × ℕ)) → values' ≡ values ++ result_nodes i 0 types
-    → IsListed values pairs → IsListed values' pairs
-listed_results values values' i types pairs more listed =
-    subst (λ v. IsListed v pairs) (sym more) (listed_more values (result_nodes i 0 types) pairs (alias_of-result_nodes i 0 types) listed)
+pub listed_results : (values values' : List ValueNode) (i : ℕ) (types : List «Type») (aliases : List ℕ) → values' ≡ values ++ result_nodes i 0 types
+    → IsListed values aliases → IsListed values' aliases
+listed_results values values' i types aliases more listed =
+    subst (λ v. IsListed v aliases) (sym more) (listed_more values (result_nodes i 0 types) aliases (alias_of-result_nodes i 0 types) listed)
 
 -- a value that becomes an alias
-pub listed_alias : (values : List ValueNode) (v target : ℕ) (node : ValueNode) (pairs : List (ℕ × ℕ)) (cmp : ℕ × ℕ → ℕ × ℕ → Ordering)
-    → CmpEqualImpliesEq cmp → v < length values → alias_of values v ≡ None → alias_of_origin node.origin ≡ Some target
-    → IsListed values pairs → IsListed (set values v node) (insert_key cmp pairs (target, v))
-listed_alias values v target node pairs cmp exact inside none is_target listed =
-    let at_v : alias_of (set values v node) v ≡ Some target =
-    at_set (λ (n : ValueNode). alias_of_origin n.origin ≡ Some target) values v node v no_value inside (λ _. is_target) (λ other. absurd (other refl)) in
+listed_alias : (values : List ValueNode) (v target : ℕ) (node : ValueNode) (aliases : List ℕ)
+    → v < length values → alias_of values v ≡ None → alias_of_origin node.origin ≡ Some target
+    → IsListed values aliases → IsListed (set values v node) (aliases ++ v ∷ [])
+listed_alias values v target node aliases inside none is_target listed =
+    let at_v : IsSome (alias_of (set values v node) v) = ap is_some (alias_of-set_same values v node inside ∙ is_target) in
+    let stays : (u : ℕ) → IsSome (alias_of values u) → IsSome (alias_of (set values v node) u) = λ u was. elim (cases_eq u v) [
+      | inl same ↦ ap (λ w. is_some (alias_of (set values v node) w)) same ∙ at_v
+      | inr other ↦ ap is_some (alias_of-set_other values v node u other) ∙ was
+    ] in
+    let count : alias_count (set values v node) ≡ alias_count values + 1 = alias_count-set values v node inside none (ap is_some is_target) in
     record {
-      sound = All-insert_key cmp (target, v) (λ (pair : ℕ × ℕ). alias_of (set values v node) pair.1 ≡ Some pair.0) pairs
-          (All-weaker (λ (pair : ℕ × ℕ). alias_of values pair.1 ≡ Some pair.0) (λ (pair : ℕ × ℕ). alias_of (set values v node) pair.1 ≡ Some pair.0) (λ (pair : ℕ × ℕ) was.
-          at_set (λ (n : ValueNode). alias_of_origin n.origin ≡ Some pair.0) values v node pair.1 no_value inside
-          (λ same. absurd (none_is_no_some (sym none ∙ ap (alias_of values) (sym same) ∙ was))) (λ _. was)) pairs listed.sound)
-          at_v;
-      complete = λ u original is. elim (cases_eq u v) [
-        | inl same ↦
-            let one : Some target ≡ Some original = sym at_v ∙ ap (alias_of (set values v node)) (sym same) ∙ is in
-            let equal : target ≡ original = cc in
-            subst (λ (o : ℕ). Contains (insert_key cmp pairs (target, v)) (o, u)) equal
-            (subst (λ (w : ℕ). Contains (insert_key cmp pairs (target, v)) (target, w)) (sym same) (insert_key-new cmp exact (target, v) pairs))
-        | inr other ↦
-            insert_key-old cmp (target, v) pairs (original, u) (listed.complete u original
-            (at_set (λ (n : ValueNode). alias_of_origin n.origin ≡ Some original → alias_of values u ≡ Some original) values v node u no_value inside (λ same. absurd (other same)) (λ _ was. was) is))
+      sound = All-push (λ u. IsSome (alias_of (set values v node) u)) aliases v
+          (All-weaker (λ u. IsSome (alias_of values u)) (λ u. IsSome (alias_of (set values v node) u)) stays aliases listed.sound) at_v;
+      complete = λ u is. elim (cases_eq u v) [
+        | inl same ↦ subst (λ w. Contains (aliases ++ v ∷ []) w) (sym same) (Contains-push aliases v)
+        | inr other ↦ Contains-append_left aliases (v ∷ []) u (listed.complete u (ap is_some (sym (alias_of-set_other values v node u other)) ∙ is))
       ];
+      count_is = grind (arith, common_steps, listed.count_is, count);
     }
 
 -- the same, with what a function's call ensures
-pub listed_alias_with : (values values' : List ValueNode) (v target : ℕ) (node : ValueNode) (pairs pairs' : List (ℕ × ℕ)) (cmp : ℕ × ℕ → ℕ × ℕ → Ordering)
-    → pairs' ≡ insert_key cmp pairs (target, v) → values' ≡ set values v node
-    → CmpEqualImpliesEq cmp → v < length values → alias_of values v ≡ None → alias_of_origin node.origin ≡ Some target
-    → IsListed values pairs → IsListed values' pairs'
-listed_alias_with values values' v target node pairs pairs' cmp same_pairs same_values exact inside none is_target listed =
-    listed_with (set values v node) values' (insert_key cmp pairs (target, v)) pairs' (sym same_values) (sym same_pairs)
-    (listed_alias values v target node pairs cmp exact inside none is_target listed)
+pub listed_alias_with : (values values' : List ValueNode) (v target : ℕ) (node : ValueNode) (aliases aliases' : List ℕ)
+    → aliases' ≡ aliases ++ v ∷ [] → values' ≡ set values v node
+    → v < length values → alias_of values v ≡ None → alias_of_origin node.origin ≡ Some target
+    → IsListed values aliases → IsListed values' aliases'
+listed_alias_with values values' v target node aliases aliases' same_aliases same_values inside none is_target listed =
+    listed_with (set values v node) values' (aliases ++ v ∷ []) aliases' (sym same_values) (sym same_aliases)
+    (listed_alias values v target node aliases inside none is_target listed)
+
+-- there are fewer aliases than values, where one value is none
+pub listed_fewer : (values : List ValueNode) (v : ℕ) (aliases : List ℕ) → v < length values → alias_of values v ≡ None
+    → IsListed values aliases → length aliases + 1 ≤ length values
+listed_fewer values v aliases inside none listed =
+    let node : ValueNode = record no_value { origin = Alias 0 } in
+    let count : alias_count (set values v node) ≡ alias_count values + 1 = alias_count-set values v node inside none refl in
+    let most : alias_count (set values v node) ≤ length (set values v node) = grind (arith, common_steps, count_by-le-length) in
+    let same : length (set values v node) ≡ length values = grind (arith, common_steps) in
+    omega (arith, count, most, same, listed.count_is)

@@ -10,7 +10,7 @@ use Rattle.clif_ir.specs.Whole.{AreThreaded, IsLinked, IsListed, IsWhole, body_o
 -- the fields make the body, the rows of the blocks and the links of which the parts are known
 pub whole_with : (g : Body) (rows : List BlockData) (links : List InstLinks) (f : Inside) → g ≡ body_of f → rows ≡ f.blocks.items → links ≡ f.inst_links.items
     → IsConsistent g → AreThreaded g.blocks rows links → length links ≡ length g.insts → length f.block_places.items ≡ length rows
-    → IsLinked g.layout f.block_places.items f.first_block f.last_block → IsListed f.values.items f.aliases.keys → IsWhole f
+    → IsLinked g.layout f.block_places.items f.first_block f.last_block → IsListed f.values.items f.aliases → IsWhole f
 whole_with g rows links f same_body same_rows same_links consistent threaded link_count place_count linked listed = record {
   consistent = subst IsConsistent same_body consistent;
   listed = listed;

@@ -1,6 +1,6 @@
 -- How the fields of a function make the record that contracts see, and what they keep beside it.
 -- Source: own. No contract of another crate speaks of it.
-use Rattle.std.specs.Prelude.{◌≡◌, ℕ, ◌+◌, ◌-◌, ◌<◌, zero, suc, List, [], ◌∷◌, length, slice_index, slice_index_or, slice_get, Option, Some, None, All, Contains}
+use Rattle.std.specs.Prelude.{◌≡◌, ℕ, ◌+◌, ◌-◌, ◌<◌, zero, suc, List, [], ◌∷◌, length, slice_index, slice_index_or, slice_get, Option, Some, None, IsSome, All, Contains}
 use Rattle.clif_instructions.specs.declared.insert_at.InsertAt.{InsertAt}
 use Rattle.clif_instructions.specs.declared.insert_at.InsertAt.TheVariants.{Behind, Back}
 use Rattle.clif_instructions.specs.Members.{next_in, place_of, stands_in}
@@ -13,7 +13,7 @@ use Rattle.clif_nodes.specs.Nodes.{BlockNode, empty_block, no_data}
 use Rattle.clif_nodes.specs.Places.{no_place}
 use Rattle.clif_ir.specs.declared.function.Function.TheInside.{Inside}
 use Rattle.clif_ir.specs.Body.{Body, alias_of}
-use Rattle.clif_ir.specs.Consistent.{IsConsistent}
+use Rattle.clif_ir.specs.Consistent.{IsConsistent, alias_count}
 
 -- the blocks from `at` on, along at most so many links
 unfoldable pub chain : ℕ → List BlockPlace → Option ℕ → List ℕ
@@ -67,14 +67,15 @@ pub record IsLinked (layout : List ℕ) (places : List BlockPlace) (first last :
   pub next_is : (b : ℕ) → (slice_index_or places b no_place).next ≡ next_in layout b
   pub inserted_is : (b : ℕ) → (slice_index_or places b no_place).is_inserted ≡ stands_in b layout
 
--- the pairs are the aliases, each after the value that it names
-pub record IsListed (values : List ValueNode) (pairs : List (ℕ × ℕ)) : Type 0 where
-  pub sound : All (λ (pair : ℕ × ℕ). alias_of values pair.1 ≡ Some pair.0) pairs
-  pub complete : (v original : ℕ) → alias_of values v ≡ Some original → Contains pairs (original, v)
+-- the list has the aliases, each once
+pub record IsListed (values : List ValueNode) (aliases : List ℕ) : Type 0 where
+  pub sound : All (λ v. IsSome (alias_of values v)) aliases
+  pub complete : (v : ℕ) → IsSome (alias_of values v) → Contains aliases v
+  pub count_is : length aliases ≡ alias_count values
 
 pub record IsWhole (f : Inside) : Type 0 where
   pub consistent : IsConsistent (body_of f)
-  pub listed : IsListed f.values.items f.aliases.keys
+  pub listed : IsListed f.values.items f.aliases
   pub threaded : AreThreaded (body_of f).blocks f.blocks.items f.inst_links.items
   pub link_count : length f.inst_links.items ≡ length f.insts.items
   pub place_count : length f.block_places.items ≡ length f.blocks.items

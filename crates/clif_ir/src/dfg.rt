@@ -215,7 +215,7 @@ impl Function {
     {
         let target = self.resolve_aliases(original);
         let block = self.param_block(param);
-        self.aliases.insert((target, param))?;
+        self.aliases.insert(target, param)?;
         // From here on nothing can fail.
         self.blocks[block.index()].params.remove(param);
         self.values[param.index()].origin = ValueOrigin::Alias(target);

@@ -6,13 +6,13 @@ ghost use Rattle.clif_instructions.specs.Instruction.{operands, destinations};
 ghost use Rattle.clif_ir.specs.Reading.{def_of, DefExists, param_home};
 
 use clif_instructions::instructions::InstructionData;
+use clif_nodes::aliases::AliasTable;
 use clif_nodes::{BlockData, BlockPlace, InstLinks, InstNode, ValueNode, ValueOrigin};
 use clif_tables::Tables;
 use clif_types::{
     Block, CallConv, EntityRef, Inst, Signature, SourceLoc, Type, UserFuncName, Value,
 };
 use std::alloc::Global;
-use std::collections::BTreeSet;
 use std::marker::Model;
 
 /// What defines the value that a value stands for.
@@ -30,7 +30,7 @@ pub enum ValueDef {
 /// instructions of a block as links from each to the one before it and the one after it, so that a block is
 /// put behind any other in a step, and so is an instruction before or behind any other. Beside these it keeps
 /// what makes some questions cheap, and what no contract speaks of: the ends and the number of each block's
-/// instructions, and the pairs of a value and an alias of it, in order.
+/// instructions, and each value's aliases in order.
 pub struct Function {
     pub(crate) alloc: Global,
     pub(crate) name: UserFuncName,
@@ -42,7 +42,7 @@ pub struct Function {
     pub(crate) last_block: Option<Block>,
     pub(crate) inst_links: Vec<InstLinks>,
     pub(crate) block_places: Vec<BlockPlace>,
-    pub(crate) aliases: BTreeSet<(Value, Value)>,
+    pub(crate) aliases: AliasTable,
     pub(crate) tables: Tables,
 }
 
@@ -103,7 +103,7 @@ impl Function {
             last_block: None,
             inst_links: Vec::new(alloc),
             block_places: Vec::new(alloc),
-            aliases: BTreeSet::new(alloc),
+            aliases: AliasTable::new(alloc),
             tables: Tables::new(alloc),
         }
     }

@@ -5,8 +5,8 @@
 //! they were given, a comment on the operands that stand for constants, and the alias lines of its
 //! results.
 //!
-//! Nothing here takes memory or recurses: alias lines are found by a walk over the pairs of a value and
-//! its aliases. It is proved that each call is safe and ends, and tested which text it writes.
+//! Nothing here takes memory or recurses: alias lines are found by a walk over each value's aliases, in
+//! order. It is proved that each call is safe and ends, and tested which text it writes.
 ghost use Rattle.std.specs.Prelude.{ℕ, ◌≡◌, ◌<◌, length, EachIndex, All, slice_index};
 ghost use Rattle.clif_ir.specs.Consistent.{EdgeExists};
 ghost use Rattle.clif_instructions.specs.Instruction.{operands, destinations};
@@ -21,6 +21,7 @@ use clif_inst_text::operands::{
 use clif_instructions::block_call::{BlockArg, BlockCall};
 use clif_instructions::immediates::{Imm64, signed_at};
 use clif_instructions::instructions::InstructionData;
+use clif_nodes::aliases::AliasOrder;
 use clif_opcodes::Control;
 use clif_types::{Block, EntityRef, Inst, Type, Value};
 use std::fmt;
@@ -352,19 +353,20 @@ fn write_direct_aliases<W: fmt::Write>(
     func: &Function,
     original: Value,
 ) -> fmt::Result {
-    for (owner, alias) in func.aliases.range((original, Value::from_u32(0))..) {
-        if *owner != original {
-            break;
-        }
-        let alias = *alias;
+    let mut next = func.aliases.first(original, AliasOrder::Rising);
+    for _ in 0..func.values.len() {
+        let Some(alias) = next else {
+            return Ok(());
+        };
         write!(f, "    {alias} -> {original}\n")?;
+        next = func.aliases.next(original, alias, AliasOrder::Rising);
     }
     Ok(())
 }
 
 // The value that is on the stack's top once `top` was handled, where `root` was on it at first.
 fn next_top(func: &Function, root: Value, top: Value) -> Option<Value> {
-    if let Some(last) = last_alias(func, top, Value::from_u32(0xffff_fffe)) {
+    if let Some(last) = func.aliases.first(top, AliasOrder::Falling) {
         return Some(last);
     }
     let mut handled = top;
@@ -373,20 +375,10 @@ fn next_top(func: &Function, root: Value, top: Value) -> Option<Value> {
             return None;
         }
         let original = func.alias_original(handled)?;
-        if let Some(previous) = last_alias(func, original, handled) {
+        if let Some(previous) = func.aliases.next(original, handled, AliasOrder::Falling) {
             return Some(previous);
         }
         handled = original;
     }
     None
-}
-
-// The last direct alias of a value among those below `bound`.
-fn last_alias(func: &Function, original: Value, bound: Value) -> Option<Value> {
-    let (owner, alias) = func.aliases.range(..(original, bound)).next_back()?;
-    if *owner == original {
-        Some(*alias)
-    } else {
-        None
-    }
 }

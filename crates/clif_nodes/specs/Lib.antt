@@ -1,3 +1,4 @@
+pub mod Aliases
 pub mod Links
 pub mod Nodes
 pub mod Packed

@@ -2,9 +2,11 @@
 //!
 //! What `clif_ir` above makes into a function is plain data here: values, instructions and blocks by their numbers
 //! (`specs/Nodes.antt`), the links from instruction to instruction (`specs/Links.antt`) and from block to block
-//! (`specs/Places.antt`), the numbers that come next and the room for them. Nothing here knows what holds of a whole function.
+//! (`specs/Places.antt`), the aliases of values in order (`aliases`), the numbers that come next and the room for them.
+//! Nothing here knows what holds of a whole function.
 #![tactic(auto)]
 
+pub mod aliases;
 pub mod growth;
 pub mod inst_links;
 pub mod links;

@@ -1,6 +1,5 @@
-use Rattle.std.proofs.Common.{◌≡◌, ◌≢◌, ◌∙◌, ◌<◌, ℕ, List, length, set, ap, sym, subst, refl, arith}
+use Rattle.std.proofs.Common.{◌≡◌, ◌≢◌, ◌∙◌, ◌+◌, ◌<◌, ◌≤◌, ℕ, List, length, set, ap, sym, subst, refl, arith}
 use Rattle.std.proofs.lemmas.Grind.{common_steps}
-use Rattle.std.proofs.lemmas.Map.Lookups.{exact_pairs, exact_unsigned}
 use Rattle.clif_nodes.specs.declared.nodes.ValueNode.{ValueNode}
 use Rattle.clif_nodes.specs.declared.nodes.ValueOrigin.TheVariants.{Param, Alias}
 use Rattle.clif_nodes.specs.Links.{blocks_of}
@@ -9,7 +8,7 @@ use Rattle.clif_instructions.specs.Members.{without}
 use Rattle.clif_ir.specs.Body.{Body, block_at, value_at, resolved, alias_of_origin}
 use Rattle.clif_ir.specs.Changes.{with_alias, home_of}
 use Rattle.clif_ir.specs.Whole.{body_of}
-use Rattle.clif_ir.proofs.KeepsListed.{listed_alias_with}
+use Rattle.clif_ir.proofs.KeepsListed.{listed_alias_with, listed_fewer}
 use Rattle.clif_ir.proofs.Keeps.{consistent_at}
 use Rattle.clif_ir.proofs.KeepsAlias.{with_alias_consistent}
 use Rattle.clif_ir.proofs.Rows.{ends_written, params_read, params_written}
@@ -43,6 +42,15 @@ made c =
     (params_written c.self.inside.blocks.items c.self.inside.inst_links.items b c.index.result c.index_mut.result.now at (exists c) c.index_mut.ensures.value c.remove.new.self)
     ∙ ap (λ (vs : List ValueNode). record f { values = vs; blocks = blocks_of c.self.inside.inst_links.items (set c.self.inside.blocks.items c.index.result (record c.index_mut.result.now { params = c.remove.new.self })) }) values
 
+pub insert-requires : goal.insert-requires
+insert-requires c =
+    let param : (value_at (body_of c.self.inside) c.args.param).origin ≡ Param (home_of (value_at (body_of c.self.inside) c.args.param).origin) =
+    subst (λ (f : Body). (value_at f c.args.param).origin ≡ Param (home_of (value_at f c.args.param).origin)) (sym c.self.view_is) c.requires.is_param in
+    let inside : c.args.param < length c.self.inside.values.items = subst (λ (f : Body). c.args.param < length f.values) (sym c.self.view_is) c.requires.param_exists in
+    let fewer : length c.self.inside.aliases + 1 ≤ length c.self.inside.values.items =
+    listed_fewer c.self.inside.values.items c.args.param _ inside (ap alias_of_origin param) c.self.invariant.listed in
+    omega (arith, fewer, c.self.invariant.consistent.values_fit)
+
 pub invariant_of-self-2 : goal.invariant_of-self-2
 invariant_of-self-2 c =
     let at : After-index_mut-2 = (goal.at.invariant_of-self-2 c).After-index_mut-2 in
@@ -52,8 +60,8 @@ invariant_of-self-2 c =
     record {
       linked = c.self.invariant.linked;
       listed = listed_alias_with c.self.inside.values.items _ c.args.param c.resolve_aliases-target.result
-          (record { ty = c.index_mut-2.result.now.ty; origin = Alias c.resolve_aliases-target.result }) _ _ _ c.in_ok-insert.ensures.keys (grind (arith, common_steps))
-          (exact_pairs _ _ exact_unsigned exact_unsigned) (grind (arith, common_steps)) (ap alias_of_origin param) refl c.self.invariant.listed;
+          (record { ty = c.index_mut-2.result.now.ty; origin = Alias c.resolve_aliases-target.result }) _ _ c.in_ok-insert.ensures.ok (grind (arith, common_steps))
+          (grind (arith, common_steps)) (ap alias_of_origin param) refl c.self.invariant.listed;
       consistent = consistent_at (with_alias (body_of c.self.inside) c.args.param c.args.original) _ (made at)
           (with_alias_consistent _ _ _ _ c.self.invariant.consistent (grind (arith, common_steps)) param (grind (arith, common_steps)) apart);
       threaded =
