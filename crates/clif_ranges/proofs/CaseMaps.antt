@@ -31,7 +31,7 @@ not_equal true none = absurd (none refl)
 not_equal false none = refl
 
 -- two keys tie where they are one
-key_test : (q k : ℕ) → eq_by_cmp nat_cmp q k ≡ (q == k)
+pub key_test : (q k : ℕ) → eq_by_cmp nat_cmp q k ≡ (q == k)
 key_test q k =
     elim (cases_eq q k) [
       | inl same ↦ ap (λ n. eq_by_cmp nat_cmp n k) same ∙ ap is_eq (tied_itself nat_cmp_total k) ∙ sym (eq-eqb q k same)

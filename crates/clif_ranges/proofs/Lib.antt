@@ -3,7 +3,7 @@ pub mod Gathering
 pub mod Fewest
 pub mod CaseMaps
 pub mod Tables
-pub mod Greatest
 pub mod Searching
 pub mod Separate
 pub mod Keys
+pub mod GreatestKey

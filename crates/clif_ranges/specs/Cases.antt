@@ -47,9 +47,13 @@ pub record AreRangesFor (cases : CaseMap) (ty : «Type») (ranges : List CaseRan
   pub ranges_of : AreRangesOf (map.entries cases) ranges
   pub tables : All FitsTable ranges
 
--- the last case has this key, and it is no number of the type
+-- the last case has this key
+abbrev pub IsGreatestKey : CaseMap → ℕ → Type 0
+IsGreatestKey cases max = (front : List (ℕ × ℕ)) × (block : ℕ) × (map.entries cases ≡ front ++ (max, block) ∷ [])
+
+-- the same, and the key is no number of the type
 abbrev pub IsKeyTooWide : CaseMap → «Type» → ℕ → Type 0
-IsKeyTooWide cases ty max = (greatest_of ty false < max) × (front : List (ℕ × ℕ)) × (block : ℕ) × (map.entries cases ≡ front ++ (max, block) ∷ [])
+IsKeyTooWide cases ty max = (greatest_of ty false < max) × IsGreatestKey cases max
 
 -- the cases are refused so: first for their greatest key, and then for a range that is too long
 abbrev pub IsRefusal : CaseMap → «Type» → SwitchError → Type 0

@@ -1,9 +1,9 @@
 //! The cases of a switch.
 #![tactic(auto)]
 
-ghost use Rattle.std.specs.Prelude.{◌≡◌, ◌≢◌, ◌↔◌, ◌⊎◌, All, IfErr, IfOk, IsTrue, MatchBool, OnErr, OnOk};
+ghost use Rattle.std.specs.Prelude.{◌≡◌, ◌≢◌, ◌↔◌, ◌⊎◌, ◌≤◌, ℕ, [], All, IfErr, IfOk, IfSome, IsTrue, MatchBool, MatchOption, OnErr, OnOk};
 ghost use Rattle.std.specs.FinMap as map;
-ghost use Rattle.clif_ranges.specs.Cases.{cases_in, CaseMap, case_map_code, AreRangesFor, FitsTable, IsRefusal};
+ghost use Rattle.clif_ranges.specs.Cases.{cases_in, CaseMap, case_map_code, AreRangesFor, FitsTable, IsGreatestKey, IsKeyTooWide, IsRefusal};
 ghost use Rattle.clif_ranges.specs.Ranges.{AreFewest};
 ghost use Rattle.clif_types.specs.declared.types.«Type».TheVariants.{Invalid};
 ghost use Rattle.clif_ranges.specs.declared.error.SwitchError.TheVariants as SwitchError;
@@ -67,6 +67,14 @@ impl Cases {
         }
     }
 
+    // The greatest key that has a case.
+    fn greatest_key(&self) -> Option<u128>
+        ensures greatest { MatchOption result (map.entries self.now ≡ []) (IsGreatestKey self.now) }
+        ensures above { IfSome result (λ max. All (λ case. case.0 ≤ max) (map.entries self.now)) }
+    {
+        self.blocks.keys().copied().max()
+    }
+
     // The cases by rising keys.
     fn sorted(&self, alloc: Global) -> Result<BTreeMap<u128, Block>, AllocError>
         ensures { IfOk result (λ sorted. sorted.entries ≡ map.entries self.now) }
@@ -81,21 +89,21 @@ impl Cases {
     ///
     /// # Errors
     ///
-    /// `KeyTooWide` where the greatest key isn't an unsigned number of the bits of the type, or of its lane; else `TableTooLong`
-    /// where a range has 2^32 keys or more. Or `Build(Memory)`, where memory is refused.
+    /// `KeyTooWide`, exactly where the greatest key isn't an unsigned number of the bits of the type, or of its lane. Else `TableTooLong`,
+    /// where a range has 2^32 keys or more; or `Build(Memory)`, where memory is refused.
     pub fn ranges(&self, alloc: Global, ty: Type) -> Result<Vec<CaseRange>, SwitchError>
         requires { ty ≢ Invalid }
         ensures ok { IfOk result (λ ranges. AreRangesFor self.now ty ranges.items) }
         ensures fewest { IfOk result (λ ranges. AreFewest ranges.items) }
         ensures err { IfErr result (IsRefusal self.now ty) }
+        ensures too_wide { (max : ℕ) → (result ≡ Err (SwitchError.KeyTooWide ty max)) ↔ IsKeyTooWide self.now ty max }
     {
-        let sorted = self.sorted(alloc)?;
-        if let Some((max, _)) = sorted.last_key_value() {
-            let max = *max;
+        if let Some(max) = self.greatest_key() {
             if max > ty.bounds(false).1 {
                 return Err(SwitchError::KeyTooWide { ty, max });
             }
         }
+        let sorted = self.sorted(alloc)?;
         let ranges = ranges_of(alloc, &sorted)?;
         if has_too_long(ranges.as_slice()) {
             return Err(SwitchError::TableTooLong);

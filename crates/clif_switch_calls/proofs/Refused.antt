@@ -234,7 +234,7 @@ module _ (cases : CaseMap) (ty : «Type») where
   too_great : (max : ℕ) → IsRefusal cases ty (switch_error.KeyTooWide ty max) → keys_refusal ty keys ≡ Some TooGreat
   too_great max is =
       refusal_is true (list_any (is_too_long keys) keys)
-      (ap (λ (entries : List (ℕ × ℕ)). list_any (nat_lt (greatest_of ty false)) (keys_of entries)) is.1.3 ∙ last_greater (greatest_of ty false) max is.1.2 is.1.1 is.1.0) refl
+      (ap (λ (entries : List (ℕ × ℕ)). list_any (nat_lt (greatest_of ty false)) (keys_of entries)) is.1.1.2 ∙ last_greater (greatest_of ty false) max is.1.1.1 is.1.1.0 is.1.0) refl
 
   fits_type : All (λ (case : ℕ × ℕ). case.0 ≤ greatest_of ty false) (finite.entries cases) → list_any (nat_lt (greatest_of ty false)) keys ≡ false
   fits_type fit = none_greater (greatest_of ty false) (finite.entries cases) (recursion_from_All (λ (case : ℕ × ℕ). case.0 ≤ greatest_of ty false) (finite.entries cases) fit)
