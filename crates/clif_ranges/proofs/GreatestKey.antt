@@ -1,5 +1,5 @@
 -- The greatest key of a map's entries is the last one by order.
-use Rattle.std.proofs.Common.{◌≡◌, ℕ, zero, suc, ◌<◌, ◌≤◌, ◌⊎◌, inl, inr, List, [], ◌∷◌, ◌++◌, length, get_or, Option, Some, None, true, false, T, Bool, cond, ◌&&◌, refl, sym, ap, subst, ◌∙◌, arith, eq-eqb}
+use Rattle.std.proofs.Common.{◌≡◌, ℕ, zero, suc, ◌<◌, ◌≤◌, ◌⊎◌, inl, inr, List, [], ◌∷◌, ◌++◌, Option, Some, true, false, T, Bool, cond, ◌&&◌, refl, sym, ap, subst, ◌∙◌, arith, eq-eqb}
 use Rattle.std.specs.Prelude.{All, IfSome, MatchOption, is_some, max}
 use Rattle.std.specs.List.{fold, reduce}
 use Rattle.std.specs.Map.{keys_of}

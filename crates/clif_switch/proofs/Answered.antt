@@ -1,10 +1,11 @@
 -- What emitting a switch makes of a builder, by what its nodes make of it.
-use Rattle.std.proofs.Common.{◌≡◌, ◌≤◌, ◌+◌, inl, inr, ℕ, List, [], ◌∷◌, ◌++◌, length, map, refl, sym, ◌∙◌, ap, subst, arith, append-nil, Option, Some, None}
-use Rattle.std.specs.Prelude.{All, Contains, IsTrue, Result, Ok, Err, is_some, option_map, replicate}
+use Rattle.std.proofs.Common.{◌≡◌, ◌≤◌, ◌+◌, inl, inr, true, false, ℕ, List, [], ◌∷◌, ◌++◌, length, map, refl, sym, ◌∙◌, ap, subst, arith, append-nil, Option, Some, None}
+use Rattle.std.specs.Prelude.{◌↔◌, All, Contains, IsTrue, Result, Ok, Err, is_some, option_map, replicate}
 use Rattle.std.specs.FinMap as finite
+use Rattle.std.proofs.lemmas.List.{get_or-append-add, length-append}
 use Rattle.std.proofs.lemmas.List.Elements.{All-contains, All-contains_itself}
 use Rattle.clif_types.specs.Signature.{SignatureShape}
-use Rattle.clif_types.specs.Types.{is_int}
+use Rattle.clif_types.specs.Types.{greatest_of, is_int}
 use Rattle.clif_types.specs.declared.error.BuildError.{BuildError}
 use Rattle.clif_types.specs.declared.error.BuildError.TheVariants.{Failed}
 use Rattle.clif_types.specs.declared.types.«Type».{«Type»}
@@ -13,7 +14,7 @@ use Rattle.clif_ranges.specs.declared.ranges.CaseRange.{CaseRange}
 use Rattle.clif_ranges.specs.declared.search.Node.{Node}
 use Rattle.clif_ranges.specs.declared.error.SwitchError.{SwitchError}
 use Rattle.clif_ranges.specs.declared.error.SwitchError.TheVariants as switch_error
-use Rattle.clif_ranges.specs.Cases.{AreRangesFor, CaseMap}
+use Rattle.clif_ranges.specs.Cases.{AreRangesFor, CaseMap, FitType, IsKeyTooWide, IsRefusal}
 use Rattle.clif_ranges.specs.Ranges.{AreFewest}
 use Rattle.clif_ranges.specs.Search.{AreInOrder, AreTestsOf, FindsCases}
 use Rattle.clif_meaning.specs.Ledger.{has_block, type_of}
@@ -29,7 +30,7 @@ use Rattle.clif_switch_calls.specs.SwitchCalls.{Switched, nodes_calls}
 use Rattle.clif_switch_calls.specs.SwitchLaw.{MaySwitch, SearchesCases, SwitchCallsAreCode, case_edges, case_keys, switch_calls}
 use Rattle.clif_expansion.specs.Switching.{IsSwitchCode}
 use Rattle.clif_switch.specs.Emission.{EndsBlock, MakesNodes, StandsAt, StandsOn, Steps, next_place, tables_at, tables_in}
-use Rattle.clif_switch.specs.Switches.{Emits, IsCodeOf, MayEmit, NamesSwitch}
+use Rattle.clif_switch.specs.Switches.{Emits, IsCodeOf, IsUnemitted, MayEmit, NamesSwitch}
 use Rattle.clif_switch.proofs.Cases.{all_cases, blocks_of_cases, each_case, tables_are}
 use Rattle.clif_switch.proofs.Names.{as_many}
 use Rattle.clif_switch.proofs.Numbers.{type_is}
@@ -43,18 +44,35 @@ same_error e y same = cc
 same_failure : (e y : BuildError) → ◌≡◌ {A = Result (Unit {0}) BuildError} (Err e) (Err y) → e ≡ y
 same_failure e y same = cc
 
+-- keys that are numbers of the type aren't too wide
+pub none_too_wide : (cases : CaseMap) (ty : «Type») → FitType cases ty → (max : ℕ) → IsKeyTooWide cases ty max → ⊥
+none_too_wide cases ty fit max (over, last) =
+    let front : List (ℕ × ℕ) = last.0 in
+    let block : ℕ = last.1 in
+    let all = subst (λ (entries : List (ℕ × ℕ)). All (λ case. case.0 ≤ greatest_of ty false) entries) last.2 fit in
+    let long = length-append front ((max, block) ∷ []) in
+    let least = all (length front + 0) (0, 0) (omega (arith, long)) in
+    let same = ap (λ (case : ℕ × ℕ). case.0) (get_or-append-add front ((max, block) ∷ []) 0 (0, 0)) in
+    omega (arith, least, same, over)
+
+no_key_error : (e : BuildError) (ty : «Type») (max : ℕ) → ◌≡◌ {A = Result (Unit {0}) SwitchError} (Err (switch_error.Build e)) (Err (switch_error.KeyTooWide ty max)) → ⊥
+no_key_error e ty max same = cc
+
 -- something failed as it was built
-pub failed_by : (cases : CaseMap) (value otherwise : ℕ) (old new : FunctionBuilder) (e : BuildError) → Steps {A = Unit {0}} old new (Err e) → Emits cases value otherwise old new (Err (switch_error.Build e))
-failed_by cases value otherwise old new e steps = record {
+pub failed_by : (cases : CaseMap) (value otherwise : ℕ) (old new : FunctionBuilder) (e : BuildError) → ((max : ℕ) → old.failed ≡ false → IsKeyTooWide cases (value_at old.func.now value).ty max → ⊥)
+    → Steps {A = Unit {0}} old new (Err e) → Emits cases value otherwise old new (Err (switch_error.Build e))
+failed_by cases value otherwise old new e fits steps = record {
   loans = steps.loans;
   srcloc = steps.srcloc;
   failed = (λ is. steps.failed.0 (ap Err (same_error e Failed is)), λ is. ap (λ (y : BuildError). Err (switch_error.Build y)) (same_failure e Failed (steps.failed.1 is)));
   unchanged = steps.unchanged;
   errors = steps.fails;
+  too_wide = λ max. (λ is. absurd (no_key_error e _ max is), λ wide. absurd (fits max wide.0 wide.1));
   sound = tt;
   looks_once = steps.looks_once;
   variables = steps.variables;
   grows = tt;
+  remembers = λ x b. tt;
   types = tt;
   exceptions = tt;
   tables = tt;
@@ -63,6 +81,96 @@ failed_by cases value otherwise old new e steps = record {
   free = tt;
   stands = λ signature calls s block stands current named. tt;
 }
+
+-- REFUSALS ----------------------------------------------------------------------------------------------------------------
+
+same_key : {A : Type 0} (ty : «Type») (m n : ℕ) → ◌≡◌ {A = Result A SwitchError} (Err (switch_error.KeyTooWide ty m)) (Err (switch_error.KeyTooWide ty n)) → m ≡ n
+same_key ty m n same = cc
+
+-- what is said of keys that are refused
+abbrev pub Refuses : (A : Type 0) → CaseMap → «Type» → SwitchError → Type 0
+Refuses A cases ty error = IsRefusal cases ty error × ((max : ℕ) → ◌≡◌ {A = Result A SwitchError} (Err error) (Err (switch_error.KeyTooWide ty max)) ↔ IsKeyTooWide cases ty max)
+
+-- the same of the cases as a switch has them, and of the type as the builder holds it
+pub refuses_of : {A : Type 0} (inside cases : CaseMap) (read held : «Type») (error : SwitchError) → inside ≡ cases → read ≡ held → IsRefusal inside read error
+    → ((max : ℕ) → ◌≡◌ {A = Result A SwitchError} (Err error) (Err (switch_error.KeyTooWide read max)) ↔ IsKeyTooWide inside read max) → Refuses A cases held error
+refuses_of {A} inside cases read held error view same refused wide =
+    subst (λ (m : CaseMap). Refuses A m held error) view (subst (λ (t : «Type»). Refuses A inside t error) same (refused, wide))
+
+-- where memory was refused, the keys aren't too wide
+pub memory_not_wide : {A : Type 0} (cases : CaseMap) (ty : «Type») (error : SwitchError) (e : BuildError) → error ≡ switch_error.Build e → Refuses A cases ty error → (max : ℕ) → IsKeyTooWide cases ty max → ⊥
+memory_not_wide {A} cases ty error e is refuses max wide = apart ((refuses.1 max).1 wide)
+  where
+    apart : ◌≡◌ {A = Result A SwitchError} (Err error) (Err (switch_error.KeyTooWide ty max)) → ⊥
+    apart same = cc
+
+module _ (cases : CaseMap) (value otherwise : ℕ) (b : FunctionBuilder) where
+  abbrev held : «Type»
+  held = (value_at b.func.now value).ty
+
+  -- nothing was emitted, and the builder is as it was
+  unemitted : (error : SwitchError) → IsUnemitted cases held b b error → (◌≡◌ {A = Result (Unit {0}) SwitchError} (Err error) (Err (switch_error.Build Failed)) ↔ IsTrue b.failed)
+      → ((max : ℕ) → ◌≡◌ {A = Result (Unit {0}) SwitchError} (Err error) (Err (switch_error.KeyTooWide held max)) ↔ ((b.failed ≡ false) × IsKeyTooWide cases held max))
+      → Emits cases value otherwise b b (Err error)
+  unemitted error why failed wide = record {
+    loans = record { func = refl; ctx = refl };
+    srcloc = refl;
+    failed = failed;
+    unchanged = λ is. refl;
+    errors = why;
+    too_wide = wide;
+    sound = tt;
+    looks_once = λ once. once;
+    variables = refl;
+    grows = tt;
+    remembers = λ x c. tt;
+    types = tt;
+    exceptions = tt;
+    tables = tt;
+    leaves = tt;
+    left = tt;
+    free = tt;
+    stands = λ signature calls s block stands current named. tt;
+  }
+
+  sound_not : b.failed ≡ false → IsTrue b.failed → ⊥
+  sound_not sound is = let true_is : b.failed ≡ true = is in cc
+
+  -- the builder had failed before
+  pub was_failed : IsTrue b.failed → Emits cases value otherwise b b (Err (switch_error.Build Failed))
+  was_failed is = unemitted (switch_error.Build Failed) is ((λ same. is), (λ failed. refl)) (λ max. ((λ same. absurd (no_key_error Failed held max same)), (λ wide. absurd (sound_not wide.0 is))))
+
+  -- the greatest key is no number of the type
+  pub key_too_wide : {A : Type 0} (error : SwitchError) (t answered : «Type») (max : ℕ) → b.failed ≡ false → error ≡ switch_error.KeyTooWide t max → Refuses A cases held error → answered ≡ held
+      → Emits cases value otherwise b b (Err (switch_error.KeyTooWide answered max))
+  key_too_wide {A} error t answered max sound is refuses same =
+      subst (λ (ty : «Type»). Emits cases value otherwise b b (Err (switch_error.KeyTooWide ty max))) (sym same)
+      (unemitted (switch_error.KeyTooWide held max) ((refl, wide_here), refl) ((λ other. absurd (not_failed_before other)), (λ failed. absurd (sound_not sound failed)))
+      (λ m. (
+        (λ other. (sound, subst (IsKeyTooWide cases held) (same_key held max m other) wide_here)),
+        (λ wide. ap (λ (k : ℕ). Err (switch_error.KeyTooWide held k)) (told_key m ((refuses.1 m).1 wide.1))),
+      )))
+    where
+      wide_here : IsKeyTooWide cases held max
+      wide_here = (subst (IsRefusal cases held) is refuses.0).1
+
+      told_key : (m : ℕ) → ◌≡◌ {A = Result A SwitchError} (Err error) (Err (switch_error.KeyTooWide held m)) → max ≡ m
+      told_key m other = cc
+
+      not_failed_before : ◌≡◌ {A = Result (Unit {0}) SwitchError} (Err (switch_error.KeyTooWide held max)) (Err (switch_error.Build Failed)) → ⊥
+      not_failed_before other = cc
+
+  -- a range is too long
+  pub table_too_long : b.failed ≡ false → IsRefusal cases held switch_error.TableTooLong → Emits cases value otherwise b b (Err switch_error.TableTooLong)
+  table_too_long sound refused =
+      unemitted switch_error.TableTooLong (refused, refl) ((λ same. absurd (other same)), (λ failed. absurd (sound_not sound failed)))
+      (λ m. ((λ same. absurd (no_key m same)), (λ wide. absurd (none_too_wide cases held refused.0 m wide.1))))
+    where
+      other : ◌≡◌ {A = Result (Unit {0}) SwitchError} (Err switch_error.TableTooLong) (Err (switch_error.Build Failed)) → ⊥
+      other same = cc
+
+      no_key : (m : ℕ) → ◌≡◌ {A = Result (Unit {0}) SwitchError} (Err switch_error.TableTooLong) (Err (switch_error.KeyTooWide held m)) → ⊥
+      no_key m same = cc
 
 -- THE CODE ----------------------------------------------------------------------------------------------------------------
 
@@ -170,10 +278,12 @@ module _ (reads : LedgerIsReadByNumber) (asks : RequestsAskForTheirShapes) (code
     failed = (λ is. absurd (no_failure is), λ is. absurd (no_error (ends.steps.failed.1 is)));
     unchanged = ends.steps.unchanged;
     errors = tt;
+    too_wide = λ max. (λ is. absurd (no_key max is), λ wide. absurd (none_too_wide cases (value_at old.func.now value).ty fits.fit max wide.1));
     sound = ends.steps.fails;
     looks_once = ends.steps.looks_once;
     variables = ends.steps.variables;
     grows = ends.steps.grows;
+    remembers = ends.steps.remembers;
     types = ends.steps.types;
     exceptions = ends.steps.exceptions;
     tables = ends.tables ∙ ap (λ (n : ℕ). old.func.now.tables.jump_tables ++ replicate n None) (tables_are entries ranges fits.ranges_of nodes tests);
@@ -185,6 +295,9 @@ module _ (reads : LedgerIsReadByNumber) (asks : RequestsAskForTheirShapes) (code
     where
       no_failure : ◌≡◌ {A = Result (Unit {0}) SwitchError} (Ok tt) (Err (switch_error.Build Failed)) → ⊥
       no_failure same = cc
+
+      no_key : (max : ℕ) → ◌≡◌ {A = Result (Unit {0}) SwitchError} (Ok tt) (Err (switch_error.KeyTooWide (value_at old.func.now value).ty max)) → ⊥
+      no_key max same = cc
 
       no_error : ◌≡◌ {A = Result (Unit {0}) BuildError} (Ok tt) (Err Failed) → ⊥
       no_error same = cc

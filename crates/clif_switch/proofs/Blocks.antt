@@ -17,7 +17,7 @@ use Rattle.clif_builder.specs.declared.context.BlockStatus.TheVariants.{Empty, F
 use Rattle.clif_builder.specs.Builder.{HasCurrent}
 use Rattle.clif_builder.specs.Built.{Builds, BuildsValue}
 use Rattle.clif_builder.specs.Calls.{IsCall, answered}
-use Rattle.clif_builder.specs.Growth.{Grows}
+use Rattle.clif_builder.specs.Growth.{Grows, RemembersIn}
 use Rattle.clif_builder.specs.Ledger.{NamesBlock, ledger_of}
 use Rattle.clif_builder.specs.LedgerLaws.{LedgerIsReadByNumber}
 use Rattle.clif_builder.specs.Order.{IsUntouched}
@@ -68,10 +68,10 @@ module _ (reads : LedgerIsReadByNumber) {signature : SignatureShape} {calls : Li
       }
 
 -- a block was created
-pub created_went : (old new : FunctionBuilder) (block : ℕ) → IsCall old new (Ok block) → new.ctx.now.variables ≡ old.ctx.now.variables → Grows old.func.now new.func.now → SameBlocks old.ctx.now.ssa new.ctx.now.ssa
+pub created_went : (old new : FunctionBuilder) (block : ℕ) → IsCall old new (Ok block) → new.ctx.now.variables ≡ old.ctx.now.variables → Grows old.func.now new.func.now → ((x b : ℕ) → RemembersIn x b old new) → SameBlocks old.ctx.now.ssa new.ctx.now.ssa
     → HasCurrent new → Went old new
-created_went old new block call variables grows sealed current = record {
-  steps = steps_ok old new block (tt {0}) (call_steps old new (Ok block) call variables grows);
+created_went old new block call variables grows remembers sealed current = record {
+  steps = steps_ok old new block (tt {0}) (call_steps old new (Ok block) call variables grows remembers);
   position = call.position;
   leaves = record {
     seals = λ b inside. ap is_yes (sealed b);

@@ -41,6 +41,7 @@ set_steps {A} old new tables answer kept sets = record {
   looks_once = sets.call.looks_once;
   variables = ap (λ c. c.variables) sets.context;
   grows = sets.grows;
+  remembers = sets.remembers;
   types = sets.call.types;
   exceptions = by answer sets.function;
 }

@@ -1,6 +1,7 @@
 -- Steps one behind the other.
-use Rattle.std.proofs.Common.{◌≡◌, ◌≤◌, ℕ, true, false, refl, sym, ◌∙◌, ap, arith}
+use Rattle.std.proofs.Common.{◌≡◌, ◌≤◌, ℕ, true, false, refl, sym, ◌∙◌, ap, subst, arith}
 use Rattle.std.specs.Prelude.{IsTrue, length, Result, Ok, Err, OnOk}
+use Rattle.std.specs.Result.{IsErrAnd}
 use Rattle.clif_types.specs.declared.error.BuildError.{BuildError}
 use Rattle.clif_types.specs.declared.error.BuildError.TheVariants.{Failed}
 use Rattle.clif_types.specs.declared.types.«Type».{«Type»}
@@ -9,10 +10,11 @@ use Rattle.clif_ir.specs.Body.{Body}
 use Rattle.clif_records.specs.Tables.{is_yes}
 use Rattle.clif_ssa.specs.Ssa.{SsaState, sealed_of}
 use Rattle.clif_builder.specs.declared.builder.FunctionBuilder.{FunctionBuilder}
+use Rattle.clif_builder.specs.Builder.{with_position}
 use Rattle.clif_builder.specs.Built.{Builds, BuildsValue}
 use Rattle.clif_builder.specs.Calls.{IsCall}
 use Rattle.clif_builder.specs.Context.{FillsNone}
-use Rattle.clif_builder.specs.Growth.{Grows, GrowsBesideTables, TypesStay}
+use Rattle.clif_builder.specs.Growth.{Grows, GrowsBesideTables, RemembersIn, TypesStay}
 use Rattle.clif_switch.specs.Emission.{LeavesBlocks, MayLead, Steps}
 
 -- GROWTH ------------------------------------------------------------------------------------------------------------------
@@ -26,6 +28,12 @@ grows_on f g h first next =
 
 pub types_on : (f g h : Body) → length f.values ≤ length g.values → TypesStay f g → TypesStay g h → TypesStay f h
 types_on f g h more first next v inside = next v (omega (arith, more, inside)) ∙ first v inside
+
+pub remembers_on : (x b : ℕ) (old mid new : FunctionBuilder) → RemembersIn x b old mid → RemembersIn x b mid new → RemembersIn x b old new
+remembers_on x b old mid new first next = record {
+  recorded = λ v is. next.recorded v (first.recorded v is);
+  alike = λ u v same. next.alike u v (first.alike u v same);
+}
 
 -- STEPS -------------------------------------------------------------------------------------------------------------------
 
@@ -59,6 +67,8 @@ module _ {A B : Type 0} (old mid new : FunctionBuilder) (a : A) (answer : Result
     variables = next.variables ∙ first.variables;
     grows = both (GrowsBesideTables old.func.now mid.func.now) (GrowsBesideTables mid.func.now new.func.now) (GrowsBesideTables old.func.now new.func.now) answer
         (grows_on old.func.now mid.func.now new.func.now) first.grows next.grows;
+    remembers = λ x b.
+        both (RemembersIn x b old mid) (RemembersIn x b mid new) (RemembersIn x b old new) answer (remembers_on x b old mid new) (first.remembers x b) (next.remembers x b);
     types = both (TypesStay old.func.now mid.func.now) (TypesStay mid.func.now new.func.now) (TypesStay old.func.now new.func.now) answer
         (types_on old.func.now mid.func.now new.func.now first.grows.0) first.types next.types;
     exceptions = both (mid.func.now.tables.exception_tables ≡ old.func.now.tables.exception_tables) (new.func.now.tables.exception_tables ≡ mid.func.now.tables.exception_tables)
@@ -76,6 +86,7 @@ steps_ok old new a b steps = record {
   looks_once = steps.looks_once;
   variables = steps.variables;
   grows = steps.grows;
+  remembers = steps.remembers;
   types = steps.types;
   exceptions = steps.exceptions;
 }
@@ -93,6 +104,7 @@ steps_err old new e steps = record {
   looks_once = steps.looks_once;
   variables = steps.variables;
   grows = tt;
+  remembers = λ x b. tt;
   types = tt;
   exceptions = tt;
 }
@@ -108,9 +120,35 @@ steps_none b a sound = record {
   looks_once = λ once. once;
   variables = refl;
   grows = (omega arith, omega arith, omega arith, refl, refl, omega arith, λ entry here. here);
+  remembers = λ x c. record { recorded = λ v is. is; alike = λ u v same. same };
   types = λ v inside. refl;
   exceptions = refl;
 }
+
+-- a step failed, and so did what was to be made by it
+pub steps_fails : {A B : Type 0} (old new : FunctionBuilder) (r : Result A BuildError) (e : BuildError) → Steps {A = B} old new (Err e) → IsErrAnd r (λ y. y ≡ e) → Steps {A = A} old new r
+steps_fails old new (Ok a) e steps is = absurd is
+steps_fails {A} old new (Err y) e steps is = subst (λ (error : BuildError). Steps {A = A} old new (Err error)) (sym is) (steps_err old new e steps)
+
+-- another block becomes the current one
+positioned : (b : FunctionBuilder) (block : ℕ) → b.failed ≡ false → Steps {A = Unit {0}} b (with_position b block) (Ok tt)
+positioned b block sound = record {
+  loans = record { func = refl; ctx = refl };
+  srcloc = refl;
+  failed = (λ is. absurd (not_failed (tt {0}) is), λ is. let true_is : b.failed ≡ true = is in cc);
+  unchanged = λ is. absurd (let true_is : b.failed ≡ true = is in cc);
+  fails = sound;
+  looks_once = λ once. once;
+  variables = refl;
+  grows = (omega arith, omega arith, omega arith, refl, refl, omega arith, λ entry here. here);
+  remembers = λ x c. record { recorded = λ v is. is; alike = λ u v same. same };
+  types = λ v inside. refl;
+  exceptions = refl;
+}
+
+pub entered_steps : (old mid new : FunctionBuilder) (u : Unit {0}) (block : ℕ) → Steps {A = Unit {0}} old mid (Ok u) → new ≡ with_position mid block → Steps {A = Unit {0}} old new (Ok tt)
+entered_steps old mid new u block first is =
+    subst (λ (b : FunctionBuilder). Steps {A = Unit {0}} old b (Ok tt)) (sym is) (steps_on old mid (with_position mid block) u (Ok tt) first (positioned mid block first.fails))
 
 -- ONE CALL ----------------------------------------------------------------------------------------------------------------
 
@@ -119,8 +157,8 @@ over P Q (Ok a) make p = make p
 over P Q (Err e) make p = tt
 
 pub call_steps : {A : Type 0} (old new : FunctionBuilder) (answer : Result A BuildError) → IsCall old new answer → new.ctx.now.variables ≡ old.ctx.now.variables
-    → OnOk answer (Grows old.func.now new.func.now) → Steps old new answer
-call_steps old new answer call variables grows = record {
+    → OnOk answer (Grows old.func.now new.func.now) → ((x b : ℕ) → OnOk answer (RemembersIn x b old new)) → Steps old new answer
+call_steps old new answer call variables grows remembers = record {
   loans = call.loans;
   srcloc = call.srcloc;
   failed = call.failed;
@@ -129,6 +167,7 @@ call_steps old new answer call variables grows = record {
   looks_once = call.looks_once;
   variables = variables;
   grows = over (Grows old.func.now new.func.now) (GrowsBesideTables old.func.now new.func.now) answer (beside old.func.now new.func.now) grows;
+  remembers = remembers;
   types = call.types;
   exceptions = over (Grows old.func.now new.func.now) (new.func.now.tables.exception_tables ≡ old.func.now.tables.exception_tables) answer (λ g. g.8) grows;
 }
@@ -143,6 +182,7 @@ builds_steps old new shape ty answer builds = record {
   looks_once = builds.looks_once;
   variables = builds.variables;
   grows = over (Grows old.func.now new.func.now) (GrowsBesideTables old.func.now new.func.now) answer (beside old.func.now new.func.now) builds.grows;
+  remembers = builds.remembers;
   types = builds.types;
   exceptions = over (Grows old.func.now new.func.now) (new.func.now.tables.exception_tables ≡ old.func.now.tables.exception_tables) answer (λ g. g.8) builds.grows;
 }
@@ -157,6 +197,7 @@ value_steps old new shape ty answer builds = record {
   looks_once = builds.looks_once;
   variables = builds.variables;
   grows = over (Grows old.func.now new.func.now) (GrowsBesideTables old.func.now new.func.now) answer (beside old.func.now new.func.now) builds.grows;
+  remembers = builds.remembers;
   types = builds.types;
   exceptions = over (Grows old.func.now new.func.now) (new.func.now.tables.exception_tables ≡ old.func.now.tables.exception_tables) answer (λ g. g.8) builds.grows;
 }

@@ -26,7 +26,7 @@ use Rattle.clif_builder.specs.declared.builder.FunctionBuilder.{FunctionBuilder}
 use Rattle.clif_builder.specs.declared.context.BlockStatus.TheVariants.{Filled}
 use Rattle.clif_builder.specs.Builder.{HasCurrent, IsLeft, SameLoans, is_free}
 use Rattle.clif_builder.specs.Context.{FillsNone, status_of}
-use Rattle.clif_builder.specs.Growth.{GrowsBesideTables, TypesStay}
+use Rattle.clif_builder.specs.Growth.{GrowsBesideTables, RemembersIn, TypesStay}
 use Rattle.clif_builder.specs.Ledger.{NamesBlock, NamesValue, ledger_of}
 use Rattle.clif_builder.specs.StandsFor.{StandsFor}
 use Rattle.clif_expansion.specs.Emission.{building}
@@ -46,6 +46,7 @@ pub record Steps {A : Type 0} (old new : FunctionBuilder) (answer : Result A Bui
   pub looks_once : LooksOnce old.ctx.now.ssa → LooksOnce new.ctx.now.ssa
   pub variables : new.ctx.now.variables ≡ old.ctx.now.variables
   pub grows : OnOk answer (GrowsBesideTables old.func.now new.func.now)
+  pub remembers : (x b : ℕ) → OnOk answer (RemembersIn x b old new)
   pub types : OnOk answer (TypesStay old.func.now new.func.now)
   pub exceptions : OnOk answer (new.func.now.tables.exception_tables ≡ old.func.now.tables.exception_tables)
 

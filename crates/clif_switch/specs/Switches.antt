@@ -10,14 +10,14 @@ use Rattle.clif_ir.specs.Body.{value_at}
 use Rattle.clif_ranges.specs.declared.ranges.CaseRange.{CaseRange}
 use Rattle.clif_ranges.specs.declared.error.SwitchError.{SwitchError}
 use Rattle.clif_ranges.specs.declared.error.SwitchError.TheVariants as switch_error
-use Rattle.clif_ranges.specs.Cases.{AreRangesFor, CaseMap, IsRefusal}
+use Rattle.clif_ranges.specs.Cases.{AreRangesFor, CaseMap, IsKeyTooWide, IsRefusal}
 use Rattle.clif_ranges.specs.Ranges.{AreFewest}
 use Rattle.clif_meaning.specs.Ledger.{type_of}
 use Rattle.clif_meaning.specs.Name.{Name}
 use Rattle.clif_meaning.specs.Request.{AnsweredCall, script_of}
 use Rattle.clif_builder.specs.declared.builder.FunctionBuilder.{FunctionBuilder}
 use Rattle.clif_builder.specs.Builder.{HasCurrent, IsLeft, SameLoans, is_free}
-use Rattle.clif_builder.specs.Growth.{GrowsBesideTables, TypesStay}
+use Rattle.clif_builder.specs.Growth.{GrowsBesideTables, RemembersIn, TypesStay}
 use Rattle.clif_builder.specs.Ledger.{NamesBlock, NamesValue, ledger_of}
 use Rattle.clif_ssa.specs.Structure.{LooksOnce}
 use Rattle.clif_builder.specs.StandsFor.{StandsFor}
@@ -64,10 +64,15 @@ pub record Emits (cases : CaseMap) (value otherwise : ℕ) (old new : FunctionBu
   pub failed : (answer ≡ Err (switch_error.Build Failed)) ↔ IsTrue old.failed
   pub unchanged : IsTrue old.failed → new ≡ old
   pub errors : IfErr answer (IsUnemitted cases (value_at old.func.now value).ty old new)
+  -- the greatest key is looked at before anything else
+  pub too_wide : (max : ℕ) → (answer ≡ Err (switch_error.KeyTooWide (value_at old.func.now value).ty max))
+      ↔ ((old.failed ≡ false) × IsKeyTooWide cases (value_at old.func.now value).ty max)
   pub sound : OnOk answer (new.failed ≡ false)
   pub looks_once : LooksOnce old.ctx.now.ssa → LooksOnce new.ctx.now.ssa
   pub variables : new.ctx.now.variables ≡ old.ctx.now.variables
   pub grows : OnOk answer (GrowsBesideTables old.func.now new.func.now)
+  -- two uses of a variable in a block agree, with a switch between them
+  pub remembers : (x b : ℕ) → OnOk answer (RemembersIn x b old new)
   pub types : OnOk answer (TypesStay old.func.now new.func.now)
   pub exceptions : OnOk answer (new.func.now.tables.exception_tables ≡ old.func.now.tables.exception_tables)
   -- as many jump tables were made, each of which serves, as there are ranges of more than one key

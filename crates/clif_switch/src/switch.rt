@@ -79,9 +79,9 @@ impl Switch {
     ///
     /// # Errors
     ///
-    /// `KeyTooWide`, where the greatest index is no number of the value's type, and `TableTooLong`, where 2^32 indices or more are
-    /// consecutive: the builder is as it was then. `Build(Failed)`, exactly where the builder failed before; and the errors of the calls
-    /// that build instructions and blocks.
+    /// `Build(Failed)`, exactly where the builder failed before. `KeyTooWide`, exactly where it hadn't and the greatest index is no number
+    /// of the value's type, and `TableTooLong`, where 2^32 indices or more are consecutive: the builder is as it was then. And the errors
+    /// of the calls that build instructions and blocks.
     pub fn emit(
         self,
         bx: &mut FunctionBuilder<'_>,
@@ -101,8 +101,12 @@ impl Switch {
         let ty = bx.func().value_type(val);
         let ranges = match self.cases.ranges(alloc, ty) {
             Ok(ranges) => ranges,
+            Err(SwitchError::KeyTooWide { max, .. }) => {
+                return Err(SwitchError::KeyTooWide { ty, max });
+            }
+            Err(SwitchError::TableTooLong) => return Err(SwitchError::TableTooLong),
             Err(SwitchError::Build(_)) => return Err(SwitchError::Build(bx.refuse())),
-            Err(refusal) => return Err(refusal),
+            Err(SwitchError::SetTwice(_)) => unreachable!(),
         };
         let Ok(nodes) = search_tree(alloc, ranges.as_slice()) else {
             return Err(SwitchError::Build(bx.refuse()));

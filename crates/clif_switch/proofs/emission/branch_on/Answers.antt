@@ -13,7 +13,17 @@ use Rattle.clif_switch.specs.Emission.{next_place, number_named}
 use Rattle.clif_switch.proofs.Compared.{branch_made, with_number_made}
 use Rattle.clif_switch.proofs.Names.{on_then}
 use Rattle.clif_switch.proofs.Numbers.{asks_here, held_is}
+use Rattle.clif_switch.proofs.Blocks.{ends_by, ends_then}
+use Rattle.clif_switch.proofs.Values.{gives_went, value_went, went_then}
 use Rattle.clif_switch.proofs.emission.branch_on.Goals as goal
+
+pub returns-clause-ends : goal.returns-clause-ends
+returns-clause-ends c =
+    let number = c.in_ok-constant.ensures in
+    let went = went_then c.args.bx.now c.emit_number.new.bx c.icmp.new.self
+    (gives_went c.args.bx.now c.emit_number.new.bx c.args.switched.ty c.in_ok-constant.constant number.gives number.position)
+    (value_went c.emit_number.new.bx c.icmp.new.self _ _ c.in_ok-holds.holds c.in_ok-holds.ensures.built) in
+    ends_then 0 c.args.bx.now c.icmp.new.self c.brif.new.self (tt {0}) went (ends_by c.icmp.new.self c.brif.new.self _ _ c.in_ok-brif.field-0 refl c.in_ok-brif.ensures.built)
 
 pub returns-clause-made : goal.returns-clause-made
 returns-clause-made c = λ signature calls s cases plain at t o tn on.

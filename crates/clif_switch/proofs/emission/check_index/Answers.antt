@@ -1,6 +1,6 @@
 -- A block is created, a comparison built, and the branch.
 use Rattle.std.proofs.Common.{◌≡◌, ◌<◌, ◌≤◌, ℕ, pos, suc, [], ◌∷◌, ◌++◌, length, map, refl, sym, ◌∙◌, arith}
-use Rattle.std.specs.Prelude.{◌^◌, ◌-◌, Ok}
+use Rattle.std.specs.Prelude.{◌^◌, ◌-◌, Err, Ok}
 use Rattle.clif_types.specs.declared.condcodes.IntCC.TheVariants.{UnsignedGreaterThan}
 use Rattle.clif_inst_builder.specs.Shapes as shapes
 use Rattle.clif_meaning.specs.Instruction.{Compare}
@@ -12,17 +12,27 @@ use Rattle.clif_switch_calls.specs.SwitchCalls.{branching, i8, with_number, with
 use Rattle.clif_switch.specs.Emission.{next_place}
 use Rattle.clif_switch.proofs.Blocks.{block_made, created_open, created_went, elsewhere, ends_by, ends_error, ends_then, open_on, with_constant_went}
 use Rattle.clif_switch.proofs.Compared.{branch_made}
+use Rattle.clif_switch.proofs.Emitted.{fails_then}
 use Rattle.clif_switch.proofs.Indices.{small_made}
 use Rattle.clif_switch.proofs.Names.{on_then}
 use Rattle.clif_switch.proofs.Numbers.{held_is, one_after, small_plain, type_is, with_constant_gives}
 use Rattle.clif_switch.proofs.Values.{went_then}
 use Rattle.clif_switch.proofs.emission.check_index.Goals as goal
 
+pub returns-in_err-is_greater-clause-ends : goal.returns-in_err-is_greater-clause-ends
+returns-in_err-is_greater-clause-ends c =
+    let made = c.in_ok-block.ensures in
+    let went = created_went c.args.bx.now c.create_block.new.self c.in_ok-block.block made.call made.variables made.grows made.remembers made.sealed (made.current c.requires.current) in
+    let here : c.args.place < length c.create_block.new.self.func.now.values = let more = made.grows.0 in let inside = c.requires.exists in omega (arith, more, inside) in
+    let gives = with_constant_gives c.create_block.new.self c.icmp_imm_s.new.self (λ constant. shapes.int_compare UnsignedGreaterThan c.args.place constant) _ c.args.place _ i8 (Err c.in_err-is_greater.field-0.0)
+    here refl (λ constant. refl) c.in_err-is_greater.ensures.built in
+    fails_then 0 c.args.bx.now c.create_block.new.self c.icmp_imm_s.new.self c.from_residual-in_err-is_greater.result c.in_err-is_greater.field-0.0 went.steps gives.steps c.from_residual-in_err-is_greater.ensures.1
+
 pub returns-in_err-brif-clause-ends : goal.returns-in_err-brif-clause-ends
 returns-in_err-brif-clause-ends c =
     let made = c.in_ok-block.ensures in
     let went = went_then c.args.bx.now c.create_block.new.self c.icmp_imm_s.new.self
-    (created_went c.args.bx.now c.create_block.new.self c.in_ok-block.block made.call made.variables made.grows made.sealed (made.current c.requires.current))
+    (created_went c.args.bx.now c.create_block.new.self c.in_ok-block.block made.call made.variables made.grows made.remembers made.sealed (made.current c.requires.current))
     (with_constant_went c.create_block.new.self c.icmp_imm_s.new.self _ _ c.args.place _ c.in_ok-is_greater.is_greater c.in_ok-is_greater.ensures.built) in
     ends_error 0 c.args.bx.now c.icmp_imm_s.new.self c.brif.new.self c.from_residual-in_err-brif.result c.in_err-brif.field-0.0 _ _ went c.in_err-brif.ensures.built c.from_residual-in_err-brif.ensures.1
 
@@ -30,7 +40,7 @@ pub returns-clause-ends : goal.returns-clause-ends
 returns-clause-ends c =
     let made = c.in_ok-block.ensures in
     let went = went_then c.args.bx.now c.create_block.new.self c.icmp_imm_s.new.self
-    (created_went c.args.bx.now c.create_block.new.self c.in_ok-block.block made.call made.variables made.grows made.sealed (made.current c.requires.current))
+    (created_went c.args.bx.now c.create_block.new.self c.in_ok-block.block made.call made.variables made.grows made.remembers made.sealed (made.current c.requires.current))
     (with_constant_went c.create_block.new.self c.icmp_imm_s.new.self _ _ c.args.place _ c.in_ok-is_greater.is_greater c.in_ok-is_greater.ensures.built) in
     ends_then 0 c.args.bx.now c.icmp_imm_s.new.self c.brif.new.self c.in_ok-block.block went
     (ends_by c.icmp_imm_s.new.self c.brif.new.self _ _ c.in_ok-brif.field-0 refl c.in_ok-brif.ensures.built)

@@ -10,7 +10,7 @@ returns-then-is_err-clause-here c =
     let made = c.in_ok-block.ensures in
     stays_failed c.args.bx.now c.refuse.new.self c.refuse.result
     (refused_then c.args.bx.now c.create_block.new.self c.refuse.new.self c.refuse.result (shapes.unary_imm (pos 0)) type.Invalid
-    (created_went c.args.bx.now c.create_block.new.self c.in_ok-block.block made.call made.variables made.grows made.sealed (made.current c.requires.current)) (c.refuse.ensures.refused (shapes.unary_imm (pos 0)) type.Invalid))
+    (created_went c.args.bx.now c.create_block.new.self c.in_ok-block.block made.call made.variables made.grows made.remembers made.sealed (made.current c.requires.current)) (c.refuse.ensures.refused (shapes.unary_imm (pos 0)) type.Invalid))
 
 pub returns-clause-made : goal.returns-clause-made
 returns-clause-made c = λ signature calls s x otherwise cases plain at.

@@ -10,18 +10,47 @@ use Rattle.clif_ranges.specs.declared.ranges.CaseRange.{CaseRange}
 use Rattle.clif_ranges.specs.declared.search.Node.{Node}
 use Rattle.clif_ranges.specs.Search.{AreInOrder, AreSeparate, AreTestsOf, FindsCases}
 use Rattle.clif_ir.specs.Body.{Body, value_at}
-use Rattle.clif_ranges.specs.Cases.{AreRangesFor, CaseMap}
+use Rattle.clif_ranges.specs.Cases.{AreRangesFor, CaseMap, FitType, IsRefusal}
+use Rattle.clif_ranges.specs.declared.error.SwitchError.TheVariants.{TableTooLong as too_long}
 use Rattle.clif_ranges.specs.Ranges.{AreFewest, AreRangesOf}
 use Rattle.clif_switch.specs.Emission.{HasItsBlock, MakesNodes, MayLead, cases_in}
 use Rattle.clif_switch.proofs.Values.{done}
 use Rattle.clif_switch.proofs.Cases.{all_blocks, all_cases, all_hold, blocks_of_cases, each_case, separate}
-use Rattle.clif_switch.proofs.Answered.{emitted, failed_by}
+use Rattle.clif_switch.proofs.Answered.{emitted, failed_by, key_too_wide, memory_not_wide, none_too_wide, refuses_of, table_too_long, was_failed}
 use Rattle.clif_switch.proofs.Steps.{builds_steps, steps_err}
 use Rattle.clif_switch.proofs.switch.Switch.emit.Goals as goal
 
+-- the types of the value, as it was read and as it is held
+type_read : (f g : Body) (v : ℕ) (ty : «Type») → ty ≡ (value_at g v).ty → g ≡ f → ty ≡ (value_at f v).ty
+type_read f g v ty read same = read ∙ ap (λ (h : Body). (value_at h v).ty) same
+
+-- what is said of the cases inside, of the type that was read, is said of the switch
+said_of : (P : CaseMap → «Type» → Type 0) (inside cases : CaseMap) (read held : «Type») → inside ≡ cases → read ≡ held → P inside read → P cases held
+said_of P inside cases read held view same said = subst (λ (m : CaseMap). P m held) view (subst (P inside) same said)
+
+pub returns-then-has_failed : goal.returns-then-has_failed
+returns-then-has_failed c = was_failed c.args.self c.args.val c.args.otherwise c.args.bx.now (sym c.has_failed.ensures ∙ c.if-has_failed.true)
+
+pub returns-in-Err-KeyTooWide : goal.returns-in-Err-KeyTooWide
+returns-in-Err-KeyTooWide c =
+    let read = type_read c.args.bx.now.func.now c.func-2.result.now c.args.val c.value_type-ty.result c.value_type-ty.ensures c.func-2.ensures in
+    rw (c.in-Err-KeyTooWide.field-0-is)
+    (key_too_wide c.args.self c.args.val c.args.otherwise c.args.bx.now c.in-Err-KeyTooWide.field-0 _ c.value_type-ty.result c.in-Err-KeyTooWide.max (sym c.has_failed.ensures ∙ c.if-has_failed.false) c.in-Err-KeyTooWide.field-0-is
+    (refuses_of c.self.inside.cases c.args.self c.value_type-ty.result _ c.in-Err-KeyTooWide.field-0 c.self.view_is read c.in-Err-KeyTooWide.ensures.err c.in-Err-KeyTooWide.ensures.too_wide) read)
+
+pub returns-in-Err-TableTooLong : goal.returns-in-Err-TableTooLong
+returns-in-Err-TableTooLong c =
+    let read = type_read c.args.bx.now.func.now c.func-2.result.now c.args.val c.value_type-ty.result c.value_type-ty.ensures c.func-2.ensures in
+    table_too_long c.args.self c.args.val c.args.otherwise c.args.bx.now (sym c.has_failed.ensures ∙ c.if-has_failed.false)
+    (said_of (λ (m : CaseMap) (t : «Type»). IsRefusal m t too_long) c.self.inside.cases c.args.self c.value_type-ty.result _ c.self.view_is read
+    (subst (IsRefusal c.self.inside.cases c.value_type-ty.result) c.in-Err-TableTooLong.field-0-is c.in-Err-TableTooLong.ensures.err))
+
 pub returns-in-Err-Build : goal.returns-in-Err-Build
 returns-in-Err-Build c =
+    let read = type_read c.args.bx.now.func.now c.func-2.result.now c.args.val c.value_type-ty.result c.value_type-ty.ensures c.func-2.ensures in
     failed_by c.args.self c.args.val c.args.otherwise c.args.bx.now c.refuse.new.self c.refuse.result
+    (λ max sound. memory_not_wide c.args.self _ c.in-Err-Build.field-0 c.in-Err-Build.field-0-0 c.in-Err-Build.field-0-is
+    (refuses_of c.self.inside.cases c.args.self c.value_type-ty.result _ c.in-Err-Build.field-0 c.self.view_is read c.in-Err-Build.ensures.err c.in-Err-Build.ensures.too_wide) max)
     (steps_err c.args.bx.now c.refuse.new.self c.refuse.result (builds_steps c.args.bx.now c.refuse.new.self (shapes.unary_imm (pos 0)) type.Invalid _ (c.refuse.ensures.refused (shapes.unary_imm (pos 0)) type.Invalid)))
 
 pub search_tree-requires : goal.search_tree-requires
@@ -29,7 +58,9 @@ search_tree-requires c = subst AreSeparate (sym c.as_slice.ensures.value) (separ
 
 pub returns-in_default : goal.returns-in_default
 returns-in_default c =
+    let read = type_read c.args.bx.now.func.now c.func-2.result.now c.args.val c.value_type-ty.result c.value_type-ty.ensures c.func-2.ensures in
     failed_by c.args.self c.args.val c.args.otherwise c.args.bx.now c.refuse-in_default.new.self c.refuse-in_default.result
+    (λ max sound. none_too_wide c.args.self _ (said_of FitType c.self.inside.cases c.args.self c.value_type-ty.result _ c.self.view_is read c.in-Ok.ensures.ok.fit) max)
     (steps_err c.args.bx.now c.refuse-in_default.new.self c.refuse-in_default.result
     (builds_steps c.args.bx.now c.refuse-in_default.new.self (shapes.unary_imm (pos 0)) type.Invalid _ (c.refuse-in_default.ensures.refused (shapes.unary_imm (pos 0)) type.Invalid)))
 
@@ -64,3 +95,10 @@ returns-in-Ok-emit_nodes c =
     (subst (AreInOrder (0 ∷ []) 1) same c.in-Ok-search_tree.ensures.order) (subst (AreTestsOf ranges) same c.in-Ok-search_tree.ensures.tests)
     c.in-Ok-emit_nodes.ensures.ends
     (subst (λ (t : «Type»). MakesNodes (record { ty = t; val = c.args.val; otherwise = c.args.otherwise }) nodes c.args.bx.now c.emit_nodes.new.bx done) of_type c.in-Ok-emit_nodes.ensures.made)
+
+pub returns : goal.returns
+returns c =
+    let read = type_read c.args.bx.now.func.now c.func-2.result.now c.args.val c.value_type-ty.result c.value_type-ty.ensures c.func-2.ensures in
+    failed_by c.args.self c.args.val c.args.otherwise c.args.bx.now c.emit_nodes.new.bx c.in-Err.error
+    (λ max sound. none_too_wide c.args.self _ (said_of FitType c.self.inside.cases c.args.self c.value_type-ty.result _ c.self.view_is read c.in-Ok.ensures.ok.fit) max)
+    c.in-Err.ensures.ends.steps
