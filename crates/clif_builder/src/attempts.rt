@@ -1,5 +1,5 @@
 //! Uses and assignments of variables that may not be declared: each is tried, and refused where the variable is to blame.
-ghost use Rattle.std.specs.Prelude.{◌≡◌, ◌≢◌, ◌↔◌, ◌<◌, ℕ, List, [], ◌∷◌, OnOk, IfErr, IfOk, IfSome, IsTrue, Some, is_some, length, slice_get};
+ghost use Rattle.std.specs.Prelude.{◌≡◌, ◌≢◌, ◌↔◌, ◌<◌, ℕ, List, [], ◌∷◌, Err, Ok, OnOk, IfErr, IfOk, IfSome, IsTrue, Some, false, is_some, length, slice_get};
 ghost use Rattle.clif_ir.specs.Body.{value_at};
 ghost use Rattle.clif_ir.specs.Changes.{inserted_in};
 ghost use Rattle.clif_meaning.specs.Name.{Name};
@@ -81,8 +81,9 @@ impl<'a> FunctionBuilder<'a> {
     ///
     /// # Errors
     ///
-    /// `DefinedBeforeDeclared` for a variable that isn't declared, or else `TypeMismatch` for a value of another
-    /// type: nothing has changed then, and the builder goes on. `Memory` or `Failed` as [`FunctionBuilder::def_var`].
+    /// `DefinedBeforeDeclared`, exactly where the builder hasn't failed and the variable isn't declared; else `TypeMismatch`,
+    /// exactly where the value has another type: nothing has changed then, and the builder goes on. `Memory` or `Failed` as
+    /// [`FunctionBuilder::def_var`].
     pub fn try_def_var(
         &mut self,
         variable: Variable,
@@ -93,6 +94,7 @@ impl<'a> FunctionBuilder<'a> {
         ensures call { IsCall self.old self.new result }
         ensures same_type { IfOk result (λ answer. OnOk answer (slice_get self.old.ctx.now.variables variable ≡ Some (value_at self.old.func.now value).ty)) }
         ensures refused { IfOk result (λ answer. IfErr answer (RefusesAssignment self.old self.new variable value)) }
+        ensures refusal { (error : DefVariableError) → (result ≡ Ok (Err error)) ↔ ((self.old.failed ≡ false) × IsMistyped self.old variable value error) }
         ensures function { self.new.func.now ≡ self.old.func.now }
         ensures records { IfSome self.old.position (λ block. IfOk result (λ answer. OnOk answer (Records self.old.ctx.now.ssa self.new.ctx.now.ssa variable block value))) }
         ensures tracks { IfOk result (λ answer. OnOk answer (TracksBinding self.old.ctx.now self.new.ctx.now variable value)) }
