@@ -13,6 +13,7 @@ use Rattle.clif_types.specs.StackSlot.{StackSlotShape}
 use Rattle.clif_types.specs.declared.error.BuildError.{BuildError}
 use Rattle.clif_types.specs.declared.error.BuildError.TheVariants.{Failed, Full, Memory}
 use Rattle.clif_tables.specs.Entries.{AStackSlot, with_entry}
+use Rattle.clif_tables.specs.Lists.{stack_map_at}
 use Rattle.clif_nodes.specs.declared.nodes.ValueNode.{ValueNode}
 use Rattle.clif_nodes.specs.declared.nodes.InstNode.{InstNode}
 use Rattle.clif_nodes.specs.Nodes.{BlockNode}
@@ -69,6 +70,7 @@ pub record IsGiven (f : Body) (a : StackSlots) (g : Body) (b : StackSlots) (slot
   pub insts : g.insts ≡ f.insts
   pub blocks : g.blocks ≡ f.blocks
   pub layout : g.layout ≡ f.layout
+  pub maps : (i : ℕ) → stack_map_at g.tables i ≡ stack_map_at f.tables i
   pub exists : slot < length g.tables.stack_slots
   pub knows : KnowsSlots g b
 
@@ -95,6 +97,7 @@ module _ (f : Body) (a : StackSlots) (value : ℕ) (may : MayBeSpilled f value) 
         insts = refl;
         blocks = refl;
         layout = refl;
+        maps = λ i. refl;
         exists = knows.given value slot has;
         knows = knows;
       }))
@@ -117,6 +120,7 @@ module _ (f : Body) (a : StackSlots) (value : ℕ) (may : MayBeSpilled f value) 
         insts = refl;
         blocks = refl;
         layout = refl;
+        maps = λ i. refl;
         exists = exists;
         knows = with_given f b slot (λ n. keeps_refl n f) exists put free;
       })
@@ -134,6 +138,7 @@ module _ (f : Body) (a : StackSlots) (value : ℕ) (may : MayBeSpilled f value) 
         insts = refl;
         blocks = refl;
         layout = refl;
+        maps = λ i. refl;
         exists = omega (arith, number, more);
         knows = with_given h b slot kept (omega (arith, number, more)) put
             (λ other s member. let old = knows.free other s (subst (λ xs. Contains xs s) (free other) member) in omega (arith, old, more));

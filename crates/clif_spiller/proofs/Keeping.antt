@@ -310,6 +310,10 @@ pub on_ok : {A E P Q : Type 0} (r : Result A E) → (P → Q) → OnOk r P → O
 on_ok (Ok x) f holds = f holds
 on_ok (Err e) f holds = tt
 
+pub on_ok₂ : {A E P Q R : Type 0} (r : Result A E) → (P → Q → R) → OnOk r P → OnOk r Q → OnOk r R
+on_ok₂ (Ok x) f first second = f first second
+on_ok₂ (Err e) f first second = tt
+
 -- the instruction that got another shape
 pub shape_there : (f : Body) (i : ℕ) (shape : InstructionData) → i < length f.insts → (inst_at (with_shape f i shape) i).shape ≡ shape
 shape_there f i shape inside =

@@ -10,3 +10,16 @@ mod Passing
 mod Inside
 mod Starting
 mod Reached
+mod Allocating
+mod Advancing
+mod Acting
+mod Needing
+mod Parts
+mod Operands
+mod Edges
+mod Contexts
+mod Storing
+mod StackMaps
+mod Waiting
+mod Landed
+mod Progressing

@@ -1,6 +1,6 @@
 -- Where the spiller inserts instructions, and which ones: stores to and reloads from slots. Source: own, after Cranelift's spiller of
 -- safepoints. An inserted instruction has no source place.
-use Rattle.std.specs.Prelude.{◌≡◌, ◌⊎◌, ◌+◌, ◌-◌, ◌^◌, ℕ, pos, List, [], ◌∷◌, length, Option, Some, None, true, Result, Ok}
+use Rattle.std.specs.Prelude.{◌≡◌, ◌+◌, ◌-◌, ◌^◌, ℕ, pos, List, [], ◌∷◌, length, Some, None, true, Ok}
 use Rattle.clif_types.specs.declared.types.«Type».{«Type»}
 use Rattle.clif_types.specs.MemFlags.{MemFlagsShape}
 use Rattle.clif_opcodes.specs.declared.opcodes.StackOpcode.TheVariants.{StackAddr}

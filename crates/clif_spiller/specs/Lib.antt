@@ -3,3 +3,7 @@ pub mod Inserting
 pub mod Plans
 pub mod Keeping
 pub mod Spilling
+pub mod Allocating
+pub mod Acting
+pub mod Progress
+pub mod Spills

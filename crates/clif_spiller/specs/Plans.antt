@@ -1,5 +1,5 @@
 -- What the spiller goes by, and what it knows of a function as it goes. Source: own.
-use Rattle.std.specs.Prelude.{◌≡◌, ◌<◌, ◌↔◌, ◌⊎◌, ◌-◌, ◌^◌, ℕ, [], if◌then◌else◌, Bool, true, false, List, length, Some, None, Contains}
+use Rattle.std.specs.Prelude.{◌≡◌, ◌<◌, ◌↔◌, ◌⊎◌, ◌-◌, ◌^◌, ℕ, [], if◌then◌else◌, Bool, true, false, List, length, Some, Contains}
 use Rattle.std.specs.FinMap as map
 use Rattle.clif_types.specs.EntitySet.{has}
 use Rattle.clif_instructions.specs.Members.{stands_in}

@@ -3,7 +3,10 @@
 ghost use Rattle.std.specs.Prelude.{◌≡◌, ◌≢◌, ◌<◌, [], length, All, IsOkUnless, OnOk};
 ghost use Rattle.clif_instructions.specs.Instruction.{is_call};
 ghost use Rattle.clif_instructions.specs.Members.{Stands};
+ghost use Rattle.clif_ir.specs.Body.{inst_at};
+ghost use Rattle.clif_spiller.specs.Acting.{ActsAtInst, ActsAtSafepoint};
 ghost use Rattle.clif_spiller.specs.Plans.{GoesOn, insts_inside, IsFull, IsPlan, KnowsSlots};
+ghost use Rattle.clif_spiller.specs.Progress.{RewritesAll, RewritesBlock};
 
 use crate::definitions::{free_params, store_params, store_results};
 use crate::landing::land_edges;
@@ -26,6 +29,8 @@ pub(crate) fn rewrite(
     requires order { All (λ block. block < length func.old.blocks) plan.now.liveness.now.order }
     ensures ok { OnOk result (GoesOn (length func.old.blocks)
         func.old slots.old func.new slots.new) }
+    ensures rewrites { OnOk result
+        (RewritesAll plan.now func.old slots.old func.new slots.new) }
     ensures full { result ≡ Err BuildError.Full → IsFull func.new }
     ensures never_failed { result ≢ Err BuildError.Failed }
 {
@@ -71,6 +76,8 @@ fn rewrite_block(
     requires insts { insts.now ≡ insts_inside func.old block }
     ensures ok { OnOk result (GoesOn (length func.old.blocks)
         func.old slots.old func.new slots.new) }
+    ensures rewrites { OnOk result
+        (RewritesBlock plan.now block func.old slots.old func.new slots.new) }
     ensures full { result ≡ Err BuildError.Full → IsFull func.new }
     ensures never_failed { result ≢ Err BuildError.Failed }
 {
@@ -81,6 +88,7 @@ fn rewrite_block(
     for place in (0..insts.len()).rev() {
         rewrite_inst(func, slots, plan, block, insts[place])?;
     }
+    func.law_consistent();
     match func.first_inst(block) {
         Some(first) => store_params(func, slots, plan, block, first),
         None => Ok(()),
@@ -101,6 +109,8 @@ fn rewrite_inst(
     requires inside { Stands block func.old.layout }
     ensures ok { OnOk result (GoesOn (length func.old.blocks)
         func.old slots.old func.new slots.new) }
+    ensures acts { OnOk result
+        (ActsAtInst plan.now inst func.old slots.old func.new slots.new) }
     ensures full { result ≡ Err BuildError.Full → IsFull func.new }
     ensures never_failed { result ≢ Err BuildError.Failed }
 {
@@ -124,6 +134,8 @@ fn rewrite_safepoint(
     requires inside { Stands block func.old.layout }
     ensures ok { OnOk result (GoesOn (length func.old.blocks)
         func.old slots.old func.new slots.new) }
+    ensures acts { OnOk result (ActsAtSafepoint (is_call (inst_at func.old inst).shape)
+        plan.now inst func.old slots.old func.new slots.new) }
     ensures full { result ≡ Err BuildError.Full → IsFull func.new }
     ensures never_failed { result ≢ Err BuildError.Failed }
 {

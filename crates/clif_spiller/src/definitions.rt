@@ -1,5 +1,9 @@
 //! Stores of spilled values, right after they are given.
-ghost use Rattle.std.specs.Prelude.{◌≡◌, ◌≢◌, ◌<◌, length, IfOk, IsOkUnless, OnOk};
+ghost use Rattle.std.specs.FinMap as map;
+ghost use Rattle.std.specs.Prelude.{◌≡◌, ◌≢◌, ◌<◌, ℕ, [], ◌∷◌, length, IfOk, IsOkUnless, OnOk};
+ghost use Rattle.clif_ir.specs.Body.{block_at, inst_at};
+ghost use Rattle.clif_stack_slots.specs.Slots.{assigned_in};
+ghost use Rattle.clif_spiller.specs.Acting.{ActsGiving};
 ghost use Rattle.clif_spiller.specs.Inserting.{inst_beside};
 ghost use Rattle.clif_spiller.specs.Plans.{GoesOn, IsFull, KnowsSlots, MayBeSpilled};
 
@@ -20,6 +24,8 @@ pub(crate) fn store_results(
     requires slots { KnowsSlots func.old slots.old }
     ensures ok { OnOk result (GoesOn (length func.old.blocks)
         func.old slots.old func.new slots.new) }
+    ensures acts { OnOk result (ActsGiving (inst_at func.old inst).block
+        func.old slots.old func.new slots.new (inst_at func.old inst).results) }
     ensures full { result ≡ Err BuildError.Full → IsFull func.new }
     ensures never_failed { result ≢ Err BuildError.Failed }
 {
@@ -45,6 +51,8 @@ pub(crate) fn store_params(
     requires slots { KnowsSlots func.old slots.old }
     ensures ok { OnOk result (GoesOn (length func.old.blocks)
         func.old slots.old func.new slots.new) }
+    ensures acts { OnOk result (ActsGiving (inst_at func.old first).block
+        func.old slots.old func.new slots.new (block_at func.old block).params) }
     ensures full { result ≡ Err BuildError.Full → IsFull func.new }
     ensures never_failed { result ≢ Err BuildError.Failed }
 {
@@ -64,6 +72,8 @@ pub(crate) fn free_params(
     requires block_exists { block < length func.now.blocks }
     requires slots { KnowsSlots func.now slots.old }
     ensures ok { OnOk result (KnowsSlots func.now slots.new) }
+    ensures acts { OnOk result (ActsGiving block
+        func.now slots.old func.now slots.new (block_at func.now block).params) }
     ensures memory_alone { IsOkUnless result BuildError.Memory }
 {
     for value in func.block_params(block) {
@@ -88,6 +98,10 @@ fn store_value(
     ensures ok { IfOk result (λ next. GoesOn (length func.old.blocks)
         func.old slots.old func.new slots.new) }
     ensures spot { IfOk result (λ next. inst_beside next < length func.new.insts) }
+    ensures home { IfOk result (λ next. (inst_at func.new (inst_beside next)).block
+        ≡ (inst_at func.old (inst_beside spot)).block) }
+    ensures acts { IfOk result (λ next. ActsGiving (inst_at func.old (inst_beside spot)).block
+        func.old slots.old func.new slots.new (value ∷ [])) }
     ensures full { result ≡ Err BuildError.Full → IsFull func.new }
     ensures never_failed { result ≢ Err BuildError.Failed }
 {
@@ -109,7 +123,10 @@ fn free(
     requires value { MayBeSpilled func.now value }
     requires slot { slot < length func.now.tables.stack_slots }
     requires slots { KnowsSlots func.now slots.old }
+    requires has { map.get (assigned_in slots.old) value ≡ Some slot }
     ensures ok { OnOk result (KnowsSlots func.now slots.new) }
+    ensures acts { OnOk result ((home : ℕ)
+        → ActsGiving home func.now slots.old func.now slots.new (value ∷ [])) }
     ensures memory_alone { IsOkUnless result BuildError.Memory }
 {
     let size = SlotSize::unwrap_new(func.value_type(value).bytes());

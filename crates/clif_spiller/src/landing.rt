@@ -1,12 +1,13 @@
 //! Landing blocks: what a try call's edge passes is read after the call, so that a spilled argument is reloaded in a block
 //! of its own, on the edge.
 
-ghost use Rattle.std.specs.Prelude.{◌≡◌, ◌≢◌, ◌<◌, ℕ, length, All, IfOk, OnOk};
+ghost use Rattle.std.specs.Prelude.{◌≡◌, ◌≢◌, ◌<◌, ℕ, length, All, IfOk, OnOk, slice_index_or};
 ghost use Rattle.clif_instructions.specs.Edges.{edge_at};
 ghost use Rattle.clif_instructions.specs.Instruction.{destinations};
 ghost use Rattle.clif_instructions.specs.Members.{Stands};
-ghost use Rattle.clif_ir.specs.Body.{inst_at};
+ghost use Rattle.clif_ir.specs.Body.{block_at, inst_at};
 ghost use Rattle.clif_ir.specs.Consistent.{PassedExists};
+ghost use Rattle.clif_spiller.specs.Acting.{Acts, LandsEdge, LandsEdges, args_of, needs, no_argument, passed_value, passed_values};
 ghost use Rattle.clif_spiller.specs.Keeping.{Keeps};
 ghost use Rattle.clif_spiller.specs.Plans.{GoesOn, IsFull, IsPlan, KnowsSlots, OwnArgument};
 
@@ -34,15 +35,20 @@ pub(crate) fn land_edges(
     requires inside { Stands block func.old.layout }
     ensures ok { OnOk result (GoesOn (length func.old.blocks)
         func.old slots.old func.new slots.new) }
+    ensures lands { OnOk result
+        (LandsEdges plan.now inst func.old slots.old func.new slots.new) }
     ensures full { result ≡ Err BuildError.Full → IsFull func.new }
     ensures never_failed { result ≢ Err BuildError.Failed }
 {
+    func.law_consistent();
     let count = func.inst_data(inst).branch_destination().len();
     let mut last = block;
     for edge in 1..count {
+        func.law_consistent();
         last = land_edge(func, slots, plan, inst, edge, last)?;
     }
     if count > 0 {
+        func.law_consistent();
         land_edge(func, slots, plan, inst, 0, last)?;
     }
     Ok(())
@@ -68,6 +74,8 @@ fn land_edge(
     ensures inside { IfOk result (λ next. Stands next func.new.layout) }
     ensures edges { IfOk result (λ next. length (destinations (inst_at func.new inst).shape)
         ≡ length (destinations (inst_at func.old inst).shape)) }
+    ensures lands { IfOk result (λ next.
+        LandsEdge plan.now inst edge func.old slots.old func.new slots.new) }
     ensures full { result ≡ Err BuildError.Full → IsFull func.new }
     ensures never_failed { result ≢ Err BuildError.Failed }
 {
@@ -104,6 +112,11 @@ fn make_landing(func: &mut Function, target: Block, last: Block) -> Result<Block
     ensures ok { IfOk result (λ landing. Keeps (length func.old.blocks) func.old func.new) }
     ensures number { IfOk result (λ landing. landing ≡ length func.old.blocks) }
     ensures insts { IfOk result (λ landing. func.new.insts ≡ func.old.insts) }
+    ensures tables { IfOk result (λ landing. func.new.tables ≡ func.old.tables) }
+    ensures lists { IfOk result (λ landing. (c : ℕ) → c < length func.old.blocks
+        → (block_at func.new c).insts ≡ (block_at func.old c).insts) }
+    ensures layout { IfOk result (λ landing. (c : ℕ) → c < length func.old.blocks
+        → Stands c func.new.layout → Stands c func.old.layout) }
     ensures exists { IfOk result (λ landing. landing < length func.new.blocks) }
     ensures inside { IfOk result (λ landing. Stands landing func.new.layout) }
     ensures full { result ≡ Err BuildError.Full → IsFull func.new }
@@ -129,6 +142,10 @@ fn insert_jump(func: &mut Function, landing: Block, target: Block) -> Result<Ins
     ensures exists { IfOk result (λ jump. jump < length func.new.insts) }
     ensures blocks { IfOk result (λ jump. length func.new.blocks ≡ length func.old.blocks) }
     ensures layout { IfOk result (λ jump. func.new.layout ≡ func.old.layout) }
+    ensures tables { IfOk result (λ jump. func.new.tables ≡ func.old.tables) }
+    ensures lists { IfOk result (λ jump. (c : ℕ) → c ≢ landing
+        → (block_at func.new c).insts ≡ (block_at func.old c).insts) }
+    ensures home { IfOk result (λ jump. (inst_at func.new jump).block ≡ landing) }
     ensures full { result ≡ Err BuildError.Full → IsFull func.new }
     ensures never_failed { result ≢ Err BuildError.Failed }
 {
@@ -163,10 +180,15 @@ fn land_arguments(
     ensures own { IfOk result (λ own. All (PassedExists func.new) own) }
     ensures edges { IfOk result (λ own. (inst_at func.new inst).shape
         ≡ (inst_at func.old inst).shape) }
+    ensures given { IfOk result (λ own. All OwnArgument own) }
     ensures layout { IfOk result (λ own. func.new.layout ≡ func.old.layout) }
+    ensures acts { IfOk result (λ own. Acts plan.now landing.now.jump
+        func.old slots.old func.new slots.new
+        (needs plan.now (passed_values func.old (args_of func.old inst edge)))) }
     ensures full { result ≡ Err BuildError.Full → IsFull func.new }
     ensures never_failed { result ≢ Err BuildError.Failed }
 {
+    func.law_consistent();
     let mut own = BlockArgs::new(func.allocator());
     let count = func.inst_data(inst).branch_destination()[edge]
         .args
@@ -206,6 +228,9 @@ fn land_argument(
     ensures nodes { IfOk result (λ value. (i : ℕ) → i < length func.old.insts
         → inst_at func.new i ≡ inst_at func.old i) }
     ensures layout { IfOk result (λ value. func.new.layout ≡ func.old.layout) }
+    ensures acts { IfOk result (λ value. Acts plan.now landing.now.jump
+        func.old slots.old func.new slots.new (needs plan.now (passed_value func.old
+        (slice_index_or (args_of func.old inst edge) place no_argument)))) }
     ensures full { result ≡ Err BuildError.Full → IsFull func.new }
     ensures never_failed { result ≢ Err BuildError.Failed }
 {

@@ -1,5 +1,7 @@
 //! Stack maps, and the slots of values that live on after a block.
-ghost use Rattle.std.specs.Prelude.{◌≡◌, ◌≢◌, ◌<◌, length, All, Contains, IsOkUnless, OnOk};
+ghost use Rattle.std.specs.Prelude.{◌≡◌, ◌≢◌, ◌<◌, ◌++◌, [], ◌∷◌, filter, length, All, Contains, IsOkUnless, OnOk};
+ghost use Rattle.clif_safepoints.specs.Analysis.{found_across};
+ghost use Rattle.clif_spiller.specs.Acting.{ActsAhead, ActsMapping, is_waiting};
 ghost use Rattle.clif_spiller.specs.Plans.{GoesOn, IsFull, IsPlan, KnowsSlots};
 
 use crate::plan::Plan;
@@ -19,6 +21,8 @@ pub(crate) fn set_map(
     requires slots { KnowsSlots func.old slots.old }
     ensures ok { OnOk result (GoesOn (length func.old.blocks)
         func.old slots.old func.new slots.new) }
+    ensures acts { OnOk result (ActsMapping plan.now inst func.old slots.old func.new slots.new
+        (found_across plan.now.liveness.now inst)) }
     ensures full { result ≡ Err BuildError.Full → IsFull func.new }
     ensures never_failed { result ≢ Err BuildError.Failed }
 {
@@ -47,6 +51,8 @@ pub(crate) fn take_live_outs(
     requires slots { KnowsSlots func.old slots.old }
     ensures ok { OnOk result (GoesOn (length func.old.blocks)
         func.old slots.old func.new slots.new) }
+    ensures acts { OnOk result
+        (ActsAhead plan.now inst func.old slots.old func.new slots.new) }
     ensures full { result ≡ Err BuildError.Full → IsFull func.new }
     ensures never_failed { result ≢ Err BuildError.Failed }
 {
@@ -70,6 +76,8 @@ fn push_waiting(
 ) -> Result<(), BuildError>
     requires { All (Contains plan.now.spilled) waiting.old.items }
     ensures ok { OnOk result (All (Contains plan.now.spilled) waiting.new.items) }
+    ensures items { OnOk result (waiting.new.items
+        ≡ waiting.old.items ++ filter (is_waiting plan.now slots.now) values.now) }
     ensures memory_alone { IsOkUnless result BuildError.Memory }
 {
     for value in values {
@@ -87,6 +95,8 @@ fn push_if_waiting(
 ) -> Result<(), BuildError>
     requires { All (Contains plan.now.spilled) waiting.old.items }
     ensures ok { OnOk result (All (Contains plan.now.spilled) waiting.new.items) }
+    ensures items { OnOk result (waiting.new.items
+        ≡ waiting.old.items ++ filter (is_waiting plan.now slots.now) (value ∷ [])) }
     ensures memory_alone { IsOkUnless result BuildError.Memory }
 {
     if !plan.is_spilled(value) {

@@ -5,6 +5,7 @@ ghost use Rattle.clif_ir.specs.Body.{resolved};
 ghost use Rattle.clif_spiller.specs.Keeping.{Keeps};
 ghost use Rattle.clif_spiller.specs.Plans.{IsFull, MayBeSpilled};
 ghost use Rattle.clif_spiller.specs.Spilling.{HasSpilledNothing};
+ghost use Rattle.clif_spiller.specs.Spills.{Spills};
 
 use crate::blocks::rewrite;
 use crate::plan::Plan;
@@ -56,6 +57,7 @@ impl SafepointSpiller {
         requires recorded { (value : ℕ) → Contains recorded.now value
             → resolved func.old value ≡ value → MayBeSpilled func.old value }
         ensures kept { OnOk result (Keeps (length func.old.blocks) func.old func.new) }
+        ensures spills { OnOk result (Spills func.old recorded.now pointer func.new) }
         ensures full { result ≡ Err BuildError.Full → IsFull func.new }
         ensures never_failed { result ≢ Err BuildError.Failed }
     {

@@ -1,8 +1,10 @@
 //! Reloads of spilled values, right before they are used.
-ghost use Rattle.std.specs.Prelude.{◌≡◌, ◌≢◌, ◌<◌, length, All, EachIndex, IfSome, OnOk, slice_index};
+ghost use Rattle.std.specs.Prelude.{◌≡◌, ◌≢◌, ◌<◌, ℕ, [], false, length, map, All, EachIndex, IfSome, OnOk, slice_index};
+ghost use Rattle.clif_instructions.specs.Edges.{edge_at};
 ghost use Rattle.clif_instructions.specs.Instruction.{destinations, items_of};
-ghost use Rattle.clif_ir.specs.Body.{inst_at};
+ghost use Rattle.clif_ir.specs.Body.{inst_at, resolved};
 ghost use Rattle.clif_ir.specs.Consistent.{EdgeExists, PassedExists};
+ghost use Rattle.clif_spiller.specs.Acting.{Acts, edge_values, needs, operand_values, passed_value, passed_values, used_values};
 ghost use Rattle.clif_spiller.specs.Keeping.{Keeps};
 ghost use Rattle.clif_spiller.specs.Plans.{GoesOn, IsFull, IsPlan, KnowsSlots};
 
@@ -26,13 +28,17 @@ pub(crate) fn reload_uses(
     requires slots { KnowsSlots func.old slots.old }
     ensures ok { OnOk result (GoesOn (length func.old.blocks)
         func.old slots.old func.new slots.new) }
+    ensures acts { OnOk result (Acts plan.now inst func.old slots.old func.new slots.new
+        (needs plan.now (used_values func.old inst))) }
     ensures full { result ≡ Err BuildError.Full → IsFull func.new }
     ensures never_failed { result ≢ Err BuildError.Failed }
 {
+    func.law_consistent();
     if !uses_spilled(func, plan, inst) {
         return Ok(());
     }
     reload_operands(func, slots, plan, inst)?;
+    func.law_consistent();
     for edge in 0..func.inst_data(inst).branch_destination().len() {
         reload_arguments(func, slots, plan, inst, edge)?;
     }
@@ -43,6 +49,7 @@ pub(crate) fn reload_uses(
 // Whether an instruction uses a spilled value.
 fn uses_spilled(func: &Function, plan: &Plan<'_>, inst: Inst) -> bool
     requires { inst < length func.now.insts }
+    ensures none { result ≡ false → needs plan.now (used_values func.now inst) ≡ [] }
 {
     let shape = func.inst_data(inst);
     any_spilled(func, plan, shape.arguments()) || any_passed(func, plan, shape.branch_destination())
@@ -51,6 +58,7 @@ fn uses_spilled(func: &Function, plan: &Plan<'_>, inst: Inst) -> bool
 // Whether one of these operands is spilled.
 fn any_spilled(func: &Function, plan: &Plan<'_>, operands: &[Value]) -> bool
     requires { EachIndex operands.now (λ k. slice_index operands.now k < length func.now.values) }
+    ensures none { result ≡ false → needs plan.now (map (resolved func.now) operands.now) ≡ [] }
 {
     for operand in operands {
         if plan.is_spilled(func.resolve_aliases(*operand)) {
@@ -63,6 +71,7 @@ fn any_spilled(func: &Function, plan: &Plan<'_>, operands: &[Value]) -> bool
 // Whether one of these edges passes a spilled value.
 fn any_passed(func: &Function, plan: &Plan<'_>, edges: &[BlockCall]) -> bool
     requires { All (EdgeExists func.now) edges.now }
+    ensures none { result ≡ false → needs plan.now (edge_values func.now edges.now) ≡ [] }
 {
     for edge in edges {
         if passes_spilled(func, plan, edge.args.as_slice()) {
@@ -75,6 +84,7 @@ fn any_passed(func: &Function, plan: &Plan<'_>, edges: &[BlockCall]) -> bool
 /// Whether one of these arguments is spilled.
 pub(crate) fn passes_spilled(func: &Function, plan: &Plan<'_>, args: &[BlockArg]) -> bool
     requires { All (PassedExists func.now) args.now }
+    ensures none { result ≡ false → needs plan.now (passed_values func.now args.now) ≡ [] }
 {
     for arg in args {
         if is_spilled_argument(func, plan, *arg) {
@@ -87,6 +97,7 @@ pub(crate) fn passes_spilled(func: &Function, plan: &Plan<'_>, args: &[BlockArg]
 // Whether an argument is spilled.
 fn is_spilled_argument(func: &Function, plan: &Plan<'_>, arg: BlockArg) -> bool
     requires { PassedExists func.now arg }
+    ensures none { result ≡ false → needs plan.now (passed_value func.now arg) ≡ [] }
 {
     match arg {
         BlockArg::Value(value) => plan.is_spilled(func.resolve_aliases(value)),
@@ -108,9 +119,12 @@ fn reload_operands(
         func.old slots.old func.new slots.new) }
     ensures edges { OnOk result (destinations (inst_at func.new inst).shape
         ≡ destinations (inst_at func.old inst).shape) }
+    ensures acts { OnOk result (Acts plan.now inst func.old slots.old func.new slots.new
+        (needs plan.now (operand_values func.old inst))) }
     ensures full { result ≡ Err BuildError.Full → IsFull func.new }
     ensures never_failed { result ≢ Err BuildError.Failed }
 {
+    func.law_consistent();
     for place in 0..func.inst_data(inst).arguments().len() {
         let operand = func.inst_data(inst).arguments()[place];
         let value = read(func, slots, plan, inst, operand)?;
@@ -135,9 +149,16 @@ fn reload_arguments(
         func.old slots.old func.new slots.new) }
     ensures edges { OnOk result (length (destinations (inst_at func.new inst).shape)
         ≡ length (destinations (inst_at func.old inst).shape)) }
+    ensures others { OnOk result ((k : ℕ) → k ≢ edge
+        → edge_at (destinations (inst_at func.new inst).shape) k
+        ≡ edge_at (destinations (inst_at func.old inst).shape) k) }
+    ensures acts { OnOk result (Acts plan.now inst func.old slots.old func.new slots.new
+        (needs plan.now (passed_values func.old
+        (edge_at (destinations (inst_at func.old inst).shape) edge).args))) }
     ensures full { result ≡ Err BuildError.Full → IsFull func.new }
     ensures never_failed { result ≢ Err BuildError.Failed }
 {
+    func.law_consistent();
     let count = func.inst_data(inst).branch_destination()[edge]
         .args
         .as_slice()
@@ -157,7 +178,11 @@ fn reload_arguments(
 // Makes each context of a try call what it stands for.
 fn resolve_contexts(func: &mut Function, inst: Inst)
     requires { inst < length func.old.insts }
-    ensures { Keeps (length func.old.blocks) func.old func.new }
+    ensures keeps { Keeps (length func.old.blocks) func.old func.new }
+    ensures others { (i : ℕ) → i ≢ inst → inst_at func.new i ≡ inst_at func.old i }
+    ensures tables { func.new.tables ≡ func.old.tables }
+    ensures blocks { func.new.blocks ≡ func.old.blocks }
+    ensures layout { func.new.layout ≡ func.old.layout }
 {
     for item in 0..item_count(func, inst) {
         if let Some(context) = context_at(func, inst, item) {

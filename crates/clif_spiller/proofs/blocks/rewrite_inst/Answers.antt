@@ -1,6 +1,6 @@
 use Rattle.std.proofs.Common.{length}
 use Rattle.clif_spiller.specs.Plans.{GoesOn}
-use Rattle.clif_spiller.proofs.Keeping.{goes_further, on_ok, plan_stays}
+use Rattle.clif_spiller.proofs.Keeping.{goes_further, on_ok, on_ok₂, plan_stays}
 use Rattle.clif_spiller.proofs.blocks.rewrite_inst.Goals as goal
 use Rattle.clif_spiller.proofs.blocks.rewrite_inst.Goals.{In_ok-store_results}
 
@@ -28,3 +28,23 @@ returns-clause-ok c =
     (goes_further c.args.func.now c.args.slots.now c.store_results.new.func c.store_results.new.slots c.rewrite_safepoint.new.func c.rewrite_safepoint.new.slots
     (stored (goal.at.returns-clause-ok c).In_ok-store_results) c.in_ok-rewrite_safepoint.ensures.ok))
     c.reload_uses.ensures.ok
+
+pub returns-clause-acts : goal.returns-clause-acts
+returns-clause-acts c =
+    on_ok₂ c.reload_uses.result
+    (λ goes acts. record {
+      ahead = c.take_live_outs.new.func;
+      ahead_slots = c.take_live_outs.new.slots;
+      goes_ahead = c.in_ok-take_live_outs.ensures.ok;
+      acts_ahead = c.in_ok-take_live_outs.ensures.acts;
+      given = c.store_results.new.func;
+      given_slots = c.store_results.new.slots;
+      goes_given = c.in_ok-store_results.ensures.ok;
+      acts_given = c.in_ok-store_results.ensures.acts;
+      called = c.rewrite_safepoint.new.func;
+      called_slots = c.rewrite_safepoint.new.slots;
+      goes_called = c.in_ok-rewrite_safepoint.ensures.ok;
+      acts_called = c.in_ok-rewrite_safepoint.ensures.acts;
+      goes_used = goes;
+      acts_used = acts;
+    }) c.reload_uses.ensures.ok c.reload_uses.ensures.acts

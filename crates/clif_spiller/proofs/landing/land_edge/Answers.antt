@@ -1,11 +1,20 @@
-use Rattle.std.proofs.Common.{◌≡◌, ◌≤◌, ◌∙◌, ℕ, length, refl, sym, ap, subst, arith}
-use Rattle.clif_instructions.specs.Instruction.{with_edge}
+use Rattle.std.proofs.Common.{◌≡◌, ◌≤◌, ◌∙◌, ◌<◌, ℕ, List, length, refl, sym, ap, subst, arith}
+use Rattle.std.specs.Prelude.{slice_index_or}
+use Rattle.clif_instructions.specs.declared.block_call.BlockArg.{BlockArg}
+use Rattle.clif_instructions.specs.declared.block_call.BlockCall.{BlockCall}
+use Rattle.clif_nodes.specs.declared.nodes.InstNode.{InstNode}
+use Rattle.clif_nodes.specs.Nodes.{no_inst}
+use Rattle.clif_instructions.specs.Instruction.{destinations, with_edge}
 use Rattle.clif_ir.specs.Body.{Body, inst_at}
+use Rattle.clif_instructions.specs.Members.{Stands}
+use Rattle.clif_spiller.specs.Acting.{args_of, needs, passed_values}
 use Rattle.clif_spiller.specs.Keeping.{Keeps}
+use Rattle.clif_spiller.proofs.Passing.{edge_read}
 use Rattle.clif_spiller.specs.Plans.{GoesOn}
 use Rattle.clif_spiller.proofs.Keeping.{goes_beside, goes_on_refl, goes_on_trans, keeps_fewer, keeps_trans, plan_stays, slots_stay, with_shape_keeps}
+use Rattle.clif_spiller.proofs.Landed.{lands, stays_straight}
 use Rattle.clif_spiller.proofs.landing.land_edge.Goals as goal
-use Rattle.clif_spiller.proofs.landing.land_edge.Goals.{In_ok-jump}
+use Rattle.clif_spiller.proofs.landing.land_edge.Goals.{After-as_slice, In_ok-jump}
 
 pub returns-then-not-passes_spilled-clause-ok : goal.returns-then-not-passes_spilled-clause-ok
 returns-then-not-passes_spilled-clause-ok c = goes_on_refl (length c.args.func.now.blocks) c.args.func.now c.args.slots.now c.requires.slots
@@ -38,3 +47,33 @@ returns-clause-ok c =
     (goes_beside n f c.args.slots.now j c.requires.slots (made (goal.at.returns-clause-ok c).In_ok-jump)) landed)
     (goes_beside n l c.land_arguments.new.slots c.replace_edge.new.self landed.slots
     (subst (Keeps n l) (sym c.replace_edge.ensures) (with_shape_keeps n l c.args.inst (with_edge c.args.edge _ (inst_at l c.args.inst).shape))))
+
+-- what the arguments are
+args_are : (c : After-as_slice) → c.as_slice.result.now ≡ args_of c.args.func.now c.args.inst c.args.edge
+args_are c =
+    edge_read c.branch_destination.result.now (destinations (inst_at c.args.func.now c.args.inst).shape) c.args.edge c.index-branch_destination-edge.result
+    c.as_slice.result.now (c.branch_destination.ensures ∙ ap destinations c.inst_data.ensures.exact) c.requires.edge_exists
+    (c.as_slice.ensures ∙ ap (λ (x : BlockCall). x.args) c.index-branch_destination-edge.is)
+
+pub returns-then-not-passes_spilled-clause-lands : goal.returns-then-not-passes_spilled-clause-lands
+returns-then-not-passes_spilled-clause-lands c = stays_straight c.args.plan.now c.args.inst c.args.edge c.args.func.now c.args.slots.now
+    (ap (λ (xs : List BlockArg). needs c.args.plan.now (passed_values c.args.func.now xs)) (sym (args_are (goal.at.returns-then-not-passes_spilled-clause-lands c).After-as_slice))
+    ∙ c.passes_spilled.ensures.none c.if-not-passes_spilled.true)
+
+pub returns-clause-lands : goal.returns-clause-lands
+returns-clause-lands c =
+    let f : Body = c.args.func.now in
+    let j : Body = c.insert_jump.new.func in
+    let number : c.in_ok-jump.jump ≡ length f.insts = c.in_ok-jump.ensures.number ∙ ap (λ (xs : List InstNode). length xs) c.in_ok-block.ensures.insts in
+    lands c.args.plan.now c.args.inst c.args.edge c.in_ok-jump.jump f c.args.slots.now j c.land_arguments.new.func c.land_arguments.new.slots c.replace_edge.new.self
+    (length f.blocks) c.in_ok-block.block (record { block = c.in_ok-block.block; args = c.in_ok-args.args }) c.law_consistent.ensures c.requires.inst_exists c.requires.edge_exists
+    (λ same. absurd (omega (arith, same, number, c.requires.inst_exists))) (omega (arith, number)) (made (goal.at.returns-clause-lands c).In_ok-jump)
+    (c.in_ok-jump.ensures.tables ∙ c.in_ok-block.ensures.tables)
+    (λ i below.
+    c.in_ok-jump.ensures.nodes i (subst (λ (xs : List InstNode). i < length xs) (sym c.in_ok-block.ensures.insts) below)
+    ∙ ap (λ (xs : List InstNode). slice_index_or xs i no_inst) c.in_ok-block.ensures.insts)
+    (λ d below.
+    c.in_ok-jump.ensures.lists d (λ same. absurd (omega (arith, same, below, c.in_ok-block.ensures.number))) ∙ c.in_ok-block.ensures.lists d below)
+    (λ d below stands. c.in_ok-block.ensures.layout d below (subst (Stands d) c.in_ok-jump.ensures.layout stands))
+    (omega (arith, c.in_ok-jump.ensures.home, c.in_ok-block.ensures.number))
+    c.in_ok-args.ensures.ok.keeps c.in_ok-args.ensures.acts c.in_ok-args.ensures.given c.replace_edge.ensures

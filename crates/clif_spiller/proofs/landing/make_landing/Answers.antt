@@ -1,10 +1,12 @@
-use Rattle.std.proofs.Common.{◌≡◌, ◌∙◌, ◌≤◌, ℕ, length, sym, ap, subst, arith}
+use Rattle.std.proofs.Common.{◌≡◌, ◌∙◌, ◌≤◌, ◌<◌, ℕ, [], ◌∷◌, length, refl, sym, ap, subst, arith, inl, inr}
 use Rattle.clif_instructions.specs.Members.{Stands}
-use Rattle.clif_ir.specs.Body.{Body}
+use Rattle.std.proofs.Math.ListN.{get_or-append}
+use Rattle.clif_nodes.specs.Nodes.{BlockNode, empty_block}
+use Rattle.clif_ir.specs.Body.{Body, block_at}
 use Rattle.clif_ir.specs.Changes.{with_block, with_cold, with_layout_after}
-use Rattle.clif_ir.proofs.Orders.{put_behind-new}
+use Rattle.clif_ir.proofs.Orders.{put_behind-new, put_behind-stood}
 use Rattle.clif_spiller.specs.Keeping.{Keeps}
-use Rattle.clif_spiller.proofs.Keeping.{keeps_trans, with_block_keeps, with_cold_keeps, with_layout_after_keeps}
+use Rattle.clif_spiller.proofs.Keeping.{at_set_or_not, keeps_trans, with_block_keeps, with_cold_keeps, with_layout_after_keeps}
 use Rattle.clif_spiller.proofs.landing.make_landing.Goals as goal
 use Rattle.clif_spiller.proofs.landing.make_landing.Goals.{After-is_cold, else-is_cold, then-is_cold}
 
@@ -43,4 +45,51 @@ returns-clause-inside c =
     elim c.if-is_cold.branch [
       | then-is_cold w ↦ subst (λ (g : Body). Stands c.in_ok-landing.landing g.layout) (sym (w.func-is ∙ w.set_cold_block.ensures)) inside
       | else-is_cold w ↦ subst (λ (g : Body). Stands c.in_ok-landing.landing g.layout) (sym w.func-is) inside
+    ]
+
+-- the tables stay
+same_tables : (c : After-is_cold) → c.insert_block_after.new.self.tables ≡ c.args.func.now.tables
+same_tables c = ap (λ (g : Body). g.tables) c.insert_block_after.ensures ∙ ap (λ (g : Body). g.tables) c.in_ok-landing.ensures.ok
+
+pub returns-clause-tables : goal.returns-clause-tables
+returns-clause-tables c =
+    let same = same_tables (goal.at.returns-clause-tables c).After-is_cold in
+    elim c.if-is_cold.branch [
+      | then-is_cold w ↦ ap (λ (g : Body). g.tables) (w.func-is ∙ w.set_cold_block.ensures) ∙ same
+      | else-is_cold w ↦ ap (λ (g : Body). g.tables) w.func-is ∙ same
+    ]
+
+-- the blocks that were there keep their instructions
+same_lists : (c : After-is_cold) (b : ℕ) → b < length c.args.func.now.blocks → (block_at c.insert_block_after.new.self b).insts ≡ (block_at c.args.func.now b).insts
+same_lists c b below =
+    ap (λ (g : Body). (block_at g b).insts) c.insert_block_after.ensures ∙ ap (λ (g : Body). (block_at g b).insts) c.in_ok-landing.ensures.ok
+    ∙ ap (λ (m : BlockNode). m.insts) (get_or-append c.args.func.now.blocks (empty_block ∷ []) empty_block b below)
+
+cold_lists : (g : Body) (landing b : ℕ) → (block_at (with_cold g landing) b).insts ≡ (block_at g b).insts
+cold_lists g landing b =
+    at_set_or_not (λ (m : BlockNode). m.insts ≡ (block_at g b).insts) g.blocks landing _ b empty_block (λ same. ap (λ (d : ℕ). (block_at g d).insts) (sym same)) refl
+
+pub returns-clause-lists : goal.returns-clause-lists
+returns-clause-lists c = λ b below.
+    let same = same_lists (goal.at.returns-clause-lists c).After-is_cold b below in
+    elim c.if-is_cold.branch [
+      | then-is_cold w ↦
+          ap (λ (g : Body). (block_at g b).insts) (w.func-is ∙ w.set_cold_block.ensures) ∙ cold_lists c.insert_block_after.new.self c.in_ok-landing.landing b ∙ same
+      | else-is_cold w ↦ ap (λ (g : Body). (block_at g b).insts) w.func-is ∙ same
+    ]
+
+-- the layout has no other block more
+same_layout : (c : After-is_cold) (b : ℕ) → b < length c.args.func.now.blocks → Stands b c.insert_block_after.new.self.layout → Stands b c.args.func.now.layout
+same_layout c b below stands =
+    elim (put_behind-stood c.in_ok-landing.landing c.args.last b c.create_block.new.self.layout (subst (λ (g : Body). Stands b g.layout) c.insert_block_after.ensures stands)) [
+      | inl new ↦ absurd (omega (arith, new, below, c.in_ok-landing.ensures.number))
+      | inr old ↦ subst (λ (g : Body). Stands b g.layout) c.in_ok-landing.ensures.ok old
+    ]
+
+pub returns-clause-layout : goal.returns-clause-layout
+returns-clause-layout c = λ b below stands.
+    let now = (goal.at.returns-clause-layout c).After-is_cold in
+    elim c.if-is_cold.branch [
+      | then-is_cold w ↦ same_layout now b below (subst (λ (g : Body). Stands b g.layout) (w.func-is ∙ w.set_cold_block.ensures) stands)
+      | else-is_cold w ↦ same_layout now b below (subst (λ (g : Body). Stands b g.layout) w.func-is stands)
     ]

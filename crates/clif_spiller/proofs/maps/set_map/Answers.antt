@@ -1,4 +1,4 @@
-use Rattle.std.proofs.Common.{◌≡◌, ◌∙◌, ◌<◌, ℕ, List, length, Ok, Err, refl, sym, ap, subst, arith}
+use Rattle.std.proofs.Common.{◌≡◌, ◌∙◌, ◌<◌, ◌+◌, ℕ, List, [], ◌∷◌, ◌++◌, length, take, Ok, Err, refl, sym, ap, subst, arith}
 use Rattle.std.specs.Prelude.{All, Contains}
 use Rattle.std.proofs.lemmas.List.Elements.{All-nil, All-push, All-weaker}
 use Rattle.std.proofs.lemmas.Result.{err_from_is_err_and}
@@ -6,26 +6,37 @@ use Rattle.clif_types.specs.declared.error.BuildError.{BuildError}
 use Rattle.clif_types.specs.declared.error.BuildError.TheVariants.{Failed, Full}
 use Rattle.clif_types.specs.declared.stackmap.UserStackMapEntry.{UserStackMapEntry}
 use Rattle.clif_tables.specs.Entries.{NamesSlots}
-use Rattle.clif_ir.specs.Body.{Body}
+use Rattle.std.proofs.lemmas.List.{take_all}
+use Rattle.clif_ir.specs.Body.{Body, value_at}
+use Rattle.clif_safepoints.specs.Analysis.{found_across}
+use Rattle.clif_stack_slots.specs.declared.slots.StackSlots.{StackSlots}
+use Rattle.clif_spiller.specs.Acting.{ActsMapping}
+use Rattle.clif_spiller.proofs.Needing.{take_one_more}
+use Rattle.clif_spiller.proofs.Sizes.{size_of}
+use Rattle.clif_spiller.proofs.StackMaps.{MapsFirst, mapped, next_entry, no_entry_yet}
 use Rattle.clif_spiller.specs.Keeping.{Keeps}
 use Rattle.clif_spiller.specs.Plans.{MayBeSpilled}
-use Rattle.clif_spiller.proofs.Giving.{IsGiven, IsRefused, given_slot, refused_slot}
+use Rattle.clif_spiller.proofs.Giving.{IsGiven, IsRefused, given_slot, gives_of, refused_slot}
 use Rattle.clif_spiller.proofs.Keeping.{goes_beside, goes_further, goes_on_refl, more_slots, on_ok, plan_stays, spillable_stays, with_stack_map_keeps}
 use Rattle.clif_spiller.proofs.maps.set_map.Goals as goal
 use Rattle.clif_spiller.proofs.maps.set_map.Goals.{After-get_or_create_stack_slot, After-value-item}
 
 pub loop-value-init : goal.loop-value-init
-loop-value-init c = (
-  goes_on_refl (length c.args.func.now.blocks) c.args.func.now c.args.slots.now c.requires.slots,
-  subst (NamesSlots c.args.func.now.tables) (sym c.new-entries.ensures.items) (All-nil (λ (entry : UserStackMapEntry). entry.slot < length c.args.func.now.tables.stack_slots)),
-)
+loop-value-init c =
+    subst (MapsFirst c.args.plan.now c.args.func.now c.args.slots.now [] c.args.func.now c.args.slots.now) (sym c.new-entries.ensures.items)
+    (no_entry_yet c.args.plan.now c.args.func.now c.args.slots.now c.requires.slots (All-nil (λ (entry : UserStackMapEntry). entry.slot < length c.args.func.now.tables.stack_slots)))
 
--- a value that is live across the call may be spilled
+-- a value that is live across the call is spilled
+is_spilled : (c : After-value-item) → Contains c.args.plan.now.spilled c.value-item.result
+is_spilled c =
+    let found = subst (λ xs. Contains xs c.value-item.result) c.live_across-value-items.ensures (c.loop-value.value-index, c.loop-value-test.true, sym c.value-item.is) in
+    (c.requires.plan.named c.value-item.result).1 (c.args.inst, found)
+
+-- and so it may be
 spillable : (c : After-value-item) → MayBeSpilled c.loop-value.func c.value-item.result
 spillable c =
-    let found = subst (λ xs. Contains xs c.value-item.result) c.live_across-value-items.ensures (c.loop-value.value-index, c.loop-value-test.true, sym c.value-item.is) in
-    (plan_stays (length c.args.func.now.blocks) c.args.func.now c.loop-value.func c.loop-value.invariant.0.keeps c.args.plan.now c.requires.plan).spillable
-    c.value-item.result ((c.requires.plan.named c.value-item.result).1 (c.args.inst, found))
+    (plan_stays (length c.args.func.now.blocks) c.args.func.now c.loop-value.func c.loop-value.invariant.goes.keeps c.args.plan.now c.requires.plan).spillable
+    c.value-item.result (is_spilled c)
 
 pub get_or_create_stack_slot-requires-clause-exists : goal.get_or_create_stack_slot-requires-clause-exists
 get_or_create_stack_slot-requires-clause-exists c = (spillable (goal.at.get_or_create_stack_slot-requires-clause-exists c).After-value-item).exists
@@ -42,7 +53,7 @@ gift : (c : After-get_or_create_stack_slot) → MayBeSpilled c.loop-value.func c
     → IsGiven c.loop-value.func c.loop-value.slots c.get_or_create_stack_slot.new.func c.get_or_create_stack_slot.new.self slot
 gift c may slot is =
     given_slot c.loop-value.func c.loop-value.slots c.value-item.result may c.get_or_create_stack_slot.new.func c.get_or_create_stack_slot.new.self
-    c.get_or_create_stack_slot.result c.get_or_create_stack_slot.ensures slot is c.loop-value.invariant.0.slots
+    c.get_or_create_stack_slot.result c.get_or_create_stack_slot.ensures slot is c.loop-value.invariant.goes.slots
 
 pub returns-in_err-slot-clause-full : goal.returns-in_err-slot-clause-full
 returns-in_err-slot-clause-full c is =
@@ -65,23 +76,46 @@ value_type-requires c =
 pub loop-value-preserved : goal.loop-value-preserved
 loop-value-preserved c =
     let now = (goal.at.loop-value-preserved c).After-get_or_create_stack_slot in
-    let gift = gift now (spillable (goal.at.loop-value-preserved c).After-value-item) c.in_ok-slot.slot c.in_ok-slot.was in
-    let g : Body = c.get_or_create_stack_slot.new.func in
-    let more = more_slots 0 c.loop-value.func g (gift.keeps 0) in
-    let P : UserStackMapEntry → Type 0 = λ entry. entry.slot < length g.tables.stack_slots in
-    let old = All-weaker (λ (entry : UserStackMapEntry). entry.slot < length c.loop-value.func.tables.stack_slots) P (λ entry inside. omega (arith, inside, more))
-    c.loop-value.entries.items c.loop-value.invariant.1 in (
-      goes_further c.args.func.now c.args.slots.now c.loop-value.func c.loop-value.slots g c.get_or_create_stack_slot.new.self c.loop-value.invariant.0
-          (record { keeps = gift.keeps (length c.loop-value.func.blocks); slots = gift.knows }),
-      subst (λ (entries : List UserStackMapEntry). All P entries) (sym c.in_ok-push.ensures.items) (All-push P c.loop-value.entries.items _ old gift.exists),
-    )
+    let item = (goal.at.loop-value-preserved c).After-value-item in
+    let may = spillable item in
+    let g : Body = c.loop-value.func in
+    let h : Body = c.get_or_create_stack_slot.new.func in
+    let b : StackSlots = c.loop-value.slots in
+    let value : ℕ = c.value-item.result in
+    let gift = gift now may c.in_ok-slot.slot c.in_ok-slot.was in
+    let more = more_slots 0 g h (gift.keeps 0) in
+    let P : UserStackMapEntry → Type 0 = λ entry. entry.slot < length h.tables.stack_slots in
+    let old = All-weaker (λ (entry : UserStackMapEntry). entry.slot < length g.tables.stack_slots) P (λ entry inside. omega (arith, inside, more))
+    c.loop-value.entries.items c.loop-value.invariant.named in
+    let slot_size = size_of (value_at g value).ty may.fits in
+    let entry : UserStackMapEntry = record { ty = c.value_type.result; slot = c.in_ok-slot.slot; offset = 0 } in
+    subst (λ (entries : List UserStackMapEntry). MapsFirst c.args.plan.now c.args.func.now c.args.slots.now (take (c.loop-value.value-index + 1) c.live_across-value-items.result.now) h c.get_or_create_stack_slot.new.self entries)
+    (sym c.in_ok-push.ensures.items)
+    (subst (λ (xs : List ℕ). MapsFirst c.args.plan.now c.args.func.now c.args.slots.now xs h c.get_or_create_stack_slot.new.self (c.loop-value.entries.items ++ entry ∷ []))
+    (ap (λ x. take c.loop-value.value-index c.live_across-value-items.result.now ++ x ∷ []) c.value-item.is
+    ∙ sym (take_one_more c.live_across-value-items.result.now c.loop-value.value-index value c.loop-value-test.true))
+    (next_entry c.args.plan.now c.args.func.now c.args.slots.now (take c.loop-value.value-index c.live_across-value-items.result.now) g b c.loop-value.entries.items
+    c.loop-value.invariant value c.in_ok-slot.slot (is_spilled item) slot_size.0 slot_size.1 h c.get_or_create_stack_slot.new.self
+    (gives_of g b value may h c.get_or_create_stack_slot.new.self c.get_or_create_stack_slot.result c.get_or_create_stack_slot.ensures (Ok c.in_ok-slot.slot) c.in_ok-slot.was)
+    gift entry c.value_type.ensures refl refl (All-push P c.loop-value.entries.items _ old gift.exists)))
 
 pub returns-clause-ok : goal.returns-clause-ok
 returns-clause-ok c =
     on_ok c.set_stack_map.result
     (λ made.
-    goes_further c.args.func.now c.args.slots.now c.loop-value.func c.loop-value.slots c.set_stack_map.new.self c.loop-value.slots c.loop-value.invariant.0
-    (goes_beside (length c.loop-value.func.blocks) c.loop-value.func c.loop-value.slots c.set_stack_map.new.self c.loop-value.invariant.0.slots
+    goes_further c.args.func.now c.args.slots.now c.loop-value.func c.loop-value.slots c.set_stack_map.new.self c.loop-value.slots c.loop-value.invariant.goes
+    (goes_beside (length c.loop-value.func.blocks) c.loop-value.func c.loop-value.slots c.set_stack_map.new.self c.loop-value.invariant.goes.slots
     (subst (Keeps (length c.loop-value.func.blocks) c.loop-value.func) (sym made)
     (with_stack_map_keeps (length c.loop-value.func.blocks) c.loop-value.func c.args.inst c.loop-value.entries.items))))
+    c.set_stack_map.ensures.ok
+
+pub returns-clause-acts : goal.returns-clause-acts
+returns-clause-acts c =
+    on_ok c.set_stack_map.result
+    (λ made.
+    subst (λ (h : Body). ActsMapping c.args.plan.now c.args.inst c.args.func.now c.args.slots.now h c.loop-value.slots (found_across c.args.plan.now.liveness.now c.args.inst)) (sym made)
+    (subst (ActsMapping c.args.plan.now c.args.inst c.args.func.now c.args.slots.now _ c.loop-value.slots)
+    (take_all c.loop-value.value-index c.live_across-value-items.result.now c.loop-value-test.false ∙ c.live_across-value-items.ensures)
+    (mapped c.args.plan.now c.args.inst c.args.func.now c.args.slots.now (take c.loop-value.value-index c.live_across-value-items.result.now) c.loop-value.func c.loop-value.slots
+    c.loop-value.entries.items c.loop-value.invariant)))
     c.set_stack_map.ensures.ok

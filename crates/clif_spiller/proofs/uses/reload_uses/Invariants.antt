@@ -1,10 +1,5 @@
-use Rattle.std.proofs.Common.{◌≡◌, length}
-use Rattle.clif_instructions.specs.Instruction.{destinations}
-use Rattle.clif_ir.specs.Body.{inst_at}
-use Rattle.clif_spiller.specs.Plans.{GoesOn}
+use Rattle.clif_spiller.proofs.Edges.{ReadsEdges}
 use Rattle.clif_spiller.proofs.uses.reload_uses.Given as goal
 
 abbrev pub invariant-loop-edge : goal.invariant-loop-edge
-invariant-loop-edge l =
-    GoesOn (length l.initial.func.blocks) l.initial.func l.initial.slots l.func l.slots
-    × (length (destinations (inst_at l.func l.inst).shape) ≡ length (destinations (inst_at l.initial.func l.inst).shape))
+invariant-loop-edge l = ReadsEdges l.plan l.initial.func l.initial.slots l.inst l.edge l.func l.slots

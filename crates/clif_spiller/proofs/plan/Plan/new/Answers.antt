@@ -1,5 +1,4 @@
-use Rattle.std.proofs.Common.{◌≡◌, ◌∙◌, ◌<◌, ℕ, length, sym, ap, subst, arith}
-use Rattle.std.specs.Prelude.{Contains}
+use Rattle.std.proofs.Common.{◌∙◌, ap, subst, arith}
 use Rattle.clif_safepoints.specs.Analysis.{found_across}
 use Rattle.clif_spiller.specs.Plans.{HasMembers}
 use Rattle.clif_spiller.proofs.Members.{collected_more}

@@ -1,0 +1,10 @@
+-- How a function is rewritten instruction by instruction and block by block.
+pub mod Members
+pub mod Homes
+pub mod Using
+pub mod States
+pub mod Changes
+pub mod Steps
+pub mod Blocks
+pub mod Rewriting
+pub mod Ending
