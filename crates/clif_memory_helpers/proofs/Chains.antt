@@ -28,7 +28,7 @@ use Rattle.clif_constant_calls.proofs.Standing.{stands_on}
 use Rattle.clif_expansion.specs.Emission.{building}
 use Rattle.clif_expansion.specs.ScriptCall.{emitted_types}
 use Rattle.clif_memory_helpers.specs.Lines.{InLine, Makes, Requests, Results, StandsOn, no_results, nth, one_value}
-use Rattle.clif_memory_helpers.proofs.Lines.{entry_line, inst_line, line_err, line_none, line_ok, line_on, value_line}
+use Rattle.clif_memory_helpers.proofs.Lines.{IsImport, entry_line, inst_line, line_err, line_none, line_ok, line_on, value_line}
 
 -- LISTS -------------------------------------------------------------------------------------------------------------------
 
@@ -251,10 +251,10 @@ module _ (operands : List ℕ) (old new : FunctionBuilder) (shape : InstructionD
       }
 
 -- an entry of a table
-pub entry_makes : (entry : TableEntry) (old new : FunctionBuilder) (answer : Result ℕ BuildError) → HasCurrent old → MakesEntry entry old new answer
+pub entry_makes : (entry : TableEntry) (old new : FunctionBuilder) (answer : Result ℕ BuildError) → IsImport entry → HasCurrent old → MakesEntry entry old new answer
     → Makes [] (λ place names. MakeEntry entry ∷ []) no_results (λ number. []) old new answer
-entry_makes entry old new answer current makes = record {
-  line = entry_line entry old new answer current makes;
+entry_makes entry old new answer imports current makes = record {
+  line = entry_line entry old new answer imports current makes;
   stands = λ signature calls names stands named. by signature calls answer (makes.told.stands signature calls stands tt);
 }
   where

@@ -1,4 +1,5 @@
 -- Proofs of this crate.
+mod Keeping
 mod Lines
 mod Chains
 mod Pieces

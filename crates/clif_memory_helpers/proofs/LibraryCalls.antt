@@ -86,8 +86,8 @@ module _ (reads : LedgerIsReadByNumber) (config : TargetFrontendConfig) (callee 
     number = number_is answer next.number;
     knows = known answer next.number next.function;
     made = makes_as old new [] _ _ (λ number. []) answer
-        (makes_then reads old mid new [] _ _ (λ number. []) s (entry_makes (ASignature signature) old mid (Ok s) current first) _ _ (λ number. []) answer
-        (entry_makes (AFunction (library_function callee s)) mid new answer (first.current current) next))
+        (makes_then reads old mid new [] _ _ (λ number. []) s (entry_makes (ASignature signature) old mid (Ok s) (λ t. refl) current first) _ _ (λ number. []) answer
+        (entry_makes (AFunction (library_function callee s)) mid new answer (λ t. refl) (first.current current) next))
         (λ place names. imports config callee old.func.now.tables) no_results
         (λ place names long. (ap (λ (k : ℕ). MakeEntry (ASignature signature) ∷ MakeEntry (AFunction (library_function callee k)) ∷ []) first.number, refl));
   }

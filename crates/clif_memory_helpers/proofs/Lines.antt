@@ -10,15 +10,19 @@ use Rattle.clif_instructions.specs.Instruction.{is_branch, is_terminator}
 use Rattle.clif_instructions.specs.declared.instructions.InstructionData.{InstructionData}
 use Rattle.clif_inst_builder.specs.Shapes as shapes
 use Rattle.clif_ir.specs.Body.{Body}
-use Rattle.clif_tables.specs.Entries.{TableEntry}
+use Rattle.clif_ir.specs.Changes.{with_tables}
+use Rattle.clif_tables.specs.Entries.{TableEntry, with_entry}
+use Rattle.clif_tables.specs.Lists.{TableLists}
 use Rattle.clif_builder.specs.declared.builder.FunctionBuilder.{FunctionBuilder}
 use Rattle.clif_builder.specs.declared.context.BlockStatus.TheVariants.{Filled}
 use Rattle.clif_builder.specs.Builder.{FillsCurrent, HasCurrent, IsLeft}
 use Rattle.clif_builder.specs.Built.{Builds, BuildsValue}
 use Rattle.clif_builder.specs.Context.{ContextState, FillsNone, status_of}
 use Rattle.clif_builder.specs.Entries.{MakesEntry}
-use Rattle.clif_builder.specs.Growth.{Grows, TypesStay}
-use Rattle.clif_memory_helpers.specs.Lines.{InLine}
+use Rattle.clif_builder.specs.Growth.{Grows, RemembersIn, TypesStay}
+use Rattle.clif_memory_helpers.specs.Keeping.{KeepsState}
+use Rattle.clif_memory_helpers.proofs.Keeping.{built_keeps, built_tables, keeps_insts, keeps_none, keeps_on, value_keeps, value_tables}
+use Rattle.clif_memory_helpers.specs.Lines.{InLine, MayImport}
 
 not_failed : {A : Type 0} (a : A) → Ok a ≡ Err Failed → ⊥
 not_failed a same = cc
@@ -45,6 +49,9 @@ types_on f g h more first next v inside = next v (omega (arith, more, inside)) �
 
 fills_on : (c d e : ContextState) → FillsNone c d → FillsNone d e → FillsNone c e
 fills_on c d e first next b filled = first b (next b filled)
+
+imports_on : (t u v : TableLists) → MayImport t u → MayImport u v → MayImport t v
+imports_on t u v first next = next ∙ ap (λ (w : TableLists). record w { signatures = v.signatures; functions = v.functions }) first
 
 -- a call behind a line
 module _ {A B : Type 0} (old mid new : FunctionBuilder) (a : A) (answer : Result B BuildError) (first : InLine old mid (Ok a)) (next : InLine mid new answer) where
@@ -75,6 +82,9 @@ module _ {A B : Type 0} (old mid new : FunctionBuilder) (a : A) (answer : Result
     variables = next.variables ∙ first.variables;
     grows = both (Grows old.func.now mid.func.now) (Grows mid.func.now new.func.now) (Grows old.func.now new.func.now) answer
         (grows_on old.func.now mid.func.now new.func.now) first.grows next.grows;
+    keeps = both (KeepsState old mid) (KeepsState mid new) (KeepsState old new) answer (keeps_on old mid new first.grows.1 first.call.srcloc) first.keeps next.keeps;
+    imports = both (MayImport old.func.now.tables mid.func.now.tables) (MayImport mid.func.now.tables new.func.now.tables) (MayImport old.func.now.tables new.func.now.tables) answer
+        (imports_on old.func.now.tables mid.func.now.tables new.func.now.tables) first.imports next.imports;
     current = next.current;
   }
 
@@ -97,6 +107,8 @@ line_ok old new a b line = record {
   ssa = line.ssa;
   variables = line.variables;
   grows = line.grows;
+  keeps = line.keeps;
+  imports = line.imports;
   current = line.current;
 }
 
@@ -121,6 +133,8 @@ line_err old new e line = record {
   ssa = line.ssa;
   variables = line.variables;
   grows = tt;
+  keeps = tt;
+  imports = tt;
   current = tt;
 }
 
@@ -146,6 +160,8 @@ line_none b a sound current = record {
   ssa = refl;
   variables = refl;
   grows = (omega arith, omega arith, omega arith, refl, refl, omega arith, refl, λ entry here. here, refl);
+  keeps = keeps_none b;
+  imports = refl;
   current = current;
 }
 
@@ -168,10 +184,31 @@ line_failed b is = record {
   ssa = refl;
   variables = refl;
   grows = tt;
+  keeps = tt;
+  imports = tt;
   current = tt;
 }
 
 module _ (old new : FunctionBuilder) (shape : InstructionData) (ty : «Type») (answer : Result ℕ BuildError) (current : HasCurrent old) where
+  tables_same : new.func.now.tables ≡ old.func.now.tables → MayImport old.func.now.tables new.func.now.tables
+  tables_same same = subst (MayImport old.func.now.tables) (sym same) refl
+
+  value_kept : (r : Result ℕ BuildError) → BuildsValue old new shape ty r → OnOk r (KeepsState old new)
+  value_kept (Ok v) builds = value_keeps old new shape ty current v builds
+  value_kept (Err e) builds = tt
+
+  value_imports : (r : Result ℕ BuildError) → BuildsValue old new shape ty r → OnOk r (MayImport old.func.now.tables new.func.now.tables)
+  value_imports (Ok v) builds = tables_same (value_tables old new shape ty current v builds)
+  value_imports (Err e) builds = tt
+
+  inst_kept : (r : Result ℕ BuildError) → Builds old new shape ty r → OnOk r (KeepsState old new)
+  inst_kept (Ok i) builds = built_keeps old new shape ty current i builds
+  inst_kept (Err e) builds = tt
+
+  inst_imports : (r : Result ℕ BuildError) → Builds old new shape ty r → OnOk r (MayImport old.func.now.tables new.func.now.tables)
+  inst_imports (Ok i) builds = tables_same (built_tables old new shape ty current i builds)
+  inst_imports (Err e) builds = tt
+
   pub value_line : BuildsValue old new shape ty answer → InLine old new answer
   value_line builds = record {
     call = record {
@@ -190,6 +227,8 @@ module _ (old new : FunctionBuilder) (shape : InstructionData) (ty : «Type») (
     ssa = builds.ssa;
     variables = builds.variables;
     grows = builds.grows;
+    keeps = value_kept answer builds;
+    imports = value_imports answer builds;
     current = builds.current;
   }
 
@@ -220,6 +259,8 @@ module _ (old new : FunctionBuilder) (shape : InstructionData) (ty : «Type») (
     ssa = builds.ssa stays;
     variables = builds.variables;
     grows = builds.grows;
+    keeps = inst_kept answer builds;
+    imports = inst_imports answer builds;
     current = builds.current goes;
   }
 
@@ -229,11 +270,25 @@ pub refused_line : (old new : FunctionBuilder) (e : BuildError) → HasCurrent o
 refused_line old new e current refused =
     inst_line old new (shapes.unary_imm (pos 0)) Invalid (Err e) current refl refl (refused (shapes.unary_imm (pos 0)) Invalid)
 
-pub entry_line : (entry : TableEntry) (old new : FunctionBuilder) (answer : Result ℕ BuildError) → HasCurrent old → MakesEntry entry old new answer → InLine old new answer
-entry_line entry old new answer current makes = record {
+-- a signature or a function was imported
+abbrev pub IsImport : TableEntry → Type 0
+IsImport entry = (t : TableLists) → MayImport t (with_entry t entry)
+
+pub entry_line : (entry : TableEntry) (old new : FunctionBuilder) (answer : Result ℕ BuildError) → IsImport entry → HasCurrent old → MakesEntry entry old new answer → InLine old new answer
+entry_line entry old new answer imports current makes = record {
   call = makes.call;
   ssa = ap (λ (c : ContextState). c.ssa) makes.context;
   variables = ap (λ (c : ContextState). c.variables) makes.context;
   grows = makes.grows;
+  keeps = kept answer makes.function makes.remembers;
+  imports = imported answer makes.function;
   current = makes.current current;
 }
+  where
+    kept : (r : Result ℕ BuildError) → OnOk r (new.func.now ≡ with_tables old.func.now (with_entry old.func.now.tables entry)) → ((x b : ℕ) → OnOk r (RemembersIn x b old new)) → OnOk r (KeepsState old new)
+    kept (Ok number) is remembers = keeps_insts old new (ap (λ (f : Body). f.insts) is) (ap (λ (c : ContextState). c.ssa.tracking) makes.context) remembers
+    kept (Err e) is remembers = tt
+
+    imported : (r : Result ℕ BuildError) → OnOk r (new.func.now ≡ with_tables old.func.now (with_entry old.func.now.tables entry)) → OnOk r (MayImport old.func.now.tables new.func.now.tables)
+    imported (Ok number) is = subst (λ (f : Body). MayImport old.func.now.tables f.tables) (sym is) (imports old.func.now.tables)
+    imported (Err e) is = tt

@@ -1,4 +1,5 @@
 -- What the contracts of this crate cite.
+pub mod Keeping
 pub mod Helpers
 pub mod Lines
 pub mod Steps

@@ -5,14 +5,20 @@ use Rattle.clif_types.specs.Signature.{SignatureShape}
 use Rattle.clif_types.specs.declared.error.BuildError.{BuildError}
 use Rattle.clif_types.specs.declared.types.«Type».{«Type»}
 use Rattle.clif_ir.specs.Body.{value_at}
+use Rattle.clif_tables.specs.Lists.{TableLists}
 use Rattle.clif_meaning.specs.Name.{Name, answer_of}
 use Rattle.clif_meaning.specs.Request.{AnsweredCall, Script, script_of}
 use Rattle.clif_builder.specs.declared.builder.FunctionBuilder.{FunctionBuilder}
 use Rattle.clif_builder.specs.Builder.{HasCurrent}
 use Rattle.clif_builder.specs.Calls.{IsCall}
 use Rattle.clif_builder.specs.Growth.{Grows}
+use Rattle.clif_memory_helpers.specs.Keeping.{KeepsState}
 use Rattle.clif_builder.specs.Ledger.{NamesValue}
 use Rattle.clif_builder.specs.StandsFor.{StandsFor}
+
+-- all tables stay, but those of signatures and functions, in which there may be more
+abbrev pub MayImport : TableLists → TableLists → Type 0
+MayImport t u = u ≡ record t { signatures = u.signatures; functions = u.functions }
 
 -- Calls were made one behind the other, whatever the last one answers, and none made a branch or ended a block: as of one call that may
 -- fail. One can build on behind them.
@@ -21,6 +27,8 @@ pub record InLine {A : Type 0} (old new : FunctionBuilder) (answer : Result A Bu
   pub ssa : new.ctx.now.ssa ≡ old.ctx.now.ssa
   pub variables : new.ctx.now.variables ≡ old.ctx.now.variables
   pub grows : OnOk answer (Grows old.func.now new.func.now)
+  pub keeps : OnOk answer (KeepsState old new)
+  pub imports : OnOk answer (MayImport old.func.now.tables new.func.now.tables)
   pub current : OnOk answer (HasCurrent new)
 
 -- the value is there, and has this type
