@@ -1,6 +1,6 @@
 -- Laws of the words for what the reading calls answer.
 use Rattle.std.proofs.Common.{◌≡◌, ◌≢◌, ℕ, zero, suc, ◌+◌, ◌<◌, List, [], ◌∷◌, length, refl, ap, arith, sym, ◌∙◌, subst, inl, inr, ◌==◌, Bool, true, false}
-use Rattle.std.specs.Prelude.{slice_index, slice_get, if◌then◌else◌, remove}
+use Rattle.std.specs.Prelude.{slice_index, slice_get, if◌then◌else◌, remove, drop}
 use Rattle.std.proofs.lemmas.Grind.{common_steps}
 use Rattle.std.proofs.lemmas.Bool.{cases_eq}
 use Rattle.clif_instructions.specs.Members.{Stands, Once, next_in, without, place_of, stands_in}
@@ -52,7 +52,19 @@ without-remove (y ∷ ys) x here =
     behind (zero, inside, at) other = absurd (other at)
     behind (suc k, inside, at) other = (k, omega (arith, inside), at)
 
-pub ruleset place_rules = (place_of-first, without-remove)
+plus_suc : (count k : ℕ) → suc count + k ≡ suc (count + k)
+plus_suc count k = omega arith
+
+-- what is taken away behind the first ones is taken away from what is behind them
+pub drop-remove : {X : Type 0} (count k : ℕ) (xs : List X) → drop count (remove xs (count + k)) ≡ remove (drop count xs) k
+drop-remove zero k xs =
+    let same : 0 + k ≡ k = omega arith in
+    ap (λ n. remove xs n) same
+drop-remove (suc count) zero [] = ap (λ n. drop (suc count) (remove [] n)) (plus_suc count 0)
+drop-remove (suc count) (suc k) [] = ap (λ n. drop (suc count) (remove [] n)) (plus_suc count (suc k))
+drop-remove (suc count) k (x ∷ xs) = ap (λ n. drop (suc count) (remove (x ∷ xs) n)) (plus_suc count k) ∙ drop-remove count k xs
+
+pub ruleset place_rules = (place_of-first, without-remove, drop-remove)
 
 -- all but `v` still stand without it
 pub Stands-without : (x v : ℕ) (xs : List ℕ) → x ≢ v → Stands x xs → Stands x (without v xs)

@@ -11,10 +11,13 @@ abbrev pub values_of : Values → List ℕ
 values_of values.None = []
 values_of (values.One value) = value ∷ []
 values_of (values.Two pair) = pair
-values_of (values.More more) = more.value.items
+values_of (values.Few few) = few.value.items
+values_of (values.Many many) = many.value
 
 -- what an edge passes
 abbrev pub args_of : Args → List BlockArg
 args_of args.None = []
 args_of (args.One arg) = arg ∷ []
-args_of (args.More more) = more.value.items
+args_of (args.Four four) = four.value.items
+args_of (args.Eight eight) = eight.value.items
+args_of (args.Many many) = many.value.items

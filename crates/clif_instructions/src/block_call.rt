@@ -3,8 +3,8 @@ ghost use Rattle.std.specs.Prelude.{◌≡◌, ◌-◌, ◌<◌, [], ◌∷◌, 
 ghost use Rattle.clif_instructions.specs.Edges.{argument_text};
 ghost use Rattle.clif_instructions.specs.Kept.{args_of};
 
+use arrayvec::ArrayVec;
 use clif_types::{Block, BuildError, Value};
-use smallvec::SmallVec;
 use std::alloc::Global;
 use std::marker::Model;
 use std::{fmt, slice};
@@ -55,8 +55,12 @@ impl Drop for BlockArgs {
 enum Args {
     None,
     One(BlockArg),
-    // Two or more, or fewer that are left of these.
-    More(Box<SmallVec<BlockArg, 3>>),
+    // Two to four, or fewer that are left of these.
+    Four(Box<ArrayVec<BlockArg, 4>>),
+    // Five to eight, or fewer that are left of these.
+    Eight(Box<ArrayVec<BlockArg, 8>>),
+    // Nine or more, or fewer that are left of these.
+    Many(Box<Vec<BlockArg>>),
 }
 
 // By hand: a derived one is proved anew at each way out of a function that holds such a value.
@@ -65,7 +69,9 @@ impl Drop for Args {
         match self {
             Args::None => {}
             Args::One(_) => {}
-            Args::More(_) => {}
+            Args::Four(_) => {}
+            Args::Eight(_) => {}
+            Args::Many(_) => {}
         }
     }
 }
@@ -117,7 +123,9 @@ impl BlockArgs {
         match &self.args {
             Args::None => &[],
             Args::One(arg) => slice::from_ref(arg),
-            Args::More(more) => more.as_slice(),
+            Args::Four(four) => four.as_slice(),
+            Args::Eight(eight) => eight.as_slice(),
+            Args::Many(many) => many.as_slice(),
         }
     }
 
@@ -134,7 +142,21 @@ impl BlockArgs {
         match &mut self.args {
             Args::None => self.args = Args::One(arg),
             Args::One(first) => self.args = more_args(self.alloc, &[*first, arg])?,
-            Args::More(more) => more.push(arg)?,
+            Args::Four(four) => {
+                if four.is_full() {
+                    self.args = eight_args(self.alloc, four.as_slice(), arg)?;
+                } else {
+                    four.push(arg);
+                }
+            }
+            Args::Eight(eight) => {
+                if eight.is_full() {
+                    self.args = many_args(self.alloc, eight.as_slice(), arg)?;
+                } else {
+                    eight.push(arg);
+                }
+            }
+            Args::Many(many) => many.push(arg)?,
         }
         Ok(())
     }
@@ -147,7 +169,9 @@ impl BlockArgs {
         match &mut self.args {
             Args::None => {}
             Args::One(only) => *only = arg,
-            Args::More(more) => more[place] = arg,
+            Args::Four(four) => four[place] = arg,
+            Args::Eight(eight) => eight[place] = arg,
+            Args::Many(many) => many[place] = arg,
         }
     }
 
@@ -157,8 +181,14 @@ impl BlockArgs {
     {
         match &mut self.args {
             Args::None | Args::One(_) => self.args = Args::None,
-            Args::More(more) => {
-                let _ = more.pop();
+            Args::Four(four) => {
+                let _ = four.pop();
+            }
+            Args::Eight(eight) => {
+                let _ = eight.pop();
+            }
+            Args::Many(many) => {
+                let _ = many.pop();
             }
         }
     }
@@ -169,8 +199,37 @@ fn more_args(alloc: Global, args: &[BlockArg]) -> Result<Args, BuildError>
     ensures ok { IfOk result (λ more. args_of more ≡ args.now) }
     ensures only_memory { OnErr result (result ≡ Err BuildError.Memory) }
 {
-    let more = SmallVec::from_slice(alloc, args)?;
-    Ok(Args::More(Box::new(alloc, more)?))
+    let mut four = ArrayVec::new();
+    if four.try_extend_from_slice(args).is_ok() {
+        return Ok(Args::Four(Box::new(alloc, four)?));
+    }
+    let mut eight = ArrayVec::new();
+    if eight.try_extend_from_slice(args).is_ok() {
+        return Ok(Args::Eight(Box::new(alloc, eight)?));
+    }
+    Ok(Args::Many(Box::new(alloc, Vec::from_slice(alloc, args)?)?))
+}
+
+// Four arguments and one more. The only error is `Memory`.
+fn eight_args(alloc: Global, args: &[BlockArg], last: BlockArg) -> Result<Args, BuildError>
+    requires { length args.now < 8 }
+    ensures ok { IfOk result (λ more. args_of more ≡ args.now ++ last ∷ []) }
+    ensures only_memory { OnErr result (result ≡ Err BuildError.Memory) }
+{
+    let mut eight = ArrayVec::new();
+    let _fits = eight.try_extend_from_slice(args);
+    eight.push(last);
+    Ok(Args::Eight(Box::new(alloc, eight)?))
+}
+
+// Eight arguments and one more. The only error is `Memory`.
+fn many_args(alloc: Global, args: &[BlockArg], last: BlockArg) -> Result<Args, BuildError>
+    ensures ok { IfOk result (λ more. args_of more ≡ args.now ++ last ∷ []) }
+    ensures only_memory { OnErr result (result ≡ Err BuildError.Memory) }
+{
+    let mut many = Vec::from_slice(alloc, args)?;
+    many.push(last)?;
+    Ok(Args::Many(Box::new(alloc, many)?))
 }
 
 /// An edge: a block, and what is passed to its parameters, in order.

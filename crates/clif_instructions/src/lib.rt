@@ -13,4 +13,5 @@ pub mod immediates;
 pub mod insert_at;
 pub mod instructions;
 pub mod jump_table;
+mod long_list;
 pub mod value_list;

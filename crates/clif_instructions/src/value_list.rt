@@ -3,8 +3,9 @@ ghost use Rattle.std.specs.Prelude.{◌≡◌, [], ◌∷◌, ◌++◌, length, 
 ghost use Rattle.clif_instructions.specs.Members.{Stands, place_of, without};
 ghost use Rattle.clif_instructions.specs.Kept.{values_of};
 
+use crate::long_list::LongList;
+use arrayvec::ArrayVec;
 use clif_types::{BuildError, Value};
-use smallvec::SmallVec;
 use std::alloc::Global;
 use std::marker::Model;
 use std::slice;
@@ -30,8 +31,10 @@ enum Values {
     None,
     One(Value),
     Two([Value; 2]),
-    // Three or more, or fewer that are left of these.
-    More(Box<SmallVec<Value, 6>>),
+    // Three to eight, or fewer that are left of these.
+    Few(Box<ArrayVec<Value, 8>>),
+    // Nine or more, or fewer that are left of these.
+    Many(Box<LongList>),
 }
 
 // By hand: a derived one is proved anew at each way out of a function that holds such a value.
@@ -41,7 +44,8 @@ impl Drop for Values {
             Values::None => {}
             Values::One(_) => {}
             Values::Two(_) => {}
-            Values::More(_) => {}
+            Values::Few(_) => {}
+            Values::Many(_) => {}
         }
     }
 }
@@ -95,7 +99,8 @@ impl ValueList {
             Values::None => &[],
             Values::One(value) => slice::from_ref(value),
             Values::Two(pair) => pair,
-            Values::More(more) => more.as_slice(),
+            Values::Few(few) => few.as_slice(),
+            Values::Many(many) => many.as_slice(),
         }
     }
 
@@ -117,7 +122,14 @@ impl ValueList {
                 let [first, second] = *pair;
                 self.values = more_values(self.alloc, &[first, second, value])?;
             }
-            Values::More(more) => more.push(value)?,
+            Values::Few(few) => {
+                if few.is_full() {
+                    self.values = grown(self.alloc, few.as_slice(), value)?;
+                } else {
+                    few.push(value);
+                }
+            }
+            Values::Many(many) => many.push(value)?,
         }
         Ok(())
     }
@@ -131,7 +143,8 @@ impl ValueList {
             Values::None => {}
             Values::One(only) => *only = value,
             Values::Two(pair) => set_value(pair, place, value),
-            Values::More(more) => more[place] = value,
+            Values::Few(few) => few[place] = value,
+            Values::Many(many) => many.set(place, value),
         }
     }
 
@@ -156,10 +169,11 @@ impl ValueList {
                 let [first, second] = *pair;
                 self.values = Values::One(if first == value { second } else { first });
             }
-            Values::More(more) => {
-                let place = place_in(more.as_slice(), value);
-                let _ = more.remove(place);
+            Values::Few(few) => {
+                let place = place_in(few.as_slice(), value);
+                let _ = few.remove(place);
             }
+            Values::Many(many) => many.remove(value),
         }
     }
 }
@@ -177,13 +191,27 @@ fn more_values(alloc: Global, values: &[Value]) -> Result<Values, BuildError>
     ensures ok { IfOk result (λ more. values_of more ≡ values.now) }
     ensures only_memory { OnErr result (result ≡ Err BuildError.Memory) }
 {
-    let more = SmallVec::from_slice(alloc, values)?;
-    Ok(Values::More(Box::new(alloc, more)?))
+    let mut few = ArrayVec::new();
+    if few.try_extend_from_slice(values).is_ok() {
+        return Ok(Values::Few(Box::new(alloc, few)?));
+    }
+    let many = LongList::from_slice(alloc, values)?;
+    Ok(Values::Many(Box::new(alloc, many)?))
+}
+
+// These values and one more, in memory for many. The only error is `Memory`.
+fn grown(alloc: Global, values: &[Value], last: Value) -> Result<Values, BuildError>
+    ensures ok { IfOk result (λ more. values_of more ≡ values.now ++ last ∷ []) }
+    ensures only_memory { OnErr result (result ≡ Err BuildError.Memory) }
+{
+    let mut many = LongList::from_slice(alloc, values)?;
+    many.push(last)?;
+    Ok(Values::Many(Box::new(alloc, many)?))
 }
 
 // The place of the first `value`, which is one of these.
 #[tactic(auto, using(crate::proofs::Members::place_rules))]
-fn place_in(values: &[Value], value: Value) -> usize
+pub(crate) fn place_in(values: &[Value], value: Value) -> usize
     requires { Stands value values.now }
     ensures exact { result ≡ place_of value values.now }
     ensures inside { result < length values.now }
