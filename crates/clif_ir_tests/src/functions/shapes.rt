@@ -44,6 +44,46 @@ fn values(rt: HostRuntime) -> Result<(), Fail> {
     Ok(())
 }
 
+// Takes the first value with this number away.
+fn take(rt: &impl Abort, list: &mut ValueList, number: u32) {
+    let value = v(rt, number);
+    assert!(rt; list.as_slice().contains(&value));
+    list.remove(value);
+}
+
+// Asserts what a list holds.
+fn holds(rt: &impl Abort, list: &ValueList, numbers: &[u32]) {
+    assert!(rt; list.as_slice().len() == numbers.len());
+    for (value, number) in list.as_slice().iter().zip(numbers) {
+        assert!(rt; *value == v(rt, *number));
+    }
+}
+
+// A long list grows from a short one, and values go from its front, from between others and from its back.
+#[test]
+fn long_lists(rt: HostRuntime) -> Result<(), Fail> {
+    let mut list = ValueList::new(rt.alloc());
+    for number in 0..20 {
+        list.push(v(&rt, number))?;
+    }
+    let copied = ValueList::from_slice(rt.alloc(), list.as_slice())?;
+    assert!(rt; copied.as_slice() == list.as_slice());
+    for number in 0..9 {
+        take(&rt, &mut list, number);
+    }
+    take(&rt, &mut list, 12);
+    take(&rt, &mut list, 19);
+    holds(&rt, &list, &[9, 10, 11, 13, 14, 15, 16, 17, 18]);
+    list.push(v(&rt, 30))?;
+    for number in 9..12 {
+        take(&rt, &mut list, number);
+    }
+    assert!(rt; list.as_slice().len() > 2);
+    list.set(2, v(&rt, 40));
+    holds(&rt, &list, &[13, 14, 40, 16, 17, 18, 30]);
+    Ok(())
+}
+
 #[test]
 fn argument_texts(rt: HostRuntime) -> Result<(), Fail> {
     let three = BlockArg::Value(Value::from_u32(3));
@@ -65,6 +105,23 @@ fn arguments(rt: HostRuntime) -> Result<(), Fail> {
     assert!(rt; args.as_slice() == one.as_slice());
     let copied = BlockArgs::from_slice(rt.alloc(), args.as_slice())?;
     assert!(rt; copied.as_slice() == one.as_slice());
+    Ok(())
+}
+
+// Arguments are put behind others at each length from none to ten, and taken away.
+#[test]
+fn many_arguments(rt: HostRuntime) -> Result<(), Fail> {
+    let mut args = BlockArgs::new(rt.alloc());
+    for number in 0..10 {
+        args.push(BlockArg::TryCallRet(number))?;
+        let copied = BlockArgs::from_slice(rt.alloc(), args.as_slice())?;
+        assert!(rt; copied.as_slice() == args.as_slice());
+    }
+    args.pop();
+    assert!(rt; args.as_slice().len() == 9);
+    for (number, arg) in (0..).zip(args.as_slice()) {
+        assert!(rt; *arg == BlockArg::TryCallRet(number));
+    }
     Ok(())
 }
 
