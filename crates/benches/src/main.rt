@@ -7,11 +7,13 @@
 ghost use Rattle.std.specs.Prelude.{◌≡◌};
 
 mod calls;
+mod helping;
 mod kinds;
 mod marking;
 mod rewriting;
+mod switching;
 
-use crate::calls::{Fault, declare_all, import_first};
+use crate::calls::{Fault, declare_all, import_first, import_of_four};
 use crate::kinds::{Kind, make};
 use crate::marking::live_across_calls;
 use crate::rewriting::surround_all;
@@ -33,7 +35,7 @@ const CONFIG: TargetFrontendConfig = TargetFrontendConfig {
 fn main(rt: HostRuntime) -> ExitCode {
     let Some((kind, turns)) = arguments(&rt) else {
         let _ = rt.eprintln(
-            "usage: benches block|chain|chain_late|far|diamonds|loops|mixed|rewritten|marked TURNS",
+            "usage: benches block|chain|chain_late|far|diamonds|loops|switch|mixed|calls|helpers|rewritten|marked TURNS",
         );
         return ExitCode::from(2);
     };
@@ -78,7 +80,10 @@ fn kind_named(name: &str) -> Option<Kind> {
         "far" => Some(Kind::Far),
         "diamonds" => Some(Kind::Diamonds),
         "loops" => Some(Kind::Loops),
+        "switch" => Some(Kind::Switch),
         "mixed" => Some(Kind::Mixed),
+        "calls" => Some(Kind::Calls),
+        "helpers" => Some(Kind::Helpers),
         "rewritten" => Some(Kind::Rewritten),
         "marked" => Some(Kind::Marked),
         _ => None,
@@ -92,8 +97,10 @@ fn built(alloc: Global, kind: Kind, turns: usize) -> Option<Function> {
     let mut func = Function::with_name_signature(alloc, UserFuncName::user(0, 0), signature);
     let mut builder = FunctionBuilder::new(&mut func, &mut ctx);
     declare_all(&mut builder).ok()?;
-    if kind == Kind::Marked {
-        import_first(alloc, &mut builder).ok()?;
+    match kind {
+        Kind::Marked => import_first(alloc, &mut builder).ok()?,
+        Kind::Calls => import_of_four(alloc, &mut builder).ok()?,
+        _ => {}
     }
     let made = make(&mut builder, kind, turns);
     let finished = builder.finalize(CONFIG);
