@@ -1,5 +1,5 @@
 //! Switches.
-ghost use Rattle.std.specs.Prelude.{◌≡◌, OnOk};
+ghost use Rattle.std.specs.Prelude.{◌≡◌, OnOk, IfOk};
 ghost use Rattle.clif_switch.specs.Emission.{MayLead};
 ghost use Rattle.benches.specs.Cases.{AllLead, AllLeadAnywhere};
 
@@ -21,21 +21,27 @@ fn no_case(alloc: Global) -> Switch
     Switch::new(alloc)
 }
 
-// Sets the block of a key, to which a branch may lead.
+// Sets the block of a key, to which a branch of this builder may lead.
 fn set_case(
     builder: &FunctionBuilder<'_>,
     switch: &mut Switch,
     key: u128,
     block: Block,
-) -> Result<(), Fault>
-    requires { AllLead switch.old builder.now }
-    ensures { OnOk result (AllLead switch.new builder.now) }
+) -> Result<(), SwitchError>
+    requires leads { MayLead builder.now block }
+    requires all { AllLead switch.old builder.now }
+    ensures { AllLead switch.new builder.now }
 {
-    may_lead(builder, block)?;
-    match switch.set_entry(key, block) {
-        Ok(()) => Ok(()),
-        Err(SwitchError::Build(error)) => Err(Fault::Refused(error)),
-        Err(_) => Err(Fault::Misuse),
+    switch.set_entry(key, block)
+}
+
+// Why a switch wasn't built.
+fn fault_of(error: SwitchError) -> Fault {
+    match error {
+        SwitchError::Build(error) => Fault::Refused(error),
+        SwitchError::SetTwice(_) | SwitchError::KeyTooWide { .. } | SwitchError::TableTooLong => {
+            Fault::Misuse
+        }
     }
 }
 
@@ -46,11 +52,14 @@ fn switch_to(
     keys: &[u128],
     block: Block,
 ) -> Result<Switch, Fault>
-    ensures { OnOk result (AllLead result builder.now) }
+    ensures { IfOk result (λ switch. AllLead switch builder.now) }
 {
     let mut switch = no_case(alloc);
     for place in 0..keys.len() {
-        set_case(builder, &mut switch, keys[place], block)?;
+        may_lead(builder, block)?;
+        if let Err(error) = set_case(builder, &mut switch, keys[place], block) {
+            return Err(fault_of(error));
+        }
     }
     Ok(switch)
 }
@@ -74,7 +83,6 @@ pub fn switch(
     let switch = switch_to(builder.func().allocator(), builder, keys, taken)?;
     match switch.emit(builder, value, other) {
         Ok(()) => Ok(()),
-        Err(SwitchError::Build(error)) => Err(Fault::Refused(error)),
-        Err(_) => Err(Fault::Misuse),
+        Err(error) => Err(fault_of(error)),
     }
 }
