@@ -1,29 +1,23 @@
 -- Steps that act on slots, one after the other.
-use Rattle.std.proofs.Common.{◌≡◌, ◌≢◌, ◌∙◌, ◌<◌, ◌≤◌, ℕ, Bool, true, false, cond, List, [], ◌∷◌, ◌++◌, length, map, refl, sym, ap, subst, arith, Result, Ok, Err, inl, inr}
-use Rattle.std.specs.Prelude.{Contains, None, Some, filter}
-use Rattle.std.specs.FinMap as fin
+use Rattle.std.proofs.Common.{◌≡◌, ◌≢◌, ◌∙◌, ◌<◌, ℕ, Bool, true, false, cond, List, [], ◌∷◌, ◌++◌, length, map, refl, sym, ap, subst, arith, Ok}
+use Rattle.std.specs.Prelude.{Contains, Some, filter}
 use Rattle.clif_types.specs.EntitySet.{has}
-use Rattle.clif_types.specs.declared.error.BuildError.{BuildError}
-use Rattle.clif_types.specs.declared.types.«Type».{«Type»}
 use Rattle.clif_tables.specs.Lists.{TableLists, stack_map_at}
 use Rattle.clif_instructions.specs.Members.{Stands}
 use Rattle.clif_nodes.specs.declared.nodes.ValueNode.{ValueNode}
 use Rattle.clif_ir.specs.Body.{Body, block_at, inst_at, value_at}
 use Rattle.clif_stack_slots.specs.Sizes.{size_of_type}
-use Rattle.clif_stack_slots.specs.Slots.{FreesSlot, GivesSlot}
+use Rattle.clif_stack_slots.specs.Slots.{GivesSlot}
 use Rattle.clif_stack_slots.specs.declared.size.SlotSize.{SlotSize}
 use Rattle.clif_stack_slots.specs.declared.slots.StackSlots.{StackSlots}
-use Rattle.clif_safepoints.proofs.Paths.{stands_from}
 use Rattle.clif_spiller.specs.Acting.{Acts, GoesBy, IsOnTheWay, needs, types_in}
-use Rattle.clif_spiller.specs.Allocating.{Gives, IsSlotState, Needs, SlotAct, SlotState, after_act, after_acts}
+use Rattle.clif_spiller.specs.Allocating.{IsSlotState, Needs, SlotAct, after_acts}
 use Rattle.clif_spiller.specs.Keeping.{Keeps}
-use Rattle.clif_spiller.specs.Plans.{MayBeSpilled}
 use Rattle.clif_spiller.specs.declared.plan.Plan.{Plan}
 use Rattle.clif_spiller.proofs.Advancing.{on_the_way}
 use Rattle.clif_spiller.proofs.Allocating.Bridging.{needed}
 use Rattle.clif_spiller.proofs.Allocating.States.{acts_append}
 use Rattle.clif_spiller.proofs.Keeping.{same_value}
-use Rattle.clif_spiller.proofs.Sizes.{size_of}
 
 -- ONE AFTER THE OTHER ---------------------------------------------------------------------------------------------------
 

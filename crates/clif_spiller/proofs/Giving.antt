@@ -1,5 +1,5 @@
 -- A value that is given a slot: what stays of the function, and what is known of slots.
-use Rattle.std.proofs.Common.{◌≡◌, ◌≢◌, ◌<◌, ◌≤◌, ◌∙◌, ◌+◌, ◌^◌, ◌-◌, ◌⊎◌, ℕ, inl, inr, Bool, true, false, List, [], ◌∷◌, ◌++◌, length, Option, None, Some, Result, Ok, Err, cond, refl, sym, ap, subst, arith, length-append}
+use Rattle.std.proofs.Common.{◌≡◌, ◌≢◌, ◌<◌, ◌∙◌, ◌+◌, ◌^◌, ◌-◌, ◌⊎◌, ℕ, inl, inr, Bool, true, false, List, [], ◌∷◌, ◌++◌, length, Option, None, Some, Result, Ok, Err, cond, refl, sym, ap, subst, arith, length-append}
 use Rattle.std.specs.Prelude.{Contains}
 use Rattle.std.specs.FinMap as map
 use Rattle.std.specs.FinMap.{get-insert, nat_cmp-IsAntisymmetric}
@@ -9,18 +9,14 @@ use Rattle.std.specs.declared.cmp.Ordering.TheVariants.{Less, Equal, Greater}
 use Rattle.std.specs.Ordering.{eq_by_cmp, is_eq, nat_cmp}
 use Rattle.std.proofs.lemmas.Bool.{cases_eq}
 use Rattle.std.proofs.lemmas.List.Elements.{Contains-append_left, Contains-push, Contains-push_cases}
-use Rattle.clif_types.specs.StackSlot.{StackSlotShape}
 use Rattle.clif_types.specs.declared.error.BuildError.{BuildError}
 use Rattle.clif_types.specs.declared.error.BuildError.TheVariants.{Failed, Full, Memory}
 use Rattle.clif_tables.specs.Entries.{AStackSlot, with_entry}
 use Rattle.clif_tables.specs.Lists.{stack_map_at}
-use Rattle.clif_nodes.specs.declared.nodes.ValueNode.{ValueNode}
-use Rattle.clif_nodes.specs.declared.nodes.InstNode.{InstNode}
-use Rattle.clif_nodes.specs.Nodes.{BlockNode}
 use Rattle.clif_ir.specs.Body.{Body, value_at}
 use Rattle.clif_ir.specs.Changes.{with_tables}
 use Rattle.clif_stack_slots.specs.Sizes.{shift_of, size_of_type}
-use Rattle.clif_stack_slots.specs.Slots.{ChangesFree, FreesSlot, GivesSlot, SlotMap, TakesSlot, assigned_in, free_in, slot_for}
+use Rattle.clif_stack_slots.specs.Slots.{ChangesFree, GivesSlot, SlotMap, TakesSlot, assigned_in, free_in, slot_for}
 use Rattle.clif_stack_slots.specs.declared.size.SlotSize.{SlotSize}
 use Rattle.clif_stack_slots.specs.declared.slots.StackSlots.{StackSlots}
 use Rattle.clif_stack_slots.proofs.Free.{same_size}
@@ -31,12 +27,12 @@ use Rattle.clif_spiller.proofs.Keeping.{keeps_refl, slots_stay, spillable_stays,
 
 -- MAPS ------------------------------------------------------------------------------------------------------------------
 
-equal-is : (o : Ordering) → is_eq o ≡ true → o ≡ Equal
+pub equal-is : (o : Ordering) → is_eq o ≡ true → o ≡ Equal
 equal-is Less is = cc
 equal-is Equal is = refl
 equal-is Greater is = cc
 
-not_equal : (b : Bool) → (b ≡ true → ⊥) → b ≡ false
+pub not_equal : (b : Bool) → (b ≡ true → ⊥) → b ≡ false
 not_equal true never = absurd (never refl)
 not_equal false never = refl
 

@@ -1,5 +1,5 @@
 -- The instructions of a block of the layout.
-use Rattle.std.proofs.Common.{◌≡◌, ◌<◌, ◌∙◌, ℕ, Bool, true, false, if◌then◌else◌, List, [], length, get_or, refl, sym, ap, subst, arith}
+use Rattle.std.proofs.Common.{◌≡◌, ◌<◌, ◌∙◌, ℕ, Bool, true, false, if◌then◌else◌, List, [], length, get_or, refl, subst, arith}
 use Rattle.std.specs.Prelude.{Contains, slice_index}
 use Rattle.clif_instructions.specs.Members.{Stands, stands_in}
 use Rattle.clif_ir.specs.Body.{Body, block_at}

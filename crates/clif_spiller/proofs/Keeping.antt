@@ -1,9 +1,7 @@
 -- What stays of a function through changes one after the other, and what is known of slots and plans with it.
-use Rattle.std.proofs.Common.{◌≡◌, ◌≢◌, ◌<◌, ◌≤◌, ◌∙◌, ◌+◌, ◌-◌, ℕ, zero, suc, List, [], ◌∷◌, ◌++◌, length, get_or, set, inl, inr, refl, sym, ap, subst, arith, length-append, append_assoc}
+use Rattle.std.proofs.Common.{◌≡◌, ◌≢◌, ◌<◌, ◌≤◌, ◌∙◌, ◌-◌, ℕ, zero, suc, List, [], ◌∷◌, ◌++◌, length, get_or, set, inl, inr, refl, sym, ap, subst, arith, length-append, append_assoc}
 use Rattle.std.specs.Prelude.{slice_get, slice_index_or, Option, None, Some, true, Result, Ok, Err, IfOk, IfSome, OnOk}
 use Rattle.std.proofs.Math.ListN.{get_or-append}
-use Rattle.std.proofs.Math.Seq.{get_or-append_right}
-use Rattle.std.proofs.lemmas.Grind.{common_steps}
 use Rattle.std.proofs.lemmas.List.{append-nil}
 use Rattle.clif_types.specs.declared.stackmap.UserStackMapEntry.{UserStackMapEntry}
 use Rattle.clif_types.specs.StackSlot.{StackSlotShape}
@@ -314,10 +312,19 @@ pub on_ok₂ : {A E P Q R : Type 0} (r : Result A E) → (P → Q → R) → OnO
 on_ok₂ (Ok x) f first second = f first second
 on_ok₂ (Err e) f first second = tt
 
+pub on_ok₃ : {A E P Q R S : Type 0} (r : Result A E) → (P → Q → R → S) → OnOk r P → OnOk r Q → OnOk r R → OnOk r S
+on_ok₃ (Ok x) f first second third = f first second third
+on_ok₃ (Err e) f first second third = tt
+
 -- the instruction that got another shape
 pub shape_there : (f : Body) (i : ℕ) (shape : InstructionData) → i < length f.insts → (inst_at (with_shape f i shape) i).shape ≡ shape
 shape_there f i shape inside =
     at_set (λ (m : InstNode). m.shape ≡ shape) f.insts i (record (inst_at f i) { shape = shape }) i no_inst inside (λ same. refl) (λ other. absurd (other refl))
+
+-- another instruction keeps its node
+pub others_there : (f : Body) (inst : ℕ) (shape : InstructionData) (i : ℕ) → i ≢ inst → inst_at (with_shape f inst shape) i ≡ inst_at f i
+others_there f inst shape i apart =
+    at_set_or_not (λ (m : InstNode). m ≡ inst_at f i) f.insts inst (record (inst_at f inst) { shape = shape }) i no_inst (λ same. absurd (apart same)) refl
 
 pub if_ok : {A E P Q : Type 0} (r : Result A E) → (P → Q) → OnOk r P → IfOk r (λ _. Q)
 if_ok (Ok x) f holds = f holds

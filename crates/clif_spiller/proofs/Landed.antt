@@ -1,9 +1,9 @@
 -- What landing blocks do to slots, argument by argument and edge by edge.
-use Rattle.std.proofs.Common.{◌≡◌, ◌≢◌, ◌∙◌, ◌<◌, ◌≤◌, ◌+◌, ◌-◌, ℕ, zero, suc, List, [], ◌∷◌, ◌++◌, length, get_or, set, take, drop, flat_map, refl, sym, ap, ap₂, subst, arith, ◌⊎◌, inl, inr}
+use Rattle.std.proofs.Common.{◌≡◌, ◌≢◌, ◌∙◌, ◌<◌, ◌≤◌, ◌+◌, ◌-◌, ℕ, zero, suc, List, [], ◌∷◌, ◌++◌, length, get_or, set, take, drop, refl, sym, ap, ap₂, subst, arith, ◌⊎◌, inl, inr}
 use Rattle.std.specs.Prelude.{All}
 use Rattle.std.proofs.lemmas.List.{append-nil, take_all}
 use Rattle.clif_instructions.specs.Edges.{edge_at, no_edge}
-use Rattle.clif_instructions.specs.Instruction.{destinations, operands, with_argument, with_edge}
+use Rattle.clif_instructions.specs.Instruction.{destinations, operands, with_edge}
 use Rattle.clif_instructions.specs.declared.block_call.BlockArg.{BlockArg}
 use Rattle.clif_instructions.specs.declared.block_call.BlockArg.TheVariants as arg
 use Rattle.clif_instructions.specs.declared.block_call.BlockCall.{BlockCall}
@@ -14,7 +14,7 @@ use Rattle.clif_instructions.specs.Members.{Stands}
 use Rattle.clif_nodes.specs.declared.nodes.InstNode.{InstNode}
 use Rattle.clif_ir.specs.Body.{Body, block_at, inst_at}
 use Rattle.clif_ir.specs.Changes.{with_shape}
-use Rattle.clif_ir.specs.Consistent.{EdgeExists, IsConsistent, PassedExists}
+use Rattle.clif_ir.specs.Consistent.{IsConsistent, PassedExists}
 use Rattle.clif_stack_slots.specs.declared.slots.StackSlots.{StackSlots}
 use Rattle.clif_tables.specs.Lists.{TableLists, stack_map_at}
 use Rattle.clif_spiller.specs.Acting.{Acts, GoesBy, LandsEdge, LandsEdges, args_of, edge_values, needs, no_argument, passed_value, passed_values}
@@ -22,10 +22,9 @@ use Rattle.clif_spiller.specs.Keeping.{Keeps}
 use Rattle.clif_spiller.specs.Plans.{GoesOn, KnowsSlots, OwnArgument}
 use Rattle.clif_spiller.specs.declared.plan.Plan.{Plan}
 use Rattle.clif_spiller.proofs.Acting.{acts_beside, acts_nothing, acts_then, goes_beside, goes_then, needs_append}
-use Rattle.clif_spiller.proofs.Edges.{all_edges_stay, all_passed_stay, passed_stays}
-use Rattle.clif_spiller.proofs.Keeping.{at_set_or_not, goes_further, goes_on_refl, keeps_fewer, keeps_trans, shape_there}
+use Rattle.clif_spiller.proofs.Edges.{all_passed_stay, passed_stays}
+use Rattle.clif_spiller.proofs.Keeping.{at_set_or_not, goes_further, goes_on_refl, keeps_fewer, keeps_trans, others_there, shape_there}
 use Rattle.clif_spiller.proofs.Needing.{edges_append, needs_next, one_edge, one_passed, passed_append}
-use Rattle.clif_spiller.proofs.Operands.{others_there}
 use Rattle.clif_spiller.proofs.Parts.{destinations-with_edge, operands-with_edge}
 
 -- WHAT THE CALL GIVES ITSELF --------------------------------------------------------------------------------------------

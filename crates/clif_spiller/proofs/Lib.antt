@@ -22,4 +22,5 @@ mod Storing
 mod StackMaps
 mod Waiting
 mod Landed
+mod Text
 mod Progressing

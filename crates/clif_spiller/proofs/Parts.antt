@@ -1,5 +1,5 @@
 -- An instruction of which an operand, an edge or a context is replaced: what its parts are.
-use Rattle.std.proofs.Common.{◌≡◌, ◌<◌, ℕ, zero, suc, List, [], ◌∷◌, length, set, refl, arith}
+use Rattle.std.proofs.Common.{◌≡◌, ◌<◌, ℕ, zero, suc, [], ◌∷◌, length, set, refl, arith}
 use Rattle.clif_instructions.specs.Edges.{edge_at, with_passed}
 use Rattle.clif_instructions.specs.Instruction.{destinations, operands, with_context, with_edge, with_edge_argument, with_operand}
 use Rattle.clif_instructions.specs.declared.block_call.BlockCall.{BlockCall}

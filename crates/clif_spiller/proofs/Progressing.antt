@@ -5,6 +5,11 @@ pub mod Using
 pub mod States
 pub mod Changes
 pub mod Steps
+pub mod Leading
+pub mod Writing
+pub mod Stepping
+pub mod Parameters
 pub mod Blocks
 pub mod Rewriting
+pub mod Finishing
 pub mod Ending

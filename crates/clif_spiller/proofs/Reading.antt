@@ -1,10 +1,9 @@
 -- What a read in place of an operand leaves.
-use Rattle.std.proofs.Common.{◌≡◌, ◌≢◌, ◌<◌, ◌+◌, ◌∙◌, ℕ, pos, Bool, true, false, List, [], ◌∷◌, ◌++◌, length, refl, sym, ap, subst, arith, length-append}
+use Rattle.std.proofs.Common.{◌≡◌, ◌≢◌, ◌<◌, ◌+◌, ◌∙◌, ℕ, pos, Bool, true, false, List, [], ◌∷◌, length, refl, sym, ap, subst, arith, length-append}
 use Rattle.std.proofs.Math.ListN.{get_or-append}
 use Rattle.clif_types.specs.declared.types.«Type».{«Type»}
 use Rattle.clif_types.specs.EntitySet.{has}
 use Rattle.clif_nodes.specs.declared.nodes.InstNode.{InstNode}
-use Rattle.clif_nodes.specs.declared.nodes.ValueNode.{ValueNode}
 use Rattle.clif_nodes.specs.Nodes.{BlockNode, empty_block, no_inst, result_nodes}
 use Rattle.clif_instructions.specs.Members.{Stands}
 use Rattle.clif_opcodes.specs.declared.opcodes.StackOpcode.TheVariants.{StackAddr}

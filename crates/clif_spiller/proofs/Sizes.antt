@@ -1,5 +1,5 @@
 -- Each type that a stack map has room for has a size.
-use Rattle.std.proofs.Common.{◌≡◌, ◌≤◌, Some, refl, arith}
+use Rattle.std.proofs.Common.{◌≡◌, Some, refl, arith}
 use Rattle.clif_types.specs.declared.types.LaneCount.TheVariants as count
 use Rattle.clif_types.specs.declared.types.LaneType.TheVariants as lane
 use Rattle.clif_types.specs.declared.types.«Type».{«Type»}

@@ -1,8 +1,7 @@
 -- The stack maps of a function in which an instruction gets one.
-use Rattle.std.proofs.Common.{◌≡◌, ◌≢◌, ◌∙◌, ◌<◌, ◌+◌, ℕ, List, [], ◌∷◌, ◌++◌, Bool, false, true, length, Some, cond, refl, ap, sym, subst, arith, map as each}
+use Rattle.std.proofs.Common.{◌≡◌, ◌≢◌, ◌∙◌, ℕ, List, [], ◌∷◌, ◌++◌, Bool, false, true, length, Some, cond, refl, ap, sym, subst, map as each}
 use Rattle.std.specs.Prelude.{Contains, Ok, Option, unwrap_or}
 use Rattle.std.proofs.lemmas.List.{append-nil}
-use Rattle.std.specs.FinMap as fin
 use Rattle.std.specs.List.{AllZip}
 use Rattle.std.specs.declared.cmp.Ordering.{Ordering}
 use Rattle.std.specs.declared.cmp.Ordering.TheVariants.{Less, Equal, Greater}
@@ -14,10 +13,9 @@ use Rattle.std.specs.Map.{lookup}
 use Rattle.std.proofs.lemmas.Map.Entries.{lookup_tail}
 use Rattle.clif_types.specs.declared.stackmap.UserStackMapEntry.{UserStackMapEntry}
 use Rattle.clif_nodes.specs.declared.nodes.ValueNode.{ValueNode}
-use Rattle.clif_nodes.specs.declared.nodes.InstNode.{InstNode}
 use Rattle.clif_tables.specs.Lists.{TableLists, stack_map_at, with_stack_map}
 use Rattle.clif_tables.specs.Entries.{NamesSlots}
-use Rattle.clif_ir.specs.Body.{Body, inst_at, value_at}
+use Rattle.clif_ir.specs.Body.{Body, value_at}
 use Rattle.clif_ir.specs.Changes.{with_tables}
 use Rattle.clif_stack_slots.specs.Slots.{GivesSlot}
 use Rattle.clif_stack_slots.specs.declared.size.SlotSize.{SlotSize}
@@ -25,7 +23,7 @@ use Rattle.clif_stack_slots.specs.Sizes.{size_of_type}
 use Rattle.clif_stack_slots.specs.declared.slots.StackSlots.{StackSlots}
 use Rattle.clif_spiller.specs.Acting.{ActsMapping, GoesBy, IsEntryOf, IsOnTheWay, types_in}
 use Rattle.clif_spiller.specs.Allocating.{IsSlotState, Needs, SlotState, after_act, after_acts}
-use Rattle.clif_spiller.specs.Plans.{GoesOn, KnowsSlots, MayBeSpilled}
+use Rattle.clif_spiller.specs.Plans.{GoesOn, KnowsSlots}
 use Rattle.clif_spiller.specs.declared.plan.Plan.{Plan}
 use Rattle.clif_spiller.proofs.Acting.{goes_beside, goes_needed, goes_nowhere, goes_then, map_append, sized_in}
 use Rattle.clif_spiller.proofs.Advancing.{on_the_way}

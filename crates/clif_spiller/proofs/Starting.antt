@@ -1,14 +1,12 @@
 -- What holds before anything is rewritten.
 use Rattle.std.proofs.Common.{◌≡◌, ◌<◌, ◌∙◌, ℕ, List, [], length, Option, None, Some, sym, ap, subst, arith}
-use Rattle.std.specs.Prelude.{All, Contains}
+use Rattle.std.specs.Prelude.{Contains}
 use Rattle.std.specs.FinMap as map
 use Rattle.std.specs.FinMap.{get-empty}
 use Rattle.std.specs.Ordering.{nat_cmp}
-use Rattle.clif_types.specs.declared.types.«Type».{«Type»}
 use Rattle.clif_ir.specs.Body.{Body, resolved}
-use Rattle.clif_ir.specs.Consistent.{IsConsistent}
-use Rattle.clif_safepoints.specs.Analysis.{Findings, IsAnalysis, IsReached, found_across}
-use Rattle.clif_stack_slots.specs.Slots.{HasNone, SlotMap, assigned_in, free_in}
+use Rattle.clif_safepoints.specs.Analysis.{Findings, IsAnalysis, found_across}
+use Rattle.clif_stack_slots.specs.Slots.{HasNone, SlotMap, free_in}
 use Rattle.clif_stack_slots.specs.declared.slots.StackSlots.{StackSlots}
 use Rattle.clif_spiller.specs.Plans.{KnowsSlots, MayBeSpilled}
 

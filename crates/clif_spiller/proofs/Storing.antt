@@ -1,6 +1,6 @@
 -- Values that are given, one after the other: what has a slot is stored there, and the slot is free.
-use Rattle.std.proofs.Common.{◌≡◌, ◌∙◌, ◌<◌, ◌≤◌, ◌+◌, ℕ, zero, suc, pos, List, [], ◌∷◌, ◌++◌, length, get_or, take, map as each, refl, sym, ap, subst, arith, Option, Some, None, Result, Ok, Err}
-use Rattle.std.specs.Prelude.{Contains, OnOk}
+use Rattle.std.proofs.Common.{◌≡◌, ◌∙◌, ◌<◌, ◌≤◌, ◌+◌, ℕ, pos, List, [], ◌∷◌, ◌++◌, length, get_or, take, map as each, refl, sym, ap, subst, arith, Some, None, Result, Ok, Err}
+use Rattle.std.specs.Prelude.{OnOk}
 use Rattle.std.specs.FinMap as map
 use Rattle.std.proofs.lemmas.List.{take_all}
 use Rattle.std.proofs.lemmas.List.Elements.{Contains-append_left, Contains-append_right}
@@ -15,13 +15,13 @@ use Rattle.clif_nodes.specs.declared.nodes.InstNode.{InstNode}
 use Rattle.clif_nodes.specs.Nodes.{no_inst}
 use Rattle.clif_ir.specs.Changes.{inst_node}
 use Rattle.clif_nodes.specs.declared.nodes.ValueNode.{ValueNode}
-use Rattle.clif_ir.specs.Body.{Body, block_at, inst_at, value_at}
+use Rattle.clif_ir.specs.Body.{Body, inst_at, value_at}
 use Rattle.clif_stack_slots.specs.Sizes.{size_of_type}
 use Rattle.clif_stack_slots.specs.Slots.{FreesSlot, assigned_in}
 use Rattle.clif_stack_slots.specs.declared.size.SlotSize.{SlotSize}
 use Rattle.clif_stack_slots.specs.declared.slots.StackSlots.{StackSlots}
 use Rattle.clif_spiller.specs.Acting.{ActsGiving, types_in}
-use Rattle.clif_spiller.specs.Allocating.{Gives, IsSlotState, SlotState, after_act, after_acts}
+use Rattle.clif_spiller.specs.Allocating.{Gives, IsSlotState, after_acts}
 use Rattle.clif_spiller.specs.Inserting.{inst_beside, nowhere, put_in, spot_after, trusted, with_address, with_store}
 use Rattle.clif_spiller.specs.Keeping.{Keeps}
 use Rattle.clif_spiller.specs.declared.accesses.Spot.{Spot}
@@ -80,16 +80,16 @@ gives_freed home f a b value slot size_is is has frees = record {
 
 -- STORES ----------------------------------------------------------------------------------------------------------------
 
-put_in_tables : (f : Body) (at : Spot) (shape : InstructionData) (types : List «Type») → (put_in f at shape types).tables ≡ f.tables
+pub put_in_tables : (f : Body) (at : Spot) (shape : InstructionData) (types : List «Type») → (put_in f at shape types).tables ≡ f.tables
 put_in_tables f (spot.Before next) shape types = refl
 put_in_tables f (spot.After previous) shape types = refl
 
-put_in_layout : (f : Body) (at : Spot) (shape : InstructionData) (types : List «Type») → (put_in f at shape types).layout ≡ f.layout
+pub put_in_layout : (f : Body) (at : Spot) (shape : InstructionData) (types : List «Type») → (put_in f at shape types).layout ≡ f.layout
 put_in_layout f (spot.Before next) shape types = refl
 put_in_layout f (spot.After previous) shape types = refl
 
 -- the next spot is in the same block
-home_after : (f : Body) (at : Spot) (shape : InstructionData) (types : List «Type») → inst_beside at < length f.insts
+pub home_after : (f : Body) (at : Spot) (shape : InstructionData) (types : List «Type») → inst_beside at < length f.insts
     → (inst_at (put_in f at shape types) (inst_beside (spot_after f at))).block ≡ (inst_at f (inst_beside at)).block
 home_after f (spot.Before next) shape types exists = ap (λ (m : InstNode). m.block) (put_in_old f (spot.Before next) shape types next exists)
 home_after f (spot.After previous) shape types exists =

@@ -20,6 +20,7 @@ use Rattle.clif_stack_slots.specs.declared.slots.StackSlots.{StackSlots}
 use Rattle.clif_spiller.specs.Allocating.{Gives, IsSlotState, Needs, SlotAct, SlotState, after_acts}
 use Rattle.clif_spiller.specs.Keeping.{Keeps}
 use Rattle.clif_spiller.specs.Plans.{GoesOn, IsPlan}
+use Rattle.clif_spiller.specs.Text.{LeadsOn, ReadsUses, StoresAfter}
 use Rattle.clif_spiller.specs.declared.plan.Plan.{Plan}
 
 -- a function on the way from the one that was found, by a plan for that one
@@ -153,6 +154,7 @@ pub record ActsAtCall (plan : Plan) (inst : ℕ) (f : Body) (a : StackSlots) (g 
   pub maps : ActsMapping plan inst f a mapped mapped_slots (found_across plan.liveness.now inst)
   pub goes_on : GoesOn (length mapped.blocks) mapped mapped_slots g b
   pub lands : LandsEdges plan inst mapped mapped_slots g b
+  pub leads : LeadsOn plan inst mapped mapped_slots g b
 
 -- Where a collector may run: a call, or another instruction, at which nothing happens.
 abbrev pub ActsAtSafepoint : Bool → Plan → (inst : ℕ) → Body → StackSlots → Body → StackSlots → Type 0
@@ -170,9 +172,11 @@ pub record ActsAtInst (plan : Plan) (inst : ℕ) (f : Body) (a : StackSlots) (g 
   pub given_slots : StackSlots
   pub goes_given : GoesOn (length ahead.blocks) ahead ahead_slots given given_slots
   pub acts_given : ActsGiving (inst_at ahead inst).block ahead ahead_slots given given_slots (inst_at ahead inst).results
+  pub stored : StoresAfter plan inst ahead ahead_slots given given_slots (inst_at ahead inst).results
   pub called : Body
   pub called_slots : StackSlots
   pub goes_called : GoesOn (length given.blocks) given given_slots called called_slots
   pub acts_called : ActsAtSafepoint (is_call (inst_at given inst).shape) plan inst given given_slots called called_slots
   pub goes_used : GoesOn (length called.blocks) called called_slots g b
   pub acts_used : Acts plan inst called called_slots g b (needs plan (used_values called inst))
+  pub read : ReadsUses plan inst called called_slots g b

@@ -4,6 +4,7 @@ pub mod Plans
 pub mod Keeping
 pub mod Spilling
 pub mod Allocating
+pub mod Text
 pub mod Acting
 pub mod Progress
 pub mod Spills

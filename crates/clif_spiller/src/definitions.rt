@@ -6,6 +6,7 @@ ghost use Rattle.clif_stack_slots.specs.Slots.{assigned_in};
 ghost use Rattle.clif_spiller.specs.Acting.{ActsGiving};
 ghost use Rattle.clif_spiller.specs.Inserting.{inst_beside};
 ghost use Rattle.clif_spiller.specs.Plans.{GoesOn, IsFull, KnowsSlots, MayBeSpilled};
+ghost use Rattle.clif_spiller.specs.Text.{Stores, StoresAfter, StoresBefore};
 
 use crate::accesses::{Spot, store};
 use crate::plan::Plan;
@@ -25,6 +26,8 @@ pub(crate) fn store_results(
     ensures ok { OnOk result (GoesOn (length func.old.blocks)
         func.old slots.old func.new slots.new) }
     ensures acts { OnOk result (ActsGiving (inst_at func.old inst).block
+        func.old slots.old func.new slots.new (inst_at func.old inst).results) }
+    ensures stores { OnOk result (StoresAfter plan.now inst
         func.old slots.old func.new slots.new (inst_at func.old inst).results) }
     ensures full { result ≡ Err BuildError.Full → IsFull func.new }
     ensures never_failed { result ≢ Err BuildError.Failed }
@@ -52,6 +55,8 @@ pub(crate) fn store_params(
     ensures ok { OnOk result (GoesOn (length func.old.blocks)
         func.old slots.old func.new slots.new) }
     ensures acts { OnOk result (ActsGiving (inst_at func.old first).block
+        func.old slots.old func.new slots.new (block_at func.old block).params) }
+    ensures stores { OnOk result (StoresBefore plan.now first
         func.old slots.old func.new slots.new (block_at func.old block).params) }
     ensures full { result ≡ Err BuildError.Full → IsFull func.new }
     ensures never_failed { result ≢ Err BuildError.Failed }
@@ -102,12 +107,15 @@ fn store_value(
         ≡ (inst_at func.old (inst_beside spot)).block) }
     ensures acts { IfOk result (λ next. ActsGiving (inst_at func.old (inst_beside spot)).block
         func.old slots.old func.new slots.new (value ∷ [])) }
+    ensures stores { IfOk result (λ next. Stores plan.now
+        func.old slots.old spot func.new slots.new next (value ∷ [])) }
     ensures full { result ≡ Err BuildError.Full → IsFull func.new }
     ensures never_failed { result ≢ Err BuildError.Failed }
 {
     let Some(slot) = slots.get(value) else {
         return Ok(spot);
     };
+    func.law_consistent();
     let spot = store(func, plan, spot, slot, value)?;
     free(func, slots, slot, value)?;
     Ok(spot)
@@ -125,6 +133,7 @@ fn free(
     requires slots { KnowsSlots func.now slots.old }
     requires has { map.get (assigned_in slots.old) value ≡ Some slot }
     ensures ok { OnOk result (KnowsSlots func.now slots.new) }
+    ensures assigned { assigned_in slots.new ≡ assigned_in slots.old }
     ensures acts { OnOk result ((home : ℕ)
         → ActsGiving home func.now slots.old func.now slots.new (value ∷ [])) }
     ensures memory_alone { IsOkUnless result BuildError.Memory }

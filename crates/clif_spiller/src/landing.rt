@@ -1,15 +1,16 @@
 //! Landing blocks: what a try call's edge passes is read after the call, so that a spilled argument is reloaded in a block
 //! of its own, on the edge.
 
-ghost use Rattle.std.specs.Prelude.{◌≡◌, ◌≢◌, ◌<◌, ℕ, length, All, IfOk, OnOk, slice_index_or};
+ghost use Rattle.std.specs.Prelude.{◌≡◌, ◌≢◌, ◌<◌, ◌+◌, ◌++◌, ℕ, [], ◌∷◌, length, All, IfOk, OnOk, slice_index_or};
 ghost use Rattle.clif_instructions.specs.Edges.{edge_at};
-ghost use Rattle.clif_instructions.specs.Instruction.{destinations};
+ghost use Rattle.clif_instructions.specs.Instruction.{destinations, exception_table};
 ghost use Rattle.clif_instructions.specs.Members.{Stands};
 ghost use Rattle.clif_ir.specs.Body.{block_at, inst_at};
 ghost use Rattle.clif_ir.specs.Consistent.{PassedExists};
 ghost use Rattle.clif_spiller.specs.Acting.{Acts, LandsEdge, LandsEdges, args_of, needs, no_argument, passed_value, passed_values};
 ghost use Rattle.clif_spiller.specs.Keeping.{Keeps};
 ghost use Rattle.clif_spiller.specs.Plans.{GoesOn, IsFull, IsPlan, KnowsSlots, OwnArgument};
+ghost use Rattle.clif_spiller.specs.Text.{IsJumpTo, LandsArgument, LandsArguments, LeadsOn, LeadsOne, table_type};
 
 use crate::accesses::read;
 use crate::plan::Plan;
@@ -37,6 +38,8 @@ pub(crate) fn land_edges(
         func.old slots.old func.new slots.new) }
     ensures lands { OnOk result
         (LandsEdges plan.now inst func.old slots.old func.new slots.new) }
+    ensures leads { OnOk result
+        (LeadsOn plan.now inst func.old slots.old func.new slots.new) }
     ensures full { result ≡ Err BuildError.Full → IsFull func.new }
     ensures never_failed { result ≢ Err BuildError.Failed }
 {
@@ -76,6 +79,8 @@ fn land_edge(
         ≡ length (destinations (inst_at func.old inst).shape)) }
     ensures lands { IfOk result (λ next.
         LandsEdge plan.now inst edge func.old slots.old func.new slots.new) }
+    ensures leads { IfOk result (λ next.
+        LeadsOne plan.now inst edge func.old slots.old func.new slots.new) }
     ensures full { result ≡ Err BuildError.Full → IsFull func.new }
     ensures never_failed { result ≢ Err BuildError.Failed }
 {
@@ -118,6 +123,9 @@ fn make_landing(func: &mut Function, target: Block, last: Block) -> Result<Block
     ensures layout { IfOk result (λ landing. (c : ℕ) → c < length func.old.blocks
         → Stands c func.new.layout → Stands c func.old.layout) }
     ensures exists { IfOk result (λ landing. landing < length func.new.blocks) }
+    ensures count { IfOk result (λ landing. length func.new.blocks ≡ length func.old.blocks + 1) }
+    ensures empty { IfOk result (λ landing. ((block_at func.new landing).params ≡ [])
+        × ((block_at func.new landing).insts ≡ [])) }
     ensures inside { IfOk result (λ landing. Stands landing func.new.layout) }
     ensures full { result ≡ Err BuildError.Full → IsFull func.new }
     ensures never_failed { result ≢ Err BuildError.Failed }
@@ -146,6 +154,9 @@ fn insert_jump(func: &mut Function, landing: Block, target: Block) -> Result<Ins
     ensures lists { IfOk result (λ jump. (c : ℕ) → c ≢ landing
         → (block_at func.new c).insts ≡ (block_at func.old c).insts) }
     ensures home { IfOk result (λ jump. (inst_at func.new jump).block ≡ landing) }
+    ensures jumps { IfOk result (λ jump. IsJumpTo target func.new jump) }
+    ensures last { IfOk result (λ jump. (block_at func.new landing).insts
+        ≡ (block_at func.old landing).insts ++ jump ∷ []) }
     ensures full { result ≡ Err BuildError.Full → IsFull func.new }
     ensures never_failed { result ≢ Err BuildError.Failed }
 {
@@ -185,6 +196,9 @@ fn land_arguments(
     ensures acts { IfOk result (λ own. Acts plan.now landing.now.jump
         func.old slots.old func.new slots.new
         (needs plan.now (passed_values func.old (args_of func.old inst edge)))) }
+    ensures rows { IfOk result (λ own. LandsArguments plan.now landing.now.block
+        landing.now.jump landing.now.target (inst_at func.old inst).shape
+        func.old slots.old func.new slots.new (args_of func.old inst edge) own) }
     ensures full { result ≡ Err BuildError.Full → IsFull func.new }
     ensures never_failed { result ≢ Err BuildError.Failed }
 {
@@ -231,6 +245,9 @@ fn land_argument(
     ensures acts { IfOk result (λ value. Acts plan.now landing.now.jump
         func.old slots.old func.new slots.new (needs plan.now (passed_value func.old
         (slice_index_or (args_of func.old inst edge) place no_argument)))) }
+    ensures row { IfOk result (λ value. LandsArgument plan.now landing.now.block
+        landing.now.jump (inst_at func.old inst).shape func.old slots.old func.new slots.new
+        (slice_index_or (args_of func.old inst edge) place no_argument) own.old own.new value) }
     ensures full { result ≡ Err BuildError.Full → IsFull func.new }
     ensures never_failed { result ≢ Err BuildError.Failed }
 {
@@ -255,6 +272,8 @@ fn land_argument(
 // The type of what a try call returns at a place, by its signature. What the signature lacks has the type of a 64-bit integer.
 fn return_type(func: &Function, inst: Inst, place: usize) -> Type
     requires { inst < length func.now.insts }
+    ensures { result ≡ table_type func.now.tables
+        (exception_table (inst_at func.now inst).shape) place }
 {
     let Some(table) = func.inst_data(inst).exception_targets() else {
         return I64;

@@ -11,6 +11,10 @@ use crate::blocks::rewrite;
 use crate::plan::Plan;
 use clif_ir::Function;
 use clif_safepoints::liveness::LivenessAnalysis;
+use clif_spilling_laws::{
+    consistent_gives_once, consistent_leads_inside, edges_stay_matched, slot_contents,
+    spilling_means_the_same,
+};
 use clif_stack_slots::StackSlots;
 use clif_types::{BuildError, EntitySet, Type, Value};
 use std::alloc::Global;
@@ -62,6 +66,11 @@ impl SafepointSpiller {
         ensures never_failed { result ≢ Err BuildError.Failed }
     {
         func.law_consistent();
+        consistent_gives_once();
+        consistent_leads_inside();
+        edges_stay_matched();
+        slot_contents();
+        spilling_means_the_same();
         self.clear();
         self.liveness.run(func, recorded)?;
         let plan = Plan::new(func, &self.liveness, pointer)?;

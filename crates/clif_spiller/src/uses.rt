@@ -1,5 +1,5 @@
 //! Reloads of spilled values, right before they are used.
-ghost use Rattle.std.specs.Prelude.{◌≡◌, ◌≢◌, ◌<◌, ℕ, [], false, length, map, All, EachIndex, IfSome, OnOk, slice_index};
+ghost use Rattle.std.specs.Prelude.{◌≡◌, ◌≢◌, ◌<◌, ℕ, [], false, length, map, All, EachIndex, IfSome, OnOk, Some, slice_get, slice_index};
 ghost use Rattle.clif_instructions.specs.Edges.{edge_at};
 ghost use Rattle.clif_instructions.specs.Instruction.{destinations, items_of};
 ghost use Rattle.clif_ir.specs.Body.{inst_at, resolved};
@@ -7,6 +7,7 @@ ghost use Rattle.clif_ir.specs.Consistent.{EdgeExists, PassedExists};
 ghost use Rattle.clif_spiller.specs.Acting.{Acts, edge_values, needs, operand_values, passed_value, passed_values, used_values};
 ghost use Rattle.clif_spiller.specs.Keeping.{Keeps};
 ghost use Rattle.clif_spiller.specs.Plans.{GoesOn, IsFull, IsPlan, KnowsSlots};
+ghost use Rattle.clif_spiller.specs.Text.{ReadsUses, RereadsEdge, RereadsOperands, ResolvesNames};
 
 use crate::accesses::read;
 use crate::plan::Plan;
@@ -30,6 +31,8 @@ pub(crate) fn reload_uses(
         func.old slots.old func.new slots.new) }
     ensures acts { OnOk result (Acts plan.now inst func.old slots.old func.new slots.new
         (needs plan.now (used_values func.old inst))) }
+    ensures reads { OnOk result
+        (ReadsUses plan.now inst func.old slots.old func.new slots.new) }
     ensures full { result ≡ Err BuildError.Full → IsFull func.new }
     ensures never_failed { result ≢ Err BuildError.Failed }
 {
@@ -121,6 +124,8 @@ fn reload_operands(
         ≡ destinations (inst_at func.old inst).shape) }
     ensures acts { OnOk result (Acts plan.now inst func.old slots.old func.new slots.new
         (needs plan.now (operand_values func.old inst))) }
+    ensures reads { OnOk result
+        (RereadsOperands plan.now inst func.old slots.old func.new slots.new) }
     ensures full { result ≡ Err BuildError.Full → IsFull func.new }
     ensures never_failed { result ≢ Err BuildError.Failed }
 {
@@ -155,6 +160,8 @@ fn reload_arguments(
     ensures acts { OnOk result (Acts plan.now inst func.old slots.old func.new slots.new
         (needs plan.now (passed_values func.old
         (edge_at (destinations (inst_at func.old inst).shape) edge).args))) }
+    ensures reads { OnOk result
+        (RereadsEdge plan.now inst edge func.old slots.old func.new slots.new) }
     ensures full { result ≡ Err BuildError.Full → IsFull func.new }
     ensures never_failed { result ≢ Err BuildError.Failed }
 {
@@ -183,6 +190,7 @@ fn resolve_contexts(func: &mut Function, inst: Inst)
     ensures tables { func.new.tables ≡ func.old.tables }
     ensures blocks { func.new.blocks ≡ func.old.blocks }
     ensures layout { func.new.layout ≡ func.old.layout }
+    ensures resolves { ResolvesNames inst func.old func.new }
 {
     for item in 0..item_count(func, inst) {
         if let Some(context) = context_at(func, inst, item) {
@@ -207,7 +215,9 @@ fn item_count(func: &Function, inst: Inst) -> usize
 fn context_at(func: &Function, inst: Inst, item: usize) -> Option<Value>
     requires inst_exists { inst < length func.now.insts }
     requires item_exists { item < length (items_of (inst_at func.now inst).shape) }
-    ensures { IfSome result (λ value. value < length func.now.values) }
+    ensures exists { IfSome result (λ value. value < length func.now.values) }
+    ensures there { IfSome result (λ value. slice_get (items_of (inst_at func.now inst).shape) item
+        ≡ Some (ExceptionItem.Context value)) }
 {
     func.law_consistent();
     let table = func.inst_data(inst).exception_targets()?;

@@ -1,48 +1,37 @@
 -- A block is come to, and left.
-use Rattle.std.proofs.Common.{◌≡◌, ◌≢◌, ◌∙◌, ◌<◌, ◌≤◌, ◌⊎◌, ℕ, zero, suc, Bool, true, false, if◌then◌else◌, List, [], ◌∷◌, ◌++◌, length, get_or, map as each, take, drop, refl, sym, ap, ap₂, subst, arith, inl, inr}
-use Rattle.std.specs.Prelude.{Contains, slice_index}
+use Rattle.std.proofs.Common.{◌≡◌, ◌∙◌, ◌<◌, ◌⊎◌, ℕ, Bool, if◌then◌else◌, List, [], ◌∷◌, ◌++◌, length, map as each, take, refl, sym, ap₂, subst, arith, inl, inr}
+use Rattle.std.specs.Prelude.{Contains}
 use Rattle.std.specs.List.{AllZip}
-use Rattle.std.proofs.lemmas.Bool.{cases_Bool}
+use Rattle.std.proofs.lemmas.List.{append-nil, take_all}
 use Rattle.std.proofs.lemmas.List.Elements.{Contains-append_left, Contains-append_right, Contains-push_cases}
 use Rattle.clif_types.specs.EntitySet.{has}
 use Rattle.clif_tables.specs.Lists.{stack_map_at}
-use Rattle.clif_instructions.specs.Instruction.{is_call}
-use Rattle.clif_instructions.specs.Members.{Stands, stands_in}
-use Rattle.clif_ir.specs.Body.{Body, block_at, inst_at}
-use Rattle.clif_meaning.specs.View.{view_of}
+use Rattle.clif_instructions.specs.Members.{Stands}
+use Rattle.clif_ir.specs.Body.{Body, block_at}
+use Rattle.clif_ir.specs.Consistent.{IsConsistent}
+use Rattle.clif_meaning.specs.View.{placed_of, view_of}
 use Rattle.clif_safepoints.specs.Analysis.{found_across}
-use Rattle.clif_safepoints.proofs.Paths.{size_is, stands_from, stands_to}
+use Rattle.clif_safepoints.proofs.Paths.{size_is}
+use Rattle.clif_spilling_laws.specs.Rewriting.{AreRewritten as WrittenAs}
 use Rattle.clif_stack_slots.specs.declared.slots.StackSlots.{StackSlots}
 use Rattle.clif_spiller.specs.Acting.{ActsGiving, IsEntryOf, types_in}
-use Rattle.clif_spiller.specs.Allocating.{Gives, IsAllocated, IsSlotState, SlotState, after_acts}
-use Rattle.clif_spiller.specs.Keeping.{Keeps}
+use Rattle.clif_spiller.specs.Allocating.{Gives, IsAllocated, IsSlotState, SlotState, after_acts, every}
 use Rattle.clif_spiller.specs.Plans.{GoesOn, insts_inside}
-use Rattle.clif_spiller.specs.Progress.{AreRewritten, IsApart, IsHandledInst, IsInDone, IsPlannedFor, IsRewrittenIn, IsRewrittenTo, slots_before}
+use Rattle.clif_spiller.specs.Progress.{AreRewritten, IsHandledInst, IsInDone, IsPlannedFor, IsRewrittenIn, IsRewrittenTo, LeadsTo, slots_before}
+use Rattle.clif_spiller.specs.Spills.{beside}
 use Rattle.clif_spiller.specs.declared.plan.Plan.{Plan}
 use Rattle.clif_spiller.proofs.Allocating.Blocks.{leaves}
 use Rattle.clif_spiller.proofs.Allocating.States.{acts_keep}
 use Rattle.clif_spiller.proofs.Keeping.{keeps_fewer, keeps_trans}
+use Rattle.clif_spiller.proofs.Progressing.Homes.{inst_inside}
+use Rattle.clif_spiller.proofs.Progressing.Leading.{leads_fewer, slots_by_states}
 use Rattle.clif_spiller.proofs.Progressing.Members.{drop_all}
+use Rattle.clif_spiller.proofs.Progressing.Parameters.{IsEmptied, IsFronted, left_written, stands_alike}
 use Rattle.clif_spiller.proofs.Progressing.Steps.{walk_of}
 use Rattle.clif_spiller.proofs.Shapes.{get_or_inside}
 use Rattle.clif_spiller.proofs.StackMaps.{zip_weaker}
 
 -- LISTS -----------------------------------------------------------------------------------------------------------------
-
-stands_alike : (c : ℕ) (xs ys : List ℕ) → (Stands c xs → Stands c ys) → (Stands c ys → Stands c xs) → stands_in c xs ≡ stands_in c ys
-stands_alike c xs ys to from = by (cases_Bool (stands_in c xs)) (cases_Bool (stands_in c ys))
-  where
-    member : (zs : List ℕ) → Contains zs c → Stands c zs
-    member zs here = (here.0, here.1, get_or_inside zs here.0 0 c here.1 ∙ here.2)
-
-    stands : (zs : List ℕ) → Stands c zs → Contains zs c
-    stands zs here = (here.0, here.1, get_or_inside zs here.0 c 0 here.1 ∙ here.2)
-
-    by : (stands_in c xs ≡ true) ⊎ (stands_in c xs ≡ false) → (stands_in c ys ≡ true) ⊎ (stands_in c ys ≡ false) → stands_in c xs ≡ stands_in c ys
-    by (inl first) (inl second) = first ∙ sym second
-    by (inr first) (inr second) = first ∙ sym second
-    by (inl first) (inr second) = absurd (let both = sym second ∙ stands_from c ys (stands ys (to (member xs (stands_to c xs first)))) in cc)
-    by (inr first) (inl second) = absurd (let both = sym first ∙ stands_from c xs (stands xs (from (member ys (stands_to c ys second)))) in cc)
 
 -- a block that wasn't come to has the instructions that it had
 pub insts_same : (first : Body) (plan : Plan) (Handled Apart : ℕ → Type 0) (f : Body) (a : StackSlots) (st : SlotState) → IsRewrittenTo first plan Handled Apart f a st
@@ -52,9 +41,22 @@ insts_same first plan Handled Apart f a st text c exists apart =
 
 -- ENTERING --------------------------------------------------------------------------------------------------------------
 
-pub entered : (first : Body) (plan : Plan) (done : List ℕ) (block : ℕ) (f : Body) (a : StackSlots) → AreRewritten first plan done f a
-    → IsRewrittenIn first plan done block (length (insts_inside first block)) f a
-entered first plan done block f a are = record {
+pub entered : (first : Body) (recorded : List ℕ) (plan : Plan) (done : List ℕ) (block : ℕ) (f : Body) (a : StackSlots) → IsConsistent first → block < length first.blocks
+    → (Contains done block → ⊥) → AreRewritten first recorded plan done f a → IsRewrittenIn first recorded plan done block (length (insts_inside first block)) f a
+entered first recorded plan done block f a known exists new are = record {
+  written = record {
+    written = record {
+      blocks = λ last final slot_of leads end. are.written.blocks last final slot_of (fewer last final leads) end;
+      landings = λ last final slot_of leads end. are.written.landings last final slot_of (fewer last final leads) end;
+    };
+    code = [];
+    list = all_there ∙ sym (append-nil (take (length (insts_inside first block)) (insts_inside first block)) ∙ take_all (length (insts_inside first block)) (insts_inside first block) (omega arith));
+    below = λ i here.
+        let low = (inst_inside first known block i (subst (λ xs. Contains xs i) all_there here)).0 in let more = are.text.keeps.insts in omega (arith, low, more);
+    text = λ last final slot_of leads end.
+        subst (λ (insts : List ℕ). WrittenAs every (beside first plan.pointer last (has plan.spilled) slot_of) (has recorded) block (length (insts_inside first block)) (each (placed_of first) insts) [])
+        (sym (drop_all (insts_inside first block) (length (insts_inside first block)) (omega arith))) refl;
+  };
   st = are.st;
   text = record {
     keeps = are.text.keeps;
@@ -69,6 +71,15 @@ entered first plan done block f a are = record {
   allocated = subst (λ n. IsAllocated (view_of first) (has plan.spilled) plan.liveness.now.order (slots_before first) done block n are.st) (size_is first block) (are.allocated block);
 }
   where
+    all_there : insts_inside f block ≡ insts_inside first block
+    all_there = insts_same first plan (IsInDone first done) (λ c. Contains done c → ⊥) f a are.st are.text block exists new
+
+    fewer : (last : Body) (final : StackSlots) → LeadsTo first (IsHandledInst first done block (length (insts_inside first block))) (Contains done) f a last final
+        → LeadsTo first (IsInDone first done) (Contains done) f a last final
+    fewer last final leads =
+        leads_fewer first (IsInDone first done) (Contains done) (IsHandledInst first done block (length (insts_inside first block))) (Contains done) f a last final
+        (λ i in_done. inl in_done) (λ c member. member) leads
+
     handled_so : (i : ℕ) → IsHandledInst first done block (length (insts_inside first block)) i → IsInDone first done i
     handled_so i (inl in_done) = in_done
     handled_so i (inr later) =
@@ -78,8 +89,9 @@ entered first plan done block f a are = record {
 
 module _ (first : Body) (recorded : List ℕ) (plan : Plan) (planned : IsPlannedFor first recorded plan) (done : List ℕ) (block : ℕ) (rest : List ℕ)
     (split : plan.liveness.now.order ≡ done ++ block ∷ rest) (exists : block < length first.blocks)
-    (f : Body) (a : StackSlots) (was : IsRewrittenIn first plan done block 0 f a) (g : Body) (b : StackSlots) (goes : GoesOn (length f.blocks) f a g b)
-    (home : ℕ) (home_is : home ≡ block) (acts : ActsGiving home f a g b (block_at f block).params) where
+    (f : Body) (a : StackSlots) (was : IsRewrittenIn first recorded plan done block 0 f a) (g : Body) (b : StackSlots) (goes : GoesOn (length f.blocks) f a g b)
+    (home : ℕ) (home_is : home ≡ block) (acts : ActsGiving home f a g b (block_at f block).params) (new : Contains done block → ⊥)
+    (how : IsEmptied first block f g ⊎ IsFronted first plan block f a g b) where
   in_done_to : (i : ℕ) → IsHandledInst first done block 0 i → IsInDone first (done ++ block ∷ []) i
   in_done_to i (inl earlier) = (earlier.0, Contains-append_left done (block ∷ []) earlier.0 earlier.1, earlier.2)
   in_done_to i (inr here) = (block, Contains-append_right done (block ∷ []) block (0, omega arith, refl), here)
@@ -102,14 +114,19 @@ module _ (first : Body) (recorded : List ℕ) (plan : Plan) (planned : IsPlanned
       let there : Contains (block_at first block).params v = subst (λ xs. Contains xs v) params_same here in
       subst (λ w. w < length first.values) (get_or_inside (block_at first block).params there.0 0 v there.1 ∙ there.2) (planned.known.params_known block there.0 there.1).0
 
-  pub left : AreRewritten first plan (done ++ block ∷ []) g b
+  state_then : IsSlotState g b (after_acts (types_in first) (each Gives (block_at f block).params) was.st)
+  state_then = acts.goes_by first (keeps_fewer 0 (length first.blocks) first f (omega arith) was.text.keeps) params_below was.st was.text.state
+
+  pub left : AreRewritten first recorded plan (done ++ block ∷ []) g b
   left = record {
+    written = left_written first recorded plan planned done block new exists f a was.st was.text.keeps was.text.state was.written was.allocated g b goes home home_is acts
+        (slots_by_states (types_in first) (each Gives (block_at f block).params) f a was.st g b was.text.state state_then) how;
     st = after_acts (types_in first) (each Gives (block_at first block).params) was.st;
     text = record {
       keeps = keeps_trans (length first.blocks) first f g was.text.keeps (keeps_fewer (length first.blocks) (length f.blocks) f g was.text.keeps.blocks goes.keeps);
       slots = goes.slots;
       state = subst (λ xs. IsSlotState g b (after_acts (types_in first) (each Gives xs) was.st)) params_same
-          (acts.goes_by first (keeps_fewer 0 (length first.blocks) first f (omega arith) was.text.keeps) params_below was.st was.text.state);
+          state_then;
       waiting = λ i inside waits.
           acts.nodes i (omega (arith, inside, was.text.keeps.insts)) ∙ was.text.waiting i inside (λ handled. waits (in_done_to i handled));
       lists = λ c inside apart.

@@ -63,12 +63,30 @@ at_safepoint true plan inst f a g b exists at =
     })
 at_safepoint false plan inst f a g b exists at = subst (λ (x : Body). LeavesOthers inst f x) (sym at.0) (others_refl inst f)
 
+-- what it uses is read,
+pub after_safepoint : (plan : Plan) (inst : ℕ) (f : Body) (a : StackSlots) (g : Body) (b : StackSlots) → (act : ActsAtInst plan inst f a g b) → LeavesOthers inst act.called g
+after_safepoint plan inst f a g b act = record {
+  keeps = act.goes_used.keeps;
+  nodes = act.acts_used.others;
+  maps = λ i apart. act.acts_used.maps i;
+  lists = act.acts_used.lists;
+  layout = act.acts_used.layout;
+}
+
+-- before that comes a call,
+pub after_given : (plan : Plan) (inst : ℕ) (f : Body) (a : StackSlots) (g : Body) (b : StackSlots) → (act : ActsAtInst plan inst f a g b) → inst < length act.given.insts
+    → LeavesOthers inst act.given g
+after_given plan inst f a g b act exists =
+    others_trans inst act.given act.called g exists
+    (at_safepoint _ plan inst act.given act.given_slots act.called act.called_slots exists act.acts_called)
+    (after_safepoint plan inst f a g b act)
+
+-- and before that what it gives
 pub at_inst : (plan : Plan) (inst : ℕ) (f : Body) (a : StackSlots) (g : Body) (b : StackSlots) → inst < length f.insts → ActsAtInst plan inst f a g b → LeavesOthers inst f g
 at_inst plan inst f a g b exists act =
     let in_ahead : inst < length act.ahead.insts = omega (arith, exists, act.goes_ahead.keeps.insts) in
     let in_given : inst < length act.given.insts = omega (arith, in_ahead, act.goes_given.keeps.insts) in
-    others_trans inst f act.called g exists
-    (others_trans inst f act.given act.called exists
+    others_trans inst f act.given g exists
     (others_trans inst f act.ahead act.given exists
     (tables_alone inst f act.ahead act.goes_ahead.keeps act.acts_ahead.insts act.acts_ahead.blocks act.acts_ahead.layout (λ i apart. act.acts_ahead.maps i))
     (record {
@@ -78,11 +96,4 @@ at_inst plan inst f a g b exists act =
       lists = λ c inside apart. act.acts_given.lists c apart;
       layout = λ c inside stands. subst (Stands c) act.acts_given.layout stands;
     }))
-    (at_safepoint _ plan inst act.given act.given_slots act.called act.called_slots in_given act.acts_called))
-    (record {
-      keeps = act.goes_used.keeps;
-      nodes = act.acts_used.others;
-      maps = λ i apart. act.acts_used.maps i;
-      lists = act.acts_used.lists;
-      layout = act.acts_used.layout;
-    })
+    (after_given plan inst f a g b act in_given)

@@ -1,6 +1,6 @@
 -- All blocks are rewritten: what is spilled and where, and the stack maps.
-use Rattle.std.proofs.Common.{◌≡◌, ◌∙◌, ◌<◌, ◌⊎◌, ℕ, zero, suc, Bool, true, false, if◌then◌else◌, List, [], ◌∷◌, ◌++◌, length, get_or, map as each, refl, sym, ap, ap₂, subst, arith, inl, inr}
-use Rattle.std.specs.Prelude.{Contains, None, Option, Some, IsTrue, option_map, slice_get, unwrap_or}
+use Rattle.std.proofs.Common.{◌≡◌, ◌∙◌, ◌<◌, ℕ, zero, suc, Bool, true, false, if◌then◌else◌, List, [], ◌∷◌, length, get_or, map as each, refl, sym, ap, ap₂, subst, arith}
+use Rattle.std.specs.Prelude.{Contains, None, Option, Some, option_map, slice_get, unwrap_or}
 use Rattle.std.specs.FinMap as fin
 use Rattle.std.specs.List.{AllZip}
 use Rattle.std.proofs.lemmas.Bool.{false≢true}
@@ -8,49 +8,60 @@ use Rattle.std.proofs.lemmas.Option.{slice_get-get_or, slice_get-map, slice_get_
 use Rattle.clif_types.specs.EntitySet.{has}
 use Rattle.clif_types.specs.declared.stackmap.UserStackMapEntry.{UserStackMapEntry}
 use Rattle.clif_types.specs.declared.types.«Type».{«Type»}
-use Rattle.clif_tables.specs.Lists.{TableLists, stack_map_at}
+use Rattle.clif_tables.specs.Lists.{stack_map_at}
 use Rattle.clif_instructions.specs.Instruction.{is_call}
-use Rattle.clif_instructions.specs.declared.instructions.InstructionData.{InstructionData}
-use Rattle.clif_instructions.specs.declared.instructions.InstructionData.TheVariants.{UnaryImm, UnaryIeee, UnaryConst, Unary, Binary, IntCompare, Concat, Split, Convert, Ternary, Load, Store, StackLoad, StackStore, Jump, Brif, BranchTable, MultiAry, Trap, CondTrap, Call, CallIndirect, TryCall, TryCallIndirect}
 use Rattle.clif_instructions.specs.Members.{stands_in}
+use Rattle.clif_nodes.specs.declared.nodes.ValueNode.{ValueNode}
 use Rattle.clif_ir.specs.Body.{Body, block_at, inst_at}
 use Rattle.clif_meaning.specs.Event.{CallShape}
 use Rattle.clif_meaning.specs.FunctionView.{Placed}
 use Rattle.clif_meaning.specs.Path.{IsReachable, Place}
 use Rattle.clif_meaning.specs.Typing.{call_shape}
 use Rattle.clif_meaning.specs.View.{operation_of, placed_of, view_of}
-use Rattle.clif_meaning.specs.WellPlaced.{function_flow, placed_at}
+use Rattle.clif_meaning.specs.WellPlaced.{WellPlaced, function_flow, placed_at}
 use Rattle.clif_safepoints.specs.Analysis.{IsTracedAcross, found_across, place_of_inst}
 use Rattle.clif_safepoints.specs.Liveness.{IsLiveAcross, every_argument}
 use Rattle.clif_safepoints.proofs.Paths.{items_are, placed_is, size_is, stands_from, stands_to}
-use Rattle.clif_spilling_laws.specs.Live.{IsLiveAcrossCall, SpillsLive, place_at}
-use Rattle.clif_spilling_laws.specs.Rewriting.{IsExactMap, entry_of}
+use Rattle.clif_spilling_laws.specs.Live.{IsLiveAcrossCall, SharesNoSlot, SpillsLive}
+use Rattle.clif_spilling_laws.specs.Rewriting.{HasMap, IsExactMap, IsSpilling, entry_of}
+use Rattle.clif_spilling_laws.specs.EdgeLaws.{ConsistentLeadsInside, EdgesStayMatched}
+use Rattle.clif_spilling_laws.specs.GivesOnce.{ConsistentGivesOnce}
+use Rattle.clif_spilling_laws.specs.Laws.{MaySpill, SpillingMeansTheSame}
+use Rattle.clif_spilling_laws.specs.Runs.{CountsEnough}
+use Rattle.clif_spilling_laws.specs.SlotContents.{SlotContents}
 use Rattle.clif_spilling_laws.specs.Spilling.{Spilling}
-use Rattle.clif_stack_slots.specs.Slots.{HasNone}
+use Rattle.clif_stack_slots.specs.Slots.{HasNone, SlotMap}
 use Rattle.clif_stack_slots.specs.declared.slots.StackSlots.{StackSlots}
-use Rattle.clif_spiller.specs.Acting.{IsEntryOf, types_in}
+use Rattle.clif_spiller.specs.Acting.{IsEntryOf}
 use Rattle.clif_spiller.specs.Allocating.{IsWalk, SlotState, every, no_slots}
 use Rattle.clif_spiller.specs.Plans.{insts_inside}
-use Rattle.clif_spiller.specs.Progress.{AreRewritten, IsInDone, IsPlannedFor, slots_before}
-use Rattle.clif_spiller.specs.Spills.{IsReachedCall, Spills, beside}
+use Rattle.clif_spiller.specs.Progress.{AreRewritten, IsEnd, IsInDone, IsPlannedFor}
+use Rattle.clif_spiller.specs.Spills.{IsReachedCall, MayBeRun, Spills, beside}
 use Rattle.clif_spiller.specs.declared.plan.Plan.{Plan}
 use Rattle.clif_spiller.proofs.Allocating.Acting.{across_counted, across_every}
 use Rattle.clif_spiller.proofs.Allocating.Blocks.{starts}
 use Rattle.clif_spiller.proofs.Allocating.Bridging.{starts_state}
 use Rattle.clif_spiller.proofs.Allocating.Ending.{all_assigned, few_slots, shares_none, slot_of_size}
 use Rattle.clif_spiller.proofs.Allocating.Places.{block_of_path, inside_of_path}
-use Rattle.clif_spiller.proofs.Keeping.{keeps_refl}
-use Rattle.clif_spiller.proofs.Progressing.Homes.{get_contains, inst_inside, placed_there}
+use Rattle.clif_spiller.proofs.Advancing.{names_stay}
+use Rattle.clif_spiller.proofs.Keeping.{keeps_refl, same_value}
+use Rattle.clif_spiller.proofs.Progressing.Finishing.{landing_beyond, text_is}
+use Rattle.clif_spiller.proofs.Progressing.Homes.{inst_inside, placed_there}
 use Rattle.clif_spiller.proofs.Progressing.Members.{reachable_in}
 use Rattle.clif_spiller.proofs.Progressing.Steps.{walk_of}
 use Rattle.clif_spiller.proofs.Shapes.{get_or_inside}
 use Rattle.clif_spiller.proofs.Starting.{knows_none}
+use Rattle.clif_spiller.proofs.Text.Calls.{calls_so, is_a_call, no_call}
 
 -- AT FIRST --------------------------------------------------------------------------------------------------------------
 
 -- no block is rewritten, and no value has a slot
-pub none_rewritten : (first : Body) (plan : Plan) (a : StackSlots) → HasNone a → AreRewritten first plan [] first a
-none_rewritten first plan a none = record {
+pub none_rewritten : (first : Body) (recorded : List ℕ) (plan : Plan) (a : StackSlots) → HasNone a → AreRewritten first recorded plan [] first a
+none_rewritten first recorded plan a none = record {
+  written = record {
+    blocks = λ last final slot_of leads end c member. absurd (let there = member.1 in omega (arith, there));
+    landings = λ last final slot_of leads end c beyond below. absurd (omega (arith, beyond, below));
+  };
   st = no_slots first.tables.stack_slots;
   text = record {
     keeps = keeps_refl (length first.blocks) first;
@@ -64,63 +75,6 @@ none_rewritten first plan a none = record {
   };
   allocated = starts (view_of first) (has plan.spilled) plan.liveness.now.order first.tables.stack_slots;
 }
-
--- CALLS -----------------------------------------------------------------------------------------------------------------
-
-abbrev IsACall : TableLists → InstructionData → Type 0
-IsACall tables shape = (call : CallShape) × (call_shape (operation_of tables shape) ≡ Some call)
-
-is_a_call : (tables : TableLists) (shape : InstructionData) → is_call shape ≡ true → IsACall tables shape
-is_a_call tables (UnaryImm imm) is = absurd (false≢true is)
-is_a_call tables (UnaryIeee opcode bits) is = absurd (false≢true is)
-is_a_call tables (UnaryConst opcode constant) is = absurd (false≢true is)
-is_a_call tables (Unary opcode arg) is = absurd (false≢true is)
-is_a_call tables (Binary opcode args) is = absurd (false≢true is)
-is_a_call tables (IntCompare cond args) is = absurd (false≢true is)
-is_a_call tables (Concat args) is = absurd (false≢true is)
-is_a_call tables (Split arg) is = absurd (false≢true is)
-is_a_call tables (Convert opcode arg) is = absurd (false≢true is)
-is_a_call tables (Ternary args) is = absurd (false≢true is)
-is_a_call tables (Load flags arg offset) is = absurd (false≢true is)
-is_a_call tables (Store flags args offset) is = absurd (false≢true is)
-is_a_call tables (StackLoad opcode slot offset) is = absurd (false≢true is)
-is_a_call tables (StackStore arg slot offset) is = absurd (false≢true is)
-is_a_call tables (Jump destination) is = absurd (false≢true is)
-is_a_call tables (Brif arg blocks) is = absurd (false≢true is)
-is_a_call tables (BranchTable arg table) is = absurd (false≢true is)
-is_a_call tables (MultiAry args) is = absurd (false≢true is)
-is_a_call tables (Trap code) is = absurd (false≢true is)
-is_a_call tables (CondTrap opcode arg code) is = absurd (false≢true is)
-is_a_call tables (Call function args) is = (_, refl)
-is_a_call tables (CallIndirect sig args) is = (_, refl)
-is_a_call tables (TryCall function args table) is = (_, refl)
-is_a_call tables (TryCallIndirect args table) is = (_, refl)
-
-calls_so : (tables : TableLists) (shape : InstructionData) (call : CallShape) → call_shape (operation_of tables shape) ≡ Some call → is_call shape ≡ true
-calls_so tables (UnaryImm imm) call is = cc
-calls_so tables (UnaryIeee opcode bits) call is = cc
-calls_so tables (UnaryConst opcode constant) call is = cc
-calls_so tables (Unary opcode arg) call is = cc
-calls_so tables (Binary opcode args) call is = cc
-calls_so tables (IntCompare cond args) call is = cc
-calls_so tables (Concat args) call is = cc
-calls_so tables (Split arg) call is = cc
-calls_so tables (Convert opcode arg) call is = cc
-calls_so tables (Ternary args) call is = cc
-calls_so tables (Load flags arg offset) call is = cc
-calls_so tables (Store flags args offset) call is = cc
-calls_so tables (StackLoad opcode slot offset) call is = cc
-calls_so tables (StackStore arg slot offset) call is = cc
-calls_so tables (Jump destination) call is = cc
-calls_so tables (Brif arg blocks) call is = cc
-calls_so tables (BranchTable arg table) call is = cc
-calls_so tables (MultiAry args) call is = cc
-calls_so tables (Trap code) call is = cc
-calls_so tables (CondTrap opcode arg code) call is = cc
-calls_so tables (Call function args) call is = refl
-calls_so tables (CallIndirect sig args) call is = refl
-calls_so tables (TryCall function args table) call is = refl
-calls_so tables (TryCallIndirect args table) call is = refl
 
 -- PLACES OF INSTRUCTIONS ------------------------------------------------------------------------------------------------
 
@@ -141,6 +95,14 @@ got : (xs : List ℕ) (k x : ℕ) → slice_get xs k ≡ Some x → get_or xs k 
 got [] k x is = cc
 got (y ∷ xs) zero x is = cc
 got (y ∷ xs) (suc k) x is = got xs k x is
+
+-- the laws of spilling
+pub record SpillingLaws : Type 0 where
+  pub means : SpillingMeansTheSame
+  pub contents : SlotContents
+  pub edges : EdgesStayMatched
+  pub inside : ConsistentLeadsInside
+  pub once : ConsistentGivesOnce
 
 module _ (first : Body) (recorded : List ℕ) (plan : Plan) (planned : IsPlannedFor first recorded plan) where
   -- a place that is reached holds an instruction of its block
@@ -238,20 +200,18 @@ module _ (first : Body) (recorded : List ℕ) (plan : Plan) (planned : IsPlanned
 
   -- THE END -------------------------------------------------------------------------------------------------------------
 
-  pub all_spilled : (pointer : «Type») (g : Body) (b : StackSlots) → AreRewritten first plan plan.liveness.now.order g b → Spills first recorded pointer g
-  all_spilled pointer g b are = record {
-    is_spilled = has plan.spilled;
-    slot_of = slot_in are.st;
-    spilled = spilled_is pointer g (slot_in are.st);
-    slots = λ v spilled.
-        slot_of_size s (length first.values) plan.liveness.now.order walk are.st are.allocated are.text.state.slots assigned v
-        (all_assigned s (length first.values) plan.liveness.now.order walk are.st are.allocated (has recorded) (spilled_is pointer g (slot_in are.st)) v spilled);
-    old_slots = (are.text.keeps.slots, are.text.keeps.slots_are);
-    shares_no_slot = shares_none s (length first.values) plan.liveness.now.order walk are.st are.allocated are.text.state.slots assigned;
-    order = plan.liveness.now.order;
-    ordered = planned.analysis.order;
-    few_slots = few_slots s (length first.values) plan.liveness.now.order walk are.st are.allocated are.text.state.slots assigned;
-    mapped = λ inst call.
+  module _ (g : Body) (b : StackSlots) (are : AreRewritten first recorded plan plan.liveness.now.order g b) where
+    abbrev s : Spilling
+    s = beside first plan.pointer g (has plan.spilled) (slot_in are.st)
+
+    walk : IsWalk (view_of first) (length first.values) (has plan.spilled) plan.liveness.now.order
+    walk = walk_of first recorded plan planned
+
+    assigned : (v slot : ℕ) → fin.get are.st.assigned v ≡ Some slot → slot_in are.st v ≡ slot
+    assigned v slot is = ap (λ found. unwrap_or found 0) is
+
+    mapped_is : (inst : ℕ) → IsReachedCall first inst → IsExactMap every (has recorded) s (place_of_inst first inst) (stack_map_at g.tables inst)
+    mapped_is inst call =
         let handled = in_order inst call.exists call.reachable in
         record {
           values = found_across plan.liveness.now inst;
@@ -269,17 +229,82 @@ module _ (first : Body) (recorded : List ℕ) (plan : Plan) (planned : IsPlanned
               live = across_every (view_of first) v (place_of_inst first inst) three.2;
             })),
           );
-          entries_are = entries_are pointer g are.st (found_across plan.liveness.now inst) (stack_map_at g.tables inst) (are.text.mapped inst call.exists handled call.call);
-        };
-    unmapped = λ inst exists none.
-        are.text.unmapped inst exists (λ done call. none (record { exists = exists; call = call; reachable = reached_so inst done }));
-  }
-    where
-      s : Spilling
-      s = beside first pointer g (has plan.spilled) (slot_in are.st)
+          entries_are = entries_are plan.pointer g are.st (found_across plan.liveness.now inst) (stack_map_at g.tables inst) (are.text.mapped inst call.exists handled call.call);
+        }
 
-      walk : IsWalk (view_of first) (length first.values) (has plan.spilled) plan.liveness.now.order
-      walk = walk_of first recorded plan planned
+    unmapped_is : (inst : ℕ) → inst < length first.insts → (¬ IsReachedCall first inst) → stack_map_at g.tables inst ≡ stack_map_at first.tables inst
+    unmapped_is inst exists none =
+        are.text.unmapped inst exists (λ done call. none (record { exists = exists; call = call; reachable = reached_so inst done }))
 
-      assigned : (v slot : ℕ) → fin.get are.st.assigned v ≡ Some slot → slot_in are.st v ≡ slot
-      assigned v slot is = ap (λ found. unwrap_or found 0) is
+    -- each instruction has its map
+    has_map : (inst : ℕ) → IsInDone first plan.liveness.now.order inst
+        → HasMap every s (has recorded) (place_of_inst first inst) (call_shape (operation_of first.tables (inst_at first inst).shape)) (stack_map_at first.tables inst) (stack_map_at g.tables inst)
+    has_map inst done = by (is_call (inst_at first inst).shape) refl
+      where
+        exists : inst < length first.insts
+        exists = (inst_inside first planned.known done.0 inst done.2).0
+
+        by : (test : Bool) → is_call (inst_at first inst).shape ≡ test
+            → HasMap every s (has recorded) (place_of_inst first inst) (call_shape (operation_of first.tables (inst_at first inst).shape)) (stack_map_at first.tables inst) (stack_map_at g.tables inst)
+        by true is =
+            let call = is_a_call first.tables (inst_at first inst).shape is in
+            subst (λ (found : Option CallShape). HasMap every s (has recorded) (place_of_inst first inst) found (stack_map_at first.tables inst) (stack_map_at g.tables inst)) (sym call.1)
+            (mapped_is inst (record { exists = exists; call = is; reachable = reached_so inst done }))
+        by false is =
+            subst (λ (found : Option CallShape). HasMap every s (has recorded) (place_of_inst first inst) found (stack_map_at first.tables inst) (stack_map_at g.tables inst))
+            (sym (no_call first.tables (inst_at first inst).shape is))
+            (are.text.unmapped inst exists (λ other call. false≢true (sym is ∙ call)))
+
+    ends : IsEnd first recorded plan g b (slot_in are.st)
+    ends = record {
+      slots = λ v slot has_slot. assigned v slot (ap (λ (m : SlotMap). fin.get m v) (sym are.text.state.assigned) ∙ has_slot);
+      spilled = λ v slot has_slot. (are.allocated 0).slots.spilled v slot (ap (λ (m : SlotMap). fin.get m v) (sym are.text.state.assigned) ∙ has_slot);
+      mapped = has_map;
+    }
+
+    spilling_is : IsSpilling every s (has recorded)
+    spilling_is = record {
+      text = text_is first recorded plan planned g b are (slot_in are.st) ends;
+      spilled = spilled_is plan.pointer g (slot_in are.st);
+      slots = λ v spilled.
+          slot_of_size s (length first.values) plan.liveness.now.order walk are.st are.allocated are.text.state.slots assigned v
+          (all_assigned s (length first.values) plan.liveness.now.order walk are.st are.allocated (has recorded) (spilled_is plan.pointer g (slot_in are.st)) v spilled);
+      old_slots = (are.text.keeps.slots, are.text.keeps.slots_are);
+      types = λ v inside. ap (λ (node : ValueNode). node.ty) (same_value (length first.blocks) first g are.text.keeps v inside);
+      aliases = λ v inside. names_stay (length first.blocks) first g are.text.keeps planned.known v inside;
+    }
+
+    shares_so : WellPlaced (view_of first) → SharesNoSlot every s
+    shares_so = shares_none s (length first.values) plan.liveness.now.order walk are.st are.allocated are.text.state.slots assigned
+
+    -- every argument counts
+    counts_so : CountsEnough every (has recorded) s
+    counts_so target place param reached uncounted is = cc
+
+    may_spill : SpillingLaws → MayBeRun first → MaySpill every (has recorded) s
+    may_spill laws may = record {
+      gives_once = laws.once first planned.known;
+      edges_match = may.edges_match;
+      aliases_typed = may.aliases_typed;
+      well_placed = may.well_placed;
+      counts_enough = counts_so;
+      shares_no_slot = shares_so may.well_placed;
+    }
+
+    pub all_spilled : SpillingLaws → Spills first recorded plan.pointer g
+    all_spilled laws = record {
+      is_spilled = has plan.spilled;
+      slot_of = slot_in are.st;
+      spilling = spilling_is;
+      shares_no_slot = shares_so;
+      order = plan.liveness.now.order;
+      ordered = planned.analysis.order;
+      few_slots = few_slots s (length first.values) plan.liveness.now.order walk are.st are.allocated are.text.state.slots assigned;
+      mapped = mapped_is;
+      unmapped = unmapped_is;
+      edges_match = λ typed matched.
+          laws.edges every (has recorded) s spilling_is (laws.once first planned.known) typed
+          (laws.inside first every s planned.known refl refl (landing_beyond first recorded plan planned g b are (slot_in are.st) ends)) matched;
+      same_meaning = λ may world met. laws.means every (has recorded) s world spilling_is (may_spill laws may) met;
+      slot_contents = λ may world met. laws.contents every (has recorded) s world spilling_is (may_spill laws may) met;
+    }

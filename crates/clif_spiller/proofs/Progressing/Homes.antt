@@ -1,16 +1,15 @@
 -- Where the instructions of a block are.
-use Rattle.std.proofs.Common.{◌≡◌, ◌∙◌, ◌<◌, ◌≤◌, ◌⊎◌, ℕ, zero, suc, Bool, true, false, if◌then◌else◌, List, [], ◌∷◌, length, get_or, drop, refl, sym, ap, subst, arith, inl, inr}
+use Rattle.std.proofs.Common.{◌≡◌, ◌∙◌, ◌<◌, ◌⊎◌, ℕ, zero, suc, Bool, true, false, if◌then◌else◌, List, [], ◌∷◌, length, get_or, drop, sym, ap, subst, arith, inl, inr}
 use Rattle.std.specs.Prelude.{Contains, Some, slice_get, slice_index}
 use Rattle.std.proofs.lemmas.Bool.{cases_order}
 use Rattle.clif_instructions.specs.Members.{Once, place_of, stands_in}
 use Rattle.clif_ir.specs.Body.{Body, block_at, inst_at}
 use Rattle.clif_ir.specs.Consistent.{IsConsistent}
 use Rattle.clif_ir.proofs.Threads.{place_of-at}
-use Rattle.clif_meaning.specs.Path.{Place}
 use Rattle.clif_safepoints.specs.Analysis.{place_of_inst}
 use Rattle.clif_spilling_laws.specs.Live.{place_at}
 use Rattle.clif_spiller.specs.Plans.{insts_inside}
-use Rattle.clif_spiller.specs.Progress.{IsApart, IsHandledInst, IsInDone}
+use Rattle.clif_spiller.specs.Progress.{IsHandledInst}
 use Rattle.clif_spiller.proofs.Progressing.Members.{drop_one_less, within_dropped}
 use Rattle.clif_spiller.proofs.Shapes.{get_or_inside}
 

@@ -1,9 +1,9 @@
 -- Members of lists that are made of parts, and the places of a block that is reached.
-use Rattle.std.proofs.Common.{◌≡◌, ◌∙◌, ◌<◌, ◌≤◌, ◌+◌, ℕ, zero, suc, List, [], ◌∷◌, ◌++◌, length, get_or, map, drop, take, flat_map, refl, sym, ap, subst, arith, inl, inr, ◌⊎◌}
-use Rattle.std.specs.Prelude.{Contains, Some, slice_get}
+use Rattle.std.proofs.Common.{◌≡◌, ◌<◌, ◌≤◌, ◌+◌, ℕ, zero, suc, List, [], ◌∷◌, length, get_or, map, drop, flat_map, refl, sym, ap, subst, arith, inl, inr, ◌⊎◌}
+use Rattle.std.specs.Prelude.{Contains}
 use Rattle.std.proofs.lemmas.List.Elements.{Contains-append_cases, Contains-append_left, Contains-append_right}
 use Rattle.clif_meaning.specs.FunctionView.{FunctionView}
-use Rattle.clif_meaning.specs.Path.{IsReachable, Place}
+use Rattle.clif_meaning.specs.Path.{IsReachable}
 use Rattle.clif_meaning.specs.WellPlaced.{function_flow}
 use Rattle.clif_safepoints.specs.Analysis.{IsReached}
 use Rattle.clif_spilling_laws.specs.Live.{place_at}

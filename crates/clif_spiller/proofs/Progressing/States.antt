@@ -1,17 +1,13 @@
 -- The slots after an instruction is rewritten: what it uses, and its stack map.
-use Rattle.std.proofs.Common.{◌≡◌, ◌≢◌, ◌∙◌, ◌<◌, ◌⊎◌, ℕ, zero, suc, Bool, true, false, List, [], ◌∷◌, ◌++◌, length, map as each, take, drop, refl, sym, ap, ap₂, subst, arith, inl, inr, append_assoc}
-use Rattle.std.specs.Prelude.{Contains, filter, slice_index, slice_index_or}
+use Rattle.std.proofs.Common.{◌≡◌, ◌∙◌, ◌<◌, ◌⊎◌, ℕ, Bool, true, false, List, ◌++◌, length, map as each, take, drop, sym, ap, ap₂, subst, inl, inr}
+use Rattle.std.specs.Prelude.{Contains, filter, slice_index_or}
 use Rattle.clif_nodes.specs.Nodes.{no_inst}
-use Rattle.std.specs.FinMap as fin
 use Rattle.std.specs.List.{AllZip}
 use Rattle.std.proofs.lemmas.List.{append-nil}
 use Rattle.std.proofs.lemmas.List.Elements.{Contains-append_cases, Contains-append_left, Contains-append_right}
 use Rattle.clif_types.specs.EntitySet.{has}
-use Rattle.clif_types.specs.declared.stackmap.UserStackMapEntry.{UserStackMapEntry}
 use Rattle.clif_tables.specs.Lists.{stack_map_at}
 use Rattle.clif_instructions.specs.Instruction.{destinations, is_call, operands}
-use Rattle.clif_instructions.specs.declared.block_call.BlockCall.{BlockCall}
-use Rattle.clif_instructions.specs.declared.instructions.InstructionData.{InstructionData}
 use Rattle.clif_nodes.specs.declared.nodes.InstNode.{InstNode}
 use Rattle.clif_ir.specs.Body.{Body, inst_at, resolved}
 use Rattle.clif_ir.specs.Consistent.{IsConsistent}
@@ -20,9 +16,8 @@ use Rattle.clif_safepoints.proofs.Numbered.{filter_from, filter_to}
 use Rattle.clif_safepoints.proofs.Paths.{stands_from, stands_to}
 use Rattle.clif_stack_slots.specs.declared.slots.StackSlots.{StackSlots}
 use Rattle.clif_spiller.specs.Acting.{Acts, ActsAtCall, ActsAtSafepoint, IsEntryOf, IsOnTheWay, edge_values, needs, operand_values, types_in, used_values}
-use Rattle.clif_spiller.specs.Allocating.{IsSlotState, Needs, SlotAct, SlotState, after_acts}
+use Rattle.clif_spiller.specs.Allocating.{IsSlotState, Needs, SlotState, after_acts}
 use Rattle.clif_spiller.specs.Keeping.{Keeps}
-use Rattle.clif_spiller.specs.Plans.{GoesOn}
 use Rattle.clif_spiller.specs.declared.plan.Plan.{Plan}
 use Rattle.clif_spiller.proofs.Acting.{map_append, needs_append}
 use Rattle.clif_spiller.proofs.Advancing.{map_alike, names_stay, on_the_way}

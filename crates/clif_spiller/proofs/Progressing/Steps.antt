@@ -1,6 +1,6 @@
 -- An instruction more is rewritten, and a block more.
-use Rattle.std.proofs.Common.{◌≡◌, ◌≢◌, ◌∙◌, ◌<◌, ◌≤◌, ◌⊎◌, ℕ, zero, suc, Bool, true, false, List, [], ◌∷◌, ◌++◌, length, get_or, map as each, take, drop, refl, sym, ap, ap₂, subst, arith, inl, inr}
-use Rattle.std.specs.Prelude.{Contains, Some, slice_get, slice_index_or}
+use Rattle.std.proofs.Common.{◌≡◌, ◌≢◌, ◌∙◌, ◌<◌, ◌⊎◌, ℕ, suc, true, List, [], ◌∷◌, ◌++◌, length, get_or, map as each, refl, sym, ap, subst, arith, inl, inr}
+use Rattle.std.specs.Prelude.{Contains, Some, slice_index_or}
 use Rattle.std.specs.FinMap as fin
 use Rattle.std.specs.List.{AllZip}
 use Rattle.std.proofs.lemmas.Bool.{cases_Bool, cases_eq}
@@ -9,25 +9,22 @@ use Rattle.std.proofs.lemmas.Option.{slice_get-get_or}
 use Rattle.clif_types.specs.EntitySet.{has}
 use Rattle.clif_tables.specs.Lists.{stack_map_at}
 use Rattle.clif_instructions.specs.Instruction.{destinations, is_call}
-use Rattle.clif_instructions.specs.Members.{Stands}
 use Rattle.clif_instructions.specs.declared.block_call.BlockCall.{BlockCall}
 use Rattle.clif_nodes.specs.declared.nodes.InstNode.{InstNode}
 use Rattle.clif_nodes.specs.Nodes.{no_inst}
-use Rattle.clif_ir.specs.Body.{Body, block_at, inst_at}
-use Rattle.clif_meaning.specs.FunctionView.{FunctionView, Placed}
+use Rattle.clif_ir.specs.Body.{Body, inst_at}
 use Rattle.clif_meaning.specs.Instruction.{Edge}
 use Rattle.clif_meaning.specs.Path.{IsReachable, Place}
 use Rattle.clif_meaning.specs.View.{edge_of, placed_of, view_of}
 use Rattle.clif_meaning.specs.WellPlaced.{function_flow, placed_at, placed_gives, placed_targets}
 use Rattle.clif_safepoints.specs.Analysis.{IsReached, found_across, found_in}
 use Rattle.clif_safepoints.proofs.Paths.{placed_is, size_is, stands_from, stands_to}
-use Rattle.clif_spilling_laws.specs.Live.{IsLiveBefore, place_at}
+use Rattle.clif_spilling_laws.specs.Live.{place_at}
 use Rattle.clif_stack_slots.specs.declared.slots.StackSlots.{StackSlots}
 use Rattle.clif_spiller.specs.Acting.{ActsAtInst, IsEntryOf, IsOnTheWay, types_in}
-use Rattle.clif_spiller.specs.Allocating.{ActsAt, Gives, IsAllocated, IsAssigned, IsSlotState, IsWalk, Needs, SlotAct, SlotState, after_acts, every}
-use Rattle.clif_spiller.specs.Keeping.{Keeps}
+use Rattle.clif_spiller.specs.Allocating.{ActsAt, Gives, IsSlotState, IsWalk, Needs, SlotAct, SlotState, after_acts}
 use Rattle.clif_spiller.specs.Plans.{insts_inside}
-use Rattle.clif_spiller.specs.Progress.{IsApart, IsHandledInst, IsPlannedFor, IsRewrittenIn, IsRewrittenTo, slots_before}
+use Rattle.clif_spiller.specs.Progress.{IsApart, IsHandledInst, IsPlannedFor, IsRewrittenTo}
 use Rattle.clif_spiller.specs.declared.plan.Plan.{Plan}
 use Rattle.clif_spiller.proofs.Advancing.{on_the_way}
 use Rattle.clif_spiller.proofs.Allocating.Acting.{across_counted, before_counted, before_every, out_is_live, used_is_live}
@@ -35,7 +32,6 @@ use Rattle.clif_safepoints.specs.Liveness.{IsLiveAcross, every_argument}
 use Rattle.clif_spiller.proofs.Allocating.Consistent.{is_walk}
 use Rattle.clif_spiller.proofs.Allocating.Orders.{not_done}
 use Rattle.clif_spiller.proofs.Allocating.States.{acts_append, acts_keep}
-use Rattle.clif_spiller.proofs.Allocating.Walking.{handles}
 use Rattle.clif_spiller.proofs.Keeping.{keeps_fewer, keeps_trans}
 use Rattle.clif_spiller.proofs.Progressing.Changes.{LeavesOthers, at_inst}
 use Rattle.clif_spiller.proofs.Progressing.Homes.{handled_before, inst_inside, not_yet, now_handled, placed_there, still_handled}
@@ -53,7 +49,7 @@ walk_of first recorded plan for =
 
 module _ (first : Body) (recorded : List ℕ) (plan : Plan) (planned : IsPlannedFor first recorded plan) (done : List ℕ) (block : ℕ) (rest : List ℕ)
     (split : plan.liveness.now.order ≡ done ++ block ∷ rest) where
-  walk : IsWalk (view_of first) (length first.values) (has plan.spilled) plan.liveness.now.order
+  pub walk : IsWalk (view_of first) (length first.values) (has plan.spilled) plan.liveness.now.order
   walk = walk_of first recorded plan planned
 
   pub fresh : Contains done block → ⊥
@@ -65,45 +61,45 @@ module _ (first : Body) (recorded : List ℕ) (plan : Plan) (planned : IsPlanned
   module _ (k inst : ℕ) (inside : k < length (insts_inside first block)) (is : get_or (insts_inside first block) k inst ≡ inst)
       (f : Body) (a : StackSlots) (st : SlotState) (so_far : IsRewrittenTo first plan (IsHandledInst first done block (suc k)) (IsApart done block) f a st)
       (g : Body) (b : StackSlots) (act : ActsAtInst plan inst f a g b) where
-    exists : inst < length first.insts
+    pub exists : inst < length first.insts
     exists = (inst_inside first planned.known block inst (k, inside, is)).0
 
-    home : (inst_at first inst).block ≡ block
+    pub home : (inst_at first inst).block ≡ block
     home = (inst_inside first planned.known block inst (k, inside, is)).1
 
-    same : inst_at f inst ≡ inst_at first inst
+    pub same : inst_at f inst ≡ inst_at first inst
     same = so_far.waiting inst exists (not_yet first planned.known done block fresh k inst inside is)
 
-    placed : placed_at (view_of first) (place_at block k) ≡ Some (placed_of first inst)
+    pub placed : placed_at (view_of first) (place_at block k) ≡ Some (placed_of first inst)
     placed = placed_is first block k inst (slice_get-get_or (insts_inside first block) k inst inside ∙ ap (λ i. Some i) is)
 
-    items_inside : k < length ((view_of first).blocks block).items
+    pub items_inside : k < length ((view_of first).blocks block).items
     items_inside = subst (λ n. k < n) (sym (size_is first block)) inside
 
-    reachable : IsReachable (function_flow (view_of first)) (place_at block k)
+    pub reachable : IsReachable (function_flow (view_of first)) (place_at block k)
     reachable = reachable_in (view_of first) block reached k items_inside
 
     -- WAYS AND STATES ---------------------------------------------------------------------------------------------------
 
-    way : IsOnTheWay first plan f
+    pub way : IsOnTheWay first plan f
     way = record { known = planned.known; planned = planned.planned; keeps = keeps_fewer 0 (length first.blocks) first f (omega arith) so_far.keeps }
 
-    way_ahead : IsOnTheWay first plan act.ahead
+    pub way_ahead : IsOnTheWay first plan act.ahead
     way_ahead = on_the_way first plan f act.ahead way act.goes_ahead.keeps
 
     way_given : IsOnTheWay first plan act.given
     way_given = on_the_way first plan act.ahead act.given way_ahead act.goes_given.keeps
 
-    same_ahead : inst_at act.ahead inst ≡ inst_at first inst
+    pub same_ahead : inst_at act.ahead inst ≡ inst_at first inst
     same_ahead = ap (λ (xs : List InstNode). slice_index_or xs inst no_inst) act.acts_ahead.insts ∙ same
 
-    same_given : inst_at act.given inst ≡ inst_at first inst
+    pub same_given : inst_at act.given inst ≡ inst_at first inst
     same_given = act.acts_given.nodes inst (omega (arith, exists, so_far.keeps.insts, act.goes_ahead.keeps.insts)) ∙ same_ahead
 
-    abbrev outs_state : SlotState
+    abbrev pub outs_state : SlotState
     outs_state = after_acts (types_in first) (each Needs act.acts_ahead.outs) st
 
-    abbrev given_state : SlotState
+    abbrev pub given_state : SlotState
     given_state = after_acts (types_in first) (each Gives (inst_at act.ahead inst).results) (after_acts (types_in first) (each Needs act.acts_ahead.outs) st)
 
     results_below : (v : ℕ) → Contains (inst_at act.ahead inst).results v → v < length first.values
@@ -111,7 +107,7 @@ module _ (first : Body) (recorded : List ℕ) (plan : Plan) (planned : IsPlanned
         let there : Contains (inst_at first inst).results v = subst (λ (m : InstNode). Contains m.results v) same_ahead here in
         subst (λ w. w < length first.values) (get_or_inside (inst_at first inst).results there.0 0 v there.1 ∙ there.2) (planned.known.results_known inst there.0 there.1).0
 
-    is_given : IsSlotState act.given act.given_slots (after_acts (types_in first) (each Gives (inst_at act.ahead inst).results) (after_acts (types_in first) (each Needs act.acts_ahead.outs) st))
+    pub is_given : IsSlotState act.given act.given_slots (after_acts (types_in first) (each Gives (inst_at act.ahead inst).results) (after_acts (types_in first) (each Needs act.acts_ahead.outs) st))
     is_given = act.acts_given.goes_by first way_ahead.keeps results_below outs_state (act.acts_ahead.goes_by first way st so_far.state)
 
     map_same : stack_map_at act.given.tables inst ≡ stack_map_at first.tables inst
@@ -119,7 +115,7 @@ module _ (first : Body) (recorded : List ℕ) (plan : Plan) (planned : IsPlanned
         act.acts_given.maps inst ∙ act.acts_ahead.maps inst
         ∙ so_far.unmapped inst exists (λ handled. absurd (not_yet first planned.known done block fresh k inst inside is handled))
 
-    uses : Uses first plan inst (after_acts (types_in first) (each Gives (inst_at act.ahead inst).results) (after_acts (types_in first) (each Needs act.acts_ahead.outs) st)) g b
+    pub uses : Uses first plan inst (after_acts (types_in first) (each Gives (inst_at act.ahead inst).results) (after_acts (types_in first) (each Needs act.acts_ahead.outs) st)) g b
     uses =
         all_uses_of first plan inst act.given act.given_slots way_given given_state is_given same_given map_same g b
         (is_call (inst_at act.given inst).shape) (ap (λ (m : InstNode). is_call m.shape) (sym same_given)) act.called act.called_slots act.acts_called act.acts_used
@@ -156,7 +152,7 @@ module _ (first : Body) (recorded : List ℕ) (plan : Plan) (planned : IsPlanned
             let there = target_to ahead.0 (subst (λ (ys : List BlockCall). Contains ys ahead.0) edges_same ahead.1) in
             absurd (let inside_none = (subst (λ (ys : List ℕ). Contains ys ahead.0.block) none there).1 in omega (arith, inside_none))
 
-    acts_at : ActsAt (view_of first) (has plan.spilled) st (place_at block k)
+    pub acts_at : ActsAt (view_of first) (has plan.spilled) st (place_at block k)
         (each Needs act.acts_ahead.outs ++ each Gives (placed_gives (placed_at (view_of first) (place_at block k))) ++ each Needs uses.uses)
     acts_at = record {
       outs = act.acts_ahead.outs;
@@ -209,15 +205,19 @@ module _ (first : Body) (recorded : List ℕ) (plan : Plan) (planned : IsPlanned
       acts_are = refl;
     }
 
+    pub outs_are : acts_at.outs ≡ act.acts_ahead.outs
+    unfolding acts_at
+    outs_are = refl
+
     -- THE STEP ----------------------------------------------------------------------------------------------------------
 
     results_same : placed_gives (placed_at (view_of first) (place_at block k)) ≡ (inst_at act.ahead inst).results
     results_same = ap placed_gives placed ∙ ap (λ (m : InstNode). m.results) (sym same_ahead)
 
-    abbrev list : List SlotAct
+    abbrev pub list : List SlotAct
     list = each Needs act.acts_ahead.outs ++ each Gives (placed_gives (placed_at (view_of first) (place_at block k))) ++ each Needs uses.uses
 
-    state_is : after_acts (types_in first) list st ≡ after_acts (types_in first) (each Needs uses.uses) given_state
+    pub state_is : after_acts (types_in first) list st ≡ after_acts (types_in first) (each Needs uses.uses) given_state
     state_is =
         ap (λ (vs : List ℕ). after_acts (types_in first) (each Needs act.acts_ahead.outs ++ each Gives vs ++ each Needs uses.uses) st) results_same
         ∙ acts_append (types_in first) (each Needs act.acts_ahead.outs ++ each Gives (inst_at act.ahead inst).results) (each Needs uses.uses) st
@@ -245,7 +245,7 @@ module _ (first : Body) (recorded : List ℕ) (plan : Plan) (planned : IsPlanned
         (zip_weaker (IsEntryOf first st) (IsEntryOf first (after_acts (types_in first) list st)) (found_across plan.liveness.now i) (stack_map_at f.tables i)
         (λ v e entry. record { ty = entry.ty; slot = acts_keep (types_in first) list st v e.slot entry.slot; offset = entry.offset }) entries)
 
-    text_then : IsRewrittenTo first plan (IsHandledInst first done block k) (IsApart done block) g b (after_acts (types_in first) list st)
+    pub text_then : IsRewrittenTo first plan (IsHandledInst first done block k) (IsApart done block) g b (after_acts (types_in first) list st)
     text_then = record {
       keeps = keeps_trans (length first.blocks) first f g so_far.keeps (keeps_fewer (length first.blocks) (length f.blocks) f g so_far.keeps.blocks leaves.keeps);
       slots = act.goes_used.slots;
@@ -277,15 +277,3 @@ module _ (first : Body) (recorded : List ℕ) (plan : Plan) (planned : IsPlanned
             | inr apart ↦ leaves.maps i apart ∙ so_far.unmapped i inside_first (λ earlier call. no_map (still i earlier) call)
           ];
     }
-
-  -- an instruction more
-  pub next_inst : (k inst : ℕ) → k < length (insts_inside first block) → get_or (insts_inside first block) k inst ≡ inst
-      → (f : Body) (a : StackSlots) → IsRewrittenIn first plan done block (suc k) f a → (g : Body) (b : StackSlots) → ActsAtInst plan inst f a g b
-      → IsRewrittenIn first plan done block k g b
-  next_inst k inst inside is f a so_far g b act = record {
-    st = after_acts (types_in first) (list k inst inside is f a so_far.st so_far.text g b act) so_far.st;
-    text = text_then k inst inside is f a so_far.st so_far.text g b act;
-    allocated =
-        handles (view_of first) (length first.values) (has plan.spilled) plan.liveness.now.order done block rest walk split k (items_inside k inst inside is f a so_far.st so_far.text g b act)
-        (slots_before first) so_far.st so_far.allocated (list k inst inside is f a so_far.st so_far.text g b act) (acts_at k inst inside is f a so_far.st so_far.text g b act);
-  }

@@ -1,4 +1,4 @@
-use Rattle.std.proofs.Common.{◌≡◌, ◌∙◌, sym, ap}
+use Rattle.std.proofs.Common.{◌∙◌, sym}
 use Rattle.clif_safepoints.proofs.Paths.{stands_to}
 use Rattle.clif_spiller.proofs.accesses.read.Goals as goal
 

@@ -1,4 +1,4 @@
-use Rattle.std.proofs.Common.{◌≡◌, ◌∙◌, ◌<◌, length, Err, Ok, Some, List, [], ◌∷◌, ℕ, pos, get_or, refl, sym, ap, ap₂, subst, length-append}
+use Rattle.std.proofs.Common.{◌≡◌, ◌∙◌, ◌<◌, length, Err, Ok, List, [], ◌∷◌, ℕ, pos, get_or, refl, sym, ap, ap₂, subst, length-append}
 use Rattle.std.proofs.lemmas.Result.{err_from_is_err_and}
 use Rattle.clif_ir.specs.Body.{Body, inst_at, value_at}
 use Rattle.clif_types.specs.declared.error.BuildError.{BuildError}

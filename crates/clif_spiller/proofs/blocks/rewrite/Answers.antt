@@ -1,4 +1,4 @@
-use Rattle.std.proofs.Common.{◌≡◌, ◌∙◌, ◌<◌, ◌≤◌, ℕ, List, length, get_or, ap, sym, subst}
+use Rattle.std.proofs.Common.{◌∙◌, ◌<◌, ◌≤◌, ℕ, List, length, get_or, ap, subst}
 use Rattle.clif_spiller.proofs.Keeping.{goes_further, goes_on_refl, plan_stays}
 use Rattle.clif_spiller.proofs.Progressing.Rewriting.{all_blocks, next_block, no_block_yet}
 use Rattle.clif_spiller.proofs.blocks.rewrite.Goals as goal

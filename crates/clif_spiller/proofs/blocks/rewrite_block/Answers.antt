@@ -1,13 +1,16 @@
-use Rattle.std.proofs.Common.{◌≡◌, ◌<◌, ◌-◌, ◌∙◌, ℕ, List, length, get_or, refl, sym, ap, subst, arith}
-use Rattle.clif_instructions.specs.Members.{Stands}
+use Rattle.std.proofs.Common.{◌≡◌, ◌<◌, ◌-◌, ◌∙◌, ℕ, List, [], ◌∷◌, length, get_or, refl, sym, ap, subst, arith, inl, inr}
 use Rattle.std.proofs.lemmas.Bool.{eqb-false, eqb-true}
 use Rattle.clif_ir.specs.Body.{Body, inst_at}
 use Rattle.clif_spiller.proofs.Shapes.{get_or_inside}
 use Rattle.clif_spiller.specs.Plans.{insts_inside}
 use Rattle.clif_spiller.proofs.Inside.{block_inside, inst_exists}
-use Rattle.clif_spiller.proofs.Keeping.{goes_further, goes_on_refl, keeps_refl, on_ok, on_ok₂, plan_stays}
+use Rattle.clif_spiller.proofs.Keeping.{goes_further, goes_on_refl, keeps_refl, on_ok, on_ok₂, on_ok₃, plan_stays}
 use Rattle.clif_spiller.proofs.Progressing.Rewriting.{IsRewrittenFrom, first_home, has_first, nothing_rewritten, one_more_inst, params_too}
 use Rattle.clif_spiller.proofs.blocks.rewrite_block.Goals as goal
+
+length_none : (xs : List ℕ) → length xs ≡ 0 → xs ≡ []
+length_none [] is = refl
+length_none (x ∷ xs) is = absurd (omega (arith, is))
 
 pub returns-then-is_empty-clause-ok : goal.returns-then-is_empty-clause-ok
 returns-then-is_empty-clause-ok c =
@@ -65,19 +68,33 @@ returns-then-is_empty-clause-rewrites c =
     (λ knows acts.
     params_too c.args.plan.now c.args.block f c.args.slots.now f c.args.slots.now f c.free_params.new.slots c.args.block
     (nothing_rewritten c.args.plan.now c.args.block f c.args.slots.now 0 (sym (eqb-true (length c.args.insts.now) 0 (sym c.is_empty.ensures ∙ c.if-is_empty.true)) ∙ ap (λ (xs : List ℕ). length xs) c.requires.insts))
-    (record { keeps = keeps_refl (length f.blocks) f; slots = knows }) refl acts)
+    (record { keeps = keeps_refl (length f.blocks) f; slots = knows }) refl acts (inl (none, none, refl)))
     c.free_params.ensures.ok c.free_params.ensures.acts
+  where
+    none : insts_inside c.args.func.now c.args.block ≡ []
+    none = sym c.requires.insts ∙ length_none c.args.insts.now (eqb-true (length c.args.insts.now) 0 (sym c.is_empty.ensures ∙ c.if-is_empty.true))
 
 pub returns-in-Some-clause-rewrites : goal.returns-in-Some-clause-rewrites
 returns-in-Some-clause-rewrites c =
-    on_ok₂ c.store_params.result
-    (λ goes acts.
+    on_ok₃ c.store_params.result
+    (λ goes acts stores.
     params_too c.args.plan.now c.args.block c.args.func.now c.args.slots.now c.loop-place.func c.loop-place.slots c.store_params.new.func c.store_params.new.slots
     (inst_at c.loop-place.func c.in-Some.first).block
     (subst (λ (n : ℕ). IsRewrittenFrom c.args.plan.now c.args.block n c.args.func.now c.args.slots.now c.loop-place.func c.loop-place.slots)
     (let none : c.loop-place.place ≡ 0 = omega (arith, c.loop-place-test.false) in none) c.loop-place.invariant.1)
-    goes (first_home c.loop-place.func c.args.block c.in-Some.first c.law_consistent-2.ensures (sym c.first_inst.ensures.exact ∙ c.in-Some.is)) acts)
-    c.store_params.ensures.ok c.store_params.ensures.acts
+    goes (first_home c.loop-place.func c.args.block c.in-Some.first c.law_consistent-2.ensures (sym c.first_inst.ensures.exact ∙ c.in-Some.is)) acts
+    (inr (
+      (let apart = eqb-false (length c.args.insts.now) 0 (sym c.is_empty.ensures ∙ c.if-is_empty.false) in let same = ap (λ (xs : List ℕ). length xs) c.requires.insts in omega (arith, apart, same)),
+      record {
+        stands = c.loop-place.invariant.0.keeps.layout c.args.block (block_inside c.args.func.now c.args.block 0
+            (let apart = eqb-false (length c.args.insts.now) 0 (sym c.is_empty.ensures ∙ c.if-is_empty.false) in let same = ap (λ (xs : List ℕ). length xs) c.requires.insts in omega (arith, apart, same)));
+        front = c.in-Some.first;
+        is_front = sym c.first_inst.ensures.exact ∙ c.in-Some.is;
+        home = first_home c.loop-place.func c.args.block c.in-Some.first c.law_consistent-2.ensures (sym c.first_inst.ensures.exact ∙ c.in-Some.is);
+        stores = stores;
+      },
+    )))
+    c.store_params.ensures.ok c.store_params.ensures.acts c.store_params.ensures.stores
 
 pub returns-in-None-clause-rewrites : goal.returns-in-None-clause-rewrites
 returns-in-None-clause-rewrites c =

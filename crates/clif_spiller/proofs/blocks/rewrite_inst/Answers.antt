@@ -1,6 +1,6 @@
 use Rattle.std.proofs.Common.{length}
 use Rattle.clif_spiller.specs.Plans.{GoesOn}
-use Rattle.clif_spiller.proofs.Keeping.{goes_further, on_ok, on_ok₂, plan_stays}
+use Rattle.clif_spiller.proofs.Keeping.{goes_further, on_ok, on_ok₃, plan_stays}
 use Rattle.clif_spiller.proofs.blocks.rewrite_inst.Goals as goal
 use Rattle.clif_spiller.proofs.blocks.rewrite_inst.Goals.{In_ok-store_results}
 
@@ -31,8 +31,8 @@ returns-clause-ok c =
 
 pub returns-clause-acts : goal.returns-clause-acts
 returns-clause-acts c =
-    on_ok₂ c.reload_uses.result
-    (λ goes acts. record {
+    on_ok₃ c.reload_uses.result
+    (λ goes acts reads. record {
       ahead = c.take_live_outs.new.func;
       ahead_slots = c.take_live_outs.new.slots;
       goes_ahead = c.in_ok-take_live_outs.ensures.ok;
@@ -41,10 +41,12 @@ returns-clause-acts c =
       given_slots = c.store_results.new.slots;
       goes_given = c.in_ok-store_results.ensures.ok;
       acts_given = c.in_ok-store_results.ensures.acts;
+      stored = c.in_ok-store_results.ensures.stores;
       called = c.rewrite_safepoint.new.func;
       called_slots = c.rewrite_safepoint.new.slots;
       goes_called = c.in_ok-rewrite_safepoint.ensures.ok;
       acts_called = c.in_ok-rewrite_safepoint.ensures.acts;
       goes_used = goes;
       acts_used = acts;
-    }) c.reload_uses.ensures.ok c.reload_uses.ensures.acts
+      read = reads;
+    }) c.reload_uses.ensures.ok c.reload_uses.ensures.acts c.reload_uses.ensures.reads

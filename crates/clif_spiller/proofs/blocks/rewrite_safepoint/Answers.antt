@@ -3,7 +3,7 @@ use Rattle.clif_instructions.specs.Instruction.{is_call}
 use Rattle.clif_instructions.specs.declared.instructions.InstructionData.{InstructionData}
 use Rattle.clif_ir.specs.Body.{inst_at}
 use Rattle.clif_spiller.specs.Acting.{ActsAtSafepoint}
-use Rattle.clif_spiller.proofs.Keeping.{goes_further, goes_on_refl, on_ok, on_ok₂, plan_stays}
+use Rattle.clif_spiller.proofs.Keeping.{goes_further, goes_on_refl, on_ok, on_ok₃, plan_stays}
 use Rattle.clif_spiller.proofs.blocks.rewrite_safepoint.Goals as goal
 use Rattle.clif_spiller.proofs.blocks.rewrite_safepoint.Goals.{After-is_safepoint}
 
@@ -31,8 +31,8 @@ returns-then-not-is_safepoint-clause-acts c =
 
 pub returns-clause-acts : goal.returns-clause-acts
 returns-clause-acts c =
-    on_ok₂ c.land_edges.result
-    (λ goes lands.
+    on_ok₃ c.land_edges.result
+    (λ goes lands leads.
     subst (λ (test : Bool). ActsAtSafepoint test c.args.plan.now c.args.inst c.args.func.now c.args.slots.now c.land_edges.new.func c.land_edges.new.slots)
     (sym c.if-not-is_safepoint.false ∙ test_is (goal.at.returns-clause-acts c).After-is_safepoint)
     (record {
@@ -42,4 +42,5 @@ returns-clause-acts c =
       maps = c.in_ok-set_map.ensures.acts;
       goes_on = goes;
       lands = lands;
-    })) c.land_edges.ensures.ok c.land_edges.ensures.lands
+      leads = leads;
+    })) c.land_edges.ensures.ok c.land_edges.ensures.lands c.land_edges.ensures.leads

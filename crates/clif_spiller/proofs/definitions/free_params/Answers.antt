@@ -1,8 +1,7 @@
-use Rattle.std.proofs.Common.{◌≡◌, ◌∙◌, ◌+◌, ℕ, List, [], ◌∷◌, length, sym, subst, arith}
-use Rattle.clif_ir.specs.Body.{Body, block_at}
+use Rattle.std.proofs.Common.{◌∙◌, ◌+◌, ℕ, List, length, sym, subst}
+use Rattle.clif_ir.specs.Body.{Body}
 use Rattle.clif_stack_slots.specs.declared.slots.StackSlots.{StackSlots}
 use Rattle.clif_spiller.specs.Acting.{ActsGiving}
-use Rattle.clif_spiller.specs.Plans.{GoesOn}
 use Rattle.clif_spiller.proofs.Keeping.{goes_on_refl, keeps_refl}
 use Rattle.clif_spiller.proofs.Storing.{GivesFirst, all_given, gives_unassigned, next_given, none_given_yet}
 use Rattle.clif_spiller.proofs.definitions.free_params.Goals as goal

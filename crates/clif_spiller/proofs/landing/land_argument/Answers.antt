@@ -17,6 +17,9 @@ use Rattle.clif_spiller.specs.Keeping.{Keeps}
 use Rattle.clif_spiller.specs.Plans.{GoesOn, IsRead, OwnArgument}
 use Rattle.clif_spiller.proofs.Keeping.{at_set_or_not, goes_beside, if_ok, if_ok_always, if_ok_further, with_param_keeps}
 use Rattle.clif_spiller.proofs.Reading.{Inserts, read_acts, read_inserts}
+use Rattle.clif_spiller.specs.Text.{LandsArgument}
+use Rattle.clif_spiller.proofs.Text.Rows.{lands_parameter, lands_read}
+use Rattle.clif_spiller.proofs.Text.Alike.{table_gives}
 use Rattle.clif_spiller.proofs.landing.land_argument.Goals as goal
 use Rattle.clif_spiller.proofs.landing.land_argument.Goals.{After-as_slice, After-read}
 
@@ -123,3 +126,38 @@ returns-in_ok-push-in-TryCallExn-clause-acts c =
     if_ok c.append_block_param-in-TryCallExn.result
     (λ made. param_acts c.args.plan.now c.args.landing.now.jump f _ c.args.slots.now c.args.landing.now.block _ _ (arg.TryCallExn c.in-TryCallExn.part) made is tt)
     c.append_block_param-in-TryCallExn.ensures.ok
+
+pub returns-in-Value-clause-row : goal.returns-in-Value-clause-row
+returns-in-Value-clause-row c =
+    let f : Body = c.args.func.now in
+    let passed : BlockArg = get_or (args_of f c.args.inst c.args.edge) c.args.place no_argument in
+    let is : passed ≡ arg.Value c.in-Value.operand =
+    argument_read c.as_slice.result.now (args_of f c.args.inst c.args.edge) c.args.place _ (arg.Value c.in-Value.operand) (args_are (goal.at.returns-in-Value-clause-row c).After-as_slice)
+    c.requires.place_exists c.in-Value.is in
+    if_ok_further (IsRead c.args.plan.now c.args.landing.now.jump c.in-Value.operand f c.args.slots.now c.read.new.func c.read.new.slots)
+    (λ value. LandsArgument c.args.plan.now c.args.landing.now.block c.args.landing.now.jump (inst_at f c.args.inst).shape f c.args.slots.now c.read.new.func c.read.new.slots
+    passed c.args.own.now c.args.own.now value) c.read.result
+    (λ value read.
+    subst (λ (x : BlockArg). LandsArgument c.args.plan.now c.args.landing.now.block c.args.landing.now.jump (inst_at f c.args.inst).shape f c.args.slots.now c.read.new.func c.read.new.slots
+    x c.args.own.now c.args.own.now value) (sym is)
+    (lands_read c.args.plan.now c.args.landing.now.block c.args.landing.now.jump (inst_at f c.args.inst).shape c.in-Value.operand f c.args.slots.now c.read.new.func c.read.new.slots
+    value c.args.own.now c.law_consistent.ensures.maps_known c.requires.plan c.requires.slots read)) c.read.ensures.ok
+
+pub returns-in_ok-push-in-TryCallRet-clause-row : goal.returns-in_ok-push-in-TryCallRet-clause-row
+returns-in_ok-push-in-TryCallRet-clause-row c =
+    let f : Body = c.args.func.now in
+    let is = argument_read c.as_slice.result.now (args_of f c.args.inst c.args.edge) c.args.place _ (arg.TryCallRet c.in-TryCallRet.index)
+    (args_are (goal.at.returns-in_ok-push-in-TryCallRet-clause-row c).After-as_slice) c.requires.place_exists c.in-TryCallRet.is in
+    lands_parameter c.args.plan.now c.args.landing.now.block c.args.landing.now.jump (inst_at f c.args.inst).shape _ f c.append_block_param.new.self c.args.slots.now c.return_type-ty.result
+    c.args.own.now c.push.new.self c.append_block_param.result c.requires.block_exists is tt
+    (c.return_type-ty.ensures ∙ table_gives f.tables (inst_at f c.args.inst).shape c.in-TryCallRet.index (omega (arith, c.requires.edge_exists)))
+    c.in_ok-push-in-TryCallRet.ensures.ok c.append_block_param.ensures.ok c.append_block_param.ensures.number
+
+pub returns-in_ok-push-in-TryCallExn-clause-row : goal.returns-in_ok-push-in-TryCallExn-clause-row
+returns-in_ok-push-in-TryCallExn-clause-row c =
+    let f : Body = c.args.func.now in
+    let is = argument_read c.as_slice.result.now (args_of f c.args.inst c.args.edge) c.args.place _ (arg.TryCallExn c.in-TryCallExn.part)
+    (args_are (goal.at.returns-in_ok-push-in-TryCallExn-clause-row c).After-as_slice) c.requires.place_exists c.in-TryCallExn.is in
+    lands_parameter c.args.plan.now c.args.landing.now.block c.args.landing.now.jump (inst_at f c.args.inst).shape _ f c.append_block_param-in-TryCallExn.new.self c.args.slots.now _
+    c.args.own.now c.push-in-TryCallExn.new.self c.append_block_param-in-TryCallExn.result c.requires.block_exists is tt
+    refl c.in_ok-push-in-TryCallExn.ensures.ok c.append_block_param-in-TryCallExn.ensures.ok c.append_block_param-in-TryCallExn.ensures.number

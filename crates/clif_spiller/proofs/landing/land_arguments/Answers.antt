@@ -1,4 +1,4 @@
-use Rattle.std.proofs.Common.{◌≡◌, ◌≢◌, ◌∙◌, ◌<◌, ◌+◌, ℕ, List, length, get_or, take, refl, sym, ap, subst, arith}
+use Rattle.std.proofs.Common.{◌≡◌, ◌∙◌, ◌<◌, ◌+◌, ℕ, List, length, get_or, take, refl, sym, ap, subst, arith}
 use Rattle.std.specs.Prelude.{All}
 use Rattle.std.proofs.lemmas.List.Elements.{All-nil}
 use Rattle.clif_nodes.specs.declared.nodes.InstNode.{InstNode}
@@ -17,6 +17,8 @@ use Rattle.clif_spiller.specs.Acting.{Acts, args_of, needs, no_argument, passed_
 use Rattle.clif_spiller.proofs.Passing.{edge_read}
 use Rattle.clif_spiller.proofs.Acting.{acts_nothing}
 use Rattle.clif_spiller.proofs.Landed.{landed_next}
+use Rattle.clif_spiller.specs.Text.{LandsArgument, LandsArguments}
+use Rattle.clif_spiller.proofs.Text.Rows.{next_row, no_row_yet}
 use Rattle.clif_spiller.proofs.landing.land_arguments.Goals as goal
 
 pub loop-place-init : goal.loop-place-init
@@ -26,6 +28,7 @@ loop-place-init c = (
   refl,
   subst (All OwnArgument) (sym c.new-own.ensures) (All-nil OwnArgument),
   acts_nothing c.args.plan.now c.args.landing.now.jump c.args.func.now c.args.slots.now,
+  no_row_yet c.args.plan.now c.args.landing.now.block c.args.landing.now.jump c.args.landing.now.target (inst_at c.args.func.now c.args.inst).shape c.args.func.now c.args.slots.now _ c.new-own.ensures,
 )
 
 pub land_argument-requires-clause-plan : goal.land_argument-requires-clause-plan
@@ -65,6 +68,17 @@ loop-place-preserved c =
           (landed_next c.args.plan.now c.args.landing.now.jump n c.args.func.now c.args.slots.now (args_of c.args.func.now c.args.inst c.args.edge) c.loop-place.place
           c.loop-place.func c.loop-place.slots g c.land_argument.new.slots _ c.law_consistent.ensures c.requires.jump_exists c.loop-place.invariant.0.keeps c.in_ok-value.ensures.ok.keeps inside
           (c.law_consistent.ensures.edges_exist c.args.inst c.args.edge no_edge c.requires.edge_exists).1 c.loop-place.invariant.4 now_acts),
+      subst (λ (x : Body). LandsArguments c.args.plan.now c.args.landing.now.block c.args.landing.now.jump c.args.landing.now.target (inst_at c.args.func.now c.args.inst).shape
+          c.args.func.now c.args.slots.now x c.land_argument.new.slots (take (c.loop-place.place + 1) (args_of c.args.func.now c.args.inst c.args.edge)) c.land_argument.new.own) (sym made)
+          (next_row c.args.plan.now c.args.landing.now.block c.args.landing.now.jump c.args.landing.now.target n (inst_at c.args.func.now c.args.inst).shape c.args.func.now c.args.slots.now
+          c.loop-place.func c.loop-place.slots g c.land_argument.new.slots (args_of c.args.func.now c.args.inst c.args.edge) c.loop-place.place c.loop-place.own c.land_argument.new.own
+          c.in_ok-value.value c.law_consistent.ensures c.requires.jump_exists c.requires.block_exists inside
+          (c.law_consistent.ensures.edges_exist c.args.inst c.args.edge no_edge c.requires.edge_exists).1
+          c.loop-place.invariant.0.keeps c.in_ok-value.ensures.ok.keeps c.in_ok-value.ensures.nodes
+          (λ i. c.in_ok-value.ensures.acts.maps i) c.loop-place.invariant.5
+          (subst (λ (shape : InstructionData). LandsArgument c.args.plan.now c.args.landing.now.block c.args.landing.now.jump shape c.loop-place.func c.loop-place.slots g c.land_argument.new.slots
+          (get_or (edge_at (destinations shape) c.args.edge).args c.loop-place.place no_argument) c.loop-place.own c.land_argument.new.own c.in_ok-value.value)
+          c.loop-place.invariant.1 c.in_ok-value.ensures.row)),
     )
 
 pub returns-clause-acts : goal.returns-clause-acts
@@ -76,3 +90,13 @@ returns-clause-acts c =
     (c.branch_destination.ensures ∙ ap destinations c.inst_data.ensures.exact) c.requires.edge_exists c.as_slice-count.ensures) in
     subst (λ (xs : List BlockArg). Acts c.args.plan.now c.args.landing.now.jump c.args.func.now c.args.slots.now c.loop-place.func c.loop-place.slots
     (needs c.args.plan.now (passed_values c.args.func.now xs))) (take_all c.loop-place.place args (omega (arith, c.loop-place-test.false, count))) c.loop-place.invariant.4
+
+pub returns-clause-rows : goal.returns-clause-rows
+returns-clause-rows c =
+    let args : List BlockArg = args_of c.args.func.now c.args.inst c.args.edge in
+    let count : length c.as_slice-count.result.now ≡ length args =
+    ap (λ (xs : List BlockArg). length xs) (edge_read c.branch_destination.result.now
+    (destinations (inst_at c.args.func.now c.args.inst).shape) c.args.edge c.index-branch_destination-edge.result c.as_slice-count.result.now
+    (c.branch_destination.ensures ∙ ap destinations c.inst_data.ensures.exact) c.requires.edge_exists c.as_slice-count.ensures) in
+    subst (λ (xs : List BlockArg). LandsArguments c.args.plan.now c.args.landing.now.block c.args.landing.now.jump c.args.landing.now.target (inst_at c.args.func.now c.args.inst).shape
+    c.args.func.now c.args.slots.now c.loop-place.func c.loop-place.slots xs c.loop-place.own) (take_all c.loop-place.place args (omega (arith, c.loop-place-test.false, count))) c.loop-place.invariant.5

@@ -1,4 +1,4 @@
-use Rattle.std.proofs.Common.{◌≡◌, ◌≤◌, ◌∙◌, ◌<◌, ℕ, List, length, refl, sym, ap, subst, arith}
+use Rattle.std.proofs.Common.{◌≡◌, ◌∙◌, ◌<◌, ◌++◌, ℕ, List, [], ◌∷◌, length, get_or, sym, ap, subst, arith}
 use Rattle.std.specs.Prelude.{slice_index_or}
 use Rattle.clif_instructions.specs.declared.block_call.BlockArg.{BlockArg}
 use Rattle.clif_instructions.specs.declared.block_call.BlockCall.{BlockCall}
@@ -13,6 +13,10 @@ use Rattle.clif_spiller.proofs.Passing.{edge_read}
 use Rattle.clif_spiller.specs.Plans.{GoesOn}
 use Rattle.clif_spiller.proofs.Keeping.{goes_beside, goes_on_refl, goes_on_trans, keeps_fewer, keeps_trans, plan_stays, slots_stay, with_shape_keeps}
 use Rattle.clif_spiller.proofs.Landed.{lands, stays_straight}
+use Rattle.clif_spiller.proofs.Shapes.{get_or_inside}
+use Rattle.clif_instructions.specs.Edges.{edge_at, no_edge}
+use Rattle.clif_spiller.specs.Text.{LandsArguments, LeadsOne}
+use Rattle.clif_spiller.proofs.Text.Leading.{leads_landed, leads_straight}
 use Rattle.clif_spiller.proofs.landing.land_edge.Goals as goal
 use Rattle.clif_spiller.proofs.landing.land_edge.Goals.{After-as_slice, In_ok-jump}
 
@@ -77,3 +81,41 @@ returns-clause-lands c =
     (λ d below stands. c.in_ok-block.ensures.layout d below (subst (Stands d) c.in_ok-jump.ensures.layout stands))
     (omega (arith, c.in_ok-jump.ensures.home, c.in_ok-block.ensures.number))
     c.in_ok-args.ensures.ok.keeps c.in_ok-args.ensures.acts c.in_ok-args.ensures.given c.replace_edge.ensures
+
+pub returns-then-not-passes_spilled-clause-leads : goal.returns-then-not-passes_spilled-clause-leads
+returns-then-not-passes_spilled-clause-leads c = leads_straight c.args.plan.now c.args.inst c.args.edge c.args.func.now c.args.slots.now
+    (ap (λ (xs : List BlockArg). needs c.args.plan.now (passed_values c.args.func.now xs)) (sym (args_are (goal.at.returns-then-not-passes_spilled-clause-leads c).After-as_slice))
+    ∙ c.passes_spilled.ensures.none c.if-not-passes_spilled.true)
+
+pub returns-clause-leads : goal.returns-clause-leads
+returns-clause-leads c =
+    let f : Body = c.args.func.now in
+    let j : Body = c.insert_jump.new.func in
+    let l : Body = c.land_arguments.new.func in
+    let made = made (goal.at.returns-clause-leads c).In_ok-jump in
+    let number : c.in_ok-jump.jump ≡ length f.insts = c.in_ok-jump.ensures.number ∙ ap (λ (xs : List InstNode). length xs) c.in_ok-block.ensures.insts in
+    let nodes : (i : ℕ) → i < length f.insts → inst_at j i ≡ inst_at f i =
+    λ i below.
+    c.in_ok-jump.ensures.nodes i (subst (λ (xs : List InstNode). i < length xs) (sym c.in_ok-block.ensures.insts) below)
+    ∙ ap (λ (xs : List InstNode). slice_index_or xs i no_inst) c.in_ok-block.ensures.insts in
+    let same : inst_at j c.args.inst ≡ inst_at f c.args.inst = nodes c.args.inst c.requires.inst_exists in
+    let call : BlockCall = c.index-branch_destination-edge.result in
+    let target : ℕ = call.block in
+    let target_is : target ≡ (edge_at (destinations (inst_at f c.args.inst).shape) c.args.edge).block =
+    ap (λ (x : BlockCall). x.block)
+    (c.index-branch_destination-edge.is
+    ∙ ap (λ (xs : List BlockCall). get_or xs c.args.edge call) (c.branch_destination.ensures ∙ ap destinations c.inst_data.ensures.exact)
+    ∙ get_or_inside (destinations (inst_at f c.args.inst).shape) c.args.edge call no_edge c.requires.edge_exists) in
+    subst (λ (g : Body). LeadsOne c.args.plan.now c.args.inst c.args.edge f c.args.slots.now g c.land_arguments.new.slots) (sym c.replace_edge.ensures)
+    (leads_landed c.args.plan.now c.args.inst c.args.edge c.in_ok-block.block c.in_ok-jump.jump target f c.args.slots.now j l c.land_arguments.new.slots c.in_ok-args.args
+    c.law_consistent.ensures c.requires.inst_exists c.requires.edge_exists target_is c.in_ok-block.ensures.number number made
+    (omega (arith, ap (λ (n : ℕ). n) c.in_ok-jump.ensures.blocks, c.in_ok-block.ensures.count)) c.in_ok-jump.ensures.exists (c.in_ok-jump.ensures.tables ∙ c.in_ok-block.ensures.tables)
+    nodes
+    (λ d below.
+    c.in_ok-jump.ensures.lists d (λ is. absurd (omega (arith, is, below, c.in_ok-block.ensures.number))) ∙ c.in_ok-block.ensures.lists d below)
+    c.in_ok-jump.ensures.home (subst (Stands c.in_ok-block.block) (sym c.in_ok-jump.ensures.layout) c.in_ok-block.ensures.inside)
+    (c.in_ok-jump.ensures.ok.params c.in_ok-block.block c.in_ok-block.ensures.exists ∙ c.in_ok-block.ensures.empty.0)
+    (c.in_ok-jump.ensures.last ∙ ap (λ (xs : List ℕ). xs ++ c.in_ok-jump.jump ∷ []) c.in_ok-block.ensures.empty.1)
+    c.in_ok-jump.ensures.jumps.shape_is c.in_ok-jump.ensures.jumps.gives c.in_ok-block.block c.in_ok-args.ensures.ok.keeps c.in_ok-args.ensures.layout _ c.in_ok-args.ensures.acts
+    (subst (λ (node : InstNode). LandsArguments c.args.plan.now c.in_ok-block.block c.in_ok-jump.jump target node.shape j c.args.slots.now l c.land_arguments.new.slots
+    (edge_at (destinations node.shape) c.args.edge).args c.in_ok-args.args) same c.in_ok-args.ensures.rows))

@@ -1,4 +1,4 @@
-use Rattle.std.proofs.Common.{◌≡◌, ◌∙◌, ◌≤◌, ◌<◌, ℕ, [], ◌∷◌, length, refl, sym, ap, subst, arith, inl, inr}
+use Rattle.std.proofs.Common.{◌≡◌, ◌∙◌, ◌<◌, ℕ, [], ◌∷◌, ◌+◌, length, length-append, refl, sym, ap, subst, arith, inl, inr}
 use Rattle.clif_instructions.specs.Members.{Stands}
 use Rattle.std.proofs.Math.ListN.{get_or-append}
 use Rattle.clif_nodes.specs.Nodes.{BlockNode, empty_block}
@@ -6,7 +6,8 @@ use Rattle.clif_ir.specs.Body.{Body, block_at}
 use Rattle.clif_ir.specs.Changes.{with_block, with_cold, with_layout_after}
 use Rattle.clif_ir.proofs.Orders.{put_behind-new, put_behind-stood}
 use Rattle.clif_spiller.specs.Keeping.{Keeps}
-use Rattle.clif_spiller.proofs.Keeping.{at_set_or_not, keeps_trans, with_block_keeps, with_cold_keeps, with_layout_after_keeps}
+use Rattle.clif_instructions.proofs.Lists.{at_push}
+use Rattle.clif_spiller.proofs.Keeping.{at_set_or_not, keeps_trans, length_set, with_block_keeps, with_cold_keeps, with_layout_after_keeps}
 use Rattle.clif_spiller.proofs.landing.make_landing.Goals as goal
 use Rattle.clif_spiller.proofs.landing.make_landing.Goals.{After-is_cold, else-is_cold, then-is_cold}
 
@@ -92,4 +93,48 @@ returns-clause-layout c = λ b below stands.
     elim c.if-is_cold.branch [
       | then-is_cold w ↦ same_layout now b below (subst (λ (g : Body). Stands b g.layout) (w.func-is ∙ w.set_cold_block.ensures) stands)
       | else-is_cold w ↦ same_layout now b below (subst (λ (g : Body). Stands b g.layout) w.func-is stands)
+    ]
+
+-- the new block is the last one, and empty
+made : (c : After-is_cold) → (length c.insert_block_after.new.self.blocks ≡ length c.args.func.now.blocks + 1)
+    × ((block_at c.insert_block_after.new.self c.in_ok-landing.landing).params ≡ []) × ((block_at c.insert_block_after.new.self c.in_ok-landing.landing).insts ≡ [])
+made c =
+    let f : Body = c.args.func.now in
+    let node : block_at c.insert_block_after.new.self c.in_ok-landing.landing ≡ empty_block =
+    ap (λ (g : Body). block_at g c.in_ok-landing.landing) (c.insert_block_after.ensures ∙ ap (λ (g : Body). with_layout_after g c.in_ok-landing.landing c.args.last) c.in_ok-landing.ensures.ok)
+    ∙ at_push (λ (m : BlockNode). m ≡ empty_block) f.blocks empty_block c.in_ok-landing.landing empty_block
+    (λ below. absurd (omega (arith, below, c.in_ok-landing.ensures.number))) (λ _. refl) (λ past. absurd (omega (arith, past, c.in_ok-landing.ensures.number))) in (
+      ap (λ (g : Body). length g.blocks) (c.insert_block_after.ensures ∙ ap (λ (g : Body). with_layout_after g c.in_ok-landing.landing c.args.last) c.in_ok-landing.ensures.ok)
+          ∙ length-append f.blocks (empty_block ∷ []),
+      ap (λ (m : BlockNode). m.params) node,
+      ap (λ (m : BlockNode). m.insts) node,
+    )
+
+cold_params : (g : Body) (landing b : ℕ) → (block_at (with_cold g landing) b).params ≡ (block_at g b).params
+cold_params g landing b =
+    at_set_or_not (λ (m : BlockNode). m.params ≡ (block_at g b).params) g.blocks landing _ b empty_block (λ same. ap (λ (d : ℕ). (block_at g d).params) (sym same)) refl
+
+pub returns-clause-count : goal.returns-clause-count
+returns-clause-count c =
+    let count = (made (goal.at.returns-clause-count c).After-is_cold).0 in
+    elim c.if-is_cold.branch [
+      | then-is_cold w ↦ ap (λ (g : Body). length g.blocks) (w.func-is ∙ w.set_cold_block.ensures)
+          ∙ length_set c.insert_block_after.new.self.blocks c.in_ok-landing.landing _ ∙ count
+      | else-is_cold w ↦ ap (λ (g : Body). length g.blocks) w.func-is ∙ count
+    ]
+
+pub returns-clause-empty : goal.returns-clause-empty
+returns-clause-empty c =
+    let node = made (goal.at.returns-clause-empty c).After-is_cold in
+    elim c.if-is_cold.branch [
+      | then-is_cold w ↦ (
+        ap (λ (g : Body). (block_at g c.in_ok-landing.landing).params) (w.func-is ∙ w.set_cold_block.ensures)
+            ∙ cold_params c.insert_block_after.new.self c.in_ok-landing.landing c.in_ok-landing.landing ∙ node.1,
+        ap (λ (g : Body). (block_at g c.in_ok-landing.landing).insts) (w.func-is ∙ w.set_cold_block.ensures)
+            ∙ cold_lists c.insert_block_after.new.self c.in_ok-landing.landing c.in_ok-landing.landing ∙ node.2,
+      )
+      | else-is_cold w ↦ (
+        ap (λ (g : Body). (block_at g c.in_ok-landing.landing).params) w.func-is ∙ node.1,
+        ap (λ (g : Body). (block_at g c.in_ok-landing.landing).insts) w.func-is ∙ node.2,
+      )
     ]

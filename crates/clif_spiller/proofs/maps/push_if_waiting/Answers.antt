@@ -1,9 +1,9 @@
-use Rattle.std.proofs.Common.{◌≡◌, ◌∙◌, ℕ, List, sym, ap, subst}
+use Rattle.std.proofs.Common.{◌∙◌, ℕ, List, sym, ap, subst}
 use Rattle.std.specs.Prelude.{All, Contains, is_none, not}
 use Rattle.std.proofs.lemmas.List.Elements.{All-push}
 use Rattle.clif_safepoints.proofs.Paths.{stands_to}
 use Rattle.clif_spiller.specs.Acting.{is_waiting}
-use Rattle.clif_spiller.proofs.Waiting.{fails_one, has_slot_already, not_spilled, passes_one, waits}
+use Rattle.clif_spiller.proofs.Waiting.{fails_one, not_spilled, passes_one, waits}
 use Rattle.clif_spiller.proofs.maps.push_if_waiting.Goals as goal
 
 pub returns-in_ok-push-clause-ok : goal.returns-in_ok-push-clause-ok

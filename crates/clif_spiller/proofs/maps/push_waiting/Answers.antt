@@ -1,4 +1,4 @@
-use Rattle.std.proofs.Common.{◌++◌, [], refl, sym}
+use Rattle.std.proofs.Common.{sym}
 use Rattle.std.proofs.lemmas.List.{append-nil}
 use Rattle.clif_spiller.specs.Acting.{is_waiting}
 use Rattle.clif_spiller.proofs.Waiting.{waits_all, waits_next}

@@ -1,11 +1,10 @@
 use Rattle.std.proofs.Common.{◌≡◌, ◌∙◌, ◌<◌, ◌+◌, ℕ, List, [], ◌∷◌, ◌++◌, length, take, Ok, Err, refl, sym, ap, subst, arith}
-use Rattle.std.specs.Prelude.{All, Contains}
+use Rattle.std.specs.Prelude.{Contains}
 use Rattle.std.proofs.lemmas.List.Elements.{All-nil, All-push, All-weaker}
 use Rattle.std.proofs.lemmas.Result.{err_from_is_err_and}
 use Rattle.clif_types.specs.declared.error.BuildError.{BuildError}
 use Rattle.clif_types.specs.declared.error.BuildError.TheVariants.{Failed, Full}
 use Rattle.clif_types.specs.declared.stackmap.UserStackMapEntry.{UserStackMapEntry}
-use Rattle.clif_tables.specs.Entries.{NamesSlots}
 use Rattle.std.proofs.lemmas.List.{take_all}
 use Rattle.clif_ir.specs.Body.{Body, value_at}
 use Rattle.clif_safepoints.specs.Analysis.{found_across}
@@ -17,7 +16,7 @@ use Rattle.clif_spiller.proofs.StackMaps.{MapsFirst, mapped, next_entry, no_entr
 use Rattle.clif_spiller.specs.Keeping.{Keeps}
 use Rattle.clif_spiller.specs.Plans.{MayBeSpilled}
 use Rattle.clif_spiller.proofs.Giving.{IsGiven, IsRefused, given_slot, gives_of, refused_slot}
-use Rattle.clif_spiller.proofs.Keeping.{goes_beside, goes_further, goes_on_refl, more_slots, on_ok, plan_stays, spillable_stays, with_stack_map_keeps}
+use Rattle.clif_spiller.proofs.Keeping.{goes_beside, goes_further, more_slots, on_ok, plan_stays, spillable_stays, with_stack_map_keeps}
 use Rattle.clif_spiller.proofs.maps.set_map.Goals as goal
 use Rattle.clif_spiller.proofs.maps.set_map.Goals.{After-get_or_create_stack_slot, After-value-item}
 

@@ -1,4 +1,4 @@
-use Rattle.std.proofs.Common.{◌≡◌, ◌∙◌, ◌<◌, ◌≤◌, ◌+◌, ℕ, List, [], ◌∷◌, ◌++◌, length, get_or, take, Ok, Err, refl, sym, ap, subst}
+use Rattle.std.proofs.Common.{◌≡◌, ◌∙◌, ◌≤◌, ℕ, List, [], ◌∷◌, ◌++◌, length, take, Ok, Err, sym, ap, subst}
 use Rattle.std.specs.Prelude.{All, Contains, filter}
 use Rattle.std.specs.List.Sorted.{IsPermutation}
 use Rattle.std.proofs.lemmas.List.{take_all}
@@ -16,7 +16,7 @@ use Rattle.clif_spiller.proofs.Needing.{take_one_more}
 use Rattle.clif_spiller.proofs.Sizes.{size_of}
 use Rattle.clif_spiller.proofs.Waiting.{NeedsFirst, WaitsFor, next_needed, none_needed_yet, taken_ahead, waits_for_next, waits_for_none}
 use Rattle.clif_spiller.proofs.Giving.{IsRefused, given_slot, gives_of, refused_slot}
-use Rattle.clif_spiller.proofs.Keeping.{goes_further, goes_on_refl, plan_stays}
+use Rattle.clif_spiller.proofs.Keeping.{plan_stays}
 use Rattle.clif_spiller.proofs.maps.take_live_outs.Goals as goal
 use Rattle.clif_spiller.proofs.maps.take_live_outs.Goals.{After-get_or_create_stack_slot, After-value-item}
 

@@ -1,9 +1,7 @@
 use Rattle.std.proofs.Common.{◌∙◌, ap, arith}
-use Rattle.clif_ir.specs.Body.{resolved}
 use Rattle.clif_spiller.specs.Acting.{edge_values, needs, passed_values}
-use Rattle.clif_spiller.proofs.Acting.{needs_none}
-use Rattle.clif_spiller.proofs.Needing.{edges_append, names_append, none_all, none_next, one_edge, one_passed, passed_append}
-use Rattle.std.proofs.Common.{map, sym}
+use Rattle.clif_spiller.proofs.Needing.{edges_append, none_all, none_next, one_edge}
+use Rattle.std.proofs.Common.{sym}
 use Rattle.clif_spiller.proofs.uses.any_passed.Goals as goal
 
 pub loop-edge-preserved : goal.loop-edge-preserved

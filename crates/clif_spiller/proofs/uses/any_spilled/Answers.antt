@@ -1,9 +1,8 @@
 use Rattle.std.proofs.Common.{◌∙◌, ap, arith}
 use Rattle.clif_types.specs.EntitySet.{has}
 use Rattle.clif_ir.specs.Body.{resolved}
-use Rattle.clif_spiller.specs.Acting.{edge_values, needs, passed_values}
 use Rattle.clif_spiller.proofs.Acting.{needs_none}
-use Rattle.clif_spiller.proofs.Needing.{edges_append, names_append, none_all, none_next, one_edge, one_passed, passed_append}
+use Rattle.clif_spiller.proofs.Needing.{names_append, none_all, none_next}
 use Rattle.std.proofs.Common.{map, sym}
 use Rattle.clif_spiller.proofs.uses.any_spilled.Goals as goal
 

@@ -1,9 +1,6 @@
-use Rattle.std.proofs.Common.{◌∙◌, ap, arith}
-use Rattle.clif_ir.specs.Body.{resolved}
-use Rattle.clif_spiller.specs.Acting.{edge_values, needs, passed_values}
-use Rattle.clif_spiller.proofs.Acting.{needs_none}
-use Rattle.clif_spiller.proofs.Needing.{edges_append, names_append, none_all, none_next, one_edge, one_passed, passed_append}
-use Rattle.std.proofs.Common.{map, sym}
+use Rattle.std.proofs.Common.{◌∙◌, arith}
+use Rattle.clif_spiller.specs.Acting.{passed_values}
+use Rattle.clif_spiller.proofs.Needing.{none_all, none_next, one_passed, passed_append}
 use Rattle.clif_spiller.proofs.uses.passes_spilled.Goals as goal
 
 pub loop-arg-preserved : goal.loop-arg-preserved

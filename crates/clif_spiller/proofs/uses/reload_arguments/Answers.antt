@@ -1,4 +1,4 @@
-use Rattle.std.proofs.Common.{◌≡◌, ◌∙◌, ◌<◌, ◌+◌, ℕ, List, length, get_or, refl, sym, ap, subst, arith}
+use Rattle.std.proofs.Common.{◌≡◌, ◌∙◌, ◌<◌, ◌+◌, List, length, get_or, sym, ap, subst, arith}
 use Rattle.clif_instructions.specs.Edges.{edge_at, no_edge}
 use Rattle.clif_instructions.specs.Instruction.{destinations}
 use Rattle.clif_instructions.specs.declared.block_call.BlockArg.{BlockArg}
@@ -6,9 +6,9 @@ use Rattle.clif_instructions.specs.declared.block_call.BlockCall.{BlockCall}
 use Rattle.clif_nodes.specs.declared.nodes.InstNode.{InstNode}
 use Rattle.clif_ir.specs.Body.{Body, inst_at}
 use Rattle.clif_stack_slots.specs.declared.slots.StackSlots.{StackSlots}
-use Rattle.clif_spiller.proofs.Keeping.{goes_on_refl, plan_stays}
+use Rattle.clif_spiller.proofs.Keeping.{plan_stays}
 use Rattle.clif_spiller.specs.Acting.{args_of}
-use Rattle.clif_spiller.proofs.Passing.{PassesOn, all_passed, edge_read, is_own, none_passed_yet, passes_next, passes_own}
+use Rattle.clif_spiller.proofs.Passing.{PassesOn, all_passed, all_passed_by, edge_read, is_own, none_passed_yet, passes_next, passes_own}
 use Rattle.clif_spiller.proofs.Reading.{Inserts, read_inserts}
 use Rattle.clif_spiller.proofs.Shapes.{get_or_inside}
 use Rattle.clif_spiller.proofs.uses.reload_arguments.Goals as goal
@@ -99,4 +99,13 @@ returns-clause-acts c =
     ap (λ (xs : List BlockArg). length xs) (edge_read c.branch_destination.result.now (destinations (inst_at f c.args.inst).shape) c.args.edge c.index-branch_destination-edge.result
     c.as_slice-count.result.now (c.branch_destination.ensures ∙ ap destinations c.inst_data.ensures.exact) c.requires.edge_exists c.as_slice-count.ensures) in
     all_passed c.args.plan.now f c.args.slots.now c.args.inst c.args.edge c.loop-place.place c.loop-place.func c.loop-place.slots
+    (omega (arith, c.loop-place-test.false, count)) c.loop-place.invariant
+
+pub returns-clause-reads : goal.returns-clause-reads
+returns-clause-reads c =
+    let f : Body = c.args.func.now in
+    let count : length c.as_slice-count.result.now ≡ length (args_of f c.args.inst c.args.edge) =
+    ap (λ (xs : List BlockArg). length xs) (edge_read c.branch_destination.result.now (destinations (inst_at f c.args.inst).shape) c.args.edge c.index-branch_destination-edge.result
+    c.as_slice-count.result.now (c.branch_destination.ensures ∙ ap destinations c.inst_data.ensures.exact) c.requires.edge_exists c.as_slice-count.ensures) in
+    all_passed_by c.args.plan.now f c.args.slots.now c.args.inst c.args.edge c.loop-place.place c.loop-place.func c.loop-place.slots
     (omega (arith, c.loop-place-test.false, count)) c.loop-place.invariant

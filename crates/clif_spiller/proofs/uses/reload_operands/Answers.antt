@@ -1,13 +1,11 @@
-use Rattle.std.proofs.Common.{◌≡◌, ◌∙◌, ◌<◌, ℕ, List, length, get_or, refl, sym, ap, subst, arith}
-use Rattle.clif_instructions.specs.Instruction.{destinations, operands, with_operand}
+use Rattle.std.proofs.Common.{◌≡◌, ◌∙◌, ◌<◌, ℕ, List, length, get_or, sym, ap, subst, arith}
+use Rattle.clif_instructions.specs.Instruction.{operands}
 use Rattle.clif_nodes.specs.declared.nodes.InstNode.{InstNode}
-use Rattle.clif_ir.specs.Body.{Body, inst_at}
+use Rattle.clif_ir.specs.Body.{inst_at}
 use Rattle.clif_instructions.specs.declared.instructions.InstructionData.{InstructionData}
-use Rattle.clif_spiller.specs.Keeping.{Keeps}
-use Rattle.clif_spiller.proofs.Keeping.{goes_beside, goes_further, goes_on_refl, plan_stays, shape_there, with_shape_keeps}
-use Rattle.clif_spiller.proofs.Operands.{all_operands, next_operand, no_operand_yet}
+use Rattle.clif_spiller.proofs.Keeping.{plan_stays}
+use Rattle.clif_spiller.proofs.Operands.{all_operands, all_reread, next_operand, no_operand_yet}
 use Rattle.clif_spiller.proofs.Reading.{Inserts, read_inserts}
-use Rattle.clif_spiller.proofs.Shapes.{destinations-with_operand, length-operands-with_operand}
 use Rattle.clif_spiller.proofs.uses.reload_operands.Goals as goal
 use Rattle.clif_spiller.proofs.uses.reload_operands.Goals.{After-loop-place, In_ok-value}
 
@@ -66,3 +64,8 @@ pub returns-clause-acts : goal.returns-clause-acts
 returns-clause-acts c =
     all_operands c.args.plan.now c.args.func.now c.args.slots.now c.args.inst c.loop-place.place c.loop-place.func c.loop-place.slots
     (omega (arith, c.loop-place-test.false, counted (goal.at.returns-clause-acts c).After-loop-place)) c.loop-place.invariant
+
+pub returns-clause-reads : goal.returns-clause-reads
+returns-clause-reads c =
+    all_reread c.args.plan.now c.args.func.now c.args.slots.now c.args.inst c.loop-place.place c.loop-place.func c.loop-place.slots
+    (omega (arith, c.loop-place-test.false, counted (goal.at.returns-clause-reads c).After-loop-place)) c.loop-place.invariant

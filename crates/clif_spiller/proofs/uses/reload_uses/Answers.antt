@@ -7,6 +7,7 @@ use Rattle.clif_spiller.specs.Acting.{Acts}
 use Rattle.clif_spiller.proofs.Keeping.{goes_beside, goes_further, goes_on_refl, plan_stays}
 use Rattle.clif_spiller.proofs.Acting.{acts_beside, acts_nothing}
 use Rattle.clif_spiller.proofs.Edges.{all_used, next_edge, no_edge_yet}
+use Rattle.clif_spiller.proofs.Text.Using.{all_read, nothing_read}
 use Rattle.clif_spiller.proofs.uses.reload_uses.Goals as goal
 
 pub returns-then-not-uses_spilled-clause-ok : goal.returns-then-not-uses_spilled-clause-ok
@@ -27,7 +28,7 @@ loop-edge-preserved c =
     (omega (arith, c.requires.inst_exists, c.in_ok-reload_operands.ensures.ok.keeps.insts))
     (omega (arith, c.loop-edge-test.true, ap (λ (xs : List BlockCall). length xs) (c.branch_destination-edge-end.ensures ∙ ap destinations c.inst_data.ensures.exact)))
     c.loop-edge.invariant c.in_ok-reload_arguments.ensures.ok
-    c.in_ok-reload_arguments.ensures.edges c.in_ok-reload_arguments.ensures.others c.in_ok-reload_arguments.ensures.acts
+    c.in_ok-reload_arguments.ensures.edges c.in_ok-reload_arguments.ensures.others c.in_ok-reload_arguments.ensures.acts c.in_ok-reload_arguments.ensures.reads
 
 pub returns-clause-ok : goal.returns-clause-ok
 returns-clause-ok c =
@@ -50,3 +51,15 @@ returns-clause-acts c =
     (acts_beside c.args.plan.now c.args.inst c.loop-edge.func c.resolve_contexts.new.func c.loop-edge.slots c.resolve_contexts.ensures.tables
     c.resolve_contexts.ensures.layout (λ d. ap (λ (xs : List BlockNode). (slice_index_or xs d empty_block).insts) c.resolve_contexts.ensures.blocks)
     (λ i below apart. c.resolve_contexts.ensures.others i apart))
+
+pub returns-then-not-uses_spilled-clause-reads : goal.returns-then-not-uses_spilled-clause-reads
+returns-then-not-uses_spilled-clause-reads c =
+    nothing_read c.args.plan.now c.args.inst c.args.func.now c.args.slots.now (c.uses_spilled.ensures.none c.if-not-uses_spilled.true)
+
+pub returns-clause-reads : goal.returns-clause-reads
+returns-clause-reads c =
+    all_read c.args.plan.now c.args.inst c.args.func.now c.args.slots.now c.reload_operands.new.func c.reload_operands.new.slots c.loop-edge.func c.loop-edge.slots
+    c.resolve_contexts.new.func c.loop-edge.edge c.law_consistent.ensures c.requires.inst_exists c.in_ok-reload_operands.ensures.ok c.in_ok-reload_operands.ensures.edges
+    _ c.in_ok-reload_operands.ensures.acts c.in_ok-reload_operands.ensures.reads c.loop-edge.invariant
+    (omega (arith, c.loop-edge-test.false, ap (λ (xs : List BlockCall). length xs) (c.branch_destination-edge-end.ensures ∙ ap destinations c.inst_data.ensures.exact)))
+    c.resolve_contexts.ensures.resolves c.resolve_contexts.ensures.keeps c.resolve_contexts.ensures.others c.resolve_contexts.ensures.tables c.resolve_contexts.ensures.blocks

@@ -1,8 +1,10 @@
-use Rattle.std.proofs.Common.{◌≡◌, ◌<◌, length, get_or, sym, subst}
+use Rattle.std.proofs.Common.{◌<◌, length, get_or, sym, subst}
 use Rattle.std.specs.Prelude.{All}
 use Rattle.std.proofs.lemmas.List.Elements.{Contains-get_or}
 use Rattle.clif_safepoints.specs.Analysis.{Findings, IsAnalysis}
+use Rattle.clif_types.specs.declared.types.«Type».{«Type»}
 use Rattle.clif_spiller.specs.Plans.{AreNamed}
+use Rattle.clif_spiller.specs.Spills.{Spills}
 use Rattle.clif_spiller.specs.Progress.{IsPlannedFor}
 use Rattle.clif_spiller.proofs.Keeping.{on_ok}
 use Rattle.clif_spiller.proofs.Progressing.Ending.{all_spilled, none_rewritten}
@@ -49,6 +51,14 @@ returns-clause-spills c =
     let for = planned (goal.at.returns-clause-spills c).In_ok-plan in
     on_ok c.rewrite.result
     (λ rewrites.
-    all_spilled c.args.func.now c.args.recorded.now c.in_ok-plan.plan for c.args.pointer c.rewrite.new.func c.rewrite.new.slots
-    (rewrites c.args.func.now c.args.recorded.now for (none_rewritten c.args.func.now c.in_ok-plan.plan c.clear.new.self.slots c.clear.ensures.slots)))
+    subst (λ (pointer : «Type»). Spills c.args.func.now c.args.recorded.now pointer c.rewrite.new.func) c.in_ok-plan.ensures.pointer
+    (all_spilled c.args.func.now c.args.recorded.now c.in_ok-plan.plan for c.rewrite.new.func c.rewrite.new.slots
+    (rewrites c.args.func.now c.args.recorded.now for (none_rewritten c.args.func.now c.args.recorded.now c.in_ok-plan.plan c.clear.new.self.slots c.clear.ensures.slots))
+    (record {
+      means = c.spilling_means_the_same.ensures;
+      contents = c.slot_contents.ensures;
+      edges = c.edges_stay_matched.ensures;
+      inside = c.consistent_leads_inside.ensures;
+      once = c.consistent_gives_once.ensures;
+    })))
     c.rewrite.ensures.rewrites
