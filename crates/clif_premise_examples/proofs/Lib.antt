@@ -1,0 +1,10 @@
+pub mod Blocks
+pub mod Given
+pub mod Items
+pub mod Running
+pub mod Situations
+pub mod Still
+pub mod Memory
+pub mod Copies
+pub mod Branches
+pub mod Failing

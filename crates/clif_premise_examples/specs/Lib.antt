@@ -1,0 +1,3 @@
+pub mod Premise
+pub mod Scripts
+pub mod Examples
