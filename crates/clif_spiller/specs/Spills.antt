@@ -64,8 +64,9 @@ abbrev pub InWorlds : Body → (recorded : List ℕ) → Spilling → (World →
 InWorlds f recorded s Holds = MayBeRun f → (world : World) → IsMetBy (has recorded) s world → Holds world
 
 -- It is a spilling: the recorded values that are live across a call that is reached are spilled, each to a new slot of its type's size and
--- alignment, stored after it is given and reloaded before it is used. Where the function is well placed no two values that are live at once share a slot; and there are few slots. Each such call's stack
--- map names exactly the values that are live across it, and other instructions keep what they had.
+-- alignment, stored after it is given and reloaded before it is used. Where the function is well placed, no two values that are live at
+-- once share a slot; and there are few slots. Each such call's stack map names exactly the values that are live across it, and other
+-- instructions keep the maps that they had. Then the spilled function means the same, and slots hold what maps name.
 pub record Spills (f : Body) (recorded : List ℕ) (pointer : «Type») (g : Body) : Type 0 where
   pub is_spilled : ℕ → Bool
   pub slot_of : ℕ → ℕ
