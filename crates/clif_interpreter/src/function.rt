@@ -1,13 +1,15 @@
 //! The interpreter of functions, written from the function machine. It has the bits of values, and follows aliases.
+use crate::collector::{Collector, Mover};
 use crate::error::{Cause, Operand, Place, RunError};
 use crate::outside::{Callee, Event, Outside, Payload, call_library, cut, show};
 use crate::run::{Choices, End, Ending, Trace, World};
 use clif_ir::{BlockArg, BlockCall, ExceptionTargets, Function, InstructionData};
+use clif_opcodes::StackOpcode;
 use clif_operations::arithmetic::bits_of_bytes;
 use clif_operations::{Fault, Operation, Outcome, Store, Typed, bits_of, carry_out, kept};
 use clif_types::{
-    Block, Constant, EntityRef, ExternalName, FuncRef, Inst, PointerWidth, SigRef, Signature,
-    StackSlot, Type, Value,
+    Block, Constant, EntityRef, EntitySet, ExternalName, FuncRef, Inst, PointerWidth, SigRef,
+    Signature, StackSlot, Type, UserStackMapEntry, Value,
 };
 use std::alloc::Global;
 
@@ -30,6 +32,9 @@ struct State<'a, O> {
     store: Store,
     pointer_width: PointerWidth,
     outside: &'a O,
+    collector: Collector<'a>,
+    // the stack map of the instruction that is made
+    entries: &'a [UserStackMapEntry],
     events: Vec<Event>,
     // what the last function of the C library gave to a try call
     given: Option<Typed>,
@@ -47,6 +52,8 @@ impl<O> Drop for State<'_, O> {
             store: _,
             pointer_width: _,
             outside: _,
+            collector: _,
+            entries: _,
             events: _,
             given: _,
             choices: _,
@@ -316,7 +323,8 @@ impl<'a, O: Outside> State<'a, O> {
         })
     }
 
-    // Shows a call, and has it answered. The answer is the item's edge that it goes along, if it throws.
+    // Shows a call, moves what it moves, and has it answered. The answer is the item's edge that it goes along, if it
+    // throws.
     fn show(&mut self, call: CallParts<'a>, items: usize) -> Result<Option<usize>, Cause> {
         let CallParts {
             callee,
@@ -324,13 +332,85 @@ impl<'a, O: Outside> State<'a, O> {
             ..
         } = call;
         let event = Event { callee, arguments };
-        show(
+        let thrown = show(
             self.outside,
             &mut self.events,
             event,
             items,
             &mut self.store.memory,
-        )
+        )?;
+        self.collect()?;
+        Ok(thrown)
+    }
+
+    // Moves what the last outside call moves.
+    fn collect(&mut self) -> Result<(), Cause> {
+        match self.collector {
+            Collector::Nothing => {}
+            Collector::ByMaps(mover) => self.move_entries(mover)?,
+            Collector::OverSet(members, mover) => self.move_members(members, mover),
+        }
+        Ok(())
+    }
+
+    // Moves what lies in the slots that the stack map names.
+    fn move_entries(&mut self, mover: Mover) -> Result<(), Cause> {
+        let entries = self.entries;
+        for entry in entries {
+            self.move_entry(*entry, mover)?;
+        }
+        Ok(())
+    }
+
+    fn move_entry(&mut self, entry: UserStackMapEntry, mover: Mover) -> Result<(), Cause> {
+        let UserStackMapEntry { ty, slot, offset } = entry;
+        let Ok(offset) = i32::try_from(offset) else {
+            return Err(Cause::Fault(Fault::NoPlace));
+        };
+        let opcode = StackOpcode::StackLoad;
+        let read = Operation::Stack {
+            opcode,
+            slot,
+            offset,
+        };
+        let held = kept(ty, self.access(&read, ty, &[])?)?;
+        let bits = mover.moved(ty, held.bits, self.events.len());
+        let write = Operation::StackStore { slot, offset };
+        self.access(&write, ty, &[Typed { ty, bits }])?;
+        Ok(())
+    }
+
+    // Reads or writes a stack slot. The answer is what was read.
+    fn access(
+        &mut self,
+        operation: &Operation,
+        ty: Type,
+        operands: &[Typed],
+    ) -> Result<u128, Cause> {
+        match carry_out(self.alloc, operation, ty, operands, &[], &mut self.store)? {
+            (_, Outcome::Gave(bits)) => Ok(bits.first().copied().unwrap_or(0)),
+            _ => Err(Cause::Fault(Fault::NoPlace)),
+        }
+    }
+
+    // Moves the values of a set.
+    fn move_members(&mut self, members: &EntitySet<Value>, mover: Mover) {
+        let mut members = members.iter();
+        while let Some(member) = members.next() {
+            self.move_member(member, mover);
+        }
+    }
+
+    // Moves a value, if it was given: aliases never are.
+    fn move_member(&mut self, value: Value, mover: Mover) {
+        if value.index() >= self.func.value_count() {
+            return;
+        }
+        let ty = self.func.value_type(value);
+        let calls = self.events.len();
+        if let Some(Some(bits)) = self.values.get_mut(value.index()) {
+            *bits = mover.moved(ty, *bits, calls);
+        }
     }
 
     // Makes a call that isn't a try call, which gives its results.
@@ -449,6 +529,8 @@ impl<'a, O: Outside> State<'a, O> {
             store,
             pointer_width: _,
             outside: _,
+            collector: _,
+            entries: _,
             events,
             given: _,
             choices,
@@ -493,6 +575,7 @@ impl<'a, O: Outside> State<'a, O> {
         if inst.index() >= func.inst_count() {
             return Ok(Next::At(None));
         }
+        self.entries = func.stack_map(inst);
         match self.make(func.inst_data(inst), func.inst_results(inst))? {
             Next::InBlock => Ok(Next::At(func.next_inst(inst))),
             other => Ok(other),
@@ -559,7 +642,22 @@ pub fn run_counted<'a, O: Outside>(
     world: &World<'a, O>,
     bound: u64,
 ) -> Result<(Ending, Choices), RunError> {
-    let mut state = match begin(alloc, func, world) {
+    run_collected(alloc, func, world, Collector::Nothing, bound)
+}
+
+/// The same, where outside calls move what a collector says. A set may name values that the function lacks.
+///
+/// # Errors
+///
+/// Those of [`run`], and where an entry of a stack map doesn't lie in memory.
+pub fn run_collected<'a, O: Outside>(
+    alloc: Global,
+    func: &'a Function,
+    world: &World<'a, O>,
+    collector: Collector<'a>,
+    bound: u64,
+) -> Result<(Ending, Choices), RunError> {
+    let mut state = match begin(alloc, func, world, collector) {
         Ok(state) => state,
         Err(cause) => return Err(cause.at(Place::Start)),
     };
@@ -579,6 +677,7 @@ fn begin<'a, O: Outside>(
     alloc: Global,
     func: &'a Function,
     world: &World<'a, O>,
+    collector: Collector<'a>,
 ) -> Result<State<'a, O>, Cause> {
     let mut values = Vec::new(alloc);
     for _ in 0..func.value_count() {
@@ -598,6 +697,8 @@ fn begin<'a, O: Outside>(
         store,
         pointer_width: world.pointer_width,
         outside: world.outside,
+        collector,
+        entries: &[],
         events: Vec::new(alloc),
         given: None,
         choices: Choices::NONE,

@@ -6,6 +6,7 @@
 //! go on (`RunError`). Values have at most 128 bits.
 #![tactic(auto)]
 
+pub mod collector;
 pub mod error;
 pub mod function;
 pub mod outside;
@@ -13,6 +14,7 @@ pub mod run;
 pub mod script;
 
 pub use clif_operations::{Fault, Memory};
+pub use collector::{Collector, Mover};
 pub use error::{Cause, Operand, Place, RunError, Told};
 pub use outside::{Callee, Event, Outside};
 pub use run::{Choices, End, Ending, STEPS, World};

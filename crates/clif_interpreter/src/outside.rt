@@ -55,7 +55,7 @@ pub trait Outside {
     /// The bits of what is returned or thrown at a place, from 0 on. They are cut to its type.
     fn value(&self, events: &[Event], place: usize) -> u128;
 
-    /// Makes memory what it is after the call.
+    /// Makes memory what it is after the call, outside spill slots.
     fn change(&self, events: &[Event], memory: &mut Memory);
 }
 
