@@ -645,7 +645,8 @@ pub fn run_counted<'a, O: Outside>(
     run_collected(alloc, func, world, Collector::Nothing, bound)
 }
 
-/// The same, where outside calls move what a collector says. A set may name values that the function lacks.
+/// Runs a function as [`run_counted`] does, where outside calls move what a collector says. A set may name values that the
+/// function lacks.
 ///
 /// # Errors
 ///

@@ -166,7 +166,7 @@ pub record IsEdgeBy (plan : Plan) (f : Body) (accesses : List Access) (old new :
   pub block : new.block ≡ old.block
   pub args : AllZip (IsArgumentBy plan f accesses) old.args new.args
 
--- the same operation
+-- An instruction whose operands alone were replaced: opcode and operation stay.
 pub record IsAlike (old new : InstructionData) : Type 0 where
   pub opcode : opcode_of new ≡ opcode_of old
   pub operation : (tables : TableLists) → operation_of tables new ≡ operation_of tables old

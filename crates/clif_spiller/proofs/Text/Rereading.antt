@@ -77,7 +77,7 @@ pub read_without : (plan : Plan) (f : Body) (xs ys : List Access) (old new : ℕ
 read_without plan f xs ys old new spilled is =
     subst (λ (c : Bool). IsReadWhere c f ys old new) (sym spilled) (subst (λ (c : Bool). IsReadWhere c f xs old new) spilled is)
 
--- the same names stand for the same, of what an argument passes
+-- what an argument passes has one name in both functions, after aliases
 abbrev pub IsNamedAlike : Body → Body → BlockArg → Type 0
 IsNamedAlike f g (arg.Value v) = resolved g v ≡ resolved f v
 IsNamedAlike f g (arg.TryCallRet index) = Unit {0}
