@@ -6,11 +6,10 @@ use Rattle.clif_types.specs.Types.{bits_of}
 use Rattle.clif_types.specs.Target.{pointer_type_of}
 use Rattle.clif_types.specs.declared.target.PointerWidth.{PointerWidth}
 use Rattle.clif_types.specs.declared.types.«Type».{«Type»}
-use Rattle.clif_meaning.specs.FunctionMachine.{FunctionRun, FunctionState, function_machine}
-use Rattle.clif_meaning.specs.FunctionView.{Placed}
+use Rattle.clif_meaning.specs.FunctionMachine.{function_machine}
 use Rattle.clif_meaning.specs.Headline.{IsWorldOf, in_spill_slot, script_behaviour, function_behaviour}
 use Rattle.clif_meaning.specs.Ledger.{ledger_after, slot_count}
-use Rattle.clif_meaning.specs.Machine.{Observation, observed, state_after}
+use Rattle.clif_meaning.specs.Machine.{Observation, observed}
 use Rattle.clif_meaning.specs.Premises.{InEachStep, PlacementPremises, Premises, SparesSpillSlots}
 use Rattle.clif_meaning.specs.Request.{Script}
 use Rattle.clif_meaning.specs.SameMeaning.{SameMeaning}
@@ -20,9 +19,9 @@ use Rattle.clif_meaning.specs.World.{PlacesSlots, World}
 use Rattle.clif_meaning.proofs.Simulation.{transitive}
 use Rattle.clif_simulation.specs.Marked.{MeansTheSameMoving}
 use Rattle.clif_spilling_laws.specs.PartLaws.{RunFits, SparesThroughout}
-use Rattle.clif_spilling_laws.specs.Runs.{GivesEach, IsInOrder, IsInOrderThroughout, IsMetBy, SparesHidden, after_run, before_run, in_spill_slots, outcome_in}
+use Rattle.clif_spilling_laws.specs.Runs.{IsMetBy, after_run, before_run, in_spill_slots}
 use Rattle.clif_spilling_laws.specs.Spilling.{Spilling}
-use Rattle.clif_spilling_laws.proofs.Basics.Left.{next_both, next_follows}
+use Rattle.clif_spilling_laws.proofs.Functions.Typed.{fitting_runs_meet}
 use Rattle.clif_finished_laws.specs.Laws.{IsOfScript, KeepsInOrder, MeansTheSameByMaps, SpilledMeansTheScript, hiding_script}
 
 slice_get-front : {X : Type 0} (xs ys : List X) (i : ℕ) (x : X) → slice_get xs i ≡ Some x → slice_get (xs ++ ys) i ≡ Some x
@@ -73,17 +72,8 @@ module _ (script : Script) (signature : SignatureShape) (width : PointerWidth) (
       spares : SparesThroughout (before_run s members world)
       spares = kept.spares (in_spill_slots s world) world world_before placement premises.tracked_apart script_spares
 
-      in_order : IsInOrderThroughout (before_run s members world)
-      in_order n =
-          let run : FunctionRun = before_run s members world in
-          let state : FunctionState = state_after (function_machine run) n in
-          let Gives : Placed → Type 0 = λ placed. GivesEach run state placed (outcome_in run state placed) in
-          next_follows (λ (placed : Placed). SparesHidden run state placed × Gives placed) (IsInOrder run state) state.control
-          (λ placed is. record { spares = is.0; gives_each = is.1 })
-          (next_both (SparesHidden run state) Gives state.control (spares n) (fit.gives_each n))
-
       met : IsMetBy members s world
-      met = record { pointers = pointers; places = is_world.slots; in_order = in_order; fits = fit.fits }
+      met = fitting_runs_meet members s world pointers is_world.slots fit spares
 
       moved : SameMeaning (observed (script_machine (hiding_script script s.before world (in_spill_slot script s.after world)))) (observed (function_machine (before_run s members world)))
       moved =

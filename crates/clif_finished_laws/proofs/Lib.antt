@@ -1,1 +1,4 @@
+pub mod Covering
+pub mod Sparing
+pub mod Ordering
 pub mod Composing

@@ -1,23 +1,33 @@
 -- How the two halves of the moving-collector theorem compose: the construction's, in which a collector moves recorded values, and the
 -- spiller's, in which it goes by stack maps. Own.
 use Rattle.std.specs.Prelude.{◌≡◌, ◌++◌, ℕ, Bool, List, length}
+use Rattle.clif_types.specs.EntitySet.{has}
 use Rattle.clif_types.specs.Signature.{SignatureShape}
 use Rattle.clif_types.specs.Target.{pointer_type_of}
 use Rattle.clif_types.specs.declared.target.PointerWidth.{PointerWidth}
 use Rattle.clif_types.specs.StackSlot.{StackSlotShape}
+use Rattle.clif_ir.specs.Body.{Body}
+use Rattle.clif_ir.specs.Consistent.{IsConsistent}
+use Rattle.clif_records.specs.Tracking.{marked_of, recorded_of}
+use Rattle.clif_ssa.specs.Ssa.{SsaState}
 use Rattle.clif_meaning.specs.FunctionMachine.{FunctionRun, OverSet, function_machine}
 use Rattle.clif_meaning.specs.FunctionView.{FunctionView}
 use Rattle.clif_meaning.specs.Headline.{IsWorldOf, MeansTheSame, function_run, script_run}
-use Rattle.clif_meaning.specs.Ledger.{ledger_after, slot_count}
+use Rattle.clif_meaning.specs.Ledger.{is_marked, ledger_after, slot_count}
 use Rattle.clif_meaning.specs.Machine.{observed}
 use Rattle.clif_meaning.specs.Premises.{EachItem, InEachStep, KeepsTrackedApart, PlacementPremises, SparesSpillSlots}
 use Rattle.clif_meaning.specs.Program.{program_of}
-use Rattle.clif_meaning.specs.Request.{Script}
+use Rattle.clif_meaning.specs.Request.{AnsweredCall, Script, script_of}
 use Rattle.clif_meaning.specs.SameMeaning.{SameMeaning}
 use Rattle.clif_meaning.specs.ScriptMachine.{ScriptRun}
 use Rattle.clif_meaning.specs.Tracked.{is_tracked}
+use Rattle.clif_meaning.specs.View.{view_of}
 use Rattle.clif_meaning.specs.World.{World}
+use Rattle.clif_simulation.specs.Carries.{Carries}
+use Rattle.clif_simulation.specs.Laws.{IsFinished}
 use Rattle.clif_simulation.specs.Marked.{MeansTheSameMoving}
+use Rattle.clif_simulation.specs.Tables.{program_so_far}
+use Rattle.clif_value_laws.specs.Functions.{OperandsAreValues}
 use Rattle.clif_spilling_laws.specs.PartLaws.{RunFits, SparesThroughout}
 use Rattle.clif_spilling_laws.specs.Runs.{IsMetBy, after_run, before_run}
 use Rattle.clif_spilling_laws.specs.Spilling.{Spilling}
@@ -29,15 +39,36 @@ hiding_script script function world hidden = record (script_run script function 
 abbrev pub hiding_function : Script → FunctionView → World → (members hidden : ℕ → Bool) → FunctionRun
 hiding_function script function world members hidden = record (function_run script function world (OverSet members)) { hidden = hidden }
 
--- What the run of a function keeps that means a script, whatever addresses are hidden from both: members fit their types, each result
--- gets bits, and where the script's accesses spare the hidden addresses, the function's do.
+-- Where the script's accesses spare hidden addresses, the function's do, whatever addresses are hidden from both.
+abbrev pub SparesAsScript : Script → SignatureShape → PointerWidth → FunctionView → (members : ℕ → Bool) → Type 0
+SparesAsScript script signature width function members =
+    (hidden : ℕ → Bool) (world : World) → IsWorldOf signature function width world → PlacementPremises script signature
+    → EachItem (KeepsTrackedApart (ledger_after script) (is_tracked script)) (program_of script)
+    → InEachStep (SparesSpillSlots (hiding_script script function world hidden)) (hiding_script script function world hidden)
+    → SparesThroughout (hiding_function script function world members hidden)
+
+-- A finished function that carries a list of calls does so, with a collector over what was recorded.
+abbrev pub CarryingSpares : Type 0
+CarryingSpares =
+    (calls : List AnsweredCall) (f : Body) (s : SsaState) (width : PointerWidth)
+    → IsConsistent f → Carries calls f s → IsFinished calls f s
+    → ((x : ℕ) → is_marked (ledger_after (script_of calls)) x ≡ has (marked_of s.tracking) x)
+    → SparesAsScript (script_of calls) f.signature width (view_of f) (λ v. has (recorded_of s.tracking) v)
+
+-- What the run of a function keeps that means a script: members fit their types, each result gets bits, and hidden addresses are spared.
 pub record KeepsInOrder (script : Script) (signature : SignatureShape) (width : PointerWidth) (function : FunctionView) (members : ℕ → Bool) : Type 0 where
   pub fits : (hidden : ℕ → Bool) (world : World) → IsWorldOf signature function width world → PlacementPremises script signature
       → RunFits members (hiding_function script function world members hidden)
-  pub spares : (hidden : ℕ → Bool) (world : World) → IsWorldOf signature function width world → PlacementPremises script signature
-      → EachItem (KeepsTrackedApart (ledger_after script) (is_tracked script)) (program_of script)
-      → InEachStep (SparesSpillSlots (hiding_script script function world hidden)) (hiding_script script function world hidden)
-      → SparesThroughout (hiding_function script function world members hidden)
+  pub spares : SparesAsScript script signature width function members
+
+-- A finished function that carries a list of calls whose operands are values keeps its runs in order.
+abbrev pub CarryingKeepsInOrder : Type 0
+CarryingKeepsInOrder =
+    (calls : List AnsweredCall) (f : Body) (s : SsaState) (width : PointerWidth)
+    → IsConsistent f → Carries calls f s → IsFinished calls f s
+    → ((x : ℕ) → is_marked (ledger_after (script_of calls)) x ≡ has (marked_of s.tracking) x)
+    → EachItem (OperandsAreValues calls) (program_so_far calls)
+    → KeepsInOrder (script_of calls) f.signature width (view_of f) (λ v. has (recorded_of s.tracking) v)
 
 -- A function that a script made, and what it became: it had just the slots that the script created, these stay the first ones, and
 -- addresses have pointers' width.

@@ -239,7 +239,7 @@ module _ (run : FunctionRun) (aliases : AliasesTyped run.function) (items : (blo
       → FunctionFits run (state_after (function_machine run) n)
   working_runs_fit types has values n = let both = both_after types has values n in both.0
 
-each_works : (function : FunctionView) (items : List Placed) → AllByRecursion (IsPlacedTyped function) items → AllByRecursion (WorksFitting function) items
+pub each_works : (function : FunctionView) (items : List Placed) → AllByRecursion (IsPlacedTyped function) items → AllByRecursion (WorksFitting function) items
 each_works function [] typed = tt
 each_works function (placed ∷ items) typed = (typed_works function placed typed.0, each_works function items typed.1)
 

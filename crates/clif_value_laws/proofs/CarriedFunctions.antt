@@ -29,7 +29,7 @@ use Rattle.clif_simulation.proofs.Carrying.{all_append, all_mapped}
 use Rattle.clif_simulation.proofs.LedgerValues.{value_type}
 use Rattle.clif_simulation.proofs.Whole.{are_declared, declared_types}
 use Rattle.clif_value_laws.specs.Functions.{CarriedFunctionsFit, OperandsAreValues, run_of}
-use Rattle.clif_typed_runs.specs.ValuesFit.{EntryHas}
+use Rattle.clif_typed_runs.specs.ValuesFit.{AliasesTyped, EntryHas}
 use Rattle.clif_value_laws.proofs.AcceptedScripts.{AreTyped, HasGiven, calls_given, ledger_of, name_type}
 use Rattle.clif_typed_runs.proofs.FunctionSteps.{GivesFitting, WorksFitting, working_runs_fit}
 use Rattle.clif_typed_runs.proofs.Holding.{operands_fit}
@@ -152,6 +152,13 @@ module _ (calls : List AnsweredCall) (f : Body) (s : SsaState) (carries : Carrie
   both [] gives edges = tt
   both (placed ∷ items) gives edges = (record { gives = gives.0; edges = edges.0 }, both items gives.1 edges.1)
 
+  -- each instruction gives what fits, and so does what its edges pass
+  pub works : (block : ℕ) → AllByRecursion (WorksFitting (view_of f)) (items_of f block)
+  works block = both (items_of f block) (gives_fit block) (edges_match block)
+
+  pub aliases_typed : AliasesTyped (view_of f)
+  aliases_typed = structured.alias_types
+
   -- THE ENTRY ---------------------------------------------------------------------------------------------------------------
 
   entry_params : (block : ℕ) (name : Name) → block_name calls block ≡ Some name → EntryTakes (ledger_of calls) (program_so_far calls) (types_of f.signature.params) (Some name)
@@ -179,8 +186,6 @@ module _ (calls : List AnsweredCall) (f : Body) (s : SsaState) (carries : Carrie
 
 pub carried_fit : CarriedFunctionsFit
 carried_fit calls f s carries none_waits values well collector hidden world arguments =
-    working_runs_fit (run_of f collector hidden world) (structured calls f s carries none_waits values well).alias_types
-    (λ block. both calls f s carries none_waits values well (items_of f block) (gives_fit calls f s carries none_waits values well block)
-    (edges_match calls f s carries none_waits values well block))
+    working_runs_fit (run_of f collector hidden world) (aliases_typed calls f s carries none_waits values well) (works calls f s carries none_waits values well)
     (types_of f.signature.params)
     (entry_has calls f s carries none_waits values well (program_so_far calls).entry refl well.entry) arguments

@@ -110,18 +110,18 @@ module _ (calls : List AnsweredCall) (own : Own) (f : Body) (ssa : SsaState) (wo
 module _ (calls : List AnsweredCall) (own : Own) (f : Body) (ssa : SsaState) (consistent : IsConsistent f) (tracked : Name → Bool) (members : ℕ → Bool)
     (values : ValuesAgree calls own f ssa tracked members)
   where
-    abbrev collected : ℕ → Bool
+    abbrev pub collected : ℕ → Bool
     collected v = collects f (OverSet members) (resolved f v)
 
-    itself : (v : ℕ) → collected v ≡ members (resolved f v)
+    pub itself : (v : ℕ) → collected v ≡ members (resolved f v)
     itself v = collects_itself f members (resolved f v) (resolved_twice f v consistent)
 
-    same_or_put : (argument parameter : ℕ) → (members (resolved f argument) ≡ members (resolved f parameter)) ⊎ IsPut calls f (resolved f argument)
+    pub same_or_put : (argument parameter : ℕ) → (members (resolved f argument) ≡ members (resolved f parameter)) ⊎ IsPut calls f (resolved f argument)
         → (collected argument ≡ collected parameter) ⊎ IsPut calls f (resolved f argument)
     same_or_put argument parameter (inl same) = inl (itself argument ∙ same ∙ sym (itself parameter))
     same_or_put argument parameter (inr put) = inr put
 
-    abbrev over_members : (marked hidden : ℕ → Bool) → NamesAgree calls marked tracked → Moving calls own f ssa
+    abbrev pub over_members : (marked hidden : ℕ → Bool) → NamesAgree calls marked tracked → Moving calls own f ssa
     over_members marked hidden names = record {
       marked = marked;
       tracked = tracked;

@@ -38,6 +38,13 @@ pub record HasFront (f : Body) (blocks : Blocks) (b : ℕ) (own : List ℕ) : Ty
   pub in_turn : InTurn f zeros
   pub in_order : items_of f b ≡ map (placed_inst f) zeros ++ map (placed_inst f) own
 
+-- The machine is about to make one of a block's zeros.
+pub record NextIsZero (f : Body) (blocks : Blocks) (b : ℕ) (state : FunctionState) : Type 0 where
+  pub inst : ℕ
+  pub behind : List Placed
+  pub put : IsZeroInst f blocks b inst
+  pub at : state.control ≡ At (placed_inst f inst ∷ behind)
+
 pub has_front : (f : Body) → IsConsistent f → (blocks : Blocks) (b : ℕ) (own : List ℕ) → HasInstructions f blocks b own → (stands_in b f.layout ≡ false → own ≡ [])
     → HasFront f blocks b own
 has_front f consistent blocks b own has outside = by (stands_in b f.layout) refl
@@ -233,6 +240,19 @@ module _ (run : FunctionRun) (f : Body) (resolves : (v : ℕ) → run.function.r
         by [] is = let some : length z.left ≡ 0 = ap length is in absurd (omega (arith, z.count, some))
         by (inst ∷ left) is =
             ap (arrival_at o) (z.at ∙ ap (λ xs. At (map (placed_inst f) xs ++ rest)) is) ∙ not_at_thing o (placed_inst f inst) (map (placed_inst f) left ++ rest)
+
+    -- the next one is a zero
+    pub next_zero : (n : ℕ) (state : FunctionState) → ZerosLeft (suc n) state → NextIsZero f blocks b state
+    next_zero n state z = by z.left refl
+      where
+        by : (left : List ℕ) → z.left ≡ left → NextIsZero f blocks b state
+        by [] is = let some : length z.left ≡ 0 = ap length is in absurd (omega (arith, z.count, some))
+        by (inst ∷ left) is = record {
+          inst = inst;
+          behind = map (placed_inst f) left ++ rest;
+          put = (subst (AllByRecursion (IsZeroInst f blocks b)) is z.all).0;
+          at = z.at ∙ ap (λ xs. At (map (placed_inst f) xs ++ rest)) is;
+        }
 
     -- no edge is taken
     pub no_edge : (n : ℕ) (state : FunctionState) → ZerosLeft (suc n) state → function_edge run state state.control ≡ None

@@ -3,7 +3,7 @@ use Rattle.std.proofs.Common.{sym, ◌∙◌, ◌≡◌, ℕ, zero, suc, ◌<◌
 use Rattle.clif_meaning.specs.Bits.{Bits}
 use Rattle.clif_meaning.specs.Memory.{Memory, Range}
 use Rattle.std.specs.Prelude.{Bool, true, false, ◌==◌, ◌&&◌, ◌%◌, not, if◌then◌else◌}
-use Rattle.clif_meaning.specs.Machine.{Machine, Control, At, HasReturned, HasTrapped, IsStuck, Observation, Ending, ending_of}
+use Rattle.clif_meaning.specs.Machine.{Machine, state_after, Control, At, HasReturned, HasTrapped, IsStuck, Observation, Ending, ending_of}
 use Rattle.clif_meaning.specs.Event.{Event}
 use Rattle.clif_meaning.specs.Name.{Name}
 use Rattle.clif_meaning.specs.Program.{Item, Instruct}
@@ -25,7 +25,7 @@ use Rattle.clif_meaning.specs.World.{World}
 use Rattle.clif_meaning.specs.ByteOperation.{ByteOperation}
 use Rattle.clif_meaning.proofs.ByteOperations.{byte_cases}
 use Rattle.clif_meaning.specs.Outcome.{Outcome, Gives, Goes, Returns, Traps, Calls, NoStep, Computed, Values, Fault, Undefined, access_outcome, no_claim, are_accessible, byte_outcome, computed, outcome_of_computed, outcome_of, traps_on}
-use Rattle.clif_meaning.proofs.Stuttering.{Matched, ShowsOnlyEnds, steps_from}
+use Rattle.clif_meaning.proofs.Stuttering.{Matched, ShowsOnlyEnds, Simulates, steps_from}
 use Rattle.std.specs.List.{AllByRecursion}
 use Rattle.clif_simulation.specs.Carries.{CallsNothing}
 use Rattle.clif_simulation.specs.Tables.{program_so_far}
@@ -68,10 +68,24 @@ same_bits (x ∷ xs) g h other same =
 
 -- Steps -----------------------------------------------------------------------------------------------------------------
 
-module _ {S T : Type 0} (left : Machine S Observation) (right : Machine T Observation) (Related : S → T → Type 0) (measure : S → ℕ) (s : S) (t : T) where
+-- A step is matched, and on the way between the states that are related the right machine is in states of a kind.
+pub record Followed {S T : Type 0} (left : Machine S Observation) (right : Machine T Observation) (Related : S → T → Type 0) (measure : S → ℕ) (Passed : T → Type 0) (s : S) (t : T) : Type 0 where
+  pub matched : Matched left right Related measure s t
+  pub passed : (j : ℕ) → 0 < j → j < matched.steps → Passed (steps_from right j t)
+
+-- A simulation each step of which is followed, and the first steps too.
+pub record FollowsThroughout {S T : Type 0} (left : Machine S Observation) (right : Machine T Observation) (Related : S → T → Type 0) (measure : S → ℕ) (Passed : T → Type 0) : Type 0 where
+  pub simulates : Simulates left right Related measure
+  pub first : (j : ℕ) → j < simulates.ahead → Passed (state_after right j)
+  pub step : (s : S) (t : T) → Related s t → Followed left right Related measure Passed s t
+
+module _ {S T : Type 0} (left : Machine S Observation) (right : Machine T Observation) (Related : S → T → Type 0) (measure : S → ℕ) (Passed : T → Type 0) (s : S) (t : T) where
   -- by one step
-  pub matched_by_one : Related (left.next s) (right.next t) → Matched left right Related measure s t
-  matched_by_one related = record { steps = 1; related = related; quiet = quiet; gets_on = inl (omega arith) }
+  pub followed_by_one : Related (left.next s) (right.next t) → Followed left right Related measure Passed s t
+  followed_by_one related = record {
+    matched = record { steps = 1; related = related; quiet = quiet; gets_on = inl (omega arith) };
+    passed = λ j above below. absurd (omega (arith, above, below));
+  }
     where
       quiet : ShowsOnlyEnds right 1 t
       quiet zero h = inl refl
@@ -79,22 +93,33 @@ module _ {S T : Type 0} (left : Machine S Observation) (right : Machine T Observ
       quiet (suc (suc j)) h = absurd (omega arith)
 
   -- by none
-  pub matched_by_none : Related (left.next s) t → measure (left.next s) < measure s → Matched left right Related measure s t
-  matched_by_none related falls = record { steps = 0; related = related; quiet = quiet; gets_on = inr falls }
+  pub followed_by_none : Related (left.next s) t → measure (left.next s) < measure s → Followed left right Related measure Passed s t
+  followed_by_none related falls = record {
+    matched = record { steps = 0; related = related; quiet = quiet; gets_on = inr falls };
+    passed = λ j above below. absurd (omega (arith, above, below));
+  }
     where
       quiet : ShowsOnlyEnds right 0 t
       quiet zero h = inl refl
       quiet (suc j) h = absurd (omega arith)
 
   -- by some steps, of which the first alone may show something new
-  pub matched_by_more : (n : ℕ) → Related (left.next s) (steps_from right (suc n) t)
+  pub followed_by_more : (n : ℕ) → Related (left.next s) (steps_from right (suc n) t)
       → ((j : ℕ) → j ≤ n → right.shown (steps_from right (suc j) t) ≡ right.shown (steps_from right (suc n) t))
-      → Matched left right Related measure s t
-  matched_by_more n related quiet = record { steps = suc n; related = related; quiet = by; gets_on = inl (omega arith) }
+      → ((j : ℕ) → j < n → Passed (steps_from right (suc j) t))
+      → Followed left right Related measure Passed s t
+  followed_by_more n related quiet passes = record {
+    matched = record { steps = suc n; related = related; quiet = by; gets_on = inl (omega arith) };
+    passed = pass;
+  }
     where
       by : ShowsOnlyEnds right (suc n) t
       by zero within = inl refl
       by (suc j) within = inr (quiet j (omega (arith, within)))
+
+      pass : (j : ℕ) → 0 < j → j < suc n → Passed (steps_from right j t)
+      pass zero above below = absurd (omega (arith, above))
+      pass (suc j) above below = passes j (omega (arith, below))
 
 -- Ends ------------------------------------------------------------------------------------------------------------------
 

@@ -19,6 +19,7 @@ use Rattle.clif_opcodes.specs.declared.opcodes.FloatConstOpcode.TheVariants.{F16
 use Rattle.clif_opcodes.specs.Kinds.{is_address, is_met}
 use Rattle.clif_opcodes.specs.Typing.{AreOfKinds, binary_second, convert_demand, convert_operand}
 use Rattle.clif_ir.specs.Body.{Body}
+use Rattle.clif_meaning.specs.Access.{touched_ranges}
 use Rattle.clif_meaning.specs.Bits.{Bits}
 use Rattle.clif_tables.specs.Callees.{types_of}
 use Rattle.clif_opcodes.specs.declared.opcodes.StackOpcode.TheVariants.{StackAddr, StackLoad}
@@ -181,6 +182,23 @@ outcome_by_types world operation ty returns types others operands memory at fits
         at_address [] = refl
         at_address (x ∷ xs) = refl
 
+-- What an instruction touches depends on the operands' types only where these are there.
+ranges_by_types : (world : World) (operation : Operation) (ty : «Type») (returns types others : List «Type») (operands : List Bits)
+    → IsTrue (is_met (operation_typing operation).demand ty) → TakesOperands returns operation ty types → (AllByRecursion IsType types → others ≡ types)
+    → touched_ranges world operation ty others operands ≡ touched_ranges world operation ty types operands
+ranges_by_types world operation ty returns types others operands at fits same = by operation at fits
+  where
+    alike : (o : Operation) → AllByRecursion IsType types → touched_ranges world o ty others operands ≡ touched_ranges world o ty types operands
+    alike o valid = ap (λ (ts : List «Type»). touched_ranges world o ty ts operands) (same valid)
+
+    by : (o : Operation) → IsTrue (is_met (operation_typing o).demand ty) → TakesOperands returns o ty types
+        → touched_ranges world o ty others operands ≡ touched_ranges world o ty types operands
+    by (Load flags offset) at fits = alike (Load flags offset) (kinds_valid ty at (kind.Address ∷ []) tt types fits)
+    by (Store flags offset) at fits = alike (Store flags offset) (kinds_valid ty at (kind.Controlling ∷ kind.Address ∷ []) tt types fits)
+    by (Stack StackLoad slot offset) at fits = alike (Stack StackLoad slot offset) (none_valid ty types fits)
+    by (StackStore slot offset) at fits = alike (StackStore slot offset) (kinds_valid ty at (kind.Controlling ∷ []) tt types fits)
+    by _ at fits = refl
+
 -- Each instruction of the program has one outcome by the types of the names and by those of the values that answered them.
 abbrev pub OutcomesAlike : List AnsweredCall → Body → World → Type 0
 OutcomesAlike calls f world =
@@ -207,6 +225,18 @@ module _ (calls : List AnsweredCall) (f : Body) (world : World) (typed : ValuesT
       let item : IsItemWellTyped (ledger_after (script_of calls)) (program_so_far calls) (types_of signature.returns) (Instruct place instruction results) =
       all_at (IsItemWellTyped (ledger_after (script_of calls)) (program_so_far calls) (types_of signature.returns)) ((program_so_far calls).items block) k (Instruct place instruction results) (well.items block) stands in
       outcome_by_types world instruction.operation instruction.controlling (types_of signature.returns) (map (name_types calls) instruction.operands) _ bits memory
+      item.made_at item.operands (types_alike instruction.operands)
+
+  -- it touches what it touches by the types of the names
+  pub ranges_alike : (signature : SignatureShape) → WellTyped (ledger_after (script_of calls)) (program_so_far calls) signature
+      → (block : Name) (k place : ℕ) (instruction : Instruction Name Name) (results : List Name) → slice_get ((program_so_far calls).items block) k ≡ Some (Instruct place instruction results)
+      → (bits : List Bits)
+      → touched_ranges world instruction.operation instruction.controlling (map (view_of f).value_type (map (answered calls) instruction.operands)) bits
+      ≡ touched_ranges world instruction.operation instruction.controlling (map (name_types calls) instruction.operands) bits
+  ranges_alike signature well block k place instruction results stands bits =
+      let item : IsItemWellTyped (ledger_after (script_of calls)) (program_so_far calls) (types_of signature.returns) (Instruct place instruction results) =
+      all_at (IsItemWellTyped (ledger_after (script_of calls)) (program_so_far calls) (types_of signature.returns)) ((program_so_far calls).items block) k (Instruct place instruction results) (well.items block) stands in
+      ranges_by_types world instruction.operation instruction.controlling (types_of signature.returns) (map (name_types calls) instruction.operands) _ bits
       item.made_at item.operands (types_alike instruction.operands)
 
   pub outcomes_alike_so_far : (growing : Name → Bool) (signature : SignatureShape) → WellTypedSoFar growing (ledger_after (script_of calls)) (program_so_far calls) signature

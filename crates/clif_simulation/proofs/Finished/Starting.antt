@@ -37,6 +37,7 @@ use Rattle.clif_simulation.proofs.Finished.Entered.{EntersThere, entered_agrees,
 use Rattle.clif_simulation.proofs.Finished.Entry.{begins}
 use Rattle.clif_simulation.proofs.Finished.Fronts
 use Rattle.clif_simulation.proofs.Finished.Fronts.{HasFront, has_front, placed_inst, quiet}
+use Rattle.clif_simulation.proofs.Finished.Matching.{FollowsThroughout}
 use Rattle.clif_simulation.proofs.Finished.Placing.{map_length}
 use Rattle.clif_simulation.proofs.Finished.Straight.{arms, first_arm}
 use Rattle.clif_simulation.proofs.Unfinished.Counted.{as_many_values}
@@ -239,8 +240,14 @@ module _ (calls : List AnsweredCall) (f : Body) (ssa : SsaState) (consistent : I
           };
         }))
 
-    pub simulates : Simulates left_machine right_machine Related (Stepping.measure calls f ssa consistent carries finished width world signature placed targets typed moving)
-    simulates = record {
+    abbrev measure : ScriptState → ℕ
+    measure = Stepping.measure calls f ssa consistent carries finished width world signature placed targets typed moving
+
+    abbrev IsAtZero : FunctionState → Type 0
+    IsAtZero = Stepping.IsAtZero calls f ssa consistent carries finished width world signature placed targets typed moving
+
+    abbrev simulation : Simulates left_machine right_machine Related measure
+    simulation = record {
       ahead = length has.zeros;
       at_first = λ j within.
           Fronts.shown_quietly right_run f (λ v. refl) tables e has.zeros has.in_turn (map (placed_inst f) (carries.own.insts e)) right_first (length has.zeros - j) (state_after right_machine j)
@@ -248,5 +255,20 @@ module _ (calls : List AnsweredCall) (f : Body) (ssa : SsaState) (consistent : I
           ∙ sym left_quiet;
       starts = related_first (state_after right_machine (length has.zeros)) (left_after (length has.zeros) 0 (omega arith));
       shows = Stepping.shows calls f ssa consistent carries finished width world signature placed targets typed moving;
+      step = λ p q related. (Stepping.step calls f ssa consistent carries finished width world signature placed targets typed moving p q related).matched;
+    }
+
+    pub simulates : Simulates left_machine right_machine Related measure
+    simulates = simulation
+
+    -- on the way there are zeros alone
+    pub follows_throughout : FollowsThroughout left_machine right_machine Related measure IsAtZero
+    follows_throughout = record {
+      simulates = simulation;
+      first = λ j within. (
+        e,
+        Fronts.next_zero right_run f (λ v. refl) tables e has.zeros has.in_turn (map (placed_inst f) (carries.own.insts e)) right_first (length has.zeros - suc j) (state_after right_machine j)
+        (left_after j (suc (length has.zeros - suc j)) (omega (arith, within))),
+      );
       step = Stepping.step calls f ssa consistent carries finished width world signature placed targets typed moving;
     }

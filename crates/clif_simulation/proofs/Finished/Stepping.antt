@@ -15,6 +15,7 @@ use Rattle.clif_paths.specs.Laws.{IsCorrect}
 use Rattle.clif_paths.proofs.PathLemmas.{same_place-refl}
 use Rattle.clif_ssa.specs.Ssa.{SsaState}
 use Rattle.clif_ssa.specs.Sound.{edges_at}
+use Rattle.clif_meaning.specs.Access.{touched_ranges}
 use Rattle.clif_meaning.specs.Bits.{Bits}
 use Rattle.clif_meaning.specs.Memory.{Memory}
 use Rattle.clif_meaning.specs.Event.{Answer, CallShape, Callee, Event, Exception, Results}
@@ -35,7 +36,7 @@ use Rattle.clif_meaning.specs.FunctionView.{Placed}
 use Rattle.clif_meaning.specs.View.{edge_of, edges_of, argument_of}
 use Rattle.clif_meaning.specs.Premises.{EachItem, HasGoodTargets, WellTyped}
 use Rattle.clif_meaning.specs.WellPlaced.{item_names, known_argument, passed_operands, program_code, IsWellPlaced}
-use Rattle.clif_meaning.proofs.Stuttering.{Matched, steps_from}
+use Rattle.clif_meaning.proofs.Stuttering.{steps_from}
 use Rattle.clif_simulation.specs.Tables.{code, answered, program_so_far, block_name}
 use Rattle.clif_simulation.proofs.Whole.{Whole}
 use Rattle.clif_instructions.specs.declared.block_call.BlockArg.{BlockArg}
@@ -53,17 +54,17 @@ use Rattle.clif_simulation.proofs.Finished.Straight.{arms, next_arm}
 use Rattle.clif_simulation.proofs.Finished.Edges
 use Rattle.clif_simulation.proofs.Finished.Flow
 use Rattle.clif_simulation.proofs.Finished.Fronts
-use Rattle.clif_simulation.proofs.Finished.Fronts.{HasFront, has_front, placed_inst, steps_behind}
+use Rattle.clif_simulation.proofs.Finished.Fronts.{HasFront, NextIsZero, has_front, placed_inst, steps_behind}
 use Rattle.clif_simulation.proofs.Finished.ItemsAt
 use Rattle.clif_simulation.proofs.Listed.{place_within}
 use Rattle.clif_simulation.proofs.Finished.OwnEdges
 use Rattle.clif_simulation.proofs.Finished.OwnEdges.{last_item}
-use Rattle.clif_simulation.proofs.Finished.OperandTypes.{outcomes_alike}
+use Rattle.clif_simulation.proofs.Finished.OperandTypes.{outcomes_alike, ranges_alike}
 use Rattle.clif_simulation.proofs.Finished.Sources.{Moving}
 use Rattle.clif_simulation.proofs.Finished.Targets
 use Rattle.clif_simulation.proofs.Finished.Placing.{at_second, map_at, map_length, placed_item}
 use Rattle.clif_simulation.proofs.Finished.TwoParts.{nothing_assigned}
-use Rattle.clif_simulation.proofs.Finished.Matching.{script_still, function_still, observation, remaining, first_is, rest_is, item_here, rest_behind, same_bits, matched_by_one, matched_by_none, matched_by_more, SameEnd, same_ending, same_outcomes}
+use Rattle.clif_simulation.proofs.Finished.Matching.{script_still, function_still, observation, remaining, first_is, rest_is, item_here, rest_behind, same_bits, Followed, followed_by_one, followed_by_none, followed_by_more, SameEnd, same_ending, same_outcomes}
 
 -- what is passed has the same bits where the names have those of their answers
 pub same_arguments : (calls : List AnsweredCall) (names : Name → ℕ) (values : ℕ → ℕ) (given : List ℕ) (arguments : List (Argument Name))
@@ -176,8 +177,12 @@ module _ (calls : List AnsweredCall) (f : Body) (ssa : SsaState) (consistent : I
     abbrev pub measure : ScriptState → ℕ
     measure p = remaining p.control
 
+    -- about to make a zero that the construction put at a front
+    abbrev pub IsAtZero : FunctionState → Type 0
+    IsAtZero q = (block : ℕ) × NextIsZero f tables block q
+
     abbrev pub IsMatched : ScriptState → FunctionState → Type 0
-    IsMatched p q = Matched left_machine right_machine Related measure p q
+    IsMatched p q = Followed left_machine right_machine Related measure IsAtZero p q
 
     shown : (p : ScriptState) (q : FunctionState) → p.events ≡ q.events
         → ending_of p.control (shown_memory left_run.hidden p.memory) ≡ ending_of q.control (shown_memory left_run.hidden q.memory)
@@ -197,12 +202,12 @@ module _ (calls : List AnsweredCall) (f : Body) (ssa : SsaState) (consistent : I
 
     by_one : (p p' : ScriptState) (q q' : FunctionState) → left_machine.next p ≡ p' → right_machine.next q ≡ q' → Related p' q' → IsMatched p q
     by_one p p' q q' left_is right_is related =
-        matched_by_one left_machine right_machine Related measure p q
+        followed_by_one left_machine right_machine Related measure IsAtZero p q
         (subst₂ (λ (x : ScriptState) (y : FunctionState). Related x y) (sym left_is) (sym right_is) related)
 
     by_none : (p p' : ScriptState) (q : FunctionState) → left_machine.next p ≡ p' → Related p' q → measure p' < measure p → IsMatched p q
     by_none p p' q left_is related falls =
-        matched_by_none left_machine right_machine Related measure p q
+        followed_by_none left_machine right_machine Related measure IsAtZero p q
         (subst (λ (x : ScriptState). Related x q) (sym left_is) related)
         (subst (λ (x : ScriptState). measure x < measure p) (sym left_is) falls)
 
@@ -233,68 +238,62 @@ module _ (calls : List AnsweredCall) (f : Body) (ssa : SsaState) (consistent : I
           none : (x : Placed) (xs : List Placed) → (x ∷ xs) ≡ [] → ⊥
           none x xs h = cc
 
+      pub used_next : (x : ℕ) (used : Name) (rest : List Item) (left : List ℕ) (p : ScriptState) (q : FunctionState) → IsAt b B k (Use x used ∷ rest) left path p q
+          → IsAt b B (suc k) rest left (next_arm b k ∷ path) (script.run_item left_run p (Use x used) rest) q
+      used_next x used rest left p q r =
+          let stands : slice_get (items B) k ≡ Some (Use x used) = item_here (items B) k (Use x used) rest r.behind in
+          let uses = ItemsAt.uses_there calls carries.own f ssa tables carries.program carries.describes b B r.named k x used stands in
+          record {
+            named = r.named;
+            follows = goes_on r.named (Use x used) stands r.follows r.ends;
+            ends = refl;
+            behind = rest_behind (items B) k (Use x used) rest r.behind;
+            front = r.front;
+            own_is = r.own_is;
+            left_is = r.left_is;
+            script_at = refl;
+            function_at = r.function_at;
+            same_memory = r.same_memory;
+            same_events = r.same_events;
+            agrees = used_agrees live program function labels (next_arm b k) path x used uses p.variables p.names q.values r.agrees;
+            zeros = used_zeros live program function labels (next_arm b k) path x used uses p.variables p.names q.values r.agrees r.zeros;
+          }
+
       use_step : (x : ℕ) (used : Name) (rest : List Item) (left : List ℕ) (p : ScriptState) (q : FunctionState) → IsAt b B k (Use x used ∷ rest) left path p q → IsMatched p q
       use_step x used rest left p q r =
           let left_is : left_machine.next p ≡ script.run_item left_run p (Use x used) rest = ap (script.step_at left_run p) r.script_at in
           let before : measure p ≡ length (Use x used ∷ rest) = ap remaining r.script_at in
-          let stands : slice_get (items B) k ≡ Some (Use x used) = item_here (items B) k (Use x used) rest r.behind in
-          let uses = ItemsAt.uses_there calls carries.own f ssa tables carries.program carries.describes b B r.named k x used stands in
           by_none p (script.run_item left_run p (Use x used) rest) q left_is
-          (inl (record {
-            block = b;
-            name = B;
-            index = suc k;
-            rest = rest;
-            left = left;
-            path = next_arm b k ∷ path;
-            is_at = record {
-              named = r.named;
-              follows = goes_on r.named (Use x used) stands r.follows r.ends;
-              ends = refl;
-              behind = rest_behind (items B) k (Use x used) rest r.behind;
-              front = r.front;
-              own_is = r.own_is;
-              left_is = r.left_is;
-              script_at = refl;
-              function_at = r.function_at;
-              same_memory = r.same_memory;
-              same_events = r.same_events;
-              agrees = used_agrees live program function labels (next_arm b k) path x used uses p.variables p.names q.values r.agrees;
-              zeros = used_zeros live program function labels (next_arm b k) path x used uses p.variables p.names q.values r.agrees r.zeros;
-            };
-          }))
+          (inl (record { block = b; name = B; index = suc k; rest = rest; left = left; path = next_arm b k ∷ path; is_at = used_next x used rest left p q r }))
           (omega (arith, before))
+
+      pub assigned_next : (x : ℕ) (from : Name) (rest : List Item) (left : List ℕ) (p : ScriptState) (q : FunctionState) → IsAt b B k (Assign x from ∷ rest) left path p q
+          → IsAt b B (suc k) rest left (next_arm b k ∷ path) (script.run_item left_run p (Assign x from) rest) q
+      assigned_next x from rest left p q r =
+          let stands : slice_get (items B) k ≡ Some (Assign x from) = item_here (items B) k (Assign x from) rest r.behind in
+          let assigns = ItemsAt.assigns_there calls carries.own f ssa tables carries.program carries.describes b B r.named k x from stands in
+          record {
+            named = r.named;
+            follows = goes_on r.named (Assign x from) stands r.follows r.ends;
+            ends = refl;
+            behind = rest_behind (items B) k (Assign x from) rest r.behind;
+            front = r.front;
+            own_is = r.own_is;
+            left_is = r.left_is;
+            script_at = refl;
+            function_at = r.function_at;
+            same_memory = r.same_memory;
+            same_events = r.same_events;
+            agrees = assigned_agrees live program function labels (next_arm b k) path x from assigns p.variables p.names q.values r.agrees;
+            zeros = assigned_zeros live program function labels (next_arm b k) path x from assigns p.variables p.names q.values r.agrees r.zeros;
+          }
 
       assign_step : (x : ℕ) (from : Name) (rest : List Item) (left : List ℕ) (p : ScriptState) (q : FunctionState) → IsAt b B k (Assign x from ∷ rest) left path p q → IsMatched p q
       assign_step x from rest left p q r =
           let left_is : left_machine.next p ≡ script.run_item left_run p (Assign x from) rest = ap (script.step_at left_run p) r.script_at in
           let before : measure p ≡ length (Assign x from ∷ rest) = ap remaining r.script_at in
-          let stands : slice_get (items B) k ≡ Some (Assign x from) = item_here (items B) k (Assign x from) rest r.behind in
-          let assigns = ItemsAt.assigns_there calls carries.own f ssa tables carries.program carries.describes b B r.named k x from stands in
           by_none p (script.run_item left_run p (Assign x from) rest) q left_is
-          (inl (record {
-            block = b;
-            name = B;
-            index = suc k;
-            rest = rest;
-            left = left;
-            path = next_arm b k ∷ path;
-            is_at = record {
-              named = r.named;
-              follows = goes_on r.named (Assign x from) stands r.follows r.ends;
-              ends = refl;
-              behind = rest_behind (items B) k (Assign x from) rest r.behind;
-              front = r.front;
-              own_is = r.own_is;
-              left_is = r.left_is;
-              script_at = refl;
-              function_at = r.function_at;
-              same_memory = r.same_memory;
-              same_events = r.same_events;
-              agrees = assigned_agrees live program function labels (next_arm b k) path x from assigns p.variables p.names q.values r.agrees;
-              zeros = assigned_zeros live program function labels (next_arm b k) path x from assigns p.variables p.names q.values r.agrees r.zeros;
-            };
-          }))
+          (inl (record { block = b; name = B; index = suc k; rest = rest; left = left; path = next_arm b k ∷ path; is_at = assigned_next x from rest left p q r }))
           (omega (arith, before))
 
       -- a name that the item at this place names has the bits that its answer has
@@ -339,6 +338,15 @@ module _ (calls : List AnsweredCall) (f : Body) (ssa : SsaState) (consistent : I
             same_bits instruction.operands p.names (value_bits right_run q) (answered calls) (λ x named_there.
             operand_agrees b B k path (Instruct place instruction results ∷ rest) (i ∷ left) p q r (Instruct place instruction results) stands x
             (first_contained instruction.operands instruction.contexts x named_there))
+
+        -- both touch one list of ranges
+        pub same_ranges :
+            touched_ranges world (placed_inst f i).instruction.operation (placed_inst f i).instruction.controlling (map right_run.function.value_type (placed_inst f i).instruction.operands) (map (value_bits right_run q) (placed_inst f i).instruction.operands)
+            ≡ touched_ranges world instruction.operation instruction.controlling (map left_run.name_type instruction.operands) (map p.names instruction.operands)
+        same_ranges =
+            ap (λ (o : Placed). touched_ranges world o.instruction.operation o.instruction.controlling (map right_run.function.value_type o.instruction.operands) (map (value_bits right_run q) o.instruction.operands)) is
+            ∙ ranges_alike calls f world carries.values_typed signature typed B k place instruction results stands (map (value_bits right_run q) (map (answered calls) instruction.operands))
+            ∙ ap (λ (bits : List Bits). touched_ranges world instruction.operation instruction.controlling (map left_run.name_type instruction.operands) bits) (sym same_operands)
 
         same_outcome :
             outcome_of world (placed_inst f i).instruction.operation (placed_inst f i).instruction.controlling (map right_run.function.value_type (placed_inst f i).instruction.operands) (map (value_bits right_run q) (placed_inst f i).instruction.operands) q.memory
@@ -593,10 +601,18 @@ module _ (calls : List AnsweredCall) (f : Body) (ssa : SsaState) (consistent : I
                 ∙ sym (Fronts.shown_quietly right_run f (λ v. refl) tables d has.zeros has.in_turn (map (placed_inst f) (carries.own.insts d)) q1 0 q2 done)
                 ∙ sym (ap right_machine.shown (after_first (length has.zeros)))
 
+            passes : (j : ℕ) → j < length has.zeros → IsAtZero (steps_from right_machine (suc j) q0)
+            passes j within = (
+              d,
+              subst (NextIsZero f tables d) (sym (after_first j))
+              (Fronts.next_zero right_run f (λ v. refl) tables d has.zeros has.in_turn (map (placed_inst f) (carries.own.insts d)) q1 (length has.zeros - suc j) (steps_from right_machine j q1)
+              (left_after j (suc (length has.zeros - suc j)) (omega (arith, within)))),
+            )
+
             pub goes_along : IsMatched p0 q0
             goes_along =
-                matched_by_more left_machine right_machine Related measure p0 q0 (length has.zeros)
-                (subst₂ (λ (x : ScriptState) (y : FunctionState). Related x y) (sym left_next) (sym (after_first (length has.zeros))) (inl running)) quietly
+                followed_by_more left_machine right_machine Related measure IsAtZero p0 q0 (length has.zeros)
+                (subst₂ (λ (x : ScriptState) (y : FunctionState). Related x y) (sym left_next) (sym (after_first (length has.zeros))) (inl running)) quietly passes
 
         goes : (p0 : ScriptState) (q0 : FunctionState) (n : ℕ) (given : List Bits) (memory : Memory) (o : Option (Edge Name Name)) → slice_get instruction.edges n ≡ o
             → left_machine.next p0 ≡ script.follow_edge left_run (record p { memory = memory }) given (slice_get instruction.edges n)

@@ -20,7 +20,7 @@ use Rattle.clif_ssa.specs.Sound.{IsZero}
 use Rattle.clif_ssa.specs.Structure.{IsNeededZero}
 use Rattle.clif_ssa.specs.Zeros.{HasZeros, kind_of_zero, steps_of_kind, ZeroAt, ZeroStep, HasZero, IsStep, insts_of_zero, insts_of_zeros, steps_before, zero_row, zero_steps}
 use Rattle.clif_ssa.proofs.ZeroTable.{IsPlainStep, first_alone, none_some, plain_step, same_some, step_count, step_there}
-use Rattle.clif_meaning.specs.Bits.{value_of_bytes}
+use Rattle.clif_meaning.specs.Bits.{Bits, value_of_bytes}
 use Rattle.clif_meaning.specs.Memory.{Memory}
 use Rattle.clif_meaning.specs.Outcome.{Gives, float_type, low_bits_at, outcome_of, pooled_type, repeated}
 use Rattle.clif_instructions.specs.declared.instructions.InstructionData.TheVariants.{UnaryImm, UnaryIeee, UnaryConst, Convert}
@@ -30,6 +30,7 @@ use Rattle.clif_opcodes.specs.declared.opcodes.PooledConstOpcode.{PooledConstOpc
 use Rattle.clif_opcodes.specs.declared.opcodes.PooledConstOpcode.TheVariants.{F128const}
 use Rattle.clif_ssa.specs.declared.zeros.ZeroKind.{ZeroKind}
 use Rattle.clif_ssa.specs.declared.zeros.ZeroKind.TheVariants as made
+use Rattle.clif_meaning.specs.Access.{touched_ranges}
 use Rattle.clif_meaning.specs.View.{constant_at, operation_of}
 use Rattle.clif_meaning.specs.World.{World}
 use Rattle.std.proofs.lemmas.Option.{get_or_from_slice_get}
@@ -92,6 +93,27 @@ steps_give_zero : (ty : «Type») → AllByRecursion StepGivesZero (zero_steps t
 unfolding zero_row
 steps_give_zero ty = kind_gives_zero (kind_of_zero ty) ty
 
+-- An instruction touches no memory by itself.
+abbrev pub TouchesNothing : TableLists → InstructionData → Type 0
+TouchesNothing tables shape =
+    (world : World) (ty : «Type») (types : List «Type») (operands : List Bits) → touched_ranges world (operation_of tables shape) ty types operands ≡ []
+
+-- no step of a zero does
+abbrev StepTouchesNothing : ZeroStep → Type 0
+StepTouchesNothing step = (tables : TableLists) (constant value : ℕ) → TouchesNothing tables (step.shape constant value)
+
+kind_touches_nothing : (kind : ZeroKind) (ty : «Type») → AllByRecursion StepTouchesNothing (steps_of_kind kind ty)
+kind_touches_nothing made.Number ty = ((λ tables constant value world at types operands. refl), tt)
+kind_touches_nothing made.Extended ty = ((λ tables constant value world at types operands. refl), ((λ tables constant value world at types operands. refl), tt))
+kind_touches_nothing (made.Float opcode) ty = ((λ tables constant value world at types operands. refl), tt)
+kind_touches_nothing (made.Splatted opcode) ty = ((λ tables constant value world at types operands. refl), ((λ tables constant value world at types operands. refl), tt))
+kind_touches_nothing (made.Pooled opcode) ty = ((λ tables constant value world at types operands. refl), tt)
+kind_touches_nothing made.SplattedPooled ty = ((λ tables constant value world at types operands. refl), ((λ tables constant value world at types operands. refl), tt))
+
+steps_touch_nothing : (ty : «Type») → AllByRecursion StepTouchesNothing (zero_steps ty)
+unfolding zero_row
+steps_touch_nothing ty = kind_touches_nothing (kind_of_zero ty) ty
+
 all_get : {X : Type 0} (P : X → Type 0) (xs : List X) (k : ℕ) (x : X) → AllByRecursion P xs → slice_get xs k ≡ Some x → P x
 all_get P [] k x all is = absurd (none_some is)
 all_get P (y ∷ ys) zero x all is = subst P (same_some is) all.0
@@ -143,6 +165,7 @@ pub record IsZeroInst (f : Body) (blocks : Blocks) (block inst : ℕ) : Type 0 w
   pub no_edges : LeadsNowhere f inst
   pub no_contexts : contexts (inst_at f inst).shape ≡ []
   pub gives : GivesZero f.tables (inst_at f inst).shape
+  pub touches_nothing : TouchesNothing f.tables (inst_at f inst).shape
   pub result : (inst_at f inst).results ≡ value ∷ []
   pub defined : IsZeroValue blocks block value
 
@@ -181,6 +204,9 @@ module _ (f : Body) (blocks : Blocks) (b : ℕ) where
         gives =
             subst (GivesZero f.tables) (sym at.shape)
             (all_get StepGivesZero (zero_steps z.ty) k step.0 (steps_give_zero z.ty) step.1 f at.constant ((z.value + k) - 1) at.zeros);
+        touches_nothing =
+            subst (TouchesNothing f.tables) (sym at.shape)
+            (all_get StepTouchesNothing (zero_steps z.ty) k step.0 (steps_touch_nothing z.ty) step.1 f.tables at.constant ((z.value + k) - 1));
         result = at.result;
         defined =
             elim (cases_eq k (steps_before z.ty)) [

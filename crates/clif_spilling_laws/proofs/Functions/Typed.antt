@@ -1,6 +1,8 @@
 -- In the run of a typed function each instruction gives bits to each of its results, and values fit their types.
-use Rattle.std.proofs.Common.{◌≡◌, ◌⊎◌, ◌≤◌, inl, inr, ℕ, suc, List, [], ◌∷◌, length, map, refl, ap, subst, arith}
+use Rattle.std.specs.List.{AllByRecursion}
+use Rattle.std.proofs.Common.{◌≡◌, ◌⊎◌, ◌≤◌, Bool, inl, inr, ℕ, suc, List, [], ◌∷◌, length, map, refl, ap, subst, arith}
 use Rattle.std.proofs.lemmas.List.{length-map}
+use Rattle.clif_types.specs.Types.{bits_of}
 use Rattle.clif_types.specs.declared.types.«Type».{«Type»}
 use Rattle.clif_tables.specs.Callees.{types_of}
 use Rattle.clif_meaning.specs.Bits.{AreValues, Bits, IsValue}
@@ -9,13 +11,15 @@ use Rattle.clif_meaning.specs.FunctionMachine.{FunctionRun, FunctionState, call_
 use Rattle.clif_meaning.specs.FunctionView.{Placed}
 use Rattle.clif_meaning.specs.Machine.{state_after}
 use Rattle.clif_meaning.specs.Outcome.{Outcome, Gives, Goes, Returns, Traps, Calls, NoStep}
-use Rattle.clif_meaning.specs.Typing.{call_shape, value_types_at}
+use Rattle.clif_meaning.specs.Typing.{call_shape}
+use Rattle.clif_meaning.specs.World.{PlacesSlots, World}
 use Rattle.clif_typed_runs.specs.Laws.{OfNextPlaced}
-use Rattle.clif_typed_runs.specs.ValuesFit.{FunctionFits, HoldValues, IsFunctionTyped, IsPlacedTyped}
-use Rattle.clif_typed_runs.proofs.FunctionSteps.{runs_fit}
-use Rattle.clif_typed_runs.proofs.Outcomes.{GivesValues, typed_gives}
-use Rattle.clif_spilling_laws.specs.PartLaws.{RunFits, TypedRunsFit, TypedRunsMeet}
-use Rattle.clif_spilling_laws.specs.Runs.{AnswersEach, GivesEach, IsInOrder, IsInOrderThroughout, SparesHidden, before_run, outcome_in}
+use Rattle.clif_typed_runs.specs.ValuesFit.{AliasesTyped, FunctionFits, HoldValues, IsFunctionTyped}
+use Rattle.clif_typed_runs.proofs.FunctionSteps.{WorksFitting, each_works, runs_fit}
+use Rattle.clif_typed_runs.proofs.Outcomes.{GivesValues}
+use Rattle.clif_spilling_laws.specs.PartLaws.{RunFits, SparesThroughout, TypedRunsFit, TypedRunsMeet}
+use Rattle.clif_spilling_laws.specs.Runs.{AnswersEach, GivesEach, IsInOrder, IsInOrderThroughout, IsMetBy, SparesHidden, before_run, outcome_in}
+use Rattle.clif_spilling_laws.specs.Spilling.{Spilling}
 use Rattle.clif_spilling_laws.proofs.Basics.Left.{next_both, next_follows, next_is}
 
 -- as many values as types
@@ -25,9 +29,11 @@ are_long [] (x ∷ values) are = absurd are
 are_long (ty ∷ types) [] are = absurd are
 are_long (ty ∷ types) (x ∷ values) are = ap suc (are_long types values are.1)
 
-module _ (run : FunctionRun) (typed : IsFunctionTyped run) where
+module _ (run : FunctionRun) (aliases : AliasesTyped run.function) (works : (block : ℕ) → AllByRecursion (WorksFitting run.function) (run.function.blocks block).items)
+    (fit : (n : ℕ) → FunctionFits run (state_after (function_machine run) n))
+  where
   operands_hold : (state : FunctionState) → FunctionFits run state → HoldValues run.function.value_type (value_bits run state)
-  operands_hold state fits v = subst (λ (ty : «Type»). IsValue ty (value_bits run state v)) (typed.aliases v) (fits.values (run.function.resolved v))
+  operands_hold state fits v = subst (λ (ty : «Type»). IsValue ty (value_bits run state v)) (aliases v) (fits.values (run.function.resolved v))
 
   -- what fits the results' types is as many
   each_of : (state : FunctionState) (placed : Placed) (outcome : Outcome)
@@ -67,25 +73,23 @@ module _ (run : FunctionRun) (typed : IsFunctionTyped run) where
       (state_after (function_machine run) n).control
   given_next n =
       let state : FunctionState = state_after (function_machine run) n in
-      next_follows (IsPlacedTyped run.function) (λ (placed : Placed). GivesEach run state placed (outcome_in run state placed)) state.control
-      (λ placed is.
-      each_of state placed (outcome_in run state placed)
-      (typed_gives run.function.value_type (value_types_at run.function) (types_of run.function.signature.returns) placed.instruction placed.results
-      run.world (value_bits run state) state.memory is (operands_hold state (runs_fit run typed n))))
-      (next_is run (IsPlacedTyped run.function) typed.items n)
+      next_follows (WorksFitting run.function) (λ (placed : Placed). GivesEach run state placed (outcome_in run state placed)) state.control
+      (λ placed is. each_of state placed (outcome_in run state placed) (is.gives run.world (value_bits run state) state.memory (operands_hold state (fit n))))
+      (next_is run (WorksFitting run.function) works n)
+
+  -- where each instruction gives what fits, and all values fit, results get bits and members fit
+  pub working_run_fits : (members : ℕ → Bool) → RunFits members run
+  working_run_fits members = record { gives_each = given_next; fits = λ n v member. let state_fits = fit n in state_fits.values v }
 
 pub typed_runs_fit : TypedRunsFit
-typed_runs_fit members run typed = record {
-  gives_each = given_next run typed;
-  fits = λ n v member. let state_fits = runs_fit run typed n in state_fits.values v;
-}
+typed_runs_fit members run typed =
+    working_run_fits run typed.aliases (λ block. each_works run.function (run.function.blocks block).items (typed.items block)) (λ n. runs_fit run typed n) members
 
-pub typed_runs_meet : TypedRunsMeet
-typed_runs_meet members s world pointers places typed spares = record { pointers = pointers; places = places; in_order = in_order; fits = fit.fits }
+-- a run that fits and spares hidden addresses is one that the law of spilling is about, where pointers and slots are the world's
+pub fitting_runs_meet : (members : ℕ → Bool) (s : Spilling) (world : World) → world.pointer_width ≡ bits_of s.pointer → PlacesSlots world s.after.slots
+    → RunFits members (before_run s members world) → SparesThroughout (before_run s members world) → IsMetBy members s world
+fitting_runs_meet members s world pointers places fit spares = record { pointers = pointers; places = places; in_order = in_order; fits = fit.fits }
   where
-    fit : RunFits members (before_run s members world)
-    fit = typed_runs_fit members (before_run s members world) typed
-
     in_order : IsInOrderThroughout (before_run s members world)
     in_order n =
         let run : FunctionRun = before_run s members world in
@@ -94,3 +98,7 @@ typed_runs_meet members s world pointers places typed spares = record { pointers
         next_follows (λ (placed : Placed). SparesHidden run state placed × Gives placed) (IsInOrder run state) state.control
         (λ placed is. record { spares = is.0; gives_each = is.1 })
         (next_both (SparesHidden run state) Gives state.control (spares n) (fit.gives_each n))
+
+pub typed_runs_meet : TypedRunsMeet
+typed_runs_meet members s world pointers places typed spares =
+    fitting_runs_meet members s world pointers places (typed_runs_fit members (before_run s members world) typed) spares
