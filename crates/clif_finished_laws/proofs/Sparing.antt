@@ -79,6 +79,12 @@ module _ (calls : List AnsweredCall) (f : Body) (ssa : SsaState) (width : Pointe
     abbrev Spares : FunctionState → Placed → Type 0
     Spares q = SparesHidden right_run q
 
+    abbrev Related : ScriptState → FunctionState → Type 0
+    Related = Stepping.Related calls f ssa consistent carries finished width world f.signature premises.given_before premises.targets_filled premises.well_typed moving
+
+    abbrev IsAtZero : FunctionState → Type 0
+    IsAtZero = Stepping.IsAtZero calls f ssa consistent carries finished width world f.signature premises.given_before premises.targets_filled premises.well_typed moving
+
     module _ (spared : InEachStep (SparesSpillSlots left_run) left_run) where
       -- what the script's item touches that comes next
       item_spares : (n : ℕ) (item : Item) (rest : List Item) → (state_after left n).control ≡ At (item ∷ rest) → SparesSpillSlots left_run (state_after left n) item
@@ -123,12 +129,6 @@ module _ (calls : List AnsweredCall) (f : Body) (ssa : SsaState) (width : Pointe
           (Starting.follows_throughout calls f ssa consistent carries finished width world f.signature premises.given_before premises.targets_filled premises.well_typed moving
           entry is_entry (Starting.arguments_count calls entry (types_of f.signature.params) world is_entry premises.well_typed.entry fits.arguments)) j)
         where
-          abbrev Related : ScriptState → FunctionState → Type 0
-          Related = Stepping.Related calls f ssa consistent carries finished width world f.signature premises.given_before premises.targets_filled premises.well_typed moving
-
-          abbrev IsAtZero : FunctionState → Type 0
-          IsAtZero = Stepping.IsAtZero calls f ssa consistent carries finished width world f.signature premises.given_before premises.targets_filled premises.well_typed moving
-
           by : ((n : ℕ) × Related (state_after left n) (state_after right j)) ⊎ IsAtZero (state_after right j)
               → OfNextPlaced (Spares (state_after right j)) (state_after right j).control
           by (inl (n, inl running)) =

@@ -268,7 +268,7 @@ module _ (calls : List AnsweredCall) (f : Body) (ssa : SsaState) (consistent : I
       first = λ j within. (
         e,
         Fronts.next_zero right_run f (λ v. refl) tables e has.zeros has.in_turn (map (placed_inst f) (carries.own.insts e)) right_first (length has.zeros - suc j) (state_after right_machine j)
-        (left_after j (suc (length has.zeros - suc j)) (omega (arith, within))),
+            (left_after j (suc (length has.zeros - suc j)) (omega (arith, within))),
       );
       step = Stepping.step calls f ssa consistent carries finished width world signature placed targets typed moving;
     }

@@ -605,8 +605,8 @@ module _ (calls : List AnsweredCall) (f : Body) (ssa : SsaState) (consistent : I
             passes j within = (
               d,
               subst (NextIsZero f tables d) (sym (after_first j))
-              (Fronts.next_zero right_run f (λ v. refl) tables d has.zeros has.in_turn (map (placed_inst f) (carries.own.insts d)) q1 (length has.zeros - suc j) (steps_from right_machine j q1)
-              (left_after j (suc (length has.zeros - suc j)) (omega (arith, within)))),
+                  (Fronts.next_zero right_run f (λ v. refl) tables d has.zeros has.in_turn (map (placed_inst f) (carries.own.insts d)) q1 (length has.zeros - suc j) (steps_from right_machine j q1)
+                  (left_after j (suc (length has.zeros - suc j)) (omega (arith, within)))),
             )
 
             pub goes_along : IsMatched p0 q0

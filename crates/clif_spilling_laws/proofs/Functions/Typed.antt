@@ -32,54 +32,54 @@ are_long (ty ∷ types) (x ∷ values) are = ap suc (are_long types values are.1
 module _ (run : FunctionRun) (aliases : AliasesTyped run.function) (works : (block : ℕ) → AllByRecursion (WorksFitting run.function) (run.function.blocks block).items)
     (fit : (n : ℕ) → FunctionFits run (state_after (function_machine run) n))
   where
-  operands_hold : (state : FunctionState) → FunctionFits run state → HoldValues run.function.value_type (value_bits run state)
-  operands_hold state fits v = subst (λ (ty : «Type»). IsValue ty (value_bits run state v)) (aliases v) (fits.values (run.function.resolved v))
+    operands_hold : (state : FunctionState) → FunctionFits run state → HoldValues run.function.value_type (value_bits run state)
+    operands_hold state fits v = subst (λ (ty : «Type»). IsValue ty (value_bits run state v)) (aliases v) (fits.values (run.function.resolved v))
 
-  -- what fits the results' types is as many
-  each_of : (state : FunctionState) (placed : Placed) (outcome : Outcome)
-      → GivesValues (map run.function.value_type placed.results) (types_of run.function.signature.returns) (call_shape placed.instruction.operation) outcome
-      → GivesEach run state placed outcome
-  each_of state placed (Gives values memory) gives =
-      let e = length-map placed.results run.function.value_type in
-      let d = are_long (map run.function.value_type placed.results) values gives in
-      omega (arith, e, d)
-  each_of state placed (Goes edge given memory) gives = tt
-  each_of state placed (Returns values) gives = tt
-  each_of state placed (Traps reason) gives = tt
-  each_of state placed NoStep gives = tt
-  each_of state placed (Calls callee call arguments) gives =
-      by (run.world.answer events call) (run.world.answers_fit events call)
-    where
-      events : List Event
-      events = (call_outside run state placed.stack_map callee call arguments).events
+    -- what fits the results' types is as many
+    each_of : (state : FunctionState) (placed : Placed) (outcome : Outcome)
+        → GivesValues (map run.function.value_type placed.results) (types_of run.function.signature.returns) (call_shape placed.instruction.operation) outcome
+        → GivesEach run state placed outcome
+    each_of state placed (Gives values memory) gives =
+        let e = length-map placed.results run.function.value_type in
+        let d = are_long (map run.function.value_type placed.results) values gives in
+        omega (arith, e, d)
+    each_of state placed (Goes edge given memory) gives = tt
+    each_of state placed (Returns values) gives = tt
+    each_of state placed (Traps reason) gives = tt
+    each_of state placed NoStep gives = tt
+    each_of state placed (Calls callee call arguments) gives =
+        by (run.world.answer events call) (run.world.answers_fit events call)
+      where
+        events : List Event
+        events = (call_outside run state placed.stack_map callee call arguments).events
 
-      long : length (map run.function.value_type placed.results) ≡ length placed.results
-      long = length-map placed.results run.function.value_type
+        long : length (map run.function.value_type placed.results) ≡ length placed.results
+        long = length-map placed.results run.function.value_type
 
-      few : (values : List Bits) → AreValues (types_of call.signature.returns) values
-          → (map run.function.value_type placed.results ≡ types_of call.signature.returns) ⊎ (map run.function.value_type placed.results ≡ [])
-          → length placed.results ≤ length values
-      few values are (inl all) =
-          let d = are_long (types_of call.signature.returns) values are in
-          let g = ap (λ (types : List «Type»). length types) all in
-          omega (arith, long, d, g)
-      few values are (inr none) = let g = ap (λ (types : List «Type»). length types) none in omega (arith, long, g)
+        few : (values : List Bits) → AreValues (types_of call.signature.returns) values
+            → (map run.function.value_type placed.results ≡ types_of call.signature.returns) ⊎ (map run.function.value_type placed.results ≡ [])
+            → length placed.results ≤ length values
+        few values are (inl all) =
+            let d = are_long (types_of call.signature.returns) values are in
+            let g = ap (λ (types : List «Type»). length types) all in
+            omega (arith, long, d, g)
+        few values are (inr none) = let g = ap (λ (types : List «Type»). length types) none in omega (arith, long, g)
 
-      by : (answer : Answer) → IsAnswerTo call answer → AnswersEach placed.results answer
-      by (Results values) are = few values are gives.1
-      by (Exception edge payload) are = tt
+        by : (answer : Answer) → IsAnswerTo call answer → AnswersEach placed.results answer
+        by (Results values) are = few values are gives.1
+        by (Exception edge payload) are = tt
 
-  given_next : (n : ℕ) → OfNextPlaced (λ placed. GivesEach run (state_after (function_machine run) n) placed (outcome_in run (state_after (function_machine run) n) placed))
-      (state_after (function_machine run) n).control
-  given_next n =
-      let state : FunctionState = state_after (function_machine run) n in
-      next_follows (WorksFitting run.function) (λ (placed : Placed). GivesEach run state placed (outcome_in run state placed)) state.control
-      (λ placed is. each_of state placed (outcome_in run state placed) (is.gives run.world (value_bits run state) state.memory (operands_hold state (fit n))))
-      (next_is run (WorksFitting run.function) works n)
+    given_next : (n : ℕ) → OfNextPlaced (λ placed. GivesEach run (state_after (function_machine run) n) placed (outcome_in run (state_after (function_machine run) n) placed))
+        (state_after (function_machine run) n).control
+    given_next n =
+        let state : FunctionState = state_after (function_machine run) n in
+        next_follows (WorksFitting run.function) (λ (placed : Placed). GivesEach run state placed (outcome_in run state placed)) state.control
+        (λ placed is. each_of state placed (outcome_in run state placed) (is.gives run.world (value_bits run state) state.memory (operands_hold state (fit n))))
+        (next_is run (WorksFitting run.function) works n)
 
-  -- where each instruction gives what fits, and all values fit, results get bits and members fit
-  pub working_run_fits : (members : ℕ → Bool) → RunFits members run
-  working_run_fits members = record { gives_each = given_next; fits = λ n v member. let state_fits = fit n in state_fits.values v }
+    -- where each instruction gives what fits, and all values fit, results get bits and members fit
+    pub working_run_fits : (members : ℕ → Bool) → RunFits members run
+    working_run_fits members = record { gives_each = given_next; fits = λ n v member. let state_fits = fit n in state_fits.values v }
 
 pub typed_runs_fit : TypedRunsFit
 typed_runs_fit members run typed =
