@@ -30,15 +30,16 @@ module _ {S T : Type 0} (left : Machine S Observation) (right : Machine T Observ
     -- from a step of the left machine on, the first one by which the right machine gets on
     gets_on : (fuel n : ℕ) → measure (state_after left n) < fuel → ComesBy (stands n).0
     gets_on zero n less = absurd (omega (arith, less))
-    gets_on (suc fuel) n less = by (step_at n).matched.steps refl (step_at n).matched.gets_on
+    gets_on (suc fuel) n less = by (λ falls. gets_on fuel (suc n) (omega (arith, falls, less))) (step_at n).matched.steps refl (step_at n).matched.gets_on
       where
-        by : (k : ℕ) → (step_at n).matched.steps ≡ k
+        by : (measure (left.next (state_after left n)) < measure (state_after left n) → ComesBy (stands (suc n)).0)
+            → (k : ℕ) → (step_at n).matched.steps ≡ k
             → (0 < (step_at n).matched.steps) ⊎ (measure (left.next (state_after left n)) < measure (state_after left n)) → ComesBy (stands n).0
-        by (suc k) is some = record { n = n; above = omega arith; below = omega (arith, is) }
-        by zero is (inl some) = absurd (omega (arith, is, some))
-        by zero is (inr falls) =
+        by later (suc k) is some = record { n = n; above = omega arith; below = omega (arith, is) }
+        by later zero is (inl some) = absurd (omega (arith, is, some))
+        by later zero is (inr falls) =
             let same : (stands (suc n)).0 ≡ (stands n).0 = omega (arith, is) in
-            subst ComesBy same (gets_on fuel (suc n) (omega (arith, falls, less)))
+            subst ComesBy same (later falls)
 
     comes_by : (d : ℕ) → ComesBy (follows.simulates.ahead + d)
     comes_by zero =
