@@ -231,7 +231,8 @@ fn land_argument(
     requires plan { IsPlan func.old plan.now }
     requires slots { KnowsSlots func.old slots.old }
     requires edge_exists { edge < length (destinations (inst_at func.old inst).shape) }
-    requires place_exists { place < length (edge_at (destinations (inst_at func.old inst).shape) edge).args }
+    requires place_exists { place
+        < length (edge_at (destinations (inst_at func.old inst).shape) edge).args }
     requires block_exists { landing.now.block < length func.old.blocks }
     requires jump_exists { landing.now.jump < length func.old.insts }
     requires own { All OwnArgument own.old }
