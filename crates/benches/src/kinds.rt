@@ -37,6 +37,8 @@ pub enum Kind {
     Rewritten,
     /// A block with a sum and a call; when the function is finished, what of all its values is live across calls is found.
     Marked,
+    /// The same function; when it is finished, what of all its values is live across calls is spilled.
+    Spilled,
 }
 
 // The keys of a switch: nine in a row, which make a table, and one alone.
@@ -195,7 +197,7 @@ fn turn(builder: &mut FunctionBuilder<'_>, kind: Kind, number: usize) -> Result<
             add(builder, number)?;
             go_on(builder, false)
         }
-        Kind::Marked => {
+        Kind::Marked | Kind::Spilled => {
             add(builder, number)?;
             call_first(builder)?;
             go_on(builder, true)
