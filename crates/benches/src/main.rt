@@ -43,29 +43,32 @@ fn main(rt: HostRuntime) -> ExitCode {
     let Some(mut func) = built(alloc, kind, turns) else {
         return ExitCode::from(1);
     };
-    let Ok(told) = pass(alloc, kind, &mut func) else {
+    let Ok(found) = pass(alloc, kind, &mut func) else {
         return ExitCode::from(1);
     };
     let blocks = func.block_count();
     let insts = func.inst_count();
-    let _ = match told {
+    let _ = match found {
         Some(number) => println!(rt; "{blocks} {insts} {number}"),
         None => println!(rt; "{blocks} {insts}"),
     };
     ExitCode::from(0)
 }
 
-// Makes the pass over a finished function that its kind asks for. Returns the number that it tells, if it tells one.
+// Makes the pass over a finished function that its kind asks for. Returns the number that is printed of it, if there is one.
 fn pass(alloc: Global, kind: Kind, func: &mut Function) -> Result<Option<usize>, Fault> {
     match kind {
         Kind::Mixed => match format!(in alloc; "{}", func.display()) {
             Ok(text) => Ok(Some(text.len())),
             Err(_) => Err(Fault::Refused(BuildError::Memory)),
         },
-        Kind::Rewritten => match surround_all(func) {
-            true => Ok(None),
-            false => Err(Fault::Misuse),
-        },
+        Kind::Rewritten => {
+            if surround_all(func) {
+                Ok(None)
+            } else {
+                Err(Fault::Misuse)
+            }
+        }
         Kind::Marked => Ok(Some(live_across_calls(alloc, func)?)),
         Kind::Spilled => Ok(Some(spill_all(alloc, func)?)),
         _ => Ok(None),
