@@ -7,8 +7,8 @@ ghost use Rattle.benches.specs.Variables.{eight, refused, word};
 
 use clif_types::types::{I32, I64};
 use cranelift_frontend::{
-    Block, BuildError, CallConv, EntityRef, ExtFuncData, ExternalName, FuncRef, FunctionBuilder,
-    InstBuilder, IntCC, Signature, TrapCode, Value, Variable,
+    AbiParam, Block, BuildError, CallConv, EntityRef, ExtFuncData, ExternalName, FuncRef,
+    FunctionBuilder, InstBuilder, IntCC, Signature, TrapCode, Value, Variable,
 };
 use std::alloc::Global;
 
@@ -64,7 +64,7 @@ pub fn declare_all(builder: &mut FunctionBuilder<'_>) -> Result<(), Fault>
 }
 
 // There is a current block, which isn't filled.
-fn open(builder: &FunctionBuilder<'_>) -> Result<(), Fault>
+pub(crate) fn open(builder: &FunctionBuilder<'_>) -> Result<(), Fault>
     ensures { OnOk result (HasCurrent builder.now) }
 {
     match builder.current_block() {
@@ -75,7 +75,7 @@ fn open(builder: &FunctionBuilder<'_>) -> Result<(), Fault>
 }
 
 // A block exists and isn't sealed.
-fn unsealed(builder: &FunctionBuilder<'_>, block: Block) -> Result<(), Fault>
+pub(crate) fn unsealed(builder: &FunctionBuilder<'_>, block: Block) -> Result<(), Fault>
     ensures exists { OnOk result (block < length builder.now.func.now.blocks) }
     ensures unsealed { OnOk result (is_yes (sealed_of builder.now.ctx.now.ssa block) ≡ false) }
 {
@@ -86,7 +86,7 @@ fn unsealed(builder: &FunctionBuilder<'_>, block: Block) -> Result<(), Fault>
 }
 
 // A value exists.
-fn exists(builder: &FunctionBuilder<'_>, value: Value) -> Result<(), Fault>
+pub(crate) fn exists(builder: &FunctionBuilder<'_>, value: Value) -> Result<(), Fault>
     ensures { OnOk result (value < length builder.now.func.now.values) }
 {
     if value.index() >= builder.func().value_count() {
@@ -280,7 +280,33 @@ pub fn give_back(builder: &mut FunctionBuilder<'_>, value: Value) -> Result<(), 
 pub fn import_first(alloc: Global, builder: &mut FunctionBuilder<'_>) -> Result<(), Fault>
     ensures { builder.new.ctx.now.variables ≡ builder.old.ctx.now.variables }
 {
-    let signature = builder.import_signature(Signature::new(alloc, CallConv::SystemV))?;
+    import(builder, Signature::new(alloc, CallConv::SystemV))
+}
+
+/// Imports a function that takes four values of type I32 and returns one.
+pub fn import_of_four(alloc: Global, builder: &mut FunctionBuilder<'_>) -> Result<(), Fault>
+    ensures { builder.new.ctx.now.variables ≡ builder.old.ctx.now.variables }
+{
+    match signature_of_four(alloc) {
+        Ok(signature) => import(builder, signature),
+        Err(error) => Err(Fault::Refused(error)),
+    }
+}
+
+fn signature_of_four(alloc: Global) -> Result<Signature, BuildError> {
+    let mut signature = Signature::new(alloc, CallConv::SystemV);
+    for _ in 0..4 {
+        signature.params.push(AbiParam::new(I32))?;
+    }
+    signature.returns.push(AbiParam::new(I32))?;
+    Ok(signature)
+}
+
+// Imports a function.
+fn import(builder: &mut FunctionBuilder<'_>, signature: Signature) -> Result<(), Fault>
+    ensures { builder.new.ctx.now.variables ≡ builder.old.ctx.now.variables }
+{
+    let signature = builder.import_signature(signature)?;
     if signature.index() >= builder.func().tables().signature_count() {
         return Err(Fault::Misuse);
     }
@@ -303,4 +329,24 @@ pub fn call_first(builder: &mut FunctionBuilder<'_>) -> Result<(), Fault>
     }
     builder.ins().call(FuncRef::from_u32(0), &[])?;
     Ok(())
+}
+
+/// What the function that was imported first returns, which takes four values.
+pub fn call_of_four(builder: &mut FunctionBuilder<'_>, x: Value, y: Value) -> Result<Value, Fault>
+    ensures { builder.new.ctx.now.variables ≡ builder.old.ctx.now.variables }
+{
+    open(builder)?;
+    exists(builder, x)?;
+    exists(builder, y)?;
+    if builder.func().tables().function_count() == 0 {
+        return Err(Fault::Misuse);
+    }
+    let inst = builder.ins().call(FuncRef::from_u32(0), &[x, y, x, y])?;
+    if inst.index() >= builder.func().inst_count() {
+        return Err(Fault::Misuse);
+    }
+    match builder.inst_results(inst) {
+        [value] => Ok(*value),
+        _ => Err(Fault::Misuse),
+    }
 }

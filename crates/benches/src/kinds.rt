@@ -3,9 +3,11 @@ ghost use Rattle.std.specs.Prelude.{◌≡◌};
 ghost use Rattle.benches.specs.Variables.{eight};
 
 use crate::calls::{
-    Fault, assign, branch, call_first, choose, constant, create, enter, float, give_back, guard,
-    inverse, jump, less, narrow, read, seal, sum, widen,
+    Fault, assign, branch, call_first, call_of_four, choose, constant, create, enter, float,
+    give_back, guard, inverse, jump, less, narrow, read, seal, sum, widen,
 };
+use crate::helping::{copy, copy_by_call, fill};
+use crate::switching::switch;
 use cranelift_frontend::{Block, FunctionBuilder};
 
 /// What repeats in a function.
@@ -23,13 +25,24 @@ pub enum Kind {
     Diamonds,
     /// A loop of one block.
     Loops,
+    /// A switch of ten keys in two ranges, two arms of which one assigns, and a join.
+    Switch,
     /// Instructions of several formats in one block.
     Mixed,
+    /// A call of a function that takes four values and returns one, in one block.
+    Calls,
+    /// A copy by loads and stores, a fill by stores and a copy by a call, in one block.
+    Helpers,
     /// A sum in one block; when the function is finished, constants are put around each instruction.
     Rewritten,
     /// A block with a sum and a call; when the function is finished, what of all its values is live across calls is found.
     Marked,
+    /// The same function; when it is finished, what of all its values is live across calls is spilled.
+    Spilled,
 }
+
+// The keys of a switch: nine in a row, which make a table, and one alone.
+const KEYS: [u128; 10] = [0, 1, 2, 3, 4, 5, 6, 7, 8, 20];
 
 // A variable gets the sum of itself and another one.
 fn add(builder: &mut FunctionBuilder<'_>, number: usize) -> Result<(), Fault>
@@ -57,6 +70,31 @@ fn mix(builder: &mut FunctionBuilder<'_>, number: usize) -> Result<(), Fault>
     guard(builder, y)?;
     let mixed = narrow(builder, turned)?;
     assign(builder, number, mixed)
+}
+
+// A variable gets what a function returns of itself and another one.
+fn call(builder: &mut FunctionBuilder<'_>, number: usize) -> Result<(), Fault>
+    requires { builder.old.ctx.now.variables ≡ eight }
+    ensures { builder.new.ctx.now.variables ≡ builder.old.ctx.now.variables }
+{
+    let x = read(builder, number)?;
+    let y = read(builder, number / 8)?;
+    let returned = call_of_four(builder, x, y)?;
+    assign(builder, number, returned)
+}
+
+// Bytes are moved and filled at the addresses that two variables hold.
+fn help(builder: &mut FunctionBuilder<'_>, number: usize) -> Result<(), Fault>
+    requires { builder.old.ctx.now.variables ≡ eight }
+    ensures { builder.new.ctx.now.variables ≡ builder.old.ctx.now.variables }
+{
+    let x = read(builder, number)?;
+    let y = read(builder, number / 8)?;
+    let dest = widen(builder, x)?;
+    let src = widen(builder, y)?;
+    copy(builder, dest, src, 32)?;
+    fill(builder, src, 16)?;
+    copy_by_call(builder, dest, src, dest)
 }
 
 // A jump to a new block, which is entered, and sealed where it is asked for.
@@ -89,19 +127,43 @@ fn arm(
     jump(builder, join)
 }
 
+// Two arms, of which one assigns, and a join, which is entered.
+fn arms(
+    builder: &mut FunctionBuilder<'_>,
+    taken: Block,
+    other: Block,
+    number: usize,
+) -> Result<(), Fault>
+    requires { builder.old.ctx.now.variables ≡ eight }
+    ensures { builder.new.ctx.now.variables ≡ builder.old.ctx.now.variables }
+{
+    let join = create(builder)?;
+    arm(builder, taken, join, Some(number))?;
+    arm(builder, other, join, None)?;
+    seal(builder, join)?;
+    enter(builder, join)
+}
+
 fn diamond(builder: &mut FunctionBuilder<'_>, number: usize) -> Result<(), Fault>
     requires { builder.old.ctx.now.variables ≡ eight }
     ensures { builder.new.ctx.now.variables ≡ builder.old.ctx.now.variables }
 {
     let taken = create(builder)?;
     let other = create(builder)?;
-    let join = create(builder)?;
     let condition = read(builder, number)?;
     branch(builder, condition, taken, other)?;
-    arm(builder, taken, join, Some(number))?;
-    arm(builder, other, join, None)?;
-    seal(builder, join)?;
-    enter(builder, join)
+    arms(builder, taken, other, number)
+}
+
+fn switch_once(builder: &mut FunctionBuilder<'_>, number: usize) -> Result<(), Fault>
+    requires { builder.old.ctx.now.variables ≡ eight }
+    ensures { builder.new.ctx.now.variables ≡ builder.old.ctx.now.variables }
+{
+    let taken = create(builder)?;
+    let other = create(builder)?;
+    let value = read(builder, number)?;
+    switch(builder, value, &KEYS, taken, other)?;
+    arms(builder, taken, other, number)
 }
 
 fn loop_once(builder: &mut FunctionBuilder<'_>, number: usize) -> Result<(), Fault>
@@ -135,7 +197,7 @@ fn turn(builder: &mut FunctionBuilder<'_>, kind: Kind, number: usize) -> Result<
             add(builder, number)?;
             go_on(builder, false)
         }
-        Kind::Marked => {
+        Kind::Marked | Kind::Spilled => {
             add(builder, number)?;
             call_first(builder)?;
             go_on(builder, true)
@@ -143,7 +205,10 @@ fn turn(builder: &mut FunctionBuilder<'_>, kind: Kind, number: usize) -> Result<
         Kind::Far => go_on(builder, true),
         Kind::Diamonds => diamond(builder, number),
         Kind::Loops => loop_once(builder, number),
+        Kind::Switch => switch_once(builder, number),
         Kind::Mixed => mix(builder, number),
+        Kind::Calls => call(builder, number),
+        Kind::Helpers => help(builder, number),
     }
 }
 

@@ -1,23 +1,25 @@
 //! `benches KIND TURNS` builds a function of a kind over the builder's calls, and prints how many blocks and
 //! instructions it has; of the kind `mixed` it makes the text too, and prints its length. A function of the kind
 //! `rewritten` is rewritten when it is finished; of one of the kind `marked` it prints how many values are live across
-//! its calls. tools/bench measures it.
+//! its calls; one of the kind `spilled` is spilled, and it prints how many stack slots that has. tools/bench measures it.
 #![tactic(auto)]
 
 ghost use Rattle.std.specs.Prelude.{◌≡◌};
 
 mod calls;
+mod helping;
 mod kinds;
 mod marking;
 mod rewriting;
+mod switching;
 
-use crate::calls::{Fault, declare_all, import_first};
+use crate::calls::{Fault, declare_all, import_first, import_of_four};
 use crate::kinds::{Kind, make};
-use crate::marking::live_across_calls;
+use crate::marking::{live_across_calls, spill_all};
 use crate::rewriting::surround_all;
 use cranelift_frontend::{
-    CallConv, FinalizeError, Function, FunctionBuilder, FunctionBuilderContext, PointerWidth,
-    Signature, TargetFrontendConfig, UserFuncName,
+    BuildError, CallConv, FinalizeError, Function, FunctionBuilder, FunctionBuilderContext,
+    PointerWidth, Signature, TargetFrontendConfig, UserFuncName,
 };
 use std::alloc::Global;
 use std::env;
@@ -33,7 +35,7 @@ const CONFIG: TargetFrontendConfig = TargetFrontendConfig {
 fn main(rt: HostRuntime) -> ExitCode {
     let Some((kind, turns)) = arguments(&rt) else {
         let _ = rt.eprintln(
-            "usage: benches block|chain|chain_late|far|diamonds|loops|mixed|rewritten|marked TURNS",
+            "usage: benches block|chain|chain_late|far|diamonds|loops|switch|mixed|calls|helpers|rewritten|marked|spilled TURNS",
         );
         return ExitCode::from(2);
     };
@@ -41,26 +43,36 @@ fn main(rt: HostRuntime) -> ExitCode {
     let Some(mut func) = built(alloc, kind, turns) else {
         return ExitCode::from(1);
     };
-    if kind == Kind::Rewritten && !surround_all(&mut func) {
+    let Ok(found) = pass(alloc, kind, &mut func) else {
         return ExitCode::from(1);
-    }
+    };
     let blocks = func.block_count();
     let insts = func.inst_count();
-    if kind == Kind::Mixed {
-        let Ok(text) = format!(in alloc; "{}", func.display()) else {
-            return ExitCode::from(1);
-        };
-        let bytes = text.len();
-        let _ = println!(rt; "{blocks} {insts} {bytes}");
-    } else if kind == Kind::Marked {
-        let Ok(live) = live_across_calls(alloc, &func) else {
-            return ExitCode::from(1);
-        };
-        let _ = println!(rt; "{blocks} {insts} {live}");
-    } else {
-        let _ = println!(rt; "{blocks} {insts}");
-    }
+    let _ = match found {
+        Some(number) => println!(rt; "{blocks} {insts} {number}"),
+        None => println!(rt; "{blocks} {insts}"),
+    };
     ExitCode::from(0)
+}
+
+// Makes the pass over a finished function that its kind asks for. Returns the number that is printed of it, if there is one.
+fn pass(alloc: Global, kind: Kind, func: &mut Function) -> Result<Option<usize>, Fault> {
+    match kind {
+        Kind::Mixed => match format!(in alloc; "{}", func.display()) {
+            Ok(text) => Ok(Some(text.len())),
+            Err(_) => Err(Fault::Refused(BuildError::Memory)),
+        },
+        Kind::Rewritten => {
+            if surround_all(func) {
+                Ok(None)
+            } else {
+                Err(Fault::Misuse)
+            }
+        }
+        Kind::Marked => Ok(Some(live_across_calls(alloc, func)?)),
+        Kind::Spilled => Ok(Some(spill_all(alloc, func)?)),
+        _ => Ok(None),
+    }
 }
 
 fn arguments<R: Env + AllocGlobal>(rt: &R) -> Option<(Kind, usize)> {
@@ -78,9 +90,13 @@ fn kind_named(name: &str) -> Option<Kind> {
         "far" => Some(Kind::Far),
         "diamonds" => Some(Kind::Diamonds),
         "loops" => Some(Kind::Loops),
+        "switch" => Some(Kind::Switch),
         "mixed" => Some(Kind::Mixed),
+        "calls" => Some(Kind::Calls),
+        "helpers" => Some(Kind::Helpers),
         "rewritten" => Some(Kind::Rewritten),
         "marked" => Some(Kind::Marked),
+        "spilled" => Some(Kind::Spilled),
         _ => None,
     }
 }
@@ -92,8 +108,10 @@ fn built(alloc: Global, kind: Kind, turns: usize) -> Option<Function> {
     let mut func = Function::with_name_signature(alloc, UserFuncName::user(0, 0), signature);
     let mut builder = FunctionBuilder::new(&mut func, &mut ctx);
     declare_all(&mut builder).ok()?;
-    if kind == Kind::Marked {
-        import_first(alloc, &mut builder).ok()?;
+    match kind {
+        Kind::Marked | Kind::Spilled => import_first(alloc, &mut builder).ok()?,
+        Kind::Calls => import_of_four(alloc, &mut builder).ok()?,
+        _ => {}
     }
     let made = make(&mut builder, kind, turns);
     let finished = builder.finalize(CONFIG);

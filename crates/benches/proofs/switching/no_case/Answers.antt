@@ -1,0 +1,6 @@
+use Rattle.std.proofs.Common.{rules}
+use Rattle.benches.proofs.Cases.{none_lead}
+use Rattle.benches.proofs.switching.no_case.Goals as goal
+
+pub returns : goal.returns
+returns c = none_lead _ (search rules)
