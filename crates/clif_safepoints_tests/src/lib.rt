@@ -1,8 +1,11 @@
-//! Tests of `clif_safepoints`: the values that are live across calls, by hand.
+//! Tests of `clif_safepoints` and `clif_spiller`: what is live across calls and what is spilled, by hand and in random functions, of
+//! which those that are spilled run beside what they were.
 #![tactic(auto)]
 
 #[cfg(test)]
 mod contexts;
+#[cfg(test)]
+mod counts;
 #[cfg(test)]
 mod fits;
 #[cfg(test)]
@@ -20,6 +23,10 @@ mod slots;
 #[cfg(test)]
 mod spilled_rows;
 #[cfg(test)]
+mod spilled_runs;
+#[cfg(test)]
 mod spills;
 #[cfg(test)]
 mod steps;
+#[cfg(test)]
+mod well_placed;

@@ -11,15 +11,15 @@ use std::test::Fail;
 /// More places than a search of these small functions goes to: no more than two follow each instruction.
 const MOST_STEPS: usize = 1000;
 
-// Asserts that an instruction exists.
-fn asserts_inst(rt: &impl Abort, func: &Function, inst: Inst)
+/// Asserts that an instruction exists.
+pub fn asserts_inst(rt: &impl Abort, func: &Function, inst: Inst)
     ensures { inst < length func.now.insts }
 {
     assert!(rt; inst.index() < func.inst_count());
 }
 
-// Asserts that a block exists.
-fn asserts_block(rt: &impl Abort, func: &Function, block: Block)
+/// Asserts that a block exists.
+pub fn asserts_block(rt: &impl Abort, func: &Function, block: Block)
     ensures { block < length func.now.blocks }
 {
     assert!(rt; block.index() < func.block_count());
@@ -47,6 +47,11 @@ fn is_named(rt: &impl Abort, func: &Function, names: &[Value], value: Value) -> 
     false
 }
 
+/// Whether an instruction has the value as an operand.
+pub fn is_used(rt: &impl Abort, func: &Function, inst: Inst, value: Value) -> bool {
+    is_named(rt, func, shape_of(rt, func, inst).arguments(), value)
+}
+
 // Whether an edge passes the value.
 fn passes(rt: &impl Abort, func: &Function, edge: &BlockCall, value: Value) -> bool {
     for arg in edge.args.as_slice() {
@@ -59,8 +64,8 @@ fn passes(rt: &impl Abort, func: &Function, edge: &BlockCall, value: Value) -> b
     false
 }
 
-// Whether one of an instruction's edges passes the value.
-fn is_passed(rt: &impl Abort, func: &Function, inst: Inst, value: Value) -> bool {
+/// Whether one of an instruction's edges passes the value.
+pub fn is_passed(rt: &impl Abort, func: &Function, inst: Inst, value: Value) -> bool {
     for edge in shape_of(rt, func, inst).branch_destination() {
         if passes(rt, func, edge, value) {
             return true;
@@ -69,8 +74,8 @@ fn is_passed(rt: &impl Abort, func: &Function, inst: Inst, value: Value) -> bool
     false
 }
 
-// Whether an instruction defines the value.
-fn defines(rt: &impl Abort, func: &Function, inst: Inst, value: Value) -> bool {
+/// Whether an instruction defines the value.
+pub fn defines(rt: &impl Abort, func: &Function, inst: Inst, value: Value) -> bool {
     asserts_inst(rt, func, inst);
     func.inst_results(inst).contains(&value)
 }
@@ -104,8 +109,8 @@ fn enter(
     Ok(())
 }
 
-// Goes to all places that follow an instruction, but for blocks whose parameters define the value.
-fn follow(
+/// Goes to all places that follow an instruction, but for blocks whose parameters define the value.
+pub fn follow(
     rt: &impl Abort,
     func: &Function,
     inst: Inst,
@@ -182,7 +187,7 @@ fn comes_to_use(
             continue;
         }
         seen.push(inst)?;
-        if is_named(rt, func, shape_of(rt, func, inst).arguments(), value) {
+        if is_used(rt, func, inst, value) {
             return Ok(true);
         }
         if defines(rt, func, inst, value) {

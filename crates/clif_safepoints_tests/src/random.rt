@@ -59,30 +59,33 @@ struct Made {
     reached: Vec<Inst>,
 }
 
-// A number below a limit, or 0 if that is 0.
-fn below(random: &mut Pcg32, limit: usize) -> usize {
+/// A number below a limit, or 0 if that is 0.
+pub fn below(random: &mut Pcg32, limit: usize) -> usize {
     if limit == 0 {
         return 0;
     }
     random.random_range(0..limit)
 }
 
-// One time in so many.
-fn one_in(random: &mut Pcg32, count: usize) -> bool {
+/// One time in so many.
+pub fn one_in(random: &mut Pcg32, count: usize) -> bool {
     below(random, count) == 0
 }
 
-fn block_at(rt: &impl Abort, number: usize) -> Block {
+/// The block of a number.
+pub fn block_at(rt: &impl Abort, number: usize) -> Block {
     assert!(rt; number < 1000);
     Block::new(number)
 }
 
-fn value_at(rt: &impl Abort, number: usize) -> Value {
+/// The value of a number.
+pub fn value_at(rt: &impl Abort, number: usize) -> Value {
     assert!(rt; number < 1000);
     Value::new(number)
 }
 
-fn inst_at(rt: &impl Abort, number: usize) -> Inst {
+/// The instruction of a number.
+pub fn inst_at(rt: &impl Abort, number: usize) -> Inst {
     assert!(rt; number < 1000);
     Inst::new(number)
 }
@@ -393,7 +396,8 @@ fn live_values(
     Ok(live)
 }
 
-fn is_call(shape: &InstructionData) -> bool {
+/// Whether an instruction calls a function.
+pub fn is_call(shape: &InstructionData) -> bool {
     matches!(
         shape,
         InstructionData::Call { .. } | InstructionData::TryCall { .. }

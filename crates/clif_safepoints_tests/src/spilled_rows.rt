@@ -304,8 +304,8 @@ block0(v0: i64):
 ",
 };
 
-// A value that is used in a later block.
-const FAR: Spill = Spill {
+/// A value that is used in a later block.
+pub const FAR: Spill = Spill {
     name: "far",
     params: &[I64],
     returns: &[I64],

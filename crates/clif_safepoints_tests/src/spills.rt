@@ -63,6 +63,7 @@ pub enum Pass {
 }
 
 /// A function that is spilled, and its text.
+#[derive(Clone, Copy)]
 pub struct Spill {
     pub name: &'static str,
     pub params: &'static [Type],
@@ -141,7 +142,8 @@ fn signature(alloc: Global, params: &[Type], returns: &[Type]) -> Result<Signatu
     Ok(signature)
 }
 
-fn import(
+/// Imports a function of this name, and of these types.
+pub fn import(
     rt: &impl Abort,
     func: &mut Function,
     name: &str,
@@ -200,8 +202,8 @@ fn take_step(rt: &impl Abort, func: &mut Function, step: Make) -> Result<(), Fai
     }
 }
 
-// The function of a case, before it is spilled.
-fn function(rt: &impl Abort, alloc: Global, case: &Spill) -> Result<Function, Fail> {
+/// The function of a case, before it is spilled.
+pub fn function(rt: &impl Abort, alloc: Global, case: &Spill) -> Result<Function, Fail> {
     let name = UserFuncName::testcase(String::from_str(alloc, case.name)?);
     let signature = signature(alloc, case.params, case.returns)?;
     let mut func = Function::with_name_signature(alloc, name, signature);
