@@ -135,6 +135,55 @@ const GROWTHS: [Growth; 9] = [
     },
 ];
 
+// What a set that is used again and again has had added and removed since it was cleared, and what its members are then.
+#[derive(Clone, Copy)]
+struct Use {
+    added: &'static [usize],
+    removed: &'static [usize],
+    members: &'static [usize],
+    // The words between the first and the last member's.
+    words: usize,
+}
+
+const USES: [Use; 6] = [
+    Use {
+        added: &[0, 63, 999],
+        removed: &[],
+        members: &[0, 63, 999],
+        words: 16,
+    },
+    Use {
+        added: &[999],
+        removed: &[],
+        members: &[999],
+        words: 1,
+    },
+    Use {
+        added: &[500, 320, 450],
+        removed: &[],
+        members: &[320, 450, 500],
+        words: 3,
+    },
+    Use {
+        added: &[],
+        removed: &[500],
+        members: &[],
+        words: 0,
+    },
+    Use {
+        added: &[640, 128, 960],
+        removed: &[0, 128, 960, 999],
+        members: &[640],
+        words: 1,
+    },
+    Use {
+        added: &[64],
+        removed: &[64],
+        members: &[],
+        words: 0,
+    },
+];
+
 fn set_of(alloc: Global, size: usize, members: &[usize]) -> Result<NumberSet, Fail> {
     let mut set = NumberSet::new(alloc, size)?;
     for member in members {
@@ -209,5 +258,34 @@ fn removing(rt: HostRuntime) -> Result<(), Fail> {
         }
     }
     has_members(&rt, &set, &[64]);
+    Ok(())
+}
+
+// A set that is cleared for each use has nothing left of the uses before, wherever their members were.
+#[test]
+fn clearing(rt: HostRuntime) -> Result<(), Fail> {
+    let mut set = NumberSet::new(rt.alloc(), 1000)?;
+    for each in USES {
+        for place in each.added {
+            if *place < set.size() {
+                set.insert(*place);
+            }
+        }
+        for place in each.removed {
+            if *place < set.size() {
+                set.remove(*place);
+            }
+        }
+        has_members(&rt, &set, each.members);
+        let mut kept = NumberRow::new(rt.alloc(), set.size());
+        assert!(rt; kept.add_all(&set)? != each.members.is_empty());
+        assert_eq!(rt; kept.words(), each.words);
+        row_has(&rt, &kept, each.members);
+        set.clear();
+        has_members(&rt, &set, &[]);
+        set.add_all(&kept);
+        has_members(&rt, &set, each.members);
+        set.clear();
+    }
     Ok(())
 }

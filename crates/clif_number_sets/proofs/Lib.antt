@@ -5,3 +5,4 @@ pub mod Next
 pub mod Runs
 pub mod Spans
 pub mod Unions
+pub mod Within

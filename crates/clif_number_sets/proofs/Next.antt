@@ -1,8 +1,8 @@
 -- The least marked place at or above a place.
-use Rattle.std.proofs.Common.{◌≡◌, ◌⊎◌, ℕ, ◌+◌, ◌-◌, ◌*◌, ◌/◌, ◌%◌, ◌^◌, ◌<◌, ◌≤◌, true, false, List, Option, Some, None, length, take, drop, length-drop, length-take, sym, ap, ◌∙◌, arith, inl, inr, w64}
+use Rattle.std.proofs.Common.{◌≡◌, ◌⊎◌, ℕ, ◌+◌, ◌-◌, ◌*◌, ◌/◌, ◌%◌, ◌^◌, ◌<◌, ◌≤◌, true, false, List, Option, Some, None, length, sym, ap, ◌∙◌, arith, inl, inr, w64}
 use Rattle.std.specs.Int.{trailing_zeros}
 use Rattle.std.proofs.lemmas.Bool.{cases_lt}
-use Rattle.std.proofs.lemmas.List.{get_or_past, get_or-drop, take_all}
+use Rattle.std.proofs.lemmas.List.{get_or_past}
 use Rattle.clif_number_sets.specs.Sets.{IsNext}
 use Rattle.clif_number_sets.specs.Words.{has_bit, mark_in, marks_of, word_of, IsFirstUsed, IsNextMark, NoneFrom}
 use Rattle.clif_number_sets.proofs.Bits.{lowest, none_above, none_set, shifted}
@@ -13,7 +13,7 @@ mark_at : (words : List ℕ) (place row column : ℕ) → place / 64 ≡ row →
 mark_at words place row column r c = ap (λ k. has_bit (word_of words k) (place % 64)) r ∙ ap (has_bit (word_of words row)) c
 
 -- no place in a word that is zero
-mark_zero : (words : List ℕ) (place : ℕ) → word_of words (place / 64) ≡ 0 → mark_in words place ≡ false
+pub mark_zero : (words : List ℕ) (place : ℕ) → word_of words (place / 64) ≡ 0 → mark_in words place ≡ false
 mark_zero words place none = ap (λ w. has_bit w (place % 64)) none ∙ none_set (place % 64)
 
 pub next_past : (words : List ℕ) (place : ℕ) → length words ≤ place / 64 → IsNextMark words place None
@@ -74,41 +74,30 @@ module _ (words : List ℕ) (place : ℕ) where
 
 -- the first word with a bit, from a number on
 module _ (words : List ℕ) (start : ℕ) where
-  abbrev tail : List ℕ
-  tail = take (length words - start) (drop start words)
+  pub first_none : IsFirstUsed words start (length words) None → IsNextMark words (64 * start) None
+  first_none none other above = mark_zero words other (by (cases_lt (other / 64) (length words)))
+    where
+      by : (other / 64 < length words) ⊎ (length words ≤ other / 64) → word_of words (other / 64) ≡ 0
+      by (inl inside) = none (other / 64) (omega arith) inside
+      by (inr past) = get_or_past words (other / 64) 0 past
 
-  tail_at : (k : ℕ) → word_of tail k ≡ word_of words (start + k)
-  tail_at k = ap (λ ws. word_of ws k) (take_all (length words - start) (drop start words) (omega (arith, length-drop start words))) ∙ get_or-drop start words k 0
-
-  row_of : (other : ℕ) → 64 * start ≤ other → word_of words (other / 64) ≡ word_of tail (other / 64 - start)
-  row_of other above =
-      let e : start + (other / 64 - start) ≡ other / 64 = omega arith in
-      ap (word_of words) (sym e) ∙ sym (tail_at (other / 64 - start))
-
-  pub tail_inside : (first : ℕ) → IsFirstUsed (take (length words - start) (drop start words)) (Some first) → start + first < length words
-  tail_inside first used = omega (arith, used.0, length-take (length words - start) (drop start words), length-drop start words)
-
-  pub first_none : IsFirstUsed (take (length words - start) (drop start words)) None → IsNextMark words (64 * start) None
-  first_none none other above = mark_zero words other (row_of other above ∙ none (other / 64 - start))
-
-  pub first_some : (first value : ℕ) → IsFirstUsed (take (length words - start) (drop start words)) (Some first) → value ≡ word_of words (start + first) → value < 2 ^ 64
-      → (trailing_zeros w64 value < 64) × IsNextMark words (64 * start) (Some (64 * (start + first) + trailing_zeros w64 value))
-  first_some first value used is fits =
-      let here : word_of words (start + first) ≡ word_of tail first = sym (tail_at first) in
-      let some : 0 < value = omega (arith, is, here, used.1) in
+  pub first_some : (next value : ℕ) → IsFirstUsed words start (length words) (Some next) → value ≡ word_of words next → value < 2 ^ 64
+      → (trailing_zeros w64 value < 64) × IsNextMark words (64 * start) (Some (64 * next + trailing_zeros w64 value))
+  first_some next value used is fits =
+      let some : 0 < value = omega (arith, is, used.2) in
       let found = lowest value some fits in
       let bit : ℕ = trailing_zeros w64 value in
       let at = λ (i : ℕ). λ (h : i < 64).
-      mark_at words (64 * (start + first) + i) (start + first) i (omega (arith, h)) (omega (arith, h)) ∙ ap (λ w. has_bit w i) (sym is) in
-      (found.0, (omega arith, at bit found.0 ∙ found.1, λ other above below. by other above below (cases_lt other (64 * (start + first))) found at))
+      mark_at words (64 * next + i) next i (omega (arith, h)) (omega (arith, h)) ∙ ap (λ w. has_bit w i) (sym is) in
+      (found.0, (omega (arith, used.0), at bit found.0 ∙ found.1, λ other above below. by other above below (cases_lt other (64 * next)) found at))
     where
-      by : (other : ℕ) → 64 * start ≤ other → other < 64 * (start + first) + trailing_zeros w64 value → (other < 64 * (start + first)) ⊎ (64 * (start + first) ≤ other)
+      by : (other : ℕ) → 64 * start ≤ other → other < 64 * next + trailing_zeros w64 value → (other < 64 * next) ⊎ (64 * next ≤ other)
           → (trailing_zeros w64 value < 64) × (has_bit value (trailing_zeros w64 value) ≡ true) × ((bit : ℕ) → bit < trailing_zeros w64 value → has_bit value bit ≡ false)
-          → ((i : ℕ) → i < 64 → mark_in words (64 * (start + first) + i) ≡ has_bit value i) → mark_in words other ≡ false
-      by other above below (inl before) found at = mark_zero words other (row_of other above ∙ used.2 (other / 64 - start) (omega arith))
+          → ((i : ℕ) → i < 64 → mark_in words (64 * next + i) ≡ has_bit value i) → mark_in words other ≡ false
+      by other above below (inl before) found at = mark_zero words other (used.3 (other / 64) (omega arith) (omega arith))
       by other above below (inr from) found at =
-          let e : 64 * (start + first) + (other - 64 * (start + first)) ≡ other = omega arith in
-          ap (mark_in words) (sym e) ∙ at (other - 64 * (start + first)) (omega (arith, found.0, below, from)) ∙ found.2 (other - 64 * (start + first)) (omega arith)
+          let e : 64 * next + (other - 64 * next) ≡ other = omega arith in
+          ap (mark_in words) (sym e) ∙ at (other - 64 * next) (omega (arith, found.0, below, from)) ∙ found.2 (other - 64 * next) (omega arith)
 
 -- what is marked is a member
 pub next_member : (size : ℕ) (words : List ℕ) (place : ℕ) (answer : Option ℕ) → NoneFrom size words → IsNextMark words place answer → IsNext (marks_of size words) place answer

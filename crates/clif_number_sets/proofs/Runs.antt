@@ -5,9 +5,10 @@ use Rattle.std.specs.Vec.{with_items}
 use Rattle.std.proofs.lemmas.Bool.{cases_lt}
 use Rattle.std.proofs.lemmas.Nat.{le_or_l, le_or_r}
 use Rattle.std.proofs.lemmas.List.{with_items_is, length-replicate, get_or-replicate, get_or_past, get_or-take, get_or-drop}
-use Rattle.clif_number_sets.specs.Words.{has_bit, spread, word_of, AreUnited, HasNew, IsFirstUsed, IsTrimmed, IsUsedEnd}
+use Rattle.clif_number_sets.specs.Words.{has_bit, spread, word_of, AreUnited, HasNew, IsFirstUsed, IsTrimmed, IsUsedEnd, LieWithin}
 use Rattle.clif_number_sets.proofs.Bits.{joined as joined_bit, or_zero, zero_or}
 use Rattle.clif_number_sets.proofs.Joining.{new_place, spread_at, spread_before, spread_after, spread_from}
+use Rattle.clif_number_sets.proofs.Within.{end_used, none_before}
 
 -- the words that have bits, of others
 pub record IsUsedRun (others : List ℕ) (low end : ℕ) (used : List ℕ) : Type 0 where
@@ -17,45 +18,49 @@ pub record IsUsedRun (others : List ℕ) (low end : ℕ) (used : List ℕ) : Typ
   pub end_is : low + length used ≡ end
   pub inside : end ≤ length others
 
-pub used_run : (others : List ℕ) (low end : ℕ) → IsFirstUsed others (Some low) → IsUsedEnd others end → IsUsedRun others low end (take (end - low) (drop low others))
-used_run others low end first last = record {
+pub used_run : (first last : ℕ) (others : List ℕ) (low end : ℕ) → LieWithin first last others → IsFirstUsed others first last (Some low) → IsUsedEnd (take last others) end
+    → IsUsedRun others low end (take (end - low) (drop low others))
+used_run first last others low end within found reached = record {
   some = omega (arith, count, order);
   trimmed = record { first = λ some. front; last = λ some. back };
   same = λ k. by k (cases_lt k low) (cases_lt k end);
   end_is = omega (arith, count, order);
-  inside = last.inside;
+  inside = used_to.inside;
 }
   where
     used : List ℕ
     used = take (end - low) (drop low others)
 
+    used_to : IsUsedEnd others end
+    used_to = end_used first last others within end reached
+
     order_by : (low < end) ⊎ (end ≤ low) → low < end
     order_by (inl less) = less
-    order_by (inr more) = let none = last.after low more in omega (arith, none, first.1)
+    order_by (inr more) = let none = used_to.after low more in omega (arith, none, found.2)
 
     order : low < end
     order = order_by (cases_lt low end)
 
     count : length used ≡ end - low
-    count = omega (arith, length-take (end - low) (drop low others), length-drop low others, last.inside)
+    count = omega (arith, length-take (end - low) (drop low others), length-drop low others, used_to.inside)
 
     at : (k : ℕ) → k < end - low → word_of used k ≡ word_of others (low + k)
     at k below = get_or-take (end - low) (drop low others) k 0 below ∙ get_or-drop low others k 0
 
     front : 0 < word_of used 0
-    front = let e : low + 0 ≡ low = omega arith in omega (arith, at 0 (omega (arith, order)), ap (word_of others) e, first.1)
+    front = let e : low + 0 ≡ low = omega arith in omega (arith, at 0 (omega (arith, order)), ap (word_of others) e, found.2)
 
     back : 0 < word_of used (length used - 1)
     back =
         let e : low + (length used - 1) ≡ end - 1 = omega (arith, count, order) in
-        omega (arith, at (length used - 1) (omega (arith, count, order)), ap (word_of others) e, last.last (omega (arith, order)))
+        omega (arith, at (length used - 1) (omega (arith, count, order)), ap (word_of others) e, used_to.last (omega (arith, order)))
 
     by : (k : ℕ) → (k < low) ⊎ (low ≤ k) → (k < end) ⊎ (end ≤ k) → word_of (spread low used) k ≡ word_of others k
-    by k (inl before) _ = spread_before low used k before ∙ sym (first.2 k before)
+    by k (inl before) _ = spread_before low used k before ∙ sym (none_before first last others within low found k before)
     by k (inr from) (inl below) =
         let e : low + (k - low) ≡ k = omega arith in
         spread_from low used k from ∙ at (k - low) (omega arith) ∙ ap (word_of others) e
-    by k (inr from) (inr after) = spread_after low used k (omega (arith, count, order)) ∙ sym (last.after k after)
+    by k (inr from) (inr after) = spread_after low used k (omega (arith, count, order)) ∙ sym (used_to.after k after)
 
 pub word-zeros : (count k : ℕ) → word_of (replicate count 0) k ≡ 0
 word-zeros count k = by (cases_lt k count)

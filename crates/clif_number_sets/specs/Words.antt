@@ -39,10 +39,17 @@ AreUnited old others new = (number : ℕ) → word_of new number ≡ bit_or (wor
 abbrev pub HasNew : List ℕ → List ℕ → Type 0
 HasNew old new = (place : ℕ) × (mark_in old place ≡ false) × (mark_in new place ≡ true)
 
--- the number of the first word that has a bit, if there is one
-abbrev pub IsFirstUsed : List ℕ → Option ℕ → Type 0
-IsFirstUsed words None = (number : ℕ) → word_of words number ≡ 0
-IsFirstUsed words (Some first) = (first < length words) × (0 < word_of words first) × ((number : ℕ) → number < first → word_of words number ≡ 0)
+-- each word that has a bit is one from a number to before an end
+pub record LieWithin (first end : ℕ) (words : List ℕ) : Type 0 where
+  pub inside : end ≤ length words
+  pub before : (number : ℕ) → number < first → word_of words number ≡ 0
+  pub after : (number : ℕ) → end ≤ number → word_of words number ≡ 0
+
+-- the number of the first word that has a bit, of those from a number to before an end, if there is one
+abbrev pub IsFirstUsed : List ℕ → ℕ → ℕ → Option ℕ → Type 0
+IsFirstUsed words first end None = (number : ℕ) → first ≤ number → number < end → word_of words number ≡ 0
+IsFirstUsed words first end (Some found) = (first ≤ found) × (found < end) × (0 < word_of words found)
+    × ((number : ℕ) → first ≤ number → number < found → word_of words number ≡ 0)
 
 -- the number after the last word that has a bit
 pub record IsUsedEnd (words : List ℕ) (end : ℕ) : Type 0 where

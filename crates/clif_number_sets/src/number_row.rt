@@ -65,7 +65,8 @@ impl NumberRow {
         self.run.word(place / 64) >> (place % 64) & 1 == 1
     }
 
-    /// Adds the members of a set, and tells whether any of them is new. It takes time for the words of both.
+    /// Adds the members of a set, and tells whether any of them is new. It takes time for the words of the set's range, and
+    /// for the row's own where it comes to keep more of them.
     ///
     /// # Errors
     /// `Memory` alone, and only where a member is new. Then nothing changes.
@@ -79,6 +80,6 @@ impl NumberRow {
         ensures known { IsWithin other.now self.old → IsOk result }
         ensures memory_alone { IsOkUnless result BuildError.Memory }
     {
-        self.run.add(other.words.as_slice())
+        self.run.add(other.words.as_slice(), other.first, other.end)
     }
 }

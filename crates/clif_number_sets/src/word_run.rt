@@ -1,6 +1,6 @@
 //! Words from a number on, without the zeros before the first and after the last word that has a bit.
 ghost use Rattle.std.specs.Prelude.{◌≡◌, ◌+◌, ◌^◌, ◌<◌, ◌≤◌, ℕ, [], max, false, length, IsTrue, IfOk, OnOk, OnErr, IsOk, IsOkUnless};
-ghost use Rattle.clif_number_sets.specs.Words.{spread, word_of, AreUnited, HasNew, IsTrimmed};
+ghost use Rattle.clif_number_sets.specs.Words.{spread, word_of, AreUnited, HasNew, IsTrimmed, LieWithin};
 
 use crate::words::{first_used, join_words, used_end};
 use clif_types::BuildError;
@@ -19,7 +19,7 @@ pub(crate) struct WordRun {
 impl WordRun {
     ghost use Rattle.std.specs.Prelude.{◌≡◌, ◌+◌, ◌<◌, ◌≤◌, [], false, length, IsTrue, IfOk, OnOk, OnErr, IsOkUnless};
     ghost use Rattle.clif_number_sets.specs.Runs.{run_words};
-    ghost use Rattle.clif_number_sets.specs.Words.{word_of, AreUnited, HasNew};
+    ghost use Rattle.clif_number_sets.specs.Words.{word_of, AreUnited, HasNew, LieWithin};
 
     /// No words.
     pub(crate) fn new(alloc: Global) -> WordRun
@@ -41,12 +41,19 @@ impl WordRun {
         }
     }
 
-    /// Adds the bits of other words, which reach at least as far, and tells whether any of them is new.
+    /// Adds the bits of other words, which reach at least as far, and tells whether any of them is new. Only the words from
+    /// `first` to before `end` may have a bit, and no others are looked at.
     ///
     /// # Errors
     /// `Memory` alone, and only where a bit is new. Then nothing changes.
-    pub(crate) fn add(&mut self, others: &[u64]) -> Result<bool, BuildError>
+    pub(crate) fn add(
+        &mut self,
+        others: &[u64],
+        first: usize,
+        end: usize,
+    ) -> Result<bool, BuildError>
         requires inside { self.old.first + length self.old.words.items ≤ length others.now }
+        requires within { LieWithin first end others.now }
         ensures united { OnOk result
             (AreUnited (run_words self.old) others.now (run_words self.new)) }
         ensures inside { self.new.first + length self.new.words.items ≤ length others.now }
@@ -58,17 +65,17 @@ impl WordRun {
         ensures fresh { OnErr result (HasNew (run_words self.old) others.now) }
         ensures memory_alone { IsOkUnless result BuildError.Memory }
     {
-        let Some(low) = first_used(others) else {
+        let Some(low) = first_used(others, first, end) else {
             return Ok(false);
         };
-        let used = &others[low..used_end(others)];
-        let first = self.start(low);
-        if first <= low && low + used.len() <= first + self.words.len() {
-            return Ok(join_words(self.words.as_mut_slice(), low - first, used));
+        let used = &others[low..used_end(&others[..end])];
+        let start = self.start(low);
+        if start <= low && low + used.len() <= start + self.words.len() {
+            return Ok(join_words(self.words.as_mut_slice(), low - start, used));
         }
         *self = joined_run(
             *self.words.allocator(),
-            first,
+            start,
             self.words.as_slice(),
             low,
             used,

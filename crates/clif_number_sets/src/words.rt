@@ -1,12 +1,13 @@
 //! Slices of words: which of them have a bit, and the union of two.
-ghost use Rattle.std.specs.Prelude.{◌≡◌, ℕ, ◌+◌, ◌*◌, ◌^◌, ◌<◌, ◌≤◌, false, length, IsTrue};
-ghost use Rattle.clif_number_sets.specs.Words.{spread, word_of, AreUnited, HasNew, IsFirstUsed, IsNextMark, IsUsedEnd};
+ghost use Rattle.std.specs.Prelude.{◌≡◌, ℕ, ◌+◌, ◌*◌, ◌^◌, ◌<◌, ◌≤◌, false, length, replicate, IsTrue};
+ghost use Rattle.clif_number_sets.specs.Words.{spread, word_of, AreUnited, HasNew, IsFirstUsed, IsNextMark, IsUsedEnd, LieWithin};
 
-/// The number of the first word that has a bit.
-pub(crate) fn first_used(words: &[u64]) -> Option<usize>
-    ensures { IsFirstUsed words.now result }
+/// The number of the first word that has a bit, of those from `first` to before `end`.
+pub(crate) fn first_used(words: &[u64], first: usize, end: usize) -> Option<usize>
+    requires { end ≤ length words.now }
+    ensures { IsFirstUsed words.now first end result }
 {
-    for number in 0..words.len() {
+    for number in first..end {
         if words[number] != 0 {
             return Some(number);
         }
@@ -14,7 +15,7 @@ pub(crate) fn first_used(words: &[u64]) -> Option<usize>
     None
 }
 
-/// The number after the last word that has a bit, or zero.
+/// The number after the last word that has a bit, or zero. It takes time for the words from there on.
 pub(crate) fn used_end(words: &[u64]) -> usize
     ensures { IsUsedEnd words.now result }
 {
@@ -44,11 +45,10 @@ pub(crate) fn next_mark(words: &[u64], place: usize) -> Option<usize>
 
 // The least marked place in the words from a number on.
 fn first_mark(words: &[u64], start: usize) -> Option<usize>
-    requires reach { 64 * length words.now ≤ 2 ^ 64 }
-    requires inside { start ≤ length words.now }
+    requires { 64 * length words.now ≤ 2 ^ 64 }
     ensures { IsNextMark words.now (64 * start) result }
 {
-    let next = start + first_used(&words[start..])?;
+    let next = first_used(words, start, words.len())?;
     Some(64 * next + words[next].trailing_zeros() as usize)
 }
 
@@ -69,6 +69,17 @@ pub(crate) fn join_words(target: &mut [u64], start: usize, source: &[u64]) -> bo
         }
     }
     grown
+}
+
+/// Makes all words zero, where those outside a range are so. It takes time for the words of the range.
+pub(crate) fn erase(words: &mut [u64], first: usize, end: usize)
+    requires { LieWithin first end words.old }
+    ensures { words.new ≡ replicate (length words.old) 0 }
+{
+    if first >= end {
+        return;
+    }
+    words[first..end].fill(0);
 }
 
 /// Each word has no more than 64 bits.

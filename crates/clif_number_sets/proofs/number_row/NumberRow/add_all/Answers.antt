@@ -1,5 +1,5 @@
 use Rattle.std.proofs.Common.{◌≡◌, ◌∙◌, length, sym, ap, subst, arith}
-use Rattle.clif_number_sets.specs.Words.{spread, marks_of, words_for, NoneFrom}
+use Rattle.clif_number_sets.specs.Words.{spread, marks_of, words_for, LieWithin, NoneFrom}
 use Rattle.clif_number_sets.proofs.Marks.{length-marks}
 use Rattle.clif_number_sets.proofs.Unions.{grown_after, known_after, none_after, union_after}
 use Rattle.clif_number_sets.proofs.number_row.NumberRow.add_all.Goals as goal
@@ -10,7 +10,10 @@ add-requires c =
     let same : c.self.inside.size ≡ c.other.inside.size =
     sym (length-marks c.self.inside.size own) ∙ ap length c.self.view_is ∙ c.requires ∙ ap length (sym c.other.view_is) ∙ length-marks c.other.inside.size c.other.inside.words.items in
     let reach : words_for c.self.inside.size ≡ length c.as_slice.result.now = ap words_for same ∙ sym c.other.invariant.0 ∙ ap length (sym c.as_slice.ensures.value) in
-    record { inside = omega (arith, reach, c.self.invariant.0) }
+    record {
+      inside = omega (arith, reach, c.self.invariant.0);
+      within = subst (λ ws. LieWithin c.other.inside.first c.other.inside.end ws) (sym c.as_slice.ensures.value) c.other.invariant.2;
+    }
 
 pub invariant_of-self : goal.invariant_of-self
 invariant_of-self c =

@@ -3,6 +3,7 @@ use Rattle.std.proofs.lemmas.List.{get_or_read}
 use Rattle.clif_number_sets.specs.Words.{has_bit}
 use Rattle.clif_number_sets.proofs.Bits.{set_here, set_other}
 use Rattle.clif_number_sets.proofs.Marks.{length-marks, marks-written, none-written}
+use Rattle.clif_number_sets.proofs.Within.{written_within}
 use Rattle.clif_number_sets.proofs.number_set.NumberSet.insert.Goals as goal
 
 pub index_mut-requires : goal.index_mut-requires
@@ -21,6 +22,7 @@ invariant_of-self c =
       none-written words place _ true inside (set_here word (place % 64) (omega arith))
           (λ bit below apart. set_other word (place % 64) bit (omega arith) apart ∙ ap (λ w. has_bit w bit) read)
           c.self.inside.size below c.self.invariant.1,
+      written_within c.self.inside.first c.self.inside.end words c.self.invariant.2 (place / 64) _ _ _ inside c.min-self-inside.ensures c.max-self-inside.ensures,
     )
 
 pub returns : goal.returns

@@ -1,8 +1,12 @@
-use Rattle.std.proofs.Common.{◌≡◌, ◌<◌, ◌/◌, ◌%◌, ◌∙◌, ℕ, false, length, get_or, set, ap, arith, length-set}
+use Rattle.std.proofs.Common.{◌≡◌, ◌<◌, ◌/◌, ◌%◌, ◌*◌, ◌^◌, w64, ◌∙◌, ℕ, false, length, get_or, set, ap, arith, length-set}
 use Rattle.std.proofs.lemmas.List.{get_or_read}
+use Rattle.std.specs.Prelude.{bit_and}
+use Rattle.std.specs.Int.{bit_not}
+use Rattle.std.specs.Int.Bits.{and_zero_l}
 use Rattle.clif_number_sets.specs.Words.{has_bit}
 use Rattle.clif_number_sets.proofs.Bits.{clear_here, clear_other}
 use Rattle.clif_number_sets.proofs.Marks.{length-marks, marks-written, none-written}
+use Rattle.clif_number_sets.proofs.Within.{kept_within}
 use Rattle.clif_number_sets.proofs.number_set.NumberSet.remove.Goals as goal
 
 pub index_mut-requires : goal.index_mut-requires
@@ -16,11 +20,14 @@ invariant_of-self c =
     let below : place < c.self.inside.size = omega (arith, length-marks c.self.inside.size words, ap length c.self.view_is) in
     let inside : place / 64 < length words = omega (arith, c.self.invariant.0) in
     let word : ℕ = c.index_mut.result.now in
+    let mask : ℕ = bit_not w64 (1 * 2 ^ (place % 64) % 2 ^ 64) in
     let read : word ≡ get_or words (place / 64) 0 = get_or_read words (place / 64) _ inside c.index_mut.ensures.value 0 in (
       length-set words (place / 64) _ ∙ c.self.invariant.0,
       none-written words place _ false inside (clear_here word (place % 64) (omega arith))
           (λ bit below apart. clear_other word (place % 64) bit (omega arith) below apart ∙ ap (λ w. has_bit w bit) read)
           c.self.inside.size below c.self.invariant.1,
+      kept_within c.self.inside.first c.self.inside.end words c.self.invariant.2 (place / 64) _ inside
+          (λ none. ap (λ w. bit_and w mask) (read ∙ none) ∙ and_zero_l mask),
     )
 
 pub returns : goal.returns
