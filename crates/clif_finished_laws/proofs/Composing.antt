@@ -95,4 +95,5 @@ same_function script width s world of =
 pub spilled_means_the_script : SpilledMeansTheScript
 spilled_means_the_script script signature width s members of moving kept by_maps world is_world premises =
     subst (λ (shown : ℕ → Observation). SameMeaning (script_behaviour script s.after world) shown) (same_function script width s world of)
-    (after script signature width s members of moving kept world is_world premises by_maps)
+    (after script signature width s members of moving kept world is_world premises
+    (by_maps (placement script signature width s members of moving kept world is_world premises)))

@@ -11,12 +11,12 @@ use Rattle.clif_finished_laws.specs.Laws.{CarryingKeepsInOrder, hiding_function}
 use Rattle.clif_finished_laws.proofs.Sparing.{carrying_spares}
 
 pub carrying_keeps_in_order : CarryingKeepsInOrder
-carrying_keeps_in_order calls f s width consistent carries finished marks values =
+carrying_keeps_in_order calls f s width consistent carries finished marks =
     let members : ℕ → Bool = λ v. has (recorded_of s.tracking) v in
     record {
       fits = λ hidden world fits premises.
           working_run_fits (hiding_function (script_of calls) (view_of f) world members hidden)
-          (aliases_typed calls f s carries finished.none_waits values premises.well_typed) (works calls f s carries finished.none_waits values premises.well_typed)
-          (carried_fit calls f s carries finished.none_waits values premises.well_typed (OverSet members) hidden world fits.arguments) members;
+          (aliases_typed calls f s carries finished.none_waits premises.well_typed) (works calls f s carries finished.none_waits premises.well_typed)
+          (carried_fit calls f s carries finished.none_waits premises.well_typed (OverSet members) hidden world fits.arguments) members;
       spares = carrying_spares calls f s width consistent carries finished marks;
     }

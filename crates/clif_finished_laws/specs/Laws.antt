@@ -26,8 +26,6 @@ use Rattle.clif_meaning.specs.World.{World}
 use Rattle.clif_simulation.specs.Carries.{Carries}
 use Rattle.clif_simulation.specs.Laws.{IsFinished}
 use Rattle.clif_simulation.specs.Marked.{MeansTheSameMoving}
-use Rattle.clif_simulation.specs.Tables.{program_so_far}
-use Rattle.clif_value_laws.specs.Functions.{OperandsAreValues}
 use Rattle.clif_spilling_laws.specs.PartLaws.{RunFits, SparesThroughout}
 use Rattle.clif_spilling_laws.specs.Runs.{IsMetBy, after_run, before_run}
 use Rattle.clif_spilling_laws.specs.Spilling.{Spilling}
@@ -61,13 +59,12 @@ pub record KeepsInOrder (script : Script) (signature : SignatureShape) (width : 
       → RunFits members (hiding_function script function world members hidden)
   pub spares : SparesAsScript script signature width function members
 
--- A finished function that carries a list of calls whose operands are values keeps its runs in order.
+-- A finished function that carries a list of calls keeps its runs in order.
 abbrev pub CarryingKeepsInOrder : Type 0
 CarryingKeepsInOrder =
     (calls : List AnsweredCall) (f : Body) (s : SsaState) (width : PointerWidth)
     → IsConsistent f → Carries calls f s → IsFinished calls f s
     → ((x : ℕ) → is_marked (ledger_after (script_of calls)) x ≡ has (marked_of s.tracking) x)
-    → EachItem (OperandsAreValues calls) (program_so_far calls)
     → KeepsInOrder (script_of calls) f.signature width (view_of f) (λ v. has (recorded_of s.tracking) v)
 
 -- A function that a script made, and what it became: it had just the slots that the script created, these stay the first ones, and
@@ -83,12 +80,12 @@ MeansTheSameByMaps s members =
     (world : World) → IsMetBy members s world
     → SameMeaning (observed (function_machine (before_run s members world))) (observed (function_machine (after_run s world)))
 
--- A function means the script under a collector over the members, and keeps its runs in order; the function after means the same by
--- maps. So the function after means the script.
+-- A function means the script under a collector over the members, and keeps its runs in order; where the script's premises about
+-- places hold, the function after means the same by maps. So the function after means the script.
 abbrev pub SpilledMeansTheScript : Type 0
 SpilledMeansTheScript =
     (script : Script) (signature : SignatureShape) (width : PointerWidth) (s : Spilling) (members : ℕ → Bool)
     → IsOfScript script width s
     → MeansTheSameMoving script signature width s.before members → KeepsInOrder script signature width s.before members
-    → MeansTheSameByMaps s members
+    → (PlacementPremises script signature → MeansTheSameByMaps s members)
     → MeansTheSame script signature width s.after

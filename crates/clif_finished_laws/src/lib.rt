@@ -9,14 +9,14 @@ pub fn carrying_spares()
     ensures { CarryingSpares }
 {}
 
-/// A finished function that carries calls whose operands are values keeps its runs in order: recorded values fit their types, each result
-/// gets bits, and spill slots are spared where the script spares them.
+/// A finished function that carries calls keeps its runs in order: recorded values fit their types, each result gets bits, and spill
+/// slots are spared where the script spares them.
 pub fn carrying_keeps_in_order()
     ensures { CarryingKeepsInOrder }
 {}
 
-/// A function means the script under a collector over the recorded values; the spilled one means under the collector by stack maps
-/// what that function means. So the spilled one means the script.
+/// A function means the script under a collector over the recorded values; where the script's premises about places hold, the spilled
+/// one means under the collector by stack maps what that function means. So the spilled one means the script.
 pub fn spilled_means_the_script()
     ensures { SpilledMeansTheScript }
 {}

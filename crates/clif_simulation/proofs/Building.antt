@@ -50,16 +50,16 @@ use Rattle.clif_meaning.specs.Program.{Item, Instruct, result_types, answers_fro
 use Rattle.clif_meaning.specs.FunctionView.{Placed}
 use Rattle.clif_meaning.specs.View.{argument_of, edge_of, edges_of, operation_of, controlling_of, first_type, made_at}
 use Rattle.clif_simulation.specs.Tables.{IsProgramOf, code, answered, block_name, program_so_far}
-use Rattle.clif_simulation.specs.Carries.{AreDeclared, AreTypes, Carries, DeclaredAlong, EdgeEarlier, HasEntry, HasNoMaps, HaveEdges, Holds, InstructionsApart, IsCurrent, IsEarlier, LeadsOwn, SoundOnPaths, answered_edge, as_passed, carried, own_placed}
+use Rattle.clif_simulation.specs.Carries.{AreDeclared, AreTypes, Carries, DeclaredAlong, EdgeEarlier, HasEntry, HasNoMaps, HaveEdges, Holds, InstructionsApart, IsCurrent, IsEarlier, IsValue, LeadsOwn, SoundOnPaths, answered_edge, as_passed, carried, own_placed}
 use Rattle.clif_simulation.proofs.Calls.{inserted_soundly, longer_calls, name_stays, open_kept, opened, plain, structured_so_far, values_same}
-use Rattle.clif_simulation.proofs.Carrying.{all_contained, all_mapped, earlier_name, edge_earlier, edges_kept, edges_there, holds_item, leads_kept, numbers_kept}
+use Rattle.clif_simulation.proofs.Carrying.{all_contained, all_mapped, earlier_name, edge_earlier, edges_kept, edges_there, holds_item, leads_kept, numbers_kept, values_kept}
 use Rattle.clif_simulation.proofs.FreeEntry.{entry_inserted, free_before}
 use Rattle.clif_simulation.proofs.Numbering.{apart_made, instruction_first, instruction_new}
 use Rattle.clif_simulation.proofs.Extending.{extended}
 use Rattle.clif_simulation.proofs.Growing.{inserted_entries, GoesOn, KeepsInsts, goes_on-from, goes_on-with_inst, insts_inserted, insts_kept, made_controlled}
 use Rattle.clif_simulation.proofs.ItemCalls.{PutsItem, adds_instruction, last-with_item, number_of_answer}
 use Rattle.clif_simulation.proofs.Layouts.{out_before, never_out}
-use Rattle.clif_simulation.proofs.LedgerValues.{typed_on}
+use Rattle.clif_simulation.proofs.LedgerValues.{typed_on, value_stays}
 use Rattle.clif_simulation.proofs.Ledgers.{fills, types_before}
 use Rattle.clif_simulation.proofs.Places.{contained_at}
 use Rattle.clif_simulation.proofs.Requests
@@ -100,7 +100,7 @@ pub record SameBranch (calls : List AnsweredCall) (tables : TableLists) (shape :
   pub arguments : operands shape ≡ map (answered calls) instruction.operands
   pub edges : edges_of shape ≡ map (answered_edge calls) instruction.edges
   pub contexts_same : contexts shape ≡ map (answered calls) instruction.contexts
-  pub earlier : AllByRecursion (IsEarlier calls) instruction.operands
+  pub values : AllByRecursion (IsValue calls) instruction.operands
   pub contexts_earlier : AllByRecursion (IsEarlier calls) instruction.contexts
   pub edges_earlier : AllByRecursion (EdgeEarlier calls) instruction.edges
 
@@ -111,7 +111,7 @@ pub record SameInstruction (calls : List AnsweredCall) (tables : TableLists) (sh
   pub no_edges : edges_of shape ≡ []
   pub edges : instruction.edges ≡ []
   pub contexts_same : contexts shape ≡ map (answered calls) instruction.contexts
-  pub earlier : AllByRecursion (IsEarlier calls) instruction.operands
+  pub values : AllByRecursion (IsValue calls) instruction.operands
   pub contexts_earlier : AllByRecursion (IsEarlier calls) instruction.contexts
 
 same_branch : (calls : List AnsweredCall) (tables : TableLists) (shape : InstructionData) (instruction : Instruction Name Name)
@@ -121,7 +121,7 @@ same_branch calls tables shape instruction same = record {
   arguments = same.arguments;
   edges = same.no_edges ∙ sym (ap (map (answered_edge calls)) same.edges);
   contexts_same = same.contexts_same;
-  earlier = same.earlier;
+  values = same.values;
   contexts_earlier = same.contexts_earlier;
   edges_earlier = subst (AllByRecursion (EdgeEarlier calls)) (sym same.edges) tt;
 }
@@ -347,7 +347,7 @@ module _ (calls : List AnsweredCall) (f : Body) (s : SsaState) (c : Carries call
         (Requests.puts_instruction calls call B current.current entries instruction refl)
 
     operands_after : operands shape ≡ map (answered after) instruction.operands
-    operands_after = matches.arguments ∙ sym (numbers_kept calls call instruction.operands matches.earlier)
+    operands_after = matches.arguments ∙ sym (values_kept calls call instruction.operands matches.values)
 
     contexts_after : contexts shape ≡ map (answered after) instruction.contexts
     contexts_after = matches.contexts_same ∙ sym (numbers_kept calls call instruction.contexts matches.contexts_earlier)
@@ -399,7 +399,7 @@ module _ (calls : List AnsweredCall) (f : Body) (s : SsaState) (c : Carries call
         holds_item calls call stays c.own mine f m s t c.holds (kept types) (keeps types).more (out_before f b) b B item current.named puts (i ∷ []) own_here own_elsewhere
         (λ d. refl) (typed_on calls call f m c.holds.values_typed (keeps types).types values_typed) (λ out. absurd (never_out f b out))
         (own_new types matches.operation operands_after contexts_after edges_after results controlling results_after) (longer_insts types, tt) (
-          all_mapped (IsEarlier calls) (IsEarlier after) (earlier_name calls call) instruction.operands matches.earlier,
+          all_mapped (IsValue calls) (IsValue after) (value_stays calls call) instruction.operands matches.values,
           earlier_results,
           all_mapped (EdgeEarlier calls) (EdgeEarlier after) (edge_earlier calls call stays) instruction.edges matches.edges_earlier,
           all_mapped (IsEarlier calls) (IsEarlier after) (earlier_name calls call) instruction.contexts matches.contexts_earlier,

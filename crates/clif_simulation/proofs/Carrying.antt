@@ -84,6 +84,9 @@ module _ (calls : List AnsweredCall) (call : AnsweredCall) where
   pub numbers_kept : (names : List Name) → AllByRecursion (IsEarlier calls) names → map (answered after) names ≡ map (answered calls) names
   numbers_kept = map_same (answered after) (answered calls) (IsEarlier calls) (λ name earlier. answered_stays calls call name earlier)
 
+  pub values_kept : (names : List Name) → AllByRecursion (IsValue calls) names → map (answered after) names ≡ map (answered calls) names
+  values_kept names values = numbers_kept names (all_mapped (IsValue calls) (IsEarlier calls) (value_earlier calls) names values)
+
   argument_kept : (argument : Argument Name) → PassesEarlier calls argument → answered_argument after argument ≡ answered_argument calls argument
   argument_kept (Known name) value = ap Known (answered_stays calls call name (value_earlier calls name value))
   argument_kept (CallResult index) earlier = refl
@@ -102,7 +105,7 @@ module _ (calls : List AnsweredCall) (call : AnsweredCall) where
   pub carried_stays : (item : Item) → NamesEarlier calls item → carried after item ≡ carried calls item
   carried_stays (Instruct place instruction results) earlier =
       ap (λ (operands : List ℕ). record { instruction = record (answered_instruction after instruction) { operands = operands }; results = map (answered after) results; stack_map = [] } ∷ [])
-      (numbers_kept instruction.operands earlier.0)
+      (values_kept instruction.operands earlier.0)
       ∙ ap (λ (results : List ℕ). record { instruction = record (answered_instruction after instruction) { operands = map (answered calls) instruction.operands }; results = results; stack_map = [] } ∷ [])
       (numbers_kept results earlier.1)
       ∙ ap (λ (edges : List (Edge ℕ ℕ)). record { instruction = record (answered_instruction calls instruction) { contexts = map (answered after) instruction.contexts; edges = edges }; results = map (answered calls) results; stack_map = [] } ∷ [])
@@ -163,7 +166,7 @@ module _ (calls : List AnsweredCall) (call : AnsweredCall) where
 
     pub earlier_stays : (item : Item) → NamesEarlier calls item → NamesEarlier after item
     earlier_stays (Instruct place instruction results) earlier = (
-      all_mapped (IsEarlier calls) (IsEarlier after) earlier_name instruction.operands earlier.0,
+      all_mapped (IsValue calls) (IsValue after) (value_stays calls call) instruction.operands earlier.0,
       all_mapped (IsEarlier calls) (IsEarlier after) earlier_name results earlier.1,
       all_mapped (EdgeEarlier calls) (EdgeEarlier after) edge_earlier instruction.edges earlier.2,
       all_mapped (IsEarlier calls) (IsEarlier after) earlier_name instruction.contexts earlier.3,
@@ -192,12 +195,9 @@ module _ (calls : List AnsweredCall) (call : AnsweredCall) where
 
       -- The caller's parameters ---------------------------------------------------------------------------------------
 
-      parameters_earlier : (name : Name) → AllByRecursion (IsEarlier calls) ((program_so_far calls).parameters name)
-      parameters_earlier name = all_mapped (IsValue calls) (IsEarlier calls) (value_earlier calls) ((program_so_far calls).parameters name) (c.parameters_values name)
-
       -- the program's parameters of a block have the numbers that they had
       pub parameters_kept : (name : Name) → map (answered after) ((program_so_far calls).parameters name) ≡ map (answered calls) ((program_so_far calls).parameters name)
-      parameters_kept name = numbers_kept ((program_so_far calls).parameters name) (parameters_earlier name)
+      parameters_kept name = values_kept ((program_so_far calls).parameters name) (c.parameters_values name)
 
       -- a call that makes no parameter leaves those of each block, and those of a new block are none
       pub parameters_on : MakesNoParameter call.request → ((block : ℕ) → own'.params block ≡ own.params block)

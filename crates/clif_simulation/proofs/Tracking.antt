@@ -5,3 +5,4 @@ pub mod Giving
 pub mod Coming
 pub mod TrackedNames
 pub mod Agreeing
+pub mod Unrecorded

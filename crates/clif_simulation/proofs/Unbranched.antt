@@ -16,7 +16,7 @@ use Rattle.clif_meaning.specs.FunctionView.{Placed}
 use Rattle.clif_meaning.specs.View.{placed_of, edge_of, edges_of}
 use Rattle.clif_meaning.proofs.StraightLine.{none_of}
 use Rattle.clif_simulation.specs.Tables.{program_so_far, block_name}
-use Rattle.clif_simulation.specs.Carries.{NothingLeads, IsEarlier, NamesEarlier, carried, answered_edge, as_passed, own_placed}
+use Rattle.clif_simulation.specs.Carries.{NothingLeads, IsEarlier, IsValue, NamesEarlier, carried, answered_edge, as_passed, own_placed}
 use Rattle.clif_simulation.proofs.Whole.{Whole}
 use Rattle.clif_simulation.proofs.Finished.Giving.{In, in_contained}
 use Rattle.clif_simulation.proofs.Listed.{none_mapped}
@@ -24,10 +24,10 @@ use Rattle.clif_simulation.proofs.Listed.{none_mapped}
 pub none_leads : (s : SsaState) → NothingLeads s → (b i : ℕ) → Contains (predecessors_of s b) i → ⊥
 none_leads s nothing b i leads = none_of (predecessors_of s b) i (nothing b) leads
 
--- what an item names, and what it gives, was answered, and an instruction has no edges
+-- what an item names was answered, by a value where it is an operand, and so was what it gives; and an instruction has no edges
 abbrev pub PlainlyEarlier : List AnsweredCall → Item → Type 0
 PlainlyEarlier calls (Instruct place instruction results) =
-    AllByRecursion (IsEarlier calls) instruction.operands × AllByRecursion (IsEarlier calls) results × (instruction.edges ≡ [])
+    AllByRecursion (IsValue calls) instruction.operands × AllByRecursion (IsEarlier calls) results × (instruction.edges ≡ [])
 PlainlyEarlier calls (Use variable name) = IsEarlier calls name
 PlainlyEarlier calls (Assign variable name) = IsEarlier calls name
 

@@ -130,10 +130,10 @@ pub record EdgeEarlier (calls : List AnsweredCall) (edge : Edge Name Name) : Typ
   pub leads : block_name calls (answered calls edge.target) ≡ Some edge.target
   pub passes : AllByRecursion (PassesEarlier calls) edge.arguments
 
--- what an item names, and what it gives, was answered
+-- what an item names as an operand was answered by a value; what else it names, and what it gives, was answered
 abbrev pub NamesEarlier : List AnsweredCall → Item → Type 0
 NamesEarlier calls (Instruct place instruction results) =
-    AllByRecursion (IsEarlier calls) instruction.operands × AllByRecursion (IsEarlier calls) results × AllByRecursion (EdgeEarlier calls) instruction.edges
+    AllByRecursion (IsValue calls) instruction.operands × AllByRecursion (IsEarlier calls) results × AllByRecursion (EdgeEarlier calls) instruction.edges
     × AllByRecursion (IsEarlier calls) instruction.contexts
 NamesEarlier calls (Use variable name) = IsEarlier calls name
 NamesEarlier calls (Assign variable name) = IsEarlier calls name

@@ -1,6 +1,6 @@
 -- The law of carrying under any marks: the script's run moves any marked variables and any tracked names, the function's run the
 -- values of any set, where these agree. The marks that calls make are one case. Own.
-use Rattle.std.specs.Prelude.{◌≡◌, ◌≢◌, ℕ, ◌+◌, ◌⊎◌, Bool, List, length, None, Some, Contains, slice_get}
+use Rattle.std.specs.Prelude.{◌≡◌, ◌≢◌, ℕ, ◌+◌, ◌⊎◌, Bool, List, [], length, None, Some, Contains, slice_get}
 use Rattle.clif_types.specs.declared.target.PointerWidth.{PointerWidth}
 use Rattle.clif_types.specs.EntitySet.{has}
 use Rattle.clif_types.specs.Signature.{SignatureShape}
@@ -13,7 +13,7 @@ use Rattle.clif_ssa.specs.Own.{Own}
 use Rattle.clif_ssa.specs.Ssa.{SsaState, predecessors_of}
 use Rattle.clif_ssa.specs.Sound.{edge_target, passed_at}
 use Rattle.clif_meaning.specs.FunctionMachine.{Collector, OverSet, FunctionRun, function_machine}
-use Rattle.clif_meaning.specs.Headline.{script_run, function_run, IsWorldOf}
+use Rattle.clif_meaning.specs.Headline.{MeansTheSame, script_run, function_run, IsWorldOf}
 use Rattle.clif_meaning.specs.FunctionView.{FunctionView}
 use Rattle.clif_meaning.specs.Ledger.{is_marked, ledger_after}
 use Rattle.clif_meaning.specs.Machine.{observed}
@@ -99,3 +99,13 @@ CarryingMeansTheSameTracked =
     → IsConsistent f → Carries calls f s → IsFinished calls f s
     → ((x : ℕ) → is_marked (ledger_after (script_of calls)) x ≡ has (marked_of s.tracking) x)
     → MeansTheSameMoving (script_of calls) f.signature width (view_of f) (λ v. has (recorded_of s.tracking) v)
+
+-- Where nothing was recorded, it means that under the collector by stack maps: the function has none,
+-- and no name that an instruction gives, or a block's entry, is tracked then.
+abbrev pub CarryingMeansTheSameUnrecorded : Type 0
+CarryingMeansTheSameUnrecorded =
+    (calls : List AnsweredCall) (f : Body) (s : SsaState) (width : PointerWidth)
+    → IsConsistent f → Carries calls f s → IsFinished calls f s
+    → ((x : ℕ) → is_marked (ledger_after (script_of calls)) x ≡ has (marked_of s.tracking) x)
+    → recorded_of s.tracking ≡ []
+    → MeansTheSame (script_of calls) f.signature width (view_of f)

@@ -12,14 +12,14 @@ use Rattle.clif_ssa.specs.Structured.{VariableTypes, Structured}
 use Rattle.clif_records.specs.Tables.{is_yes, pending_of}
 use Rattle.clif_meaning.specs.Name.{Name}
 use Rattle.clif_meaning.specs.Request.{AnsweredCall, script_of}
-use Rattle.clif_meaning.specs.Program.{Use, program_of}
+use Rattle.clif_meaning.specs.Program.{Item, Instruct, Use, Assign, program_of}
 use Rattle.clif_meaning.specs.Path.{Place}
 use Rattle.clif_meaning.specs.View.{view_of}
 use Rattle.clif_meaning.specs.Typing.{EdgesMatch}
 use Rattle.clif_meaning.specs.Premises.{CallersEdgesMatch}
 use Rattle.clif_meaning.specs.WellPlaced.{program_code, IsWellPlaced, WellPlaced, Records, RecordsWellPlaced}
 use Rattle.clif_simulation.specs.Tables.{answered, callers_parameters, program_so_far, block_name, item_at}
-use Rattle.clif_simulation.specs.Carries.{AreDeclared, Carries, HasItems, IsValue, NamesEarlier, NothingLeads, OwnNamed, OwnParameters, SparesEntry, ValuesTyped, carried}
+use Rattle.clif_simulation.specs.Carries.{AreDeclared, Carries, EdgeEarlier, HasItems, IsValue, NothingLeads, OwnNamed, OwnParameters, SparesEntry, ValuesTyped, carried}
 
 -- this block's parameters are those that the caller made, in order: none is a variable's
 abbrev pub HasCallersAlone : List AnsweredCall → Body → ℕ → Type 0
@@ -62,13 +62,19 @@ CarryingLeavesNoParameters =
     → Carries calls f s → NoneWaits s
     → LeavesNoParameter calls f s
 
+-- each edge of an item leads to the block that its target names, and passes what was answered by values
+abbrev pub EdgesEarlier : List AnsweredCall → Item → Type 0
+EdgesEarlier calls (Instruct place instruction results) = AllByRecursion (EdgeEarlier calls) instruction.edges
+EdgesEarlier calls (Use variable name) = Unit {0}
+EdgesEarlier calls (Assign variable name) = Unit {0}
+
 -- The same of the edges of every program: edges that control never takes, and edges to the entry, are no exception.
 abbrev pub ConstructionMatchesEdges : Type 0
 ConstructionMatchesEdges =
     (calls : List AnsweredCall) (types : VariableTypes) (own : Own) (f : Body) (s : SsaState)
     → Structured types own f s [] → OwnParameters calls own
     → ((name : Name) → AllByRecursion (IsValue calls) ((program_so_far calls).parameters name)) → ValuesTyped calls f
-    → ((name : Name) → AllByRecursion (NamesEarlier calls) ((program_so_far calls).items name))
+    → ((name : Name) → AllByRecursion (EdgesEarlier calls) ((program_so_far calls).items name))
     → HasItems calls f own → OwnNamed calls own.insts → AreDeclared f s own.insts → NoneWaits s
     → CallersEdgesMatch (script_of calls)
     → EdgesMatch (view_of f)

@@ -1,7 +1,7 @@
 //! What a function that carries a list of calls means.
 
 ghost use Rattle.clif_simulation.specs.Laws.{CarryingMeansTheSame, CarryingReadsRight, CarryingReadsRightComing, CarryingReadsRightFromAnywhere};
-ghost use Rattle.clif_simulation.specs.Marked.{CarryingMeansTheSameMoving, CarryingMeansTheSameTracked};
+ghost use Rattle.clif_simulation.specs.Marked.{CarryingMeansTheSameMoving, CarryingMeansTheSameTracked, CarryingMeansTheSameUnrecorded};
 
 /// A finished function that carries a list of calls, with any branches, joins and loops, means what the list's variable
 /// program means.
@@ -18,6 +18,12 @@ pub fn carrying_means_the_same_moving()
 /// It does under the marks of the calls, where its collector is over what the construction recorded for stack maps.
 pub fn carrying_means_the_same_tracked()
     ensures { CarryingMeansTheSameTracked }
+{}
+
+/// Where the construction recorded nothing for stack maps, it does under the marks of the calls and the collector by stack
+/// maps, of which the function has none.
+pub fn carrying_means_the_same_unrecorded()
+    ensures { CarryingMeansTheSameUnrecorded }
 {}
 
 /// An unfinished function that carries a list of calls, with any branches and parameters of the caller's, has the bits of the

@@ -15,12 +15,12 @@ use Rattle.clif_meaning.specs.FunctionView.{Placed}
 use Rattle.clif_meaning.specs.Ledger.{or_invalid}
 use Rattle.clif_meaning.specs.Name.{Name}
 use Rattle.clif_meaning.specs.Outcome.{outcome_of}
-use Rattle.clif_meaning.specs.Premises.{EachItem, CallersEdgesMatch, IsItemWellTyped, ItemEdgesMatch, EntryTakes, WellTyped}
+use Rattle.clif_meaning.specs.Premises.{CallersEdgesMatch, IsItemWellTyped, ItemEdgesMatch, EntryTakes, WellTyped}
 use Rattle.clif_meaning.specs.Program.{Item, Instruct, Use, Assign, result_types}
 use Rattle.clif_meaning.specs.Request.{AnsweredCall, script_of}
 use Rattle.clif_meaning.specs.Typing.{EachEdgeMatches, EdgesMatch, TakesOperands, call_shape, value_types_at}
 use Rattle.clif_meaning.specs.View.{items_of, placed_of, view_of}
-use Rattle.clif_simulation.specs.Carries.{Carries, Holds, IsValue, ValuesTyped, carried, own_placed}
+use Rattle.clif_simulation.specs.Carries.{Carries, Holds, IsValue, NamesEarlier, ValuesTyped, carried, own_placed}
 use Rattle.clif_simulation.specs.Structure.{NoneWaits}
 use Rattle.clif_simulation.specs.Tables.{answered, block_name, callers_parameters, program_so_far}
 use Rattle.clif_simulation.proofs.Shape.CallersAlone
@@ -28,7 +28,7 @@ use Rattle.clif_simulation.proofs.Shape.CarriedStructure.{matching_edges}
 use Rattle.clif_simulation.proofs.Carrying.{all_append, all_mapped}
 use Rattle.clif_simulation.proofs.LedgerValues.{value_type}
 use Rattle.clif_simulation.proofs.Whole.{are_declared, declared_types}
-use Rattle.clif_value_laws.specs.Functions.{CarriedFunctionsFit, OperandsAreValues, run_of}
+use Rattle.clif_value_laws.specs.Functions.{CarriedFunctionsFit, run_of}
 use Rattle.clif_typed_runs.specs.ValuesFit.{AliasesTyped, EntryHas}
 use Rattle.clif_value_laws.proofs.AcceptedScripts.{AreTyped, HasGiven, calls_given, ledger_of, name_type}
 use Rattle.clif_typed_runs.proofs.FunctionSteps.{GivesFitting, WorksFitting, working_runs_fit}
@@ -60,9 +60,9 @@ module _ (calls : List AnsweredCall) (f : Body) (typed : ValuesTyped calls f) wh
   abbrev returns : List «Type»
   returns = types_of f.signature.returns
 
-  item_fits : (item : Item) → IsItemWellTyped (ledger_of calls) (program_so_far calls) returns item → HasGiven ⊥ (declared_types calls) calls item → OperandsAreValues calls item
+  item_fits : (item : Item) → IsItemWellTyped (ledger_of calls) (program_so_far calls) returns item → HasGiven ⊥ (declared_types calls) calls item → NamesEarlier calls item
       → AllByRecursion (GivesFitting (view_of f)) (carried calls item)
-  item_fits (Instruct place instruction results) well given values = (
+  item_fits (Instruct place instruction results) well given named = (
     λ world bits memory holds.
         subst (λ (types : List «Type»). GivesValues types returns (call_shape instruction.operation)
         (outcome_of world instruction.operation instruction.controlling (map (view_of f).value_type (map (answered calls) instruction.operands))
@@ -70,19 +70,19 @@ module _ (calls : List AnsweredCall) (f : Body) (typed : ValuesTyped calls f) wh
         (sym (results_are results (result_types instruction.operation instruction.controlling) given.0))
         (outcome_values world instruction.operation instruction.controlling returns (map (view_of f).value_type (map (answered calls) instruction.operands))
         (map bits (map (answered calls) instruction.operands)) memory well.made_at
-        (subst (λ (types : List «Type»). TakesOperands returns instruction.operation instruction.controlling types) (sym (values_are instruction.operands values)) well.operands)
+        (subst (λ (types : List «Type»). TakesOperands returns instruction.operation instruction.controlling types) (sym (values_are instruction.operands named.0)) well.operands)
         (operands_fit (view_of f).value_type bits holds (map (answered calls) instruction.operands))),
     tt,
   )
-  item_fits (Use variable name) well given values = tt
-  item_fits (Assign variable name) well given values = tt
+  item_fits (Use variable name) well given named = tt
+  item_fits (Assign variable name) well given named = tt
 
   items_fit : (items : List Item) → AllByRecursion (IsItemWellTyped (ledger_of calls) (program_so_far calls) returns) items
-      → AllByRecursion (HasGiven ⊥ (declared_types calls) calls) items → AllByRecursion (OperandsAreValues calls) items
+      → AllByRecursion (HasGiven ⊥ (declared_types calls) calls) items → AllByRecursion (NamesEarlier calls) items
       → AllByRecursion (GivesFitting (view_of f)) (flat_map (carried calls) items)
-  items_fit [] well given values = tt
-  items_fit (item ∷ items) well given values =
-      all_append (GivesFitting (view_of f)) (carried calls item) (flat_map (carried calls) items) (item_fits item well.0 given.0 values.0) (items_fit items well.1 given.1 values.1)
+  items_fit [] well given named = tt
+  items_fit (item ∷ items) well given named =
+      all_append (GivesFitting (view_of f)) (carried calls item) (flat_map (carried calls) items) (item_fits item well.0 given.0 named.0) (items_fit items well.1 given.1 named.1)
 
 -- BLOCKS ------------------------------------------------------------------------------------------------------------------
 
@@ -98,7 +98,7 @@ of_insts f [] all = tt
 of_insts f (inst ∷ insts) all = (all.0, of_insts f insts all.1)
 
 module _ (calls : List AnsweredCall) (f : Body) (s : SsaState) (carries : Carries calls f s) (none_waits : NoneWaits s)
-    (values : EachItem (OperandsAreValues calls) (program_so_far calls)) (well : WellTyped (ledger_of calls) (program_so_far calls) f.signature) where
+    (well : WellTyped (ledger_of calls) (program_so_far calls) f.signature) where
   abbrev own : Own
   own = carries.own
 
@@ -114,7 +114,7 @@ module _ (calls : List AnsweredCall) (f : Body) (s : SsaState) (carries : Carrie
   own_fit block (Some name) named =
       of_own own f (own.insts block)
       (subst (AllByRecursion (GivesFitting (view_of f))) (sym (holds.items block name named))
-      (items_fit calls f holds.values_typed ((program_so_far calls).items name) (well.items name) (calls_given calls name) (values name)))
+      (items_fit calls f holds.values_typed ((program_so_far calls).items name) (well.items name) (calls_given calls name) (holds.earlier name)))
 
   insts_fit : (block : ℕ) → AllByRecursion (λ inst. GivesFitting (view_of f) (placed_of f inst)) (block_at f block).insts
   insts_fit block =
@@ -185,7 +185,7 @@ module _ (calls : List AnsweredCall) (f : Body) (s : SsaState) (carries : Carrie
       subst (EntryHas (value_types_at (view_of f)) (types_of f.signature.params)) (sym there.1) (entry_params there.0 name there.2 takes)
 
 pub carried_fit : CarriedFunctionsFit
-carried_fit calls f s carries none_waits values well collector hidden world arguments =
-    working_runs_fit (run_of f collector hidden world) (aliases_typed calls f s carries none_waits values well) (works calls f s carries none_waits values well)
+carried_fit calls f s carries none_waits well collector hidden world arguments =
+    working_runs_fit (run_of f collector hidden world) (aliases_typed calls f s carries none_waits well) (works calls f s carries none_waits well)
     (types_of f.signature.params)
-    (entry_has calls f s carries none_waits values well (program_so_far calls).entry refl well.entry) arguments
+    (entry_has calls f s carries none_waits well (program_so_far calls).entry refl well.entry) arguments

@@ -9,9 +9,8 @@ use Rattle.clif_tables.specs.Callees.{types_of}
 use Rattle.clif_meaning.specs.FunctionMachine.{Collector, FunctionRun, function_machine}
 use Rattle.clif_meaning.specs.FunctionView.{Placed}
 use Rattle.clif_meaning.specs.Machine.{state_after}
-use Rattle.clif_meaning.specs.Instruction.{Instruction, named_operands}
+use Rattle.clif_meaning.specs.Instruction.{named_operands}
 use Rattle.clif_meaning.specs.Ledger.{ledger_after}
-use Rattle.clif_meaning.specs.Name.{Name}
 use Rattle.clif_meaning.specs.Premises.{EachItem, WellTyped}
 use Rattle.clif_meaning.specs.Program.{Item, Instruct, Use, Assign, result_types}
 use Rattle.clif_meaning.specs.Request.{AnsweredCall, script_of}
@@ -52,19 +51,11 @@ FitsInRuns f =
 abbrev pub CheckedFunctionsFit : Type 0
 CheckedFunctionsFit = (f : Body) → IsChecked f → FitsInRuns f
 
--- these names of an instruction are values in the ledger of the calls
-abbrev pub NamesAreValues : (names : Instruction Name Name → List Name) → List AnsweredCall → Item → Type 0
-NamesAreValues names calls (Instruct place instruction results) = AllByRecursion (IsValue calls) (names instruction)
-NamesAreValues names calls (Use variable name) = Unit {0}
-NamesAreValues names calls (Assign variable name) = Unit {0}
-
--- an instruction's operands are
-abbrev pub OperandsAreValues : List AnsweredCall → Item → Type 0
-OperandsAreValues calls item = NamesAreValues (λ instruction. instruction.operands) calls item
-
--- what an instruction names itself is: its operands and its contexts
+-- what an instruction names itself, its operands and its contexts, is a value in the ledger of the calls
 abbrev pub NamesValues : List AnsweredCall → Item → Type 0
-NamesValues calls item = NamesAreValues (λ instruction. named_operands instruction) calls item
+NamesValues calls (Instruct place instruction results) = AllByRecursion (IsValue calls) (named_operands instruction)
+NamesValues calls (Use variable name) = Unit {0}
+NamesValues calls (Assign variable name) = Unit {0}
 
 -- Calls that may be made name values as operands and as contexts.
 abbrev pub AcceptedScriptsNameValues : Type 0
@@ -76,5 +67,5 @@ AcceptedScriptsNameValues =
 abbrev pub CarriedFunctionsFit : Type 0
 CarriedFunctionsFit =
     (calls : List AnsweredCall) (f : Body) (s : SsaState)
-    → Carries calls f s → NoneWaits s → EachItem (OperandsAreValues calls) (program_so_far calls)
+    → Carries calls f s → NoneWaits s
     → WellTyped (ledger_after (script_of calls)) (program_so_far calls) f.signature → FitsInRuns f

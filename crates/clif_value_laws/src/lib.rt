@@ -24,8 +24,8 @@ pub fn accepted_scripts_name_values()
     ensures { AcceptedScriptsNameValues }
 {}
 
-/// In each state of the run of a function that carries well-typed calls, whose operands are values, the values fit
-/// their types, once no parameter waits.
+/// In each state of the run of a function that carries well-typed calls, the values fit their types, once no parameter
+/// waits.
 pub fn carried_functions_fit()
     ensures { CarriedFunctionsFit }
 {}

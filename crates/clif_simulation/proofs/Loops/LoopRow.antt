@@ -94,17 +94,17 @@ earlier : (name : Name) → AllByRecursion (NamesEarlier loop_calls) ((program_s
 earlier =
     each_items_of_row (AllByRecursion (NamesEarlier loop_calls)) tt
     ((tt, (early 7 (omega arith), tt), tt, tt), (early 7 (omega arith), ((tt, tt, (to 1 (omega arith) refl, tt), tt), tt)))
-    (early 11 (omega arith), (((early 11 (omega arith), tt), tt, (to 2 (omega arith) refl, (to 3 (omega arith) refl, tt)), tt), tt)) (
+    (early 11 (omega arith), (((refl, tt), tt, (to 2 (omega arith) refl, (to 3 (omega arith) refl, tt)), tt), tt)) (
       early 15 (omega arith),
       (
         (tt, (early 16 (omega arith), tt), tt, tt),
         (
-          ((early 15 (omega arith), (early 16 (omega arith), tt)), (early 17 (omega arith), tt), tt, tt),
-          (early 17 (omega arith), (((early 17 (omega arith), tt), tt, (to 1 (omega arith) refl, (to 1 (omega arith) refl, tt)), tt), tt)),
+          ((refl, (refl, tt)), (early 17 (omega arith), tt), tt, tt),
+          (early 17 (omega arith), (((refl, tt), tt, (to 1 (omega arith) refl, (to 1 (omega arith) refl, tt)), tt), tt)),
         ),
       ),
     )
-    (early 23 (omega arith), (((early 23 (omega arith), tt), tt, tt, tt), tt))
+    (early 23 (omega arith), (((refl, tt), tt, tt, tt), tt))
   where
     to : (number : ℕ) → number < 25 → block_name loop_calls (answered loop_calls (block number)) ≡ Some (block number)
         → EdgeEarlier loop_calls (plain (block number))

@@ -54,7 +54,7 @@ pub carried : Carries call_calls (call_body i32) no_state
 carried =
     carries_plain before_call block_with_callee no_state switched consistent 0 (block 0) (record { current = refl; named = refl }) refl (omega arith)
     (shape.Call 0 []) [] call_instruction 0 (0 ∷ 0 ∷ [])
-    (record { operation = refl; arguments = refl; no_edges = refl; edges = refl; contexts_same = refl; earlier = tt; contexts_earlier = tt }) (i32 ∷ []) refl refl numbered refl
+    (record { operation = refl; arguments = refl; no_edges = refl; edges = refl; contexts_same = refl; values = tt; contexts_earlier = tt }) (i32 ∷ []) refl refl numbered refl
   where
     numbered : (k : ℕ) → k < 1 → slice_get (0 ∷ 0 ∷ []) (suc k) ≡ Some (0 + k)
     numbered zero below = refl

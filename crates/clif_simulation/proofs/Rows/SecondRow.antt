@@ -135,7 +135,7 @@ pub carried : Carries second_calls (second_body 7) no_state
 carried =
     carries_plain five_calls two_blocks no_state five two_consistent 1 (block 1) (record { current = refl; named = refl }) refl (omega arith)
     (UnaryImm (pos 7)) [] (record { operation = Compute (Iconst (pos 7)); controlling = i32; operands = []; contexts = []; edges = [] }) 0 (0 ∷ 0 ∷ [])
-    (record { operation = refl; arguments = refl; no_edges = refl; edges = refl; contexts_same = refl; earlier = tt; contexts_earlier = tt }) (i32 ∷ []) refl refl numbered refl
+    (record { operation = refl; arguments = refl; no_edges = refl; edges = refl; contexts_same = refl; values = tt; contexts_earlier = tt }) (i32 ∷ []) refl refl numbered refl
   where
     numbered : (k : ℕ) → k < 1 → slice_get (0 ∷ 0 ∷ []) (suc k) ≡ Some (0 + k)
     numbered zero below = refl

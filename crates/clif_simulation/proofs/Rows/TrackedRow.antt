@@ -103,7 +103,7 @@ called : Carries four_calls called_body no_state
 called =
     carries_plain three_calls block_of_tracked no_state switched block_consistent 0 (block 0) (record { current = refl; named = refl }) refl (omega arith)
     (shape.Call 0 []) [] call_instruction 0 (0 ∷ 1 ∷ [])
-    (record { operation = refl; arguments = refl; no_edges = refl; edges = refl; contexts_same = refl; earlier = tt; contexts_earlier = tt }) (i32 ∷ []) refl refl numbered refl
+    (record { operation = refl; arguments = refl; no_edges = refl; edges = refl; contexts_same = refl; values = tt; contexts_earlier = tt }) (i32 ∷ []) refl refl numbered refl
   where
     numbered : (k : ℕ) → k < 1 → slice_get (0 ∷ 1 ∷ []) (suc k) ≡ Some (1 + k)
     numbered zero below = refl
@@ -113,7 +113,7 @@ pub carried : Carries tracked_calls tracked_body no_state
 carried =
     carries_plain four_calls called_body no_state called called_consistent 0 (block 0) (record { current = refl; named = refl }) refl (omega arith)
     (shape.Binary Iadd (0 ∷ 0 ∷ [])) [] (doubled first_parameter) 0 (1 ∷ 2 ∷ [])
-    (record { operation = refl; arguments = refl; no_edges = refl; edges = refl; contexts_same = refl; earlier = (omega arith, (omega arith, tt)); contexts_earlier = tt })
+    (record { operation = refl; arguments = refl; no_edges = refl; edges = refl; contexts_same = refl; values = (refl, (refl, tt)); contexts_earlier = tt })
     (i64 ∷ []) refl refl numbered refl
   where
     numbered : (k : ℕ) → k < 1 → slice_get (1 ∷ 2 ∷ []) (suc k) ≡ Some (2 + k)

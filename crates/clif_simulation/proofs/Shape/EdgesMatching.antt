@@ -26,8 +26,8 @@ use Rattle.clif_meaning.specs.View.{argument_of, edge_of, edges_of, operation_of
 use Rattle.clif_meaning.specs.Typing.{EdgesMatch, EachEdgeMatches, EdgeMatches, argument_type, call_shape, value_types_at}
 use Rattle.clif_meaning.specs.Premises.{CallersEdgesMatch, ItemEdgesMatch, parameter_types}
 use Rattle.clif_simulation.specs.Tables.{answered, callers_parameters, program_so_far, block_name}
-use Rattle.clif_simulation.specs.Carries.{AreDeclared, EdgeEarlier, HasItems, IsValue, NamesEarlier, OwnNamed, OwnParameters, PassesEarlier, ValuesTyped, answered_argument, answered_edge, own_placed}
-use Rattle.clif_simulation.specs.Structure.{NoneWaits}
+use Rattle.clif_simulation.specs.Carries.{AreDeclared, EdgeEarlier, HasItems, IsValue, OwnNamed, OwnParameters, PassesEarlier, ValuesTyped, answered_argument, answered_edge, own_placed}
+use Rattle.clif_simulation.specs.Structure.{EdgesEarlier, NoneWaits}
 use Rattle.clif_simulation.proofs.Shape.CallersAlone
 use Rattle.clif_simulation.proofs.Carrying.{all_append, all_mapped}
 use Rattle.clif_simulation.proofs.Listed.{all_at}
@@ -82,7 +82,7 @@ zero_matches f i nowhere =
 
 module _ (calls : List AnsweredCall) (f : Body) (s : SsaState) (own : Own) (types : VariableTypes) (structured : Structured types own f s [])
     (callers_own : OwnParameters calls own) (parameters_values : (name : Name) → AllByRecursion (IsValue calls) ((program_so_far calls).parameters name))
-    (values_typed : ValuesTyped calls f) (earlier : (name : Name) → AllByRecursion (NamesEarlier calls) ((program_so_far calls).items name)) (items : HasItems calls f own) (named_only : OwnNamed calls own.insts)
+    (values_typed : ValuesTyped calls f) (earlier : (name : Name) → AllByRecursion (EdgesEarlier calls) ((program_so_far calls).items name)) (items : HasItems calls f own) (named_only : OwnNamed calls own.insts)
     (declared : AreDeclared f s own.insts) (none_waits : NoneWaits s) (typed : CallersEdgesMatch (script_of calls))
   where
     -- the types of what the call at its start gives along an edge
@@ -113,15 +113,15 @@ module _ (calls : List AnsweredCall) (f : Body) (s : SsaState) (own : Own) (type
         let edge = map_from (answered_edge calls) it.instruction.edges k (record (edge_of call) { arguments = map argument_of (own.passed i (0 + k)) })
         (ap (λ (es : List (Edge ℕ ℕ)). slice_get es k) (sym edges_are) ∙ passes) in
         let same : k ≡ 0 + k = omega arith in
-        let named_earlier : NamesEarlier calls (Instruct it.place it.instruction it.results) =
-        all_at (NamesEarlier calls) ((program_so_far calls).items B) it.j (Instruct it.place it.instruction it.results) (earlier B) it.stands in
+        let edges_earlier : EdgesEarlier calls (Instruct it.place it.instruction it.results) =
+        all_at (EdgesEarlier calls) ((program_so_far calls).items B) it.j (Instruct it.place it.instruction it.results) (earlier B) it.stands in
         let item : ItemEdgesMatch (ledger_after (script_of calls)) (program_so_far calls) (Instruct it.place it.instruction it.results) =
         all_at (ItemEdgesMatch (ledger_after (script_of calls)) (program_so_far calls)) ((program_so_far calls).items B) it.j (Instruct it.place it.instruction it.results) (typed B) it.stands in
         record {
           edge = edge.0;
           target = ap (λ (e : Edge ℕ ℕ). e.target) edge.2;
           passed = ap (λ (m : ℕ). map argument_of (own.passed i m)) same ∙ sym (ap (λ (e : Edge ℕ ℕ). e.arguments) edge.2);
-          was = all_at (EdgeEarlier calls) it.instruction.edges k edge.0 named_earlier.2 edge.1;
+          was = all_at (EdgeEarlier calls) it.instruction.edges k edge.0 edges_earlier edge.1;
           matches = subst (λ (call : Option CallShape).
               EdgeMatches (name_types calls) (parameter_types (ledger_after (script_of calls)) (program_so_far calls)) (results_along call k) (payload_along call k) edge.0)
               (sym (ap (λ (p : Placed). call_shape p.instruction.operation) it.is))

@@ -259,7 +259,7 @@ called =
     carries_plain nine_calls moved_block moved_state assigned block_is_consistent
     0 (block 0) (record { current = refl; named = refl }) refl (omega arith)
     (shape.Call 0 []) import call_instruction 0 (0 ∷ 1 ∷ [])
-    (record { operation = refl; arguments = refl; no_edges = refl; edges = refl; contexts_same = refl; earlier = tt; contexts_earlier = tt })
+    (record { operation = refl; arguments = refl; no_edges = refl; edges = refl; contexts_same = refl; values = tt; contexts_earlier = tt })
     (i32 ∷ []) refl refl numbered refl
   where
     numbered : (k : ℕ) → k < 1 → slice_get (0 ∷ 1 ∷ []) (suc k) ≡ Some (1 + k)
@@ -284,7 +284,7 @@ carried =
     carries_plain eleven_calls moved_called moved_state used called_is_consistent
     0 (block 0) (record { current = refl; named = refl }) refl (omega arith)
     (shape.MultiAry (0 ∷ [])) [] the_return 0 (1 ∷ [])
-    (record { operation = refl; arguments = refl; no_edges = refl; edges = refl; contexts_same = refl; earlier = (omega arith, tt); contexts_earlier = tt })
+    (record { operation = refl; arguments = refl; no_edges = refl; edges = refl; contexts_same = refl; values = (refl, tt); contexts_earlier = tt })
     [] refl refl (λ k below. absurd (omega (arith, below))) refl
 
 -- Finished ----------------------------------------------------------------------------------------------------------------
