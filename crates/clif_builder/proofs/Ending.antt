@@ -1,18 +1,18 @@
 -- What `finalize` answers, from what its parts answer; and where nothing is recorded, it is what the blocks lack.
-use Rattle.std.proofs.Common.{◌≡◌, ◌≢◌, ℕ, Bool, true, false, List, [], length, refl, sym, subst}
-use Rattle.std.specs.Prelude.{Result, Ok, Err, OnOk, Some}
+use Rattle.std.proofs.Common.{◌≡◌, ◌≢◌, ℕ, Bool, true, false, List, [], ◌∷◌, length, refl, sym, subst}
+use Rattle.std.specs.Prelude.{Result, Ok, Err, None, OnOk, Some, is_err}
 use Rattle.clif_ir.specs.Body.{Body, resolved}
 use Rattle.clif_meaning.specs.Acceptance as refused
 use Rattle.clif_meaning.specs.Acceptance.{Refusal}
 use Rattle.clif_meaning.specs.Request.{AnsweredCall}
-use Rattle.clif_safepoints.specs.Contexts.{HasTrackedContext}
+use Rattle.clif_safepoints.specs.Contexts.{HasTrackedContext, IsFirstTracked}
 use Rattle.clif_records.specs.Tracking.{Tracked, recorded_of}
 use Rattle.clif_ssa.proofs.Ordering.{none_contained}
 use Rattle.clif_builder.specs.declared.builder.FunctionBuilder.{FunctionBuilder}
 use Rattle.clif_builder.specs.declared.error.FinalizeError.{FinalizeError}
 use Rattle.clif_builder.specs.declared.error.FinalizeError.TheVariants.{Failed, Full, Memory, TrackedContext, Unfilled, Unsealed}
 use Rattle.clif_builder.specs.Builder.{answer_of, first_fault, verdict_of}
-use Rattle.clif_builder.specs.Ending.{Ends, EndsWith, TellsContext}
+use Rattle.clif_builder.specs.Ending.{AnswersAfter, Ends, EndsWith, TellsContext, TellsSpill, TellsSpilling, recorded_in}
 use Rattle.clif_builder.specs.Ledger.{RefusalAgrees}
 use Rattle.clif_builder.specs.Tracking.{IsUntracked}
 
@@ -47,6 +47,45 @@ pub ends_finished : (b : FunctionBuilder) (answer : Result (Unit {0}) FinalizeEr
     → TellsContext b.func.now (recorded_of b.ctx.now.ssa.tracking) answer → Ends b answer
 ends_finished b answer fine is tells = sound b (Ok tt) answer fine is tells
 
+-- where the parts are refused for nothing, no call failed
+pub sound_where_ok : (b : FunctionBuilder) (verdict : Result (Unit {0}) FinalizeError) → Ends b verdict → OnOk verdict (b.failed ≡ false)
+sound_where_ok b verdict ends = by b.failed verdict ends
+  where
+    by : (failed : Bool) (verdict : Result (Unit {0}) FinalizeError)
+        → EndsWith (verdict_of failed b.ctx.now (length b.func.now.blocks)) b.func.now (recorded_of b.ctx.now.ssa.tracking) verdict → OnOk verdict (failed ≡ false)
+    by true verdict is = subst (λ (r : Result (Unit {0}) FinalizeError). OnOk r (true ≡ false)) (sym is) tt
+    by false (Ok u) is = refl
+    by false (Err e) is = tt
+
+-- what is answered after a verdict
+pub ends_after : (b : FunctionBuilder) (verdict answer : Result (Unit {0}) FinalizeError) → Ends b verdict → AnswersAfter verdict (recorded_in b) answer → Ends b answer
+ends_after b (Err lack) answer ends is = subst (Ends b) (sym is) ends
+ends_after b (Ok u) answer ends tells = by (verdict_of b.failed b.ctx.now (length b.func.now.blocks)) answer ends tells
+  where
+    of_spill : (v : ℕ) (recorded : List ℕ) (answer : Result (Unit {0}) FinalizeError) → IsFirstTracked b.func.now (v ∷ recorded) None → TellsSpill answer
+        → TellsContext b.func.now (v ∷ recorded) answer
+    of_spill v recorded (Ok u) first tells = first
+    of_spill v recorded (Err Memory) first tells = λ none. let no_way : ⊥ = cc in absurd no_way
+    of_spill v recorded (Err Full) first tells = λ none. let no_way : ⊥ = cc in absurd no_way
+    of_spill v recorded (Err (TrackedContext inst)) first never = absurd never
+    of_spill v recorded (Err (Unsealed block)) first never = absurd never
+    of_spill v recorded (Err (Unfilled block)) first never = absurd never
+    of_spill v recorded (Err Failed) first never = absurd never
+
+    of_spiller : (recorded : List ℕ) (answer : Result (Unit {0}) FinalizeError) → IsFirstTracked b.func.now recorded None → TellsSpilling recorded answer → TellsContext b.func.now recorded answer
+    of_spiller [] answer first is = subst (TellsContext b.func.now []) (sym is) first
+    of_spiller (v ∷ recorded) answer first tells = of_spill v recorded answer first tells
+
+    by : (parts answer : Result (Unit {0}) FinalizeError) → EndsWith parts b.func.now (recorded_in b) (Ok u) → TellsSpilling (recorded_in b) answer
+        → EndsWith parts b.func.now (recorded_in b) answer
+    by (Err lack) answer is tells = let no_way : ⊥ = cc in absurd no_way
+    by (Ok v) answer first tells = of_spiller (recorded_in b) answer first tells
+
+-- what holds where a result has no error
+pub where_ok : {E P : Type 0} (r : Result (Unit {0}) E) → is_err r ≡ false → OnOk r P → P
+where_ok (Ok u) fine holds = holds
+where_ok (Err e) fine holds = let no_way : ⊥ = cc in absurd no_way
+
 -- WHERE NOTHING IS RECORDED ---------------------------------------------------------------------------------------------
 
 as_lacking : (verdict : Result (Unit {0}) FinalizeError) (f : Body) (answer : Result (Unit {0}) FinalizeError) → EndsWith verdict f [] answer → answer ≡ verdict
@@ -56,7 +95,7 @@ as_lacking (Ok u) f (Err (TrackedContext inst)) first = absurd (none_tracked f i
 as_lacking (Ok u) f (Err Memory) some = absurd (some refl)
 as_lacking (Ok u) f (Err (Unsealed block)) never = absurd never
 as_lacking (Ok u) f (Err (Unfilled block)) never = absurd never
-as_lacking (Ok u) f (Err Full) never = absurd never
+as_lacking (Ok u) f (Err Full) some = absurd (some refl)
 as_lacking (Ok u) f (Err Failed) never = absurd never
 
 pub ends_untracked : (b : FunctionBuilder) (answer : Result (Unit {0}) FinalizeError) → IsUntracked b.ctx.now → Ends b answer
@@ -75,6 +114,14 @@ on_ok_ends b answer P ends holds = by (verdict_of b.failed b.ctx.now (length b.f
     by (Err lack) answer is p = subst (λ (r : Result (Unit {0}) FinalizeError). OnOk r P) (sym is) tt
     by (Ok u) (Ok v) tells p = p
     by (Ok u) (Err e) tells p = tt
+
+pub on_ok_map : {E A B : Type 0} (r : Result (Unit {0}) E) → (A → B) → OnOk r A → OnOk r B
+on_ok_map (Ok u) f a = f a
+on_ok_map (Err e) f a = tt
+
+pub on_ok_both : {E A B C : Type 0} (r : Result (Unit {0}) E) → (A → B → C) → OnOk r A → OnOk r B → OnOk r C
+on_ok_both (Ok u) both a b = both a b
+on_ok_both (Err e) both a b = tt
 
 -- what the blocks lack is answered
 lack_is_told : (b : FunctionBuilder) (answer : Result (Unit {0}) FinalizeError) (lack : FinalizeError) → Ends b answer

@@ -7,7 +7,7 @@ use Rattle.clif_types.specs.declared.error.BuildError.TheVariants.{Failed}
 use Rattle.clif_types.specs.Signature.{SignatureShape}
 use Rattle.clif_tables.specs.Entries.{TableEntry, AStackSlot, ADynamicStackSlot, AGlobalValue, ASignature, AFunction, count_for, with_entry}
 use Rattle.clif_tables.specs.Lists.{TableLists}
-use Rattle.clif_ir.specs.Body.{Body}
+use Rattle.clif_ir.specs.Body.{Body, value_at}
 use Rattle.clif_ir.specs.Changes.{with_tables}
 use Rattle.clif_ir.specs.Entries.{MakesIn}
 use Rattle.clif_meaning.specs.Request.{AnsweredCall, MakeEntry}
@@ -39,6 +39,8 @@ use Rattle.clif_builder.proofs.LedgerKept.{answers-one, concluded}
 use Rattle.clif_builder.proofs.Named.{kept_by, kept_still}
 use Rattle.clif_builder.proofs.Tracks.{tracks_still}
 use Rattle.clif_builder.proofs.StandingCallers.{alone_after, kept_alone, same_callers}
+use Rattle.clif_builder.proofs.Fitting.{fits_still}
+use Rattle.clif_builder.specs.Tracking.{FitsMaps}
 
 -- the agreement, with other tables
 pub tabled : (calls : List AnsweredCall) (ledger : Ledger) (f : Body) (c : ContextState) (p : Option ℕ) (tables : TableLists) → KeepsConstants f (with_tables f tables)
@@ -248,7 +250,7 @@ entry_refused entry old failed = record {
 pub tables_kept : {A : Type 0} (lists : TableLists) (answer : Result A BuildError) (f g : Body) (c : ContextState) (was now : Bool) → KeepsConstants f (with_tables f lists)
     → was ≡ false → now ≡ is_err answer → OnOk answer (g ≡ with_tables f lists) → OnErr answer (g ≡ f) → ∥ IsKept f c was ∥₁ → ∥ IsKept g c now ∥₁
 tables_kept {A} lists answer f g c was now constants sound fails ok err kept =
-    kept_by answer f g c c was now sound fails (names_made answer ok err) (λ order. order_made answer ok order) kept
+    kept_by answer f g c c was now sound fails (names_made answer ok err) (λ order. order_made answer ok order) (λ order fits. fits_made answer ok fits) kept
   where
     names_made : (r : Result A BuildError) → OnOk r (g ≡ with_tables f lists) → OnErr r (g ≡ f) → NamesExist f c.ssa → NamesExist g c.ssa
     names_made (Ok n) is _ named = subst (λ (h : Body). NamesExist h c.ssa) (sym is) (names_tabled f c.ssa lists named)
@@ -258,6 +260,10 @@ tables_kept {A} lists answer f g c was now constants sound fails ok err kept =
     order_made (Ok n) is order = subst (λ (h : Body). IsInOrder h c) (sym is) (order_tabled f c lists constants order)
     order_made (Err e) is order = tt
 
+    fits_made : (r : Result A BuildError) → OnOk r (g ≡ with_tables f lists) → FitsMaps f c → OnOk r (FitsMaps g c)
+    fits_made (Ok n) is fits = fits_still f g c (λ v there. ap (λ (h : Body). (value_at h v).ty) is) fits
+    fits_made (Err e) is fits = tt
+
 -- the same of a call that can't fail
 pub tables_still : (lists : TableLists) (f g : Body) (c : ContextState) (failed : Bool) → KeepsConstants f (with_tables f lists)
     → g ≡ with_tables f lists → ∥ IsKept f c failed ∥₁ → ∥ IsKept g c failed ∥₁
@@ -265,6 +271,7 @@ tables_still lists f g c failed constants made kept =
     kept_still f g c c failed
     (λ named. subst (λ (h : Body). NamesExist h c.ssa) (sym made) (names_tabled f c.ssa lists named))
     (λ order. subst (λ (h : Body). IsInOrder h c) (sym made) (order_tabled f c lists constants order))
+    (fits_still f g c (λ v there. ap (λ (h : Body). (value_at h v).ty) made))
     kept
 
 pub entry_kept : (entry : TableEntry) (answer : Result ℕ BuildError) (f g : Body) (c : ContextState) (was now : Bool) → was ≡ false → now ≡ is_err answer

@@ -16,24 +16,16 @@ use Rattle.clif_meaning.specs.Name.{Name}
 use Rattle.clif_meaning.specs.Ledger.{BlockState, is_filled, state_has}
 use Rattle.clif_meaning.specs.Request.{AnsweredCall, script_of}
 use Rattle.clif_meaning.specs.View.{view_of}
-use Rattle.clif_meaning.specs.Tracked.{TracksNothing}
-use Rattle.clif_types.specs.EntitySet.{has}
-use Rattle.clif_records.specs.Tracking.{recorded_of}
-use Rattle.clif_meaning.specs.Headline.{MeansTheSame}
-use Rattle.clif_simulation.specs.Marked.{MeansTheSameMoving}
 use Rattle.clif_meaning.specs.Premises.{CallersEdgesMatch, PlacementPremises}
 use Rattle.clif_meaning.specs.Typing.{EdgesMatch}
-use Rattle.clif_meaning.specs.WellPlaced.{Records, RecordsWellPlaced, WellPlaced}
 use Rattle.clif_simulation.specs.Tables as simulation
 use Rattle.clif_simulation.specs.Laws.{IsFinished}
-use Rattle.clif_simulation.specs.Structure.{AreRecords, LeavesNoParameter, NoneWaits}
+use Rattle.clif_simulation.specs.Structure.{NoneWaits}
 use Rattle.clif_simulation.proofs.Values.{false_is}
-use Rattle.clif_simulation.proofs.Whole.{freed, whole}
+use Rattle.clif_simulation.proofs.Whole.{Whole, freed, whole}
 use Rattle.clif_simulation.proofs.Shape.CarriedStructure.{no_parameters}
 use Rattle.clif_simulation.proofs.Shape.Defined.{well_placed}
 use Rattle.clif_simulation.proofs.Shape.RecordsDefined.{records_well_placed}
-use Rattle.clif_simulation.proofs.Finished.Assembly.{means}
-use Rattle.clif_simulation.proofs.Tracking.Agreeing.{means_tracked}
 use Rattle.clif_builder.specs.declared.error.FinalizeError.{FinalizeError}
 use Rattle.clif_builder.specs.declared.error.FinalizeError.TheVariants.{Unsealed, Unfilled, Failed}
 use Rattle.clif_builder.specs.declared.context.BlockStatus.{BlockStatus}
@@ -42,9 +34,12 @@ use Rattle.clif_builder.specs.declared.builder.FunctionBuilder.{FunctionBuilder}
 use Rattle.clif_builder.specs.Context.{ContextState, status_of}
 use Rattle.clif_builder.specs.Builder.{answer_of, block_fault, first_fault, or_else, verdict_of, is_empty_status, is_filled_status}
 use Rattle.clif_builder.specs.Ledger.{ledger_of, block_name}
+use Rattle.clif_builder.specs.Ending.{AsFound, Ends}
 use Rattle.clif_builder.specs.StandsFor.{StandsIn, StandsFor}
 use Rattle.clif_builder.proofs.LedgerNames.{state-by-name, name-number}
 use Rattle.clif_builder.proofs.Placed.{in_order, waiting_begun}
+use Rattle.clif_builder.proofs.Ending.{on_ok_ends}
+use Rattle.clif_builder.proofs.Spilled.{moving}
 use Rattle.clif_builder.proofs.Standing.{standing_edges}
 
 -- no block is at fault, where none is the first
@@ -159,7 +154,7 @@ module _ (declared : SignatureShape) (calls : List AnsweredCall) (f : Body) (c :
   }
 
 -- what holds of a finished function holds where `finalize` succeeds
-pub on_finished : (declared : SignatureShape) (calls : List AnsweredCall) (b : FunctionBuilder) → StandsFor declared calls b → IsConsistent b.func.now
+on_finished : (declared : SignatureShape) (calls : List AnsweredCall) (b : FunctionBuilder) → StandsFor declared calls b → IsConsistent b.func.now
     → (P : Type 0) → (IsFinished calls b.func.now b.ctx.now.ssa → P) → OnOk (verdict_of b.failed b.ctx.now (length b.func.now.blocks)) P
 on_finished declared calls b stands consistent P holds = by b.failed
   where
@@ -171,42 +166,24 @@ on_finished declared calls b stands consistent P holds = by b.failed
     by true = tt
     by false = of_fault (first_fault b.ctx.now 0 (length b.func.now.blocks)) refl
 
--- what `finalize` answers where it succeeds
-pub finished_means : (declared : SignatureShape) (calls : List AnsweredCall) (b : FunctionBuilder) (width : PointerWidth) → StandsFor declared calls b → IsConsistent b.func.now
-    → TracksNothing (script_of calls) → OnOk (verdict_of b.failed b.ctx.now (length b.func.now.blocks)) (MeansTheSame (script_of calls) declared width (view_of b.func.now))
-finished_means declared calls b width stands consistent asks =
-    on_finished declared calls b stands consistent (MeansTheSame (script_of calls) declared width (view_of b.func.now)) (λ finished.
-    subst (λ (s : SignatureShape). MeansTheSame (script_of calls) s width (view_of b.func.now)) stands.signature
-    (means calls b.func.now b.ctx.now.ssa width consistent stands.carries finished asks))
+-- what is so of the function as it is found
+pub as_found : (declared : SignatureShape) (calls : List AnsweredCall) (b : FunctionBuilder) (width : PointerWidth) (stands : StandsFor declared calls b) (consistent : IsConsistent b.func.now)
+    → IsFinished calls b.func.now b.ctx.now.ssa → AsFound declared width calls b
+as_found declared calls b width stands consistent finished = record {
+  moving = moving declared calls b width stands consistent finished;
+  parameters = no_parameters calls b.func.now b.ctx.now.ssa stands.carries finished.none_waits;
+  edges_match = λ typed. standing_edges declared calls b.func.now b.ctx.now b.position stands finished.none_waits typed;
+  well_placed = λ premises. well_placed calls b.func.now b.ctx.now.ssa consistent (all premises) premises.given_before;
+  records_well_placed = λ records are premises.
+      records_well_placed calls b.func.now b.ctx.now.ssa consistent (all premises) premises.given_before records are;
+}
+  where
+    all : PlacementPremises (script_of calls) declared → Whole calls b.func.now b.ctx.now.ssa
+    all premises = whole calls b.func.now b.ctx.now.ssa consistent stands.carries (freed calls b.func.now b.ctx.now.ssa stands.carries premises.targets_filled)
 
--- and under a collector over what is recorded, whatever stack maps were asked for
-pub finished_moves : (declared : SignatureShape) (calls : List AnsweredCall) (b : FunctionBuilder) (width : PointerWidth) → StandsFor declared calls b → IsConsistent b.func.now
-    → OnOk (verdict_of b.failed b.ctx.now (length b.func.now.blocks)) (MeansTheSameMoving (script_of calls) declared width (view_of b.func.now) (has (recorded_of b.ctx.now.ssa.tracking)))
-finished_moves declared calls b width stands consistent =
-    on_finished declared calls b stands consistent (MeansTheSameMoving (script_of calls) declared width (view_of b.func.now) (has (recorded_of b.ctx.now.ssa.tracking))) (λ finished.
-    subst (λ (s : SignatureShape). MeansTheSameMoving (script_of calls) s width (view_of b.func.now) (has (recorded_of b.ctx.now.ssa.tracking))) stands.signature
-    (means_tracked calls b.func.now b.ctx.now.ssa width consistent stands.carries finished stands.ledger.tracks.marks))
-
-pub finished_parameters : (declared : SignatureShape) (calls : List AnsweredCall) (b : FunctionBuilder) → StandsFor declared calls b → IsConsistent b.func.now
-    → OnOk (verdict_of b.failed b.ctx.now (length b.func.now.blocks)) (LeavesNoParameter calls b.func.now b.ctx.now.ssa)
-finished_parameters declared calls b stands consistent =
-    on_finished declared calls b stands consistent (LeavesNoParameter calls b.func.now b.ctx.now.ssa) (λ finished. no_parameters calls b.func.now b.ctx.now.ssa stands.carries finished.none_waits)
-
-pub finished_edges : (declared : SignatureShape) (calls : List AnsweredCall) (b : FunctionBuilder) → StandsFor declared calls b → IsConsistent b.func.now
-    → CallersEdgesMatch (script_of calls) → OnOk (verdict_of b.failed b.ctx.now (length b.func.now.blocks)) (EdgesMatch (view_of b.func.now))
-finished_edges declared calls b stands consistent typed =
-    on_finished declared calls b stands consistent (EdgesMatch (view_of b.func.now)) (λ finished. standing_edges declared calls b.func.now b.ctx.now b.position stands finished.none_waits typed)
-
-pub finished_placed : (declared : SignatureShape) (calls : List AnsweredCall) (b : FunctionBuilder) → StandsFor declared calls b → IsConsistent b.func.now
-    → PlacementPremises (script_of calls) declared → OnOk (verdict_of b.failed b.ctx.now (length b.func.now.blocks)) (WellPlaced (view_of b.func.now))
-finished_placed declared calls b stands consistent premises =
-    on_finished declared calls b stands consistent (WellPlaced (view_of b.func.now)) (λ finished.
-    well_placed calls b.func.now b.ctx.now.ssa consistent (whole calls b.func.now b.ctx.now.ssa consistent stands.carries (freed calls b.func.now b.ctx.now.ssa stands.carries premises.targets_filled)) premises.given_before)
-
-pub finished_records : (declared : SignatureShape) (calls : List AnsweredCall) (records : Records) (b : FunctionBuilder) → StandsFor declared calls b → IsConsistent b.func.now
-    → AreRecords calls b.func.now b.ctx.now.ssa records → PlacementPremises (script_of calls) declared
-    → OnOk (verdict_of b.failed b.ctx.now (length b.func.now.blocks)) (RecordsWellPlaced (view_of b.func.now) records)
-finished_records declared calls records b stands consistent are premises =
-    on_finished declared calls b stands consistent (RecordsWellPlaced (view_of b.func.now) records) (λ finished.
-    records_well_placed calls b.func.now b.ctx.now.ssa consistent (whole calls b.func.now b.ctx.now.ssa consistent stands.carries (freed calls b.func.now b.ctx.now.ssa stands.carries premises.targets_filled)) premises.given_before
-    records are)
+-- the construction is finished where `finalize` succeeds
+pub finished_where_ok : (declared : SignatureShape) (calls : List AnsweredCall) (b : FunctionBuilder) (answer : Result (Unit {0}) FinalizeError) → StandsFor declared calls b → IsConsistent b.func.now
+    → Ends b answer → OnOk answer (IsFinished calls b.func.now b.ctx.now.ssa)
+finished_where_ok declared calls b answer stands consistent ends =
+    on_ok_ends b answer (IsFinished calls b.func.now b.ctx.now.ssa) ends
+    (on_finished declared calls b stands consistent (IsFinished calls b.func.now b.ctx.now.ssa) (λ finished. finished))

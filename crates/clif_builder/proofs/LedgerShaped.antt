@@ -50,7 +50,7 @@ use Rattle.clif_builder.specs.declared.builder.FunctionBuilder.{FunctionBuilder}
 use Rattle.clif_builder.specs.Context.{ContextState, SetsStatus, begun, status_of}
 use Rattle.clif_builder.specs.Builder.{AppendsIn, CanLeadIn, HasCurrent}
 use Rattle.clif_builder.specs.Construction.{IsDeclared}
-use Rattle.clif_builder.specs.Ledger.{HasShape, LedgerAgrees, NamesArguments, NamesEdge, NamesEdges, NamesExceptions, NamesValue, ledger_of}
+use Rattle.clif_builder.specs.Ledger.{HasShape, LedgerAgrees, NamesArguments, NamesEdge, NamesEdges, NamesExceptions, NamesValue, NamesValues, ledger_of}
 use Rattle.clif_builder.proofs.LedgerLists.{map-some}
 use Rattle.clif_builder.proofs.LedgerKept.{concluded, named-value}
 use Rattle.clif_builder.proofs.LedgerBuilt.{agrees-built, agrees-ended, node-there}
@@ -182,8 +182,19 @@ named-type calls f c p agrees name value names =
     let node = map-some (λ (n : ValueNode). n.ty) (slice_get f.values value) named.0 named.2 in
     ap or_invalid named.1 ∙ sym (ap (λ (n : ValueNode). n.ty) (get_or_from_slice_get f.values value node.0 no_value node.1) ∙ node.2)
 
+-- no value, and one more
+names_none : (calls : List AnsweredCall) → NamesValues calls [] []
+names_none calls = record { numbers = refl; are_values = tt }
+
+names_more : (calls : List AnsweredCall) {a : Name} {x : ℕ} {names : List Name} {values : List ℕ} → NamesValue calls a x → NamesValues calls names values
+    → NamesValues calls (a ∷ names) (x ∷ values)
+names_more calls first rest = record {
+  numbers = ap₂ (λ (o : Option ℕ) (os : List (Option ℕ)). o ∷ os) first.number rest.numbers;
+  are_values = (first.is_value, rest.are_values);
+}
+
 pub iconst-shape : (calls : List AnsweredCall) (f : Body) (ty : «Type») (imm : ℤ) → HasShape calls f (plain (Compute (Iconst imm)) ty []) (UnaryImm imm) ty
-iconst-shape calls f ty imm = record { operation = refl; controlling = refl; typed = refl; operands_numbered = refl; contexts_numbered = refl; edges = tt }
+iconst-shape calls f ty imm = record { operation = refl; controlling = refl; typed = refl; operands_named = names_none calls; contexts_numbered = refl; edges = tt }
 
 pub unary-shape : (calls : List AnsweredCall) (f : Body) (c : ContextState) (p : Option ℕ) → LedgerAgrees calls (ledger_of calls) f c p
     → (opcode : UnaryOpcode) (a : Name) (x : ℕ) → NamesValue calls a x
@@ -193,7 +204,7 @@ unary-shape calls f c p agrees opcode a x first =
       operation = refl;
       typed = refl;
       controlling = named-type calls f c p agrees a x first;
-      operands_numbered = ap (λ (o : Option ℕ). o ∷ []) first.number;
+      operands_named = names_more calls first (names_none calls);
       contexts_numbered = refl;
       edges = tt;
     }
@@ -206,8 +217,7 @@ binary-shape calls f c p agrees opcode a b x y first second =
       operation = refl;
       typed = refl;
       controlling = named-type calls f c p agrees a x first;
-      operands_numbered =
-          ap (λ (o : Option ℕ). o ∷ number_of calls b ∷ []) first.number ∙ ap (λ (o : Option ℕ). Some x ∷ o ∷ []) second.number;
+      operands_named = names_more calls first (names_more calls second (names_none calls));
       contexts_numbered = refl;
       edges = tt;
     }
@@ -215,7 +225,7 @@ binary-shape calls f c p agrees opcode a b x y first second =
 pub convert-shape : (calls : List AnsweredCall) (f : Body) (opcode : ConvertOpcode) (ty : «Type») (a : Name) (x : ℕ) → NamesValue calls a x
     → HasShape calls f (plain (Compute (operation.Convert opcode)) ty (a ∷ [])) (Convert opcode x) ty
 convert-shape calls f opcode ty a x names =
-    record { operation = refl; controlling = refl; typed = refl; operands_numbered = ap (λ (o : Option ℕ). o ∷ []) names.number; contexts_numbered = refl; edges = tt }
+    record { operation = refl; controlling = refl; typed = refl; operands_named = names_more calls names (names_none calls); contexts_numbered = refl; edges = tt }
 
 pub select-shape : (calls : List AnsweredCall) (f : Body) (c : ContextState) (p : Option ℕ) → LedgerAgrees calls (ledger_of calls) f c p
     → (condition a b : Name) (n x y : ℕ) → NamesValue calls condition n → NamesValue calls a x → NamesValue calls b y
@@ -225,42 +235,34 @@ select-shape calls f c p agrees condition a b n x y tested first second =
       operation = refl;
       typed = refl;
       controlling = named-type calls f c p agrees a x first;
-      operands_numbered =
-          ap (λ (o : Option ℕ). o ∷ number_of calls a ∷ number_of calls b ∷ []) tested.number
-          ∙ ap (λ (o : Option ℕ). Some n ∷ o ∷ number_of calls b ∷ []) first.number
-          ∙ ap (λ (o : Option ℕ). Some n ∷ Some x ∷ o ∷ []) second.number;
+      operands_named = names_more calls tested (names_more calls first (names_more calls second (names_none calls)));
       contexts_numbered = refl;
       edges = tt;
     }
 
--- two operands that are made at the type of the first
-two-operands : (calls : List AnsweredCall) (a b : Name) (x y : ℕ) → NamesValue calls a x → NamesValue calls b y → map (number_of calls) (a ∷ b ∷ []) ≡ map Some (x ∷ y ∷ [])
-two-operands calls a b x y first second =
-    ap (λ (o : Option ℕ). o ∷ number_of calls b ∷ []) first.number ∙ ap (λ (o : Option ℕ). Some x ∷ o ∷ []) second.number
-
 pub float-shape : (calls : List AnsweredCall) (f : Body) (opcode : FloatConstOpcode) (bits : ℕ)
     → HasShape calls f (plain (Compute (operation.FloatConst opcode bits)) type.Invalid []) (UnaryIeee opcode bits) type.Invalid
-float-shape calls f F16const bits = record { operation = refl; controlling = refl; typed = refl; operands_numbered = refl; contexts_numbered = refl; edges = tt }
-float-shape calls f F32const bits = record { operation = refl; controlling = refl; typed = refl; operands_numbered = refl; contexts_numbered = refl; edges = tt }
-float-shape calls f F64const bits = record { operation = refl; controlling = refl; typed = refl; operands_numbered = refl; contexts_numbered = refl; edges = tt }
+float-shape calls f F16const bits = record { operation = refl; controlling = refl; typed = refl; operands_named = names_none calls; contexts_numbered = refl; edges = tt }
+float-shape calls f F32const bits = record { operation = refl; controlling = refl; typed = refl; operands_named = names_none calls; contexts_numbered = refl; edges = tt }
+float-shape calls f F64const bits = record { operation = refl; controlling = refl; typed = refl; operands_named = names_none calls; contexts_numbered = refl; edges = tt }
 
 pub compare-shape : (calls : List AnsweredCall) (f : Body) (c : ContextState) (p : Option ℕ) → LedgerAgrees calls (ledger_of calls) f c p
     → (condition : IntCC) (a b : Name) (x y : ℕ) → NamesValue calls a x → NamesValue calls b y
     → HasShape calls f (plain (Compute (operation.Compare condition)) (or_invalid (type_of (ledger_of calls) a)) (a ∷ b ∷ [])) (IntCompare condition (x ∷ y ∷ [])) (value_at f x).ty
 compare-shape calls f c p agrees condition a b x y first second =
-    record { operation = refl; controlling = named-type calls f c p agrees a x first; typed = refl; operands_numbered = two-operands calls a b x y first second; contexts_numbered = refl; edges = tt }
+    record { operation = refl; controlling = named-type calls f c p agrees a x first; typed = refl; operands_named = names_more calls first (names_more calls second (names_none calls)); contexts_numbered = refl; edges = tt }
 
 pub concat-shape : (calls : List AnsweredCall) (f : Body) (c : ContextState) (p : Option ℕ) → LedgerAgrees calls (ledger_of calls) f c p
     → (a b : Name) (x y : ℕ) → NamesValue calls a x → NamesValue calls b y
     → HasShape calls f (plain (Compute operation.Concat) (or_invalid (type_of (ledger_of calls) a)) (a ∷ b ∷ [])) (Concat (x ∷ y ∷ [])) (value_at f x).ty
 concat-shape calls f c p agrees a b x y first second =
-    record { operation = refl; controlling = named-type calls f c p agrees a x first; typed = refl; operands_numbered = two-operands calls a b x y first second; contexts_numbered = refl; edges = tt }
+    record { operation = refl; controlling = named-type calls f c p agrees a x first; typed = refl; operands_named = names_more calls first (names_more calls second (names_none calls)); contexts_numbered = refl; edges = tt }
 
 pub split-shape : (calls : List AnsweredCall) (f : Body) (c : ContextState) (p : Option ℕ) → LedgerAgrees calls (ledger_of calls) f c p
     → (a : Name) (x : ℕ) → NamesValue calls a x
     → HasShape calls f (plain (Compute operation.Split) (or_invalid (type_of (ledger_of calls) a)) (a ∷ [])) (Split x) (value_at f x).ty
 split-shape calls f c p agrees a x names =
-    record { operation = refl; controlling = named-type calls f c p agrees a x names; typed = refl; operands_numbered = ap (λ (o : Option ℕ). o ∷ []) names.number; contexts_numbered = refl; edges = tt }
+    record { operation = refl; controlling = named-type calls f c p agrees a x names; typed = refl; operands_named = names_more calls names (names_none calls); contexts_numbered = refl; edges = tt }
 
 -- a constant that is there has its bytes in the instruction's operation
 pooled-operation : (f : Body) (opcode : PooledConstOpcode) (bytes : List ℕ) (constant : ℕ) → slice_get f.tables.constants constant ≡ Some bytes
@@ -271,28 +273,28 @@ pooled-operation f opcode bytes constant found =
 pub f128const-shape : (calls : List AnsweredCall) (f : Body) (bytes : List ℕ) (constant : ℕ) → slice_get f.tables.constants constant ≡ Some bytes
     → HasShape calls f (plain (Compute (operation.PooledConst F128const bytes)) type.Invalid []) (UnaryConst F128const constant) type.Invalid
 f128const-shape calls f bytes constant found =
-    record { operation = pooled-operation f F128const bytes constant found; controlling = refl; typed = refl; operands_numbered = refl; contexts_numbered = refl; edges = tt }
+    record { operation = pooled-operation f F128const bytes constant found; controlling = refl; typed = refl; operands_named = names_none calls; contexts_numbered = refl; edges = tt }
 
 pub vconst-shape : (calls : List AnsweredCall) (f : Body) (ty : «Type») (bytes : List ℕ) (constant : ℕ) → slice_get f.tables.constants constant ≡ Some bytes
     → HasShape calls f (plain (Compute (operation.PooledConst Vconst bytes)) ty []) (UnaryConst Vconst constant) ty
 vconst-shape calls f ty bytes constant found =
-    record { operation = pooled-operation f Vconst bytes constant found; controlling = refl; typed = refl; operands_numbered = refl; contexts_numbered = refl; edges = tt }
+    record { operation = pooled-operation f Vconst bytes constant found; controlling = refl; typed = refl; operands_named = names_none calls; contexts_numbered = refl; edges = tt }
 
 pub load-shape : (calls : List AnsweredCall) (f : Body) (flags : MemFlagsShape) (ty : «Type») (a : Name) (x : ℕ) (offset : ℤ) → NamesValue calls a x
     → HasShape calls f (plain (operation.Load flags offset) ty (a ∷ [])) (Load flags x offset) ty
 load-shape calls f flags ty a x offset names =
-    record { operation = refl; controlling = refl; typed = refl; operands_numbered = ap (λ (o : Option ℕ). o ∷ []) names.number; contexts_numbered = refl; edges = tt }
+    record { operation = refl; controlling = refl; typed = refl; operands_named = names_more calls names (names_none calls); contexts_numbered = refl; edges = tt }
 
 pub store-shape : (calls : List AnsweredCall) (f : Body) (c : ContextState) (p : Option ℕ) → LedgerAgrees calls (ledger_of calls) f c p
     → (flags : MemFlagsShape) (a b : Name) (x y : ℕ) (offset : ℤ) → NamesValue calls a x → NamesValue calls b y
     → HasShape calls f (plain (operation.Store flags offset) (or_invalid (type_of (ledger_of calls) a)) (a ∷ b ∷ [])) (Store flags (x ∷ y ∷ []) offset) type.Invalid
 store-shape calls f c p agrees flags a b x y offset first second =
-    record { operation = refl; controlling = named-type calls f c p agrees a x first; typed = refl; operands_numbered = two-operands calls a b x y first second; contexts_numbered = refl; edges = tt }
+    record { operation = refl; controlling = named-type calls f c p agrees a x first; typed = refl; operands_named = names_more calls first (names_more calls second (names_none calls)); contexts_numbered = refl; edges = tt }
 
 pub stack-shape : (calls : List AnsweredCall) (f : Body) (opcode : StackOpcode) (ty : «Type») (slot : ℕ) (offset : ℤ)
     → HasShape calls f (plain (operation.Stack opcode slot offset) ty []) (StackLoad opcode slot offset) ty
-stack-shape calls f stack.StackAddr ty slot offset = record { operation = refl; controlling = refl; typed = refl; operands_numbered = refl; contexts_numbered = refl; edges = tt }
-stack-shape calls f stack.StackLoad ty slot offset = record { operation = refl; controlling = refl; typed = refl; operands_numbered = refl; contexts_numbered = refl; edges = tt }
+stack-shape calls f stack.StackAddr ty slot offset = record { operation = refl; controlling = refl; typed = refl; operands_named = names_none calls; contexts_numbered = refl; edges = tt }
+stack-shape calls f stack.StackLoad ty slot offset = record { operation = refl; controlling = refl; typed = refl; operands_named = names_none calls; contexts_numbered = refl; edges = tt }
 
 pub stack_store-shape : (calls : List AnsweredCall) (f : Body) (c : ContextState) (p : Option ℕ) → LedgerAgrees calls (ledger_of calls) f c p
     → (a : Name) (x slot : ℕ) (offset : ℤ) → NamesValue calls a x
@@ -301,13 +303,13 @@ stack_store-shape calls f c p agrees a x slot offset names = record {
   operation = refl;
   controlling = named-type calls f c p agrees a x names;
   typed = refl;
-  operands_numbered = ap (λ (o : Option ℕ). o ∷ []) names.number;
+  operands_named = names_more calls names (names_none calls);
   contexts_numbered = refl;
   edges = tt;
 }
 
 pub trap-shape : (calls : List AnsweredCall) (f : Body) (code : TrapCode) → HasShape calls f (plain (operation.Trap code) type.Invalid []) (Trap code) type.Invalid
-trap-shape calls f code = record { operation = refl; controlling = refl; typed = refl; operands_numbered = refl; contexts_numbered = refl; edges = tt }
+trap-shape calls f code = record { operation = refl; controlling = refl; typed = refl; operands_named = names_none calls; contexts_numbered = refl; edges = tt }
 
 pub cond_trap-shape : (calls : List AnsweredCall) (f : Body) (c : ContextState) (p : Option ℕ) → LedgerAgrees calls (ledger_of calls) f c p
     → (opcode : CondTrapOpcode) (a : Name) (x : ℕ) (code : TrapCode) → NamesValue calls a x
@@ -316,14 +318,14 @@ cond_trap-shape calls f c p agrees opcode a x code names = record {
   operation = refl;
   controlling = named-type calls f c p agrees a x names;
   typed = refl;
-  operands_numbered = ap (λ (o : Option ℕ). o ∷ []) names.number;
+  operands_named = names_more calls names (names_none calls);
   contexts_numbered = refl;
   edges = tt;
 }
 
 pub jump-shape : (calls : List AnsweredCall) (f : Body) (edge : Edge Name Name) (made : BlockCall) → NamesEdge calls edge made
     → HasShape calls f (record { operation = operation.Jump; controlling = type.Invalid; operands = []; contexts = []; edges = edge ∷ [] }) (Jump made) type.Invalid
-jump-shape calls f edge made names = record { operation = refl; controlling = refl; typed = refl; operands_numbered = refl; contexts_numbered = refl; edges = (names, tt) }
+jump-shape calls f edge made names = record { operation = refl; controlling = refl; typed = refl; operands_named = names_none calls; contexts_numbered = refl; edges = (names, tt) }
 
 pub brif-shape : (calls : List AnsweredCall) (f : Body) (c : ContextState) (p : Option ℕ) → LedgerAgrees calls (ledger_of calls) f c p
     → (condition : Name) (value : ℕ) (taken other : Edge Name Name) (block_then block_else : BlockCall) (blocks : List BlockCall) → blocks ≡ block_then ∷ block_else ∷ []
@@ -335,7 +337,7 @@ brif-shape calls f c p agrees condition value taken other block_then block_else 
       operation = refl;
       typed = refl;
       controlling = named-type calls f c p agrees condition value names;
-      operands_numbered = ap (λ (o : Option ℕ). o ∷ []) names.number;
+      operands_named = names_more calls names (names_none calls);
       contexts_numbered = refl;
       edges = subst (NamesEdges calls (taken ∷ other ∷ [])) (sym same) (first, (second, tt));
     }
@@ -353,38 +355,38 @@ table-shape calls f index value edges table names named = record {
   operation = ap (λ (count : ℕ). operation.BrTable (count - 1)) (edges-count calls edges table named);
   typed = refl;
   controlling = refl;
-  operands_numbered = ap (λ (o : Option ℕ). o ∷ []) names.number;
+  operands_named = names_more calls names (names_none calls);
   contexts_numbered = refl;
   edges = named;
 }
 
-pub return-shape : (calls : List AnsweredCall) (f : Body) (names : List Name) (values : List ℕ) → map (number_of calls) names ≡ map Some values
+pub return-shape : (calls : List AnsweredCall) (f : Body) (names : List Name) (values : List ℕ) → NamesValues calls names values
     → HasShape calls f (plain operation.Return type.Invalid names) (MultiAry values) type.Invalid
-return-shape calls f names values numbered = record { operation = refl; controlling = refl; typed = refl; operands_numbered = numbered; contexts_numbered = refl; edges = tt }
+return-shape calls f names values numbered = record { operation = refl; controlling = refl; typed = refl; operands_named = numbered; contexts_numbered = refl; edges = tt }
 
 -- what is called is in tables that calls of a list make
 pub call-shape : (calls : List AnsweredCall) (f : Body) (c : ContextState) (p : Option ℕ) → LedgerAgrees calls (ledger_of calls) f c p
-    → (function : ℕ) (names : List Name) (values : List ℕ) → map (number_of calls) names ≡ map Some values
+    → (function : ℕ) (names : List Name) (values : List ℕ) → NamesValues calls names values
     → HasShape calls f (plain (operation_of (ledger_of calls).tables (Call function values)) type.Invalid names) (Call function values) type.Invalid
 call-shape calls f c p agrees function names values numbered = record {
   operation = ap (λ (tables : TableLists). operation_of tables (Call function values)) agrees.tables;
   controlling = refl;
   typed = refl;
-  operands_numbered = numbered;
+  operands_named = numbered;
   contexts_numbered = refl;
   edges = tt;
 }
 
 pub call_indirect-shape : (calls : List AnsweredCall) (f : Body) (c : ContextState) (p : Option ℕ) → LedgerAgrees calls (ledger_of calls) f c p
     → (signature : ℕ) (callee : Name) (address : ℕ) (names : List Name) (values : List ℕ) → NamesValue calls callee address
-    → map (number_of calls) names ≡ map Some values
+    → NamesValues calls names values
     → HasShape calls f (plain (operation_of (ledger_of calls).tables (CallIndirect signature (address ∷ values))) type.Invalid (callee ∷ names))
     (CallIndirect signature (address ∷ values)) type.Invalid
 call_indirect-shape calls f c p agrees signature callee address names values called numbered = record {
   operation = ap (λ (tables : TableLists). operation_of tables (CallIndirect signature (address ∷ values))) agrees.tables;
   controlling = refl;
   typed = refl;
-  operands_numbered = ap₂ (λ (o : Option ℕ) (os : List (Option ℕ)). o ∷ os) called.number numbered;
+  operands_named = names_more calls called numbered;
   contexts_numbered = refl;
   edges = tt;
 }
@@ -406,7 +408,7 @@ same-tried calls f c p agrees held table named =
     ∙ ap (λ (tables : TableLists). try_call_of tables table) agrees.tables
 
 pub try_call-shape : (calls : List AnsweredCall) (f : Body) (c : ContextState) (p : Option ℕ) → LedgerAgrees calls (ledger_of calls) f c p
-    → (function : ℕ) (names : List Name) (values : List ℕ) (held : ExceptionTable) (table : ExceptionShape) → map (number_of calls) names ≡ map Some values
+    → (function : ℕ) (names : List Name) (values : List ℕ) (held : ExceptionTable) (table : ExceptionShape) → NamesValues calls names values
     → NamesExceptions calls held table
     → HasShape calls f (record { operation = operation.TryCall (function_at (ledger_of calls).tables function).name (tried_shape (ledger_of calls) held); controlling = type.Invalid; operands = names; contexts = held.contexts; edges = held.edges })
     (TryCall function values table) type.Invalid
@@ -414,21 +416,21 @@ try_call-shape calls f c p agrees function names values held table numbered name
   operation = ap₂ (λ (tables : TableLists) (call : CallShape). operation.TryCall (function_at tables function).name call) agrees.tables (same-tried calls f c p agrees held table named);
   controlling = refl;
   typed = refl;
-  operands_numbered = numbered;
+  operands_named = numbered;
   contexts_numbered = contexts-numbered calls held.contexts (contexts_of table) named.contexts;
   edges = named.edges;
 }
 
 pub try_call_indirect-shape : (calls : List AnsweredCall) (f : Body) (c : ContextState) (p : Option ℕ) → LedgerAgrees calls (ledger_of calls) f c p
     → (callee : Name) (address : ℕ) (names : List Name) (values : List ℕ) (held : ExceptionTable) (table : ExceptionShape) → NamesValue calls callee address
-    → map (number_of calls) names ≡ map Some values → NamesExceptions calls held table
+    → NamesValues calls names values → NamesExceptions calls held table
     → HasShape calls f (record { operation = operation.TryCallIndirect (tried_shape (ledger_of calls) held); controlling = type.Invalid; operands = callee ∷ names; contexts = held.contexts; edges = held.edges })
     (TryCallIndirect (address ∷ values) table) type.Invalid
 try_call_indirect-shape calls f c p agrees callee address names values held table called numbered named = record {
   operation = ap operation.TryCallIndirect (same-tried calls f c p agrees held table named);
   controlling = refl;
   typed = refl;
-  operands_numbered = ap₂ (λ (o : Option ℕ) (os : List (Option ℕ)). o ∷ os) called.number numbered;
+  operands_named = names_more calls called numbered;
   contexts_numbered = contexts-numbered calls held.contexts (contexts_of table) named.contexts;
   edges = named.edges;
 }

@@ -46,3 +46,5 @@ pub mod Tracking
 mod Needing
 pub mod Tracks
 pub mod Ending
+mod Fitting
+mod Spilled

@@ -19,6 +19,9 @@ use Rattle.clif_builder.proofs.Growing.{Grows-inserted, Grows-with_block, Grows-
 use Rattle.clif_builder.specs.Construction.{IsUse}
 use Rattle.clif_builder.specs.Context.{Begins, ContextState}
 use Rattle.clif_builder.specs.Order.{IsInOrder, IsKept, IsUntouched}
+use Rattle.clif_builder.specs.Tracking.{FitsMaps, RecordedFits}
+use Rattle.clif_builder.proofs.Fitting.{contained_has}
+use Rattle.clif_records.specs.Tracking.{recorded_of}
 use Rattle.clif_builder.proofs.LedgerUsed.{used-typed}
 use Rattle.clif_builder.specs.Growth.{Grows}
 use Rattle.clif_builder.specs.declared.builder.FunctionBuilder.{FunctionBuilder}
@@ -33,17 +36,34 @@ opened f c failed kept = record {
 
 -- a call of a builder that hadn't failed keeps it
 pub kept_by : {A : Type 0} (r : Result A BuildError) (f g : Body) (c d : ContextState) (was now : Bool) → was ≡ false → now ≡ is_err r
-    → (NamesExist f c.ssa → NamesExist g d.ssa) → (IsInOrder f c → OnOk r (IsInOrder g d)) → ∥ IsKept f c was ∥₁ → ∥ IsKept g d now ∥₁
-kept_by {A} r f g c d was now sound fails names order kept =
-    ∥∥₁_map kept (λ k. record { names = names k.names; in_order = λ fine. by r (sym fails ∙ fine) (order (k.in_order sound)) })
+    → (NamesExist f c.ssa → NamesExist g d.ssa) → (IsInOrder f c → OnOk r (IsInOrder g d)) → (OnOk r (IsInOrder g d) → FitsMaps f c → OnOk r (FitsMaps g d))
+    → ∥ IsKept f c was ∥₁ → ∥ IsKept g d now ∥₁
+kept_by {A} r f g c d was now sound fails names order fits kept =
+    ∥∥₁_map kept (λ k. record {
+      names = names k.names;
+      in_order = λ fine. by r (IsInOrder g d) (sym fails ∙ fine) (order (k.in_order sound));
+      fits_maps = λ fine. by r (FitsMaps g d) (sym fails ∙ fine) (fits (order (k.in_order sound)) (k.fits_maps sound));
+    })
   where
-    by : (r : Result A BuildError) → is_err r ≡ false → OnOk r (IsInOrder g d) → IsInOrder g d
-    by (Ok a) fine holds = holds
-    by (Err e) fine holds = let no_way : ⊥ = cc in absurd no_way
+    by : (r : Result A BuildError) (P : Type 0) → is_err r ≡ false → OnOk r P → P
+    by (Ok a) P fine holds = holds
+    by (Err e) P fine holds = let no_way : ⊥ = cc in absurd no_way
 
 -- so does one that can't fail
-pub kept_still : (f g : Body) (c d : ContextState) (failed : Bool) → (NamesExist f c.ssa → NamesExist g d.ssa) → (IsInOrder f c → IsInOrder g d) → ∥ IsKept f c failed ∥₁ → ∥ IsKept g d failed ∥₁
-kept_still f g c d failed names order kept = ∥∥₁_map kept (λ k. record { names = names k.names; in_order = λ fine. order (k.in_order fine) })
+pub kept_still : (f g : Body) (c d : ContextState) (failed : Bool) → (NamesExist f c.ssa → NamesExist g d.ssa) → (IsInOrder f c → IsInOrder g d) → (FitsMaps f c → FitsMaps g d)
+    → ∥ IsKept f c failed ∥₁ → ∥ IsKept g d failed ∥₁
+kept_still f g c d failed names order fits kept =
+    ∥∥₁_map kept (λ k. record { names = names k.names; in_order = λ fine. order (k.in_order fine); fits_maps = λ fine. fits (k.fits_maps fine) })
+
+-- recorded values fit stack maps
+pub kept_recorded : (f : Body) (c : ContextState) (failed : Bool) → failed ≡ false → ∥ IsKept f c failed ∥₁ → RecordedFits f (recorded_of c.ssa.tracking)
+kept_recorded f c failed sound kept v here = record {
+  exists = ∥∥₁_elim kept (search props) (λ k. ((k.fits_maps sound).recorded v (contained_has (recorded_of c.ssa.tracking) v here)).exists);
+  fits = record {
+    some = ∥∥₁_elim kept (search props) (λ k. ((k.fits_maps sound).recorded v (contained_has (recorded_of c.ssa.tracking) v here)).fits.some);
+    fits = ∥∥₁_elim kept (search props) (λ k. ((k.fits_maps sound).recorded v (contained_has (recorded_of c.ssa.tracking) v here)).fits.fits);
+  };
+}
 
 -- a block that doesn't exist yet is untouched
 pub kept_fresh : (f : Body) (c : ContextState) (failed : Bool) → failed ≡ false → ∥ IsKept f c failed ∥₁ → IsUntouched c (length f.blocks)

@@ -11,7 +11,7 @@ use Rattle.clif_nodes.specs.declared.nodes.InstNode.{InstNode}
 use Rattle.clif_instructions.specs.declared.insert_at.InsertAt.TheVariants.{Back}
 use Rattle.clif_instructions.specs.declared.instructions.InstructionData.{InstructionData}
 use Rattle.clif_instructions.specs.declared.instructions.InstructionData.TheVariants.{Jump, Brif, BranchTable, TryCall, TryCallIndirect}
-use Rattle.clif_ir.specs.Body.{Body, block_at, empty_body, inst_at}
+use Rattle.clif_ir.specs.Body.{Body, block_at, empty_body, inst_at, resolved, value_at}
 use Rattle.clif_nodes.specs.Nodes.{no_inst}
 use Rattle.clif_ir.specs.Changes.{inserted_in, inst_node, with_block, with_cold, with_inst, with_layout_after}
 use Rattle.clif_ir.specs.Consistent.{IsConsistent}
@@ -76,8 +76,8 @@ all_own f = record { insts = λ b. (block_at f b).insts; params = λ b. (block_a
 none_value : (f : Body) (v : ℕ) → v < length (empty_body f.name f.signature).values → ⊥
 none_value f v inside = omega (arith, inside)
 
-cleared : (f : Body) (c : ContextState) → IsInOrder f c → IsInOrder f empty_context
-cleared f c order = record {
+pub order-bare : (f : Body) → ((v : ℕ) → (value_at f (resolved f v)).ty ≡ (value_at f v).ty) → IsInOrder f empty_context
+order-bare f alias_types = record {
   own = all_own f;
   structured = λ types are. record {
     parameters = λ b. record {
@@ -86,7 +86,7 @@ cleared f c order = record {
       several = λ some. absurd (some refl);
       edges = λ i k here. absurd (none_contained i here);
     };
-    alias_types = (order.structured (listed_types c.variables) (are_listed c.variables)).alias_types;
+    alias_types = alias_types;
     zeros = λ b. record { zeros = []; in_order = refl; needed = tt };
     recorded = λ x b v is. absurd (none_value f v (((first_structured types f.name f.signature).recorded x b v is).0));
     waiting = λ b p here. absurd (none_contained p here);
@@ -97,6 +97,9 @@ cleared f c order = record {
   branches = λ b branch leads. absurd (none_contained branch leads);
   fresh = λ k above. (refl, refl, refl);
 }
+
+cleared : (f : Body) (c : ContextState) → IsInOrder f c → IsInOrder f empty_context
+cleared f c order = order-bare f (order.structured (listed_types c.variables) (are_listed c.variables)).alias_types
 
 pub order-cleared : (f : Body) (c d : ContextState) → d ≡ empty_context → IsInOrder f c → IsInOrder f d
 order-cleared f c d empty order = subst (IsInOrder f) (sym empty) (cleared f c order)

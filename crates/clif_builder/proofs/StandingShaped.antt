@@ -98,7 +98,7 @@ module _ (place : ℕ) (declared : SignatureShape) (calls : List AnsweredCall) (
 
   branch : SameBranch calls f.tables shape instruction
   branch =
-      let all = all_named calls instruction.operands (operands shape) has.operands_numbered in
+      let all = all_named calls instruction.operands (operands shape) has.operands_named.numbers in
       let edges = edges_named calls (name-number calls (ledger_of calls) f c p stands.ledger) instruction.edges (destinations shape) has.edges in
       let named = all_named calls instruction.contexts (contexts shape) has.contexts_numbered in
       record {
@@ -106,7 +106,7 @@ module _ (place : ℕ) (declared : SignatureShape) (calls : List AnsweredCall) (
         arguments = all.0;
         contexts_same = named.0;
         edges = edges.0;
-        earlier = all.1;
+        values = has.operands_named.are_values;
         contexts_earlier = named.1;
         edges_earlier = edges.1;
       }
@@ -118,7 +118,7 @@ module _ (place : ℕ) (declared : SignatureShape) (calls : List AnsweredCall) (
     no_edges = ap (map edge_of) none;
     edges = none_named calls instruction.edges (subst (NamesEdges calls instruction.edges) none has.edges);
     contexts_same = branch.contexts_same;
-    earlier = branch.earlier;
+    values = branch.values;
     contexts_earlier = branch.contexts_earlier;
   }
 

@@ -20,6 +20,8 @@ use Rattle.clif_builder.proofs.Framed.{filled-same, same-types}
 use Rattle.clif_builder.proofs.Growing.{Grows-same}
 use Rattle.clif_builder.proofs.Named.{kept_by}
 use Rattle.clif_builder.proofs.Ordered.{order-kept}
+use Rattle.clif_builder.proofs.Fitting.{on_ok_all}
+use Rattle.clif_builder.specs.Tracking.{FitsMaps}
 
 -- THE CONSTRUCTION ------------------------------------------------------------------------------------------------------
 
@@ -57,10 +59,6 @@ by_context P (Err e) c d tracked is same before after = subst P (sym same) befor
 never_full : (answer : Result (Unit {0}) BuildError) → OnErr answer (answer ≡ Err Memory) → answer ≢ Err Full
 never_full (Ok u) only is = let no_way : ⊥ = cc in absurd no_way
 never_full (Err e) only is = let no_way : ⊥ = cc in absurd no_way
-
-on_ok_all : {E A : Type 0} (answer : Result (Unit {0}) E) → A → OnOk answer A
-on_ok_all (Ok u) a = a
-on_ok_all (Err e) a = tt
 
 current_from : {E : Type 0} (answer : Result (Unit {0}) E) (old new : FunctionBuilder) (tracked : Tracked) → new.func.now ≡ old.func.now → new.position ≡ old.position
     → OnOk answer (new.ctx.now ≡ with_tracking old.ctx.now tracked) → HasCurrent old → OnOk answer (HasCurrent new)
@@ -111,9 +109,10 @@ tracks_made old new answer tracked fine loans function position srcloc fails con
 
 -- what the builder keeps
 pub kept_tracked : (answer : Result (Unit {0}) BuildError) (f : Body) (c d : ContextState) (was now : Bool) (tracked : Tracked) → was ≡ false → now ≡ is_err answer
-    → OnOk answer (d ≡ with_tracking c tracked) → OnErr answer (d ≡ c) → ∥ IsKept f c was ∥₁ → ∥ IsKept f d now ∥₁
-kept_tracked answer f c d was now tracked fine fails context kept before =
+    → OnOk answer (d ≡ with_tracking c tracked) → OnErr answer (d ≡ c) → (FitsMaps f c → FitsMaps f (with_tracking c tracked)) → ∥ IsKept f c was ∥₁ → ∥ IsKept f d now ∥₁
+kept_tracked answer f c d was now tracked fine fails context kept fits before =
     kept_by answer f f c d was now fine fails
     (by_context (λ (e : ContextState). NamesExist f c.ssa → NamesExist f e.ssa) answer c d tracked context kept (λ names. names) (names_tracked f c.ssa tracked))
     (λ order. on_ok_all answer (by_context (IsInOrder f) answer c d tracked context kept order (order_tracked f c tracked order)))
+    (λ order there. on_ok_all answer (by_context (FitsMaps f) answer c d tracked context kept there (fits there)))
     before

@@ -1,6 +1,7 @@
 -- How a builder agrees with the ledger of the calls that were made on it: what the ledger tells of answers, blocks,
 -- layout and variables is what the builder answered and its queries answer. Own.
 use Rattle.std.specs.Prelude.{◌≡◌, ℕ, ◌≤◌, List, [], ◌∷◌, length, map, slice_get, Option, Some, None, option_map, Contains, false, IsTrue, Result, Ok, Err}
+use Rattle.std.specs.List.{AllByRecursion}
 use Rattle.clif_types.specs.declared.types.«Type».{«Type»}
 use Rattle.clif_instructions.specs.declared.instructions.InstructionData.{InstructionData}
 use Rattle.clif_instructions.specs.declared.block_call.BlockArg.{BlockArg}
@@ -26,6 +27,7 @@ use Rattle.clif_types.specs.EntitySet.{has}
 use Rattle.clif_ssa.specs.Own.{Own}
 use Rattle.clif_ssa.specs.LookUp.{branch_block}
 use Rattle.clif_ssa.specs.Ssa.{predecessors_of, sealed_of}
+use Rattle.clif_simulation.specs.Carries.{IsValue}
 use Rattle.clif_builder.specs.declared.context.BlockStatus.TheVariants.{Empty}
 use Rattle.clif_builder.specs.declared.error.FinalizeError.{FinalizeError}
 use Rattle.clif_builder.specs.declared.error.FinalizeError.TheVariants as error
@@ -61,6 +63,11 @@ pub record NamesBlock (calls : List AnsweredCall) (name : Name) (block : ℕ) : 
 pub record NamesValue (calls : List AnsweredCall) (name : Name) (value : ℕ) : Type 0 where
   pub number : number_of calls name ≡ Some value
   pub is_value : IsTrue (has_value (ledger_of calls) name)
+
+-- names of these values, in order
+pub record NamesValues (calls : List AnsweredCall) (names : List Name) (values : List ℕ) : Type 0 where
+  pub numbers : map (number_of calls) names ≡ map Some values
+  pub are_values : AllByRecursion (IsValue calls) names
 
 -- a name of the instruction with this number
 pub record NamesInstruction (calls : List AnsweredCall) (name : Name) (inst : ℕ) : Type 0 where
@@ -103,7 +110,7 @@ pub record HasShape (calls : List AnsweredCall) (f : Body) (instruction : Instru
   -- its results have the types that they have at that type: the two differ only where an operand tells the type, and the
   -- results' types follow from the one that is given
   pub typed : result_types shape ty ≡ result_types shape (made_at f shape ty)
-  pub operands_numbered : map (number_of calls) instruction.operands ≡ map Some (operands shape)
+  pub operands_named : NamesValues calls instruction.operands (operands shape)
   pub contexts_numbered : map (number_of calls) instruction.contexts ≡ map Some (contexts shape)
   pub edges : NamesEdges calls instruction.edges (destinations shape)
 

@@ -1,5 +1,5 @@
 -- What a ledger and requests say by names, where it agrees with a builder, as this crate's law functions state it. Own.
-use Rattle.std.specs.Prelude.{◌≡◌, ℕ, ◌<◌, ◌==◌, List, [], ◌∷◌, ◌++◌, length, map, slice_get, Bool, Option, Some, true, ℤ}
+use Rattle.std.specs.Prelude.{◌≡◌, ℕ, ◌<◌, ◌==◌, List, [], ◌∷◌, ◌++◌, length, slice_get, Bool, Option, Some, true, ℤ}
 use Rattle.clif_types.specs.declared.condcodes.IntCC.{IntCC}
 use Rattle.clif_types.specs.declared.trapcode.TrapCode.{TrapCode}
 use Rattle.clif_types.specs.MemFlags.{MemFlagsShape}
@@ -23,14 +23,14 @@ use Rattle.clif_types.specs.declared.types.«Type».{«Type»}
 use Rattle.clif_ir.specs.Body.{Body, value_at}
 use Rattle.clif_instructions.specs.Members.{stands_in}
 use Rattle.clif_meaning.specs.Name.{Name, same_name}
-use Rattle.clif_meaning.specs.Request.{AnsweredCall, Annotate, Build, GivenEntry, MakeEdge, MakeExceptionTable, MakeJumpTable, Request, TableItem, number_of}
+use Rattle.clif_meaning.specs.Request.{AnsweredCall, Annotate, Build, GivenEntry, MakeEdge, MakeExceptionTable, MakeJumpTable, Request, TableItem}
 use Rattle.clif_meaning.specs.Ledger.{BlockState, ExceptionTable, block_state, has_block, is_inserted, type_of, unserved_edges, unserved_exceptions, variable_type}
 use Rattle.clif_types.specs.Signature.{SignatureShape}
 use Rattle.clif_builder.specs.declared.builder.FunctionBuilder.{FunctionBuilder}
 use Rattle.clif_builder.specs.Calls.{answered}
 use Rattle.clif_builder.specs.Context.{ContextState}
 use Rattle.clif_builder.specs.StandsFor.{StandsFor}
-use Rattle.clif_builder.specs.Ledger.{AgreesWithLedger, BlockAgrees, HasShape, LedgerAgrees, NamesBlock, NamesEdge, NamesEdges, NamesExceptions, NamesValue, block_name, ledger_of, value_type}
+use Rattle.clif_builder.specs.Ledger.{AgreesWithLedger, BlockAgrees, HasShape, LedgerAgrees, NamesBlock, NamesEdge, NamesEdges, NamesExceptions, NamesValue, NamesValues, block_name, ledger_of, value_type}
 
 -- this request asks for an instruction of this shape, made at this type
 abbrev pub AsksForShape : List AnsweredCall → Body → Request → InstructionData → «Type» → Type 0
@@ -80,19 +80,19 @@ pub record AskForTheirShapes (calls : List AnsweredCall) (f : Body) : Type 0 whe
   pub br_table : (index : Name) (x number : ℕ) (edges : List (Edge Name Name)) (table : List BlockCall)
       → NamesValue calls index x → unserved_edges (ledger_of calls) number ≡ Some edges → NamesEdges calls edges table
       → AsksForShape calls f (request.br_table (ledger_of calls) index number) (shape.branch_table x table) Invalid
-  pub call_function : (function : ℕ) (names : List Name) (values : List ℕ) → map (number_of calls) names ≡ map Some values
+  pub call_function : (function : ℕ) (names : List Name) (values : List ℕ) → NamesValues calls names values
       → AsksForShape calls f (request.call_function (ledger_of calls) function names) (shape.call function values) Invalid
   pub call_indirect : (signature : ℕ) (callee : Name) (address : ℕ) (names : List Name) (values : List ℕ)
-      → NamesValue calls callee address → map (number_of calls) names ≡ map Some values
+      → NamesValue calls callee address → NamesValues calls names values
       → AsksForShape calls f (request.call_indirect (ledger_of calls) signature callee names) (shape.call_indirect signature address values) Invalid
   pub try_call : (function number : ℕ) (names : List Name) (values : List ℕ) (held : ExceptionTable) (table : ExceptionShape)
-      → map (number_of calls) names ≡ map Some values → unserved_exceptions (ledger_of calls) number ≡ Some held → NamesExceptions calls held table
+      → NamesValues calls names values → unserved_exceptions (ledger_of calls) number ≡ Some held → NamesExceptions calls held table
       → AsksForShape calls f (request.try_call (ledger_of calls) function names number) (shape.try_call function values table) Invalid
   pub try_call_indirect : (number : ℕ) (callee : Name) (address : ℕ) (names : List Name) (values : List ℕ) (held : ExceptionTable) (table : ExceptionShape)
-      → NamesValue calls callee address → map (number_of calls) names ≡ map Some values → unserved_exceptions (ledger_of calls) number ≡ Some held
+      → NamesValue calls callee address → NamesValues calls names values → unserved_exceptions (ledger_of calls) number ≡ Some held
       → NamesExceptions calls held table
       → AsksForShape calls f (request.try_call_indirect (ledger_of calls) callee names number) (shape.try_call_indirect address values table) Invalid
-  pub return_ : (names : List Name) (values : List ℕ) → map (number_of calls) names ≡ map Some values
+  pub return_ : (names : List Name) (values : List ℕ) → NamesValues calls names values
       → AsksForShape calls f (request.return_ names) (multi_ary values) Invalid
 
 -- Edges, jump tables and exception tables that a list makes add nothing to what a builder stands for: they reach the function

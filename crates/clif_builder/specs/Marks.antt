@@ -1,9 +1,8 @@
 -- What the calls that ask for stack maps make of a builder. Source: own, after the crate's documentation of
 -- `declare_var_needs_stack_map` and `declare_value_needs_stack_map`.
-use Rattle.std.specs.Prelude.{◌≡◌, ◌≢◌, ◌<◌, ℕ, length, Result, Err, OnOk, OnErr, Some, None, slice_get}
+use Rattle.std.specs.Prelude.{◌≡◌, ◌≢◌, ◌<◌, ℕ, length, Result, Err, OnOk, OnErr, None}
 use Rattle.clif_types.specs.declared.error.BuildError.{BuildError}
 use Rattle.clif_types.specs.declared.error.BuildError.TheVariants.{Full}
-use Rattle.clif_types.specs.declared.types.«Type».{«Type»}
 use Rattle.clif_ir.specs.Body.{value_at}
 use Rattle.clif_records.specs.Tracking.{Tracked, with_mark, with_recorded}
 use Rattle.clif_ssa.specs.Ssa.{record_of}
@@ -14,12 +13,7 @@ use Rattle.clif_builder.specs.Calls.{IsCall}
 use Rattle.clif_builder.specs.Context.{ContextState}
 use Rattle.clif_builder.specs.Growth.{Grows, RemembersIn}
 use Rattle.clif_builder.specs.Tracking.{with_tracking}
-
--- the variable is declared, and its type fits
-pub record VariableFits (c : ContextState) (variable : ℕ) : Type 0 where
-  pub ty : «Type»
-  pub declared : slice_get c.variables variable ≡ Some ty
-  pub fits : FitsStackMap ty
+pub use Rattle.clif_builder.specs.Tracking.{VariableFits}
 
 -- the variable was neither used nor assigned so far: it is on record in no block
 abbrev pub IsUnused : ContextState → ℕ → Type 0

@@ -11,6 +11,7 @@ use Rattle.clif_ssa.specs.Structured.{Structured, VariableTypes}
 use Rattle.clif_records.specs.Tables.{is_yes}
 use Rattle.clif_builder.specs.declared.context.BlockStatus.TheVariants.{Empty, Filled}
 use Rattle.clif_builder.specs.Context.{ContextState, status_of}
+use Rattle.clif_builder.specs.Tracking.{FitsMaps}
 
 -- something was made in a block: it is in the layout, and no longer empty
 pub record IsBegun (f : Body) (c : ContextState) (block : ℕ) : Type 0 where
@@ -52,7 +53,9 @@ pub record IsInOrder (f : Body) (c : ContextState) : Type 0 where
   -- a block that doesn't exist yet is untouched
   pub fresh : (k : ℕ) → length f.blocks ≤ k → (is_yes (sealed_of c.ssa k) ≡ false) × (status_of c k ≡ Empty) × (predecessors_of c.ssa k ≡ [])
 
--- What the parts of a builder keep: what the construction names exists, and they are in order unless a call failed.
+-- What the parts of a builder keep: what the construction names exists; and unless a call failed they are in order, and what stack maps
+-- are asked for fits them.
 pub record IsKept (f : Body) (c : ContextState) (failed : Bool) : Type 0 where
   pub names : NamesExist f c.ssa
   pub in_order : failed ≡ false → IsInOrder f c
+  pub fits_maps : failed ≡ false → FitsMaps f c

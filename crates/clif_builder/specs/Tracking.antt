@@ -1,8 +1,13 @@
 -- What a context has marked and recorded for stack maps. Source: own.
 -- What calls record is said by words that are unfolded on demand: a proof about a caller has every call's clauses in sight, and only
 -- one that asks what is recorded has to read these.
-use Rattle.std.specs.Prelude.{◌≡◌, ℕ}
-use Rattle.clif_records.specs.Tracking.{Tracked, marked_of, nothing_tracked, with_binding}
+use Rattle.std.specs.Prelude.{◌≡◌, ℕ, Contains, IsTrue, List, Some, slice_get}
+use Rattle.clif_types.specs.EntitySet.{has}
+use Rattle.clif_types.specs.declared.types.«Type».{«Type»}
+use Rattle.clif_ir.specs.Body.{Body}
+use Rattle.clif_stack_slots.specs.Sizes.{FitsStackMap}
+use Rattle.clif_spiller.specs.Plans.{MayBeSpilled}
+use Rattle.clif_records.specs.Tracking.{Tracked, marked_of, nothing_tracked, recorded_of, with_binding}
 use Rattle.clif_ssa.specs.Ssa.{SsaState}
 use Rattle.clif_ssa.specs.Tracked.{TracksMade}
 use Rattle.clif_builder.specs.Context.{ContextState}
@@ -27,3 +32,18 @@ IsUntracked c = c.ssa.tracking ≡ nothing_tracked
 pub record StaysUntracked (c d : ContextState) : Type 0 where
   pub marks : marked_of d.ssa.tracking ≡ marked_of c.ssa.tracking
   pub untracked : IsUntracked c → IsUntracked d
+
+-- the variable is declared, and its type fits
+pub record VariableFits (c : ContextState) (variable : ℕ) : Type 0 where
+  pub ty : «Type»
+  pub declared : slice_get c.variables variable ≡ Some ty
+  pub fits : FitsStackMap ty
+
+-- Marked variables are declared, recorded values exist, and the types of both fit stack maps.
+pub record FitsMaps (f : Body) (c : ContextState) : Type 0 where
+  pub marked : (x : ℕ) → IsTrue (has (marked_of c.ssa.tracking) x) → VariableFits c x
+  pub recorded : (v : ℕ) → IsTrue (has (recorded_of c.ssa.tracking) v) → MayBeSpilled f v
+
+-- recorded values exist, and fit stack maps
+abbrev pub RecordedFits : Body → (recorded : List ℕ) → Type 0
+RecordedFits f recorded = (v : ℕ) → Contains recorded v → MayBeSpilled f v

@@ -1,7 +1,9 @@
 //! What is kept while a function is built, and used again for the next one.
 ghost use Rattle.std.specs.Prelude.{◌≡◌, ◌==◌, ◌≢◌, ◌↔◌, ◌<◌, ◌-◌, ◌^◌, ◌++◌, [], ◌∷◌, ℕ, List, IsTrue, length, OnOk, OnErr, IfOk, slice_index_or, slice_get, IfSome, None, true, false, ◌+◌, if◌then◌else◌, Contains};
 
+use crate::error::FinalizeError;
 use clif_ir::{BlockCall, Function};
+use clif_spiller::SafepointSpiller;
 use clif_ssa::{SSABuilder, Variable};
 use clif_types::{Block, BuildError, EntityRef, EntitySet, Inst, Type, Value};
 use std::alloc::Global;
@@ -89,12 +91,13 @@ impl StatusTable {
 /// What is kept while a function is built, and used again for the next one.
 ///
 /// It is cleared by `finalize`, and keeps its memory.
-#[derive(Debug)]
 pub struct FunctionBuilderContext {
     pub(crate) alloc: Global,
     pub(crate) ssa: SSABuilder,
     pub(crate) status: StatusTable,
     pub(crate) variables: Vec<Type>,
+    // It keeps its memory from one function to the next, and each run begins by forgetting the last one.
+    safepoints: SafepointSpiller,
 }
 
 // By hand: a derived one is proved anew at each way out of a function that holds such a value.
@@ -105,6 +108,7 @@ impl Drop for FunctionBuilderContext {
             ssa: _,
             status: _,
             variables: _,
+            safepoints: _,
         } = self;
     }
 }
@@ -125,13 +129,16 @@ impl Model for FunctionBuilderContext {
 impl FunctionBuilderContext {
     ghost use Rattle.clif_builder.specs.Context.{empty_context, status_of, SetsStatus, Begins};
     ghost use Rattle.clif_builder.specs.Construction.{IsUse, IsSealing, IsSealingAll, IsDeclared};
-    ghost use Rattle.clif_ir.specs.Body.{Body};
+    ghost use Rattle.clif_ir.specs.Body.{Body, empty_function};
     ghost use Rattle.clif_instructions.specs.Edges.{targets};
     ghost use Rattle.clif_instructions.specs.Members.{Stands};
     ghost use Rattle.clif_ssa.specs.Moving.{MovesBranch};
     ghost use Rattle.clif_records.specs.Stacks.{no_look_up};
     ghost use Rattle.clif_records.specs.Tracking.{recorded_of, with_binding, with_mark, with_recorded};
-    ghost use Rattle.clif_builder.specs.Tracking.{with_tracking};
+    ghost use Rattle.clif_builder.specs.Tracking.{RecordedFits, with_tracking};
+    ghost use Rattle.clif_builder.specs.Ending.{TellsSpill};
+    ghost use Rattle.clif_spiller.specs.Keeping.{Keeps};
+    ghost use Rattle.clif_spiller.specs.Spills.{Spills};
     ghost use Rattle.clif_ssa.specs.LookUp.{UsesVariable};
     ghost use Rattle.clif_ssa.specs.Running.{stage, found};
     ghost use Rattle.clif_ssa.specs.Sealing.{SealsBelow, SealsByLookUp};
@@ -151,6 +158,7 @@ impl FunctionBuilderContext {
             ssa: SSABuilder::new(alloc),
             status: StatusTable::new(alloc),
             variables: Vec::new(alloc),
+            safepoints: SafepointSpiller::new(alloc),
         }
     }
 
@@ -259,6 +267,28 @@ impl FunctionBuilderContext {
     {
         self.ssa.stack_map_values_mut().insert(value)?;
         Ok(())
+    }
+
+    /// Spills the recorded values that are live across calls that are reached, and makes stack maps. `pointer` is the type of
+    /// addresses. After an error the function is empty: what was spilled so far is of no use.
+    pub(crate) fn spill(&mut self, func: &mut Function, pointer: Type) -> Result<(), FinalizeError>
+        requires { RecordedFits func.old (recorded_of self.old.ssa.tracking) }
+        ensures answer { TellsSpill result }
+        ensures kept { OnOk result (Keeps (length func.old.blocks) func.old func.new) }
+        ensures spills { OnOk result (Spills func.old (recorded_of self.old.ssa.tracking) pointer func.new) }
+        ensures emptied { OnErr result (func.new ≡ empty_function) }
+        ensures context { self.new ≡ self.old }
+    {
+        match self
+            .safepoints
+            .run(func, self.ssa.stack_map_values(), pointer)
+        {
+            Ok(()) => Ok(()),
+            Err(error) => {
+                *func = Function::new(self.alloc);
+                Err(FinalizeError::from(error))
+            }
+        }
     }
 
     /// The values that stack maps need.

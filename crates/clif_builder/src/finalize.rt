@@ -1,31 +1,30 @@
 //! The end of a function's building.
-ghost use Rattle.std.specs.Prelude.{OnOk, ◌≡◌, ◌<◌, ◌≤◌, ◌^◌, List, Some, length, false};
-ghost use Rattle.clif_builder.specs.Context.{empty_context};
-ghost use Rattle.clif_builder.specs.Builder.{answer_of, block_fault, first_fault};
-ghost use Rattle.clif_builder.specs.Ending.{Ends, TellsContext};
+ghost use Rattle.std.specs.Prelude.{OnErr, OnOk, ◌≡◌, ◌<◌, ◌^◌, ◌⊎◌, [], List, Some, length, false};
 ghost use Rattle.clif_types.specs.Signature.{SignatureShape};
-ghost use Rattle.clif_meaning.specs.Request.{AnsweredCall, Finalize, script_of};
-ghost use Rattle.clif_meaning.specs.View.{view_of};
-ghost use Rattle.clif_meaning.specs.Headline.{MeansTheSame};
-ghost use Rattle.clif_meaning.specs.Premises.{CallersEdgesMatch, PlacementPremises};
-ghost use Rattle.clif_meaning.specs.Typing.{EdgesMatch};
-ghost use Rattle.clif_meaning.specs.WellPlaced.{Records, RecordsWellPlaced, WellPlaced};
-ghost use Rattle.clif_records.specs.Tracking.{recorded_of};
-ghost use Rattle.clif_types.specs.EntitySet.{has};
-ghost use Rattle.clif_simulation.specs.Marked.{MeansTheSameMoving};
-ghost use Rattle.clif_simulation.specs.Structure.{AreRecords, LeavesNoParameter};
-ghost use Rattle.clif_builder.specs.StandsFor.{StandsFor};
+ghost use Rattle.clif_types.specs.Target.{pointer_type_of};
 ghost use Rattle.clif_meaning.specs.Acceptance.{Refusal, refusal_of};
+ghost use Rattle.clif_meaning.specs.Headline.{MeansTheSame};
+ghost use Rattle.clif_meaning.specs.Premises.{CallersEdgesMatch};
+ghost use Rattle.clif_meaning.specs.Request.{AnsweredCall, Finalize, script_of};
 ghost use Rattle.clif_meaning.specs.Tracked.{TracksNothing};
+ghost use Rattle.clif_meaning.specs.Typing.{EdgesMatch};
+ghost use Rattle.clif_meaning.specs.View.{view_of};
+ghost use Rattle.clif_ir.specs.Body.{empty_function};
+ghost use Rattle.clif_records.specs.Tracking.{recorded_of};
+ghost use Rattle.clif_builder.specs.Builder.{answer_of, block_fault, first_fault};
+ghost use Rattle.clif_builder.specs.Context.{empty_context};
+ghost use Rattle.clif_builder.specs.Ending.{AnswersAfter, AsFound, BecomesSpilled, Ends, IsBeforeSpilling, TellsContext, recorded_in};
 ghost use Rattle.clif_builder.specs.Ledger.{AgreesWithLedger, IsRefused, RefusalAgrees, ledger_of};
+ghost use Rattle.clif_builder.specs.StandsFor.{StandsFor};
+ghost use Rattle.clif_builder.specs.Tracking.{RecordedFits};
 
 use crate::builder::FunctionBuilder;
 use crate::context::{BlockStatus, FunctionBuilderContext};
 use crate::error::FinalizeError;
+use clif_finished_laws::{carrying_keeps_in_order, spilled_means_the_script};
 use clif_ir::Function;
 use clif_safepoints::contexts::tracked_context;
-use clif_safepoints::liveness::LivenessAnalysis;
-use clif_types::{Block, EntityRef, EntitySet, TargetFrontendConfig, Value};
+use clif_types::{Block, EntityRef, EntitySet, TargetFrontendConfig, Type, Value};
 
 impl<'a> FunctionBuilder<'a> {
     /// Ends the building. The function is finished if each block that isn't pristine is sealed and has its
@@ -33,37 +32,56 @@ impl<'a> FunctionBuilder<'a> {
     /// builder that failed returns `Failed`.
     ///
     /// A try call that is reached and whose context is one of the recorded values, the first by number, is returned
-    /// as `TrackedContext`: an unwinder keeps its context, and no collector can move that. No stack map is made yet.
+    /// as `TrackedContext`: an unwinder keeps its context, and no collector can move that.
+    ///
+    /// Recorded values that live across calls that are reached are spilled: each is stored to a stack slot where it is
+    /// given, and loaded again where it is used. The stack map of each such call names the slots of those that live
+    /// across it, by their numbers. Where nothing is recorded the function isn't changed here.
     ///
     /// A finished function does what the calls said, with variables: its events, and how it returns or traps, are the
-    /// same, also where a collector moves what is recorded for stack maps at each outside call. The function itself
-    /// isn't changed here. The context is cleared in every case, and so serves for the next function.
+    /// same, although a collector moves references at each outside call and knows only what the stack maps name. The
+    /// context is cleared in every case, and so serves for the next function.
     ///
     /// # Errors
     ///
-    /// `Unsealed`, `Unfilled` or `TrackedContext`, as above; `Memory`, where values were recorded for stack maps and
-    /// memory is refused; `Failed` after an error of an earlier call. The context is empty then, too.
+    /// `Unsealed`, `Unfilled` or `TrackedContext`, as above, and `Failed` after an error of an earlier call: the
+    /// function isn't changed then. Where values were recorded, `Memory`, where memory is refused, or `Full`, where a
+    /// table of the function has 2^32 - 1 entries: if values were being spilled then, the function is left empty, since
+    /// a part of the spills is of no use. The context is empty in every case.
     pub fn finalize(self, config: TargetFrontendConfig) -> Result<(), FinalizeError>
         ensures answer { Ends self.entry result }
-        ensures ledger { (calls : List AnsweredCall) → AgreesWithLedger calls self.entry → self.entry.failed ≡ false → TracksNothing (script_of calls) → RefusalAgrees calls (refusal_of (ledger_of calls) Finalize) result }
-        ensures refused { (calls : List AnsweredCall) (refusal : Refusal) → AgreesWithLedger calls self.entry → self.entry.failed ≡ false → IsRefused calls refusal → RefusalAgrees calls (Some refusal) result }
-        ensures same_meaning { (signature : SignatureShape) (calls : List AnsweredCall) → StandsFor signature calls self.entry → TracksNothing (script_of calls) → OnOk result (MeansTheSame (script_of calls) signature config.pointer_width (view_of self.exit.0.now)) }
-        ensures moving { (signature : SignatureShape) (calls : List AnsweredCall) → StandsFor signature calls self.entry → OnOk result (MeansTheSameMoving (script_of calls) signature config.pointer_width (view_of self.exit.0.now) (has (recorded_of self.entry.ctx.now.ssa.tracking))) }
-        ensures parameters { (signature : SignatureShape) (calls : List AnsweredCall) → StandsFor signature calls self.entry → OnOk result (LeavesNoParameter calls self.exit.0.now self.entry.ctx.now.ssa) }
-        ensures edges_match { (signature : SignatureShape) (calls : List AnsweredCall) → StandsFor signature calls self.entry → CallersEdgesMatch (script_of calls) → OnOk result (EdgesMatch (view_of self.exit.0.now)) }
-        ensures well_placed { (signature : SignatureShape) (calls : List AnsweredCall) → StandsFor signature calls self.entry → PlacementPremises (script_of calls) signature → OnOk result (WellPlaced (view_of self.exit.0.now)) }
-        ensures records_well_placed { (signature : SignatureShape) (calls : List AnsweredCall) (records : Records) → StandsFor signature calls self.entry → AreRecords calls self.entry.func.now self.entry.ctx.now.ssa records → PlacementPremises (script_of calls) signature → OnOk result (RecordsWellPlaced (view_of self.exit.0.now) records) }
-        ensures function { self.exit.0.now ≡ self.entry.func.now }
+        ensures ledger { (calls : List AnsweredCall) → AgreesWithLedger calls self.entry
+            → self.entry.failed ≡ false → TracksNothing (script_of calls)
+            → RefusalAgrees calls (refusal_of (ledger_of calls) Finalize) result }
+        ensures refused { (calls : List AnsweredCall) (refusal : Refusal) → AgreesWithLedger calls self.entry
+            → self.entry.failed ≡ false → IsRefused calls refusal → RefusalAgrees calls (Some refusal) result }
+        ensures same_meaning { (signature : SignatureShape) (calls : List AnsweredCall)
+            → StandsFor signature calls self.entry
+            → OnOk result (MeansTheSame (script_of calls) signature config.pointer_width (view_of self.exit.0.now)) }
+        ensures edges_match { (signature : SignatureShape) (calls : List AnsweredCall)
+            → StandsFor signature calls self.entry → CallersEdgesMatch (script_of calls)
+            → OnOk result (EdgesMatch (view_of self.exit.0.now)) }
+        ensures found { (signature : SignatureShape) (calls : List AnsweredCall)
+            → StandsFor signature calls self.entry
+            → OnOk result (AsFound signature config.pointer_width calls self.entry) }
+        ensures spilled { OnOk result (BecomesSpilled self.entry.func.now (recorded_in self.entry)
+            (pointer_type_of config.pointer_width) self.exit.0.now) }
+        ensures function { (recorded_in self.entry ≡ []) ⊎ IsBeforeSpilling result
+            → self.exit.0.now ≡ self.entry.func.now }
+        ensures emptied { OnErr result
+            ((self.exit.0.now ≡ self.entry.func.now) ⊎ (self.exit.0.now ≡ empty_function)) }
         ensures context { self.exit.1.0.now ≡ empty_context }
     {
         self.func.law_consistent();
-        let answer = self.verdict();
-        let ctx = self.ctx;
-        ctx.clear();
+        carrying_keeps_in_order();
+        spilled_means_the_script();
+        let verdict = self.verdict();
+        let FunctionBuilder { ctx, func, .. } = self;
+        let answer = finish(verdict, ctx, func, config.pointer_type());
         answer
     }
 
-    // What `finalize` returns.
+    // What of the parts isn't finished, or can't be spilled.
     fn verdict(&self) -> Result<(), FinalizeError>
         ensures { Ends self.now result }
     {
@@ -110,10 +128,33 @@ fn check_contexts(func: &Function, recorded: &EntitySet<Value>) -> Result<(), Fi
     if recorded.is_empty() {
         return Ok(());
     }
-    let mut analysis = LivenessAnalysis::new(func.allocator());
-    analysis.run(func, recorded)?;
     match tracked_context(func, recorded)? {
         Some(inst) => Err(FinalizeError::TrackedContext(inst)),
         None => Ok(()),
     }
+}
+
+// Spills what is recorded, unless the verdict refuses the function, and clears the context. Nothing is spilled where no value is recorded.
+fn finish(
+    verdict: Result<(), FinalizeError>,
+    ctx: &mut FunctionBuilderContext,
+    func: &mut Function,
+    pointer: Type,
+) -> Result<(), FinalizeError>
+    requires { OnOk verdict (RecordedFits func.old (recorded_of ctx.old.ssa.tracking)) }
+    ensures answer { AnswersAfter verdict (recorded_of ctx.old.ssa.tracking) result }
+    ensures spilled { OnOk result
+        (BecomesSpilled func.old (recorded_of ctx.old.ssa.tracking) pointer func.new) }
+    ensures function { (recorded_of ctx.old.ssa.tracking ≡ []) ⊎ IsBeforeSpilling result
+        → func.new ≡ func.old }
+    ensures emptied { OnErr result ((func.new ≡ func.old) ⊎ (func.new ≡ empty_function)) }
+    ensures context { ctx.new ≡ empty_context }
+{
+    let answer = if verdict.is_err() || ctx.stack_map_values().is_empty() {
+        verdict
+    } else {
+        ctx.spill(func, pointer)
+    };
+    ctx.clear();
+    answer
 }

@@ -1,5 +1,5 @@
-//! The builder's calls that ask for stack maps, by which a collector finds the objects that it moves. Which values stack
-//! maps need is recorded; `finalize` makes no stack map yet.
+//! The builder's calls that ask for stack maps, by which a collector finds the objects that it moves. `finalize` makes
+//! them.
 ghost use Rattle.std.specs.Prelude.{[]};
 ghost use Rattle.clif_meaning.specs.Name.{Name};
 ghost use Rattle.clif_meaning.specs.Request.{NeedStackMap, OfValue, OfVariable};

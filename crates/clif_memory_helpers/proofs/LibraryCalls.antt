@@ -27,13 +27,13 @@ use Rattle.clif_ir.specs.Changes.{inserted_in, with_layout}
 use Rattle.clif_meaning.specs.Instruction.{Call, Compare, Convert, Iconst}
 use Rattle.clif_meaning.specs.Ledger.{AValue}
 use Rattle.clif_meaning.specs.Name.{Name, answer_of}
-use Rattle.clif_meaning.specs.Request.{AnsweredCall, Build, Imported, MakeEntry, Request, Script, number_of}
+use Rattle.clif_meaning.specs.Request.{AnsweredCall, Build, Imported, MakeEntry, Request, Script}
 use Rattle.clif_builder.specs.declared.builder.FunctionBuilder.{FunctionBuilder}
 use Rattle.clif_builder.specs.Builder.{Appends, HasCurrent}
 use Rattle.clif_builder.specs.Built.{Builds, BuildsValue, numbers_of}
 use Rattle.clif_builder.specs.Calls.{answered}
 use Rattle.clif_builder.specs.Entries.{MakesEntry}
-use Rattle.clif_builder.specs.Ledger.{NamesValue}
+use Rattle.clif_builder.specs.Ledger.{NamesValue, NamesValues}
 use Rattle.clif_builder.specs.LedgerLaws.{AsksForShape, LedgerIsReadByNumber, RequestsAskForTheirShapes}
 use Rattle.clif_builder.specs.StandsFor.{StandsFor}
 use Rattle.clif_builder.proofs.Framed.{appended-typed}
@@ -145,17 +145,19 @@ call_is tables before callee signature function a b c knows is =
 -- CALLS -------------------------------------------------------------------------------------------------------------------
 
 module _ (reads : LedgerIsReadByNumber) (asks : RequestsAskForTheirShapes) where
-  numbers_are : (calls : List AnsweredCall) (names : List Name) (values : List ℕ) → AllZip (NamesValue calls) names values → map (number_of calls) names ≡ map Some values
-  numbers_are calls [] [] named = refl
-  numbers_are calls [] (v ∷ values) named = absurd named
-  numbers_are calls (n ∷ names) [] named = absurd named
-  numbers_are calls (n ∷ names) (v ∷ values) named = ap₂ (λ o os. o ∷ os) named.0.number (numbers_are calls names values named.1)
+  all_values : (calls : List AnsweredCall) (names : List Name) (values : List ℕ) → AllZip (NamesValue calls) names values → NamesValues calls names values
+  all_values calls [] [] named = record { numbers = refl; are_values = tt }
+  all_values calls [] (v ∷ values) named = absurd named
+  all_values calls (n ∷ names) [] named = absurd named
+  all_values calls (n ∷ names) (v ∷ values) named =
+      let rest = all_values calls names values named.1 in
+      record { numbers = ap₂ (λ o os. o ∷ os) named.0.number rest.numbers; are_values = (named.0.is_value, rest.are_values) }
 
   call_asked : (args : List ℕ) (function : ℕ) (old : FunctionBuilder) (signature : SignatureShape) (calls : List AnsweredCall) (names : List Name) → StandsFor signature calls old → AllZip (NamesValue calls) names args
       → AsksForShape calls old.func.now (call_request old.func.now.tables function names) (shapes.call function args) Invalid
   call_asked args function old signature calls names stands named =
       subst (λ (t : TableLists). AsksForShape calls old.func.now (call_request t function names) (shapes.call function args) Invalid) stands.ledger.tables
-      ((asks_at reads asks signature calls old stands).call_function function names args (numbers_are calls names args named))
+      ((asks_at reads asks signature calls old stands).call_function function names args (all_values calls names args named))
 
   pub call_made : (args : List ℕ) (function : ℕ) (old new : FunctionBuilder) (answer : Result ℕ BuildError) → HasCurrent old → Builds old new (shapes.call function args) Invalid answer
       → Makes args (calls_function old.func.now.tables function) no_results (λ inst. []) old new answer

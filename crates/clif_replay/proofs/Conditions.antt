@@ -1,5 +1,5 @@
 -- The tests before a call are the condition of its request in the ledger.
-use Rattle.std.proofs.Common.{◌≡◌, ◌≢◌, ℕ, zero, suc, ◌<◌, List, [], ◌∷◌, length, refl, ap, arith, sym, ◌∙◌, subst}
+use Rattle.std.proofs.Common.{◌≡◌, ◌≢◌, ℕ, zero, suc, ◌<◌, List, [], ◌∷◌, length, refl, ap, arith, sym, ◌∙◌, subst, ap₂}
 use Rattle.std.specs.Prelude.{map, slice_get, Option, Some, None, option_map, is_some, Bool, true, false, not, ◌&&◌, ◌||◌, ◌==◌, slice_index, ◌↔◌, IsTrue}
 use Rattle.std.specs.List.{All, list_all}
 use Rattle.std.proofs.Math.Bool.{not-not}
@@ -30,7 +30,7 @@ use Rattle.clif_builder.specs.declared.context.BlockStatus.TheVariants.{Empty, P
 use Rattle.clif_builder.specs.declared.builder.FunctionBuilder.{FunctionBuilder}
 use Rattle.clif_builder.specs.Context.{status_of}
 use Rattle.clif_builder.specs.Builder.{CanLead, HasCurrent, is_elsewhere, is_empty_status, is_filled_status, is_free, is_free_at, is_nothing, may_be_left}
-use Rattle.clif_builder.specs.Ledger.{NamesArguments, NamesEdge, block_name, ledger_of}
+use Rattle.clif_builder.specs.Ledger.{NamesArguments, NamesEdge, NamesValue, NamesValues, block_name, ledger_of}
 use Rattle.clif_calls.specs.declared.call.Edge.{Edge}
 use Rattle.clif_calls.specs.declared.call.Name.{Name}
 use Rattle.clif_resolution.specs.declared.answers.Answer.{Answer}
@@ -316,17 +316,20 @@ all-exist calls b answers ready (name ∷ names) (value ∷ values) found zero i
 all-exist calls b answers ready (name ∷ names) (value ∷ values) found (suc k) inside =
     let rest : map (value_of b.func.now answers) names ≡ map Some values = cc in all-exist calls b answers ready names values rest k (omega (arith, inside))
 
-pub all-numbered : {naming : Naming} {declared : SignatureShape} (calls : List AnsweredCall) (b : FunctionBuilder) (answers : List Answer) → IsReady naming declared calls b answers
-    → (names : List Name) (values : List ℕ) → map (value_of b.func.now answers) names ≡ map Some values → map (number_of calls) (map naming names) ≡ map Some values
-all-numbered {naming} calls b answers ready [] [] found = refl
-all-numbered {naming} calls b answers ready [] (value ∷ values) found = let no_way : ⊥ = cc in absurd no_way
-all-numbered {naming} calls b answers ready (name ∷ names) [] found = let no_way : ⊥ = cc in absurd no_way
-all-numbered {naming} calls b answers ready (name ∷ names) (value ∷ values) found =
+pub all-named : {naming : Naming} {declared : SignatureShape} (calls : List AnsweredCall) (b : FunctionBuilder) (answers : List Answer) → IsReady naming declared calls b answers
+    → (names : List Name) (values : List ℕ) → map (value_of b.func.now answers) names ≡ map Some values → NamesValues calls (map naming names) values
+all-named {naming} calls b answers ready [] [] found = record { numbers = refl; are_values = tt }
+all-named {naming} calls b answers ready [] (value ∷ values) found = let no_way : ⊥ = cc in absurd no_way
+all-named {naming} calls b answers ready (name ∷ names) [] found = let no_way : ⊥ = cc in absurd no_way
+all-named {naming} calls b answers ready (name ∷ names) (value ∷ values) found =
     let here : value_of b.func.now answers name ≡ Some value = cc in
     let rest : map (value_of b.func.now answers) names ≡ map Some values = cc in
-    let number : number_of calls (naming name) ≡ Some value = (value-found calls b answers ready name value here).number in
-    let others = all-numbered calls b answers ready names values rest in
-    cc
+    let first : NamesValue calls (naming name) value = value-found calls b answers ready name value here in
+    let others = all-named calls b answers ready names values rest in
+    record {
+      numbers = ap₂ (λ (o : Option ℕ) (os : List (Option ℕ)). o ∷ os) first.number others.numbers;
+      are_values = (first.is_value, others.are_values);
+    }
 
 -- a variable that may be used was declared
 pub declared-there : (b : FunctionBuilder) (types variables : List «Type») (variable : ℕ) → types ≡ variables → can_use b types variable ≡ true → variable < length variables

@@ -42,7 +42,7 @@ constant-shape calls f opcode ty bytes constant told found =
       operation = ap (λ (b : List ℕ). Compute (PooledConst opcode b)) (sym (get_or_from_slice_get f.tables.constants constant bytes [] found));
       controlling = controlling;
       typed = ap (result_types (UnaryConst opcode constant)) controlling;
-      operands_numbered = refl;
+      operands_named = record { numbers = refl; are_values = tt };
       contexts_numbered = refl;
       edges = tt;
     }

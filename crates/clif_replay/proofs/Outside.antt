@@ -32,7 +32,7 @@ use Rattle.clif_replay.specs.Ready.{AnswerIs, IsReady, IsReadyAfter}
 use Rattle.clif_resolution.specs.Answers.{all_values, value_of}
 use Rattle.clif_resolution.specs.Conditions.{is_open}
 use Rattle.clif_replay.specs.Requests.{Naming, outside_request}
-use Rattle.clif_replay.proofs.Conditions.{all-exist, all-numbered, open-same, values-same}
+use Rattle.clif_replay.proofs.Conditions.{all-exist, all-named, open-same, values-same}
 use Rattle.clif_replay.proofs.Lasting.{LeavesTables}
 use Rattle.clif_resolution.proofs.Planning.{all-entries-exist, entries-tested}
 use Rattle.clif_replay.proofs.ReadyLaws.{ready-more, value-found}
@@ -67,13 +67,13 @@ pub outside-asked : RequestsAskForTheirShapes → {naming : Naming} {declared : 
     → AsksForShape calls b.func.now (outside_request naming (ledger_of calls) called) (outside_shape called values) Invalid
 outside-asked shapes {naming} calls b answers ready (outside.Call function args) values found =
     (shapes calls b.func.now b.ctx.now b.position ready.stands.ledger).call_function function (map naming args.items) values
-    (all-numbered calls b answers ready args.items values found)
+    (all-named calls b answers ready args.items values found)
 outside-asked shapes {naming} calls b answers ready (outside.CallIndirect signature callee args) [] found = let no_way : ⊥ = cc in absurd no_way
 outside-asked shapes {naming} calls b answers ready (outside.CallIndirect signature callee args) (address ∷ values) found =
     let here : value_of b.func.now answers callee ≡ Some address = cc in
     let rest : map (value_of b.func.now answers) args.items ≡ map Some values = cc in
     (shapes calls b.func.now b.ctx.now b.position ready.stands.ledger).call_indirect signature (naming callee) address (map naming args.items) values
-    (value-found calls b answers ready callee address here) (all-numbered calls b answers ready args.items values rest)
+    (value-found calls b answers ready callee address here) (all-named calls b answers ready args.items values rest)
 
 -- its shape has these values alone, goes nowhere, and names what it calls
 pub outside-operands : (called : OutsideCall) (values : List ℕ) → operands (outside_shape called values) ≡ values

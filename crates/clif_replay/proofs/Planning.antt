@@ -43,7 +43,7 @@ use Rattle.clif_resolution.specs.Answers.{all_values, value_of}
 use Rattle.clif_replay.specs.Ready.{IsReady}
 use Rattle.clif_resolution.specs.Conditions.{is_open, may_lead}
 use Rattle.clif_replay.specs.Requests.{Naming, edge_of, request_in}
-use Rattle.clif_replay.proofs.Conditions.{all-exist, all-numbered, found-exists, found-names, lead-same, open-same, value-type-same, values-same}
+use Rattle.clif_replay.proofs.Conditions.{all-exist, all-named, found-exists, found-names, lead-same, open-same, value-type-same, values-same}
 use Rattle.clif_replay.proofs.Making.{full-either}
 use Rattle.clif_replay.proofs.ReadyLaws.{value-missing}
 use Rattle.clif_resolution.proofs.Planning.{never-calls, entries-alike, all-entries-exist}
@@ -156,7 +156,7 @@ instruction-named {naming} calls b answers ready p s ty planned = record {
   controlling = controlling-same (λ name. or_invalid (type_of (ledger_of calls) (naming name))) (λ name. type_in b.func.now (value_of b.func.now answers name)) (type-same calls b answers ready) p
       ∙ planned.controlling;
   typed = planned.typed;
-  operands_numbered = all-numbered calls b answers ready (operands_in p) (operands s) planned.operands;
+  operands_named = all-named calls b answers ready (operands_in p) (operands s) planned.operands;
   contexts_numbered = ap (map Some) (sym (no_contexts s (planned-no-call b.func.now.tables p s planned.operation)));
   edges = edges-named calls b answers ready (edges_in p) (destinations s) planned.edges;
 }

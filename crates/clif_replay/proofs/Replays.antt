@@ -7,7 +7,7 @@ use Rattle.clif_types.specs.declared.target.TargetFrontendConfig.{TargetFrontend
 use Rattle.clif_ir.specs.Body.{Body, empty_body}
 use Rattle.clif_meaning.specs.View.{view_of}
 use Rattle.clif_meaning.specs.Headline.{MeansTheSame, pointer_bits}
-use Rattle.clif_meaning.specs.Premises.{CallersEdgesMatch, PlacementPremises}
+use Rattle.clif_meaning.specs.Premises.{CallersEdgesMatch}
 use Rattle.clif_meaning.specs.Ledger.{empty_ledger}
 use Rattle.clif_meaning.specs.Typing.{EdgesMatch}
 use Rattle.clif_meaning.specs.WellPlaced.{WellPlaced}
@@ -16,6 +16,7 @@ use Rattle.clif_meaning.specs.Acceptance.{Accepted, Misuse, Refused, refusal_of}
 use Rattle.clif_builder.specs.declared.builder.FunctionBuilder.{FunctionBuilder}
 use Rattle.clif_builder.specs.declared.error.FinalizeError.{FinalizeError}
 use Rattle.clif_builder.specs.Builder.{SameLoans}
+use Rattle.clif_builder.specs.Ending.{AsFound}
 use Rattle.clif_builder.specs.Ledger.{RefusalAgrees}
 use Rattle.clif_builder.specs.Ledger.{ledger_of as plain_ledger_of}
 use Rattle.clif_builder.specs.StandsFor.{LeavesNoParameter, StandsFor, StandsIn}
@@ -36,12 +37,11 @@ pub finished-replay : (calls : List Call) (declared : SignatureShape) (config : 
     → (named : UserFuncName) → b.func.now.name ≡ named → f ≡ b.func.now
     → StandsFor declared made b → IsReplayed config declared calls (length calls) made
     → MeansTheSame (script_of made) declared config.pointer_width (view_of f)
-    → LeavesNoParameter made f b.ctx.now.ssa
     → (CallersEdgesMatch (script_of made) → EdgesMatch (view_of f))
-    → (PlacementPremises (script_of made) declared → WellPlaced (view_of f))
+    → AsFound declared config.pointer_width made b
     → RefusalAgrees made (refusal_of (plain_ledger_of made) Finalize) r → r ≡ Ok tt
     → ReplayMakes calls named declared config f
-finished-replay calls declared config made b f r named name same stands replayed meaning parameters matches placed agrees is =
+finished-replay calls declared config made b f r named name same stands replayed meaning matches found agrees is =
     let all = all-replayed config declared calls made replayed in
     record {
       same_meaning = means-replayed config declared calls made f replayed meaning;
@@ -51,11 +51,12 @@ finished-replay calls declared config made b f r named name same stands replayed
         context = b.ctx.now;
         position = b.position;
         stands = subst (λ (g : Body). StandsIn declared made g b.ctx.now b.position) (sym same) stands;
-        parameters = parameters;
+        parameters = subst (λ (g : Body). LeavesNoParameter made g b.ctx.now.ssa) (sym same) found.parameters;
       };
       edges_match = λ typed. matches (keep_premises.edges_match all.reading (script_of made) (calls_of config declared calls) all.joined typed);
       well_placed = λ premises.
-          placed (keep_premises.placement (pointer_bits config.pointer_width) all.reading (script_of made) (calls_of config declared calls) all.joined (all.performed (pointer_bits config.pointer_width) (all-of-width config declared empty_ledger calls)) declared premises);
+          subst (λ (g : Body). WellPlaced (view_of g)) (sym same)
+          (found.well_placed (keep_premises.placement (pointer_bits config.pointer_width) all.reading (script_of made) (calls_of config declared calls) all.joined (all.performed (pointer_bits config.pointer_width) (all-of-width config declared empty_ledger calls)) declared premises));
       named = ap (λ (g : Body). g.name) same ∙ name;
       accepted = verdict-accepted config declared calls made r replayed agrees is;
     }

@@ -1,5 +1,5 @@
 -- What the proofs of this crate share.
-mod Keeping
+pub mod Keeping
 mod Giving
 mod Putting
 mod Sizes
@@ -11,7 +11,7 @@ mod Inside
 mod Starting
 mod Reached
 mod Allocating
-mod Advancing
+pub mod Advancing
 mod Acting
 mod Needing
 mod Parts

@@ -1,4 +1,5 @@
-use Rattle.std.proofs.Common.{ap, length, refl, rules, arith}
+use Rattle.std.proofs.Common.{ap, inl, length, refl, rules, arith}
+use Rattle.clif_records.specs.Tracking.{Tracked, recorded_of}
 use Rattle.std.proofs.lemmas.Grind.{common_steps}
 use Rattle.clif_builder.specs.declared.builder.FunctionBuilder.{FunctionBuilder}
 use Rattle.clif_replay.proofs.Replays.{finished-as, finished-replay, told-memory, told-refused}
@@ -17,9 +18,9 @@ returns-in-Ok-clause-finished c =
     let asks = replayed-track-nothing c.args.config start.signature c.args.calls.now made.0 made.2 in
     let ledger = c.finalize-finished.ensures.ledger made.0 made.1.ledger c.in_ok-made.ensures.sound asks in
     finished-as c.args.calls.now c.args.func.now c.args.config start finished _ begins (first_of (search rules, grind (arith, common_steps)))
-    (finished-replay c.args.calls.now start.signature c.args.config made.0 builder finished c.finalize-finished.result start.name c.in_ok-made.ensures.name c.finalize-finished.ensures.function
-    made.1 made.2 (done.same_meaning start.signature made.0 made.1 asks) (done.parameters start.signature made.0 made.1) (done.edges_match start.signature made.0 made.1) (done.well_placed start.signature made.0 made.1)
-    ledger c.in-Ok.is)
+    (finished-replay c.args.calls.now start.signature c.args.config made.0 builder finished c.finalize-finished.result start.name c.in_ok-made.ensures.name
+    (c.finalize-finished.ensures.function (inl (ap (λ (t : Tracked). recorded_of t) (made.1.ledger.tracks.untracked asks))))
+    made.1 made.2 (done.same_meaning start.signature made.0 made.1) (done.edges_match start.signature made.0 made.1) (done.found start.signature made.0 made.1) ledger c.in-Ok.is)
 
 pub returns-in-Err-Memory-clause-told : goal.returns-in-Err-Memory-clause-told
 returns-in-Err-Memory-clause-told c = told-memory c.args.config c.args.calls.now c.args.func.now

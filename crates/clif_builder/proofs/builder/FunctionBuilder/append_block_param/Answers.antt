@@ -5,6 +5,7 @@ use Rattle.clif_builder.proofs.Framed.{filled-same, more-types, param-typed}
 use Rattle.clif_builder.proofs.Named.{kept_by, names_param}
 use Rattle.clif_builder.proofs.Ordered.{order-more}
 use Rattle.clif_builder.proofs.StandingParameters.{one_agrees, one_stands, remembers_params}
+use Rattle.clif_builder.proofs.Fitting.{fits_grown}
 use Rattle.clif_builder.proofs.builder.FunctionBuilder.append_block_param.Goals as goal
 
 pub invariant_of-self : goal.invariant_of-self
@@ -14,6 +15,8 @@ invariant_of-self c =
       named = kept_by c.append_block_param-appended.result _ _ _ _ _ _ c.if-self.false c.is_err-self.ensures.value
           (names_param c.append_block_param-appended.result _ _ _ c.args.block c.args.ty done.ok done.err)
           (order-more c.append_block_param-appended.result c.args.self.now.func.now _ c.args.self.now.ctx.now c.args.block (c.args.ty ∷ []) c.law_consistent.ensures c.requires.exists c.requires.pristine done.ok)
+          (λ order fits. fits_grown c.append_block_param-appended.result c.args.self.now.func.now _ c.args.self.now.ctx.now
+          (more-types c.append_block_param-appended.result c.args.self.now.func.now _ c.args.block (c.args.ty ∷ []) done.ok) fits)
           c.args.self.now.named;
     }
 

@@ -6,6 +6,7 @@ use Rattle.clif_builder.proofs.Framed.{filled-same, more-types}
 use Rattle.clif_builder.proofs.Named.{kept_by, names_grow}
 use Rattle.clif_builder.proofs.Ordered.{order-more}
 use Rattle.clif_builder.proofs.StandingParameters.{many_agree, many_stand, remembers_params}
+use Rattle.clif_builder.proofs.Fitting.{fits_grown}
 use Rattle.clif_builder.proofs.builder.FunctionBuilder.append_block_params_for_function_returns.Goals as goal
 
 pub invariant_of-self : goal.invariant_of-self
@@ -14,6 +15,8 @@ invariant_of-self c =
     record {
       named = kept_by c.append_function_returns-appended.result _ _ _ _ _ _ c.if-self.false c.is_err-self.ensures.value (names_grow _ _ _ done.grows)
           (order-more c.append_function_returns-appended.result c.args.self.now.func.now _ c.args.self.now.ctx.now c.args.block (types_of c.args.self.now.func.now.signature.returns) c.law_consistent.ensures c.requires.exists c.requires.pristine done.ok)
+          (λ order fits. fits_grown c.append_function_returns-appended.result c.args.self.now.func.now _ c.args.self.now.ctx.now
+          (more-types c.append_function_returns-appended.result c.args.self.now.func.now _ c.args.block (types_of c.args.self.now.func.now.signature.returns) done.ok) fits)
           c.args.self.now.named;
     }
 

@@ -3,6 +3,7 @@ use Rattle.clif_builder.proofs.Calls.{by_memory, made}
 use Rattle.clif_builder.proofs.Framed.{filled-same}
 use Rattle.clif_builder.proofs.Named.{kept_by}
 use Rattle.clif_builder.proofs.Redirected.{names_redirected, order_after, redirected_current, redirected_grows, redirected_remembers, redirected_stands, redirected_types, redirects_from}
+use Rattle.clif_builder.proofs.Fitting.{fits_kept, on_ok_all}
 use Rattle.clif_builder.proofs.builder.FunctionBuilder.change_jump_destination.Goals as goal
 
 pub returns-clause-redirects : goal.returns-clause-redirects
@@ -48,6 +49,10 @@ invariant_of-self c =
           (order_after c.move_branch-moved.result c.args.self.now.func.now c.args.self.now.ctx.now c.move_branch-moved.new.func c.move_branch-moved.new.self c.args.inst c.args.old_block c.args.new_block
           (redirects_from c.move_branch-moved.result c.args.self.now.func.now c.args.self.now.ctx.now c.move_branch-moved.new.func c.move_branch-moved.new.self c.args.inst c.args.old_block c.args.new_block done.moved done.records done.tracking done.status done.variables)
           c.requires.inst_exists c.requires.old_unsealed c.requires.new_unsealed c.requires.leads c.law_consistent.ensures c.requires.target_exists)
+          (λ order fits. fits_kept c.move_branch-moved.result c.args.self.now.func.now c.move_branch-moved.new.func c.args.self.now.ctx.now c.move_branch-moved.new.self
+          (redirected_types c.move_branch-moved.result c.args.self.now.func.now c.args.self.now.ctx.now c.move_branch-moved.new.func c.move_branch-moved.new.self c.args.inst c.args.old_block c.args.new_block c.requires.inst_exists
+          (redirects_from c.move_branch-moved.result c.args.self.now.func.now c.args.self.now.ctx.now c.move_branch-moved.new.func c.move_branch-moved.new.self c.args.inst c.args.old_block c.args.new_block done.moved done.records done.tracking done.status done.variables))
+          (on_ok_all c.move_branch-moved.result done.tracking) (on_ok_all c.move_branch-moved.result done.variables) fits)
           c.args.self.now.named;
     }
 

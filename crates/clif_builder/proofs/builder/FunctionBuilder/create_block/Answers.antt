@@ -6,6 +6,7 @@ use Rattle.clif_builder.proofs.Calls.{told_by, made}
 use Rattle.clif_builder.proofs.Remembered.{remembers_created}
 use Rattle.clif_builder.proofs.LedgerBlocks.{created}
 use Rattle.clif_builder.proofs.StandingResults.{created_stands}
+use Rattle.clif_builder.proofs.Fitting.{fits_kept, on_ok_all}
 use Rattle.clif_builder.proofs.builder.FunctionBuilder.create_block.Goals as goal
 
 pub returns-clause-told : goal.returns-clause-told
@@ -40,5 +41,8 @@ invariant_of-self c =
     let made = c.make_block-made.ensures in
     record {
       named = kept_by c.make_block-made.result _ _ _ _ _ _ c.if-self.false c.is_err-self.ensures.value made.names
-          (order-created c.make_block-made.result _ _ _ _ made.function made.records made.sealed made.predecessors made.status made.variables) c.args.self.now.named;
+          (order-created c.make_block-made.result _ _ _ _ made.function made.records made.sealed made.predecessors made.status made.variables)
+          (λ order fits. fits_kept c.make_block-made.result _ _ _ _ (made-types c.make_block-made.result _ _ made.function) (on_ok_all c.make_block-made.result made.tracking)
+          (on_ok_all c.make_block-made.result made.variables) fits)
+          c.args.self.now.named;
     }

@@ -1,6 +1,7 @@
 use Rattle.std.proofs.Common.{refl}
 use Rattle.clif_builder.proofs.Needing.{needing, never_told, value_marks, value_needed}
 use Rattle.clif_builder.proofs.Tracking.{kept_tracked, tracks_made, tracks_refused}
+use Rattle.clif_builder.proofs.Fitting.{fits_recorded}
 use Rattle.clif_builder.proofs.builder.FunctionBuilder.declare_value_needs_stack_map.Goals as goal
 
 pub returns-then-self-clause-records : goal.returns-then-self-clause-records
@@ -14,7 +15,8 @@ returns-clause-records c =
 pub invariant_of-self : goal.invariant_of-self
 invariant_of-self c = record {
   named = kept_tracked c.record_value-recorded.result c.args.self.now.func.now c.args.self.now.ctx.now _ _ _ _ c.if-self.false c.is_err-self.ensures.value
-      c.record_value-recorded.ensures.ok c.record_value-recorded.ensures.err c.args.self.now.named;
+      c.record_value-recorded.ensures.ok c.record_value-recorded.ensures.err
+      (fits_recorded c.args.self.now.func.now c.args.self.now.ctx.now c.args.value (record { exists = c.requires.exists; fits = c.requires.fits })) c.args.self.now.named;
 }
 
 pub returns-then-self-clause-told : goal.returns-then-self-clause-told

@@ -8,6 +8,7 @@ use Rattle.clif_builder.proofs.Calls.{same_looks, told_by, made}
 use Rattle.clif_builder.proofs.Remembered.{remembers_declared}
 use Rattle.clif_builder.proofs.LedgerVariables.{declared}
 use Rattle.clif_builder.proofs.StandingResults.{declared_stands}
+use Rattle.clif_builder.proofs.Fitting.{fits_declared}
 use Rattle.clif_builder.proofs.builder.FunctionBuilder.declare_var.Goals as goal
 
 pub returns-clause-told : goal.returns-clause-told
@@ -31,5 +32,6 @@ invariant_of-self c = record {
   named = kept_by c.declare_var-declared.result _ _ _ _ _ _ c.if-self.false c.is_err-self.ensures.value
       (λ names. subst (NamesExist c.args.self.now.func.now) (sym c.declare_var-declared.ensures.ssa) names)
       (order-declared c.declare_var-declared.result c.args.self.now.func.now c.args.self.now.ctx.now c.declare_var-declared.new.self c.args.ty c.declare_var-declared.ensures.ok)
+      (λ order fits. fits_declared c.declare_var-declared.result c.args.self.now.func.now c.args.self.now.ctx.now c.declare_var-declared.new.self c.args.ty c.declare_var-declared.ensures.ok fits)
       c.args.self.now.named;
 }

@@ -1,6 +1,7 @@
 use Rattle.std.proofs.Common.{refl}
 use Rattle.clif_builder.proofs.Needing.{needing, never_told, variable_marks, variable_needed}
 use Rattle.clif_builder.proofs.Tracking.{kept_tracked, tracks_made, tracks_refused}
+use Rattle.clif_builder.proofs.Fitting.{fits_marked}
 use Rattle.clif_builder.proofs.builder.FunctionBuilder.declare_var_needs_stack_map.Goals as goal
 
 pub returns-then-self-clause-marks : goal.returns-then-self-clause-marks
@@ -14,7 +15,7 @@ returns-clause-marks c =
 pub invariant_of-self : goal.invariant_of-self
 invariant_of-self c = record {
   named = kept_tracked c.mark_var-marked.result c.args.self.now.func.now c.args.self.now.ctx.now _ _ _ _ c.if-self.false c.is_err-self.ensures.value
-      c.mark_var-marked.ensures.ok c.mark_var-marked.ensures.err c.args.self.now.named;
+      c.mark_var-marked.ensures.ok c.mark_var-marked.ensures.err (fits_marked c.args.self.now.func.now c.args.self.now.ctx.now c.args.variable c.requires.fits) c.args.self.now.named;
 }
 
 pub returns-then-self-clause-told : goal.returns-then-self-clause-told

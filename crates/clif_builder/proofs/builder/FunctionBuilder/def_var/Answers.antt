@@ -8,6 +8,7 @@ use Rattle.clif_builder.proofs.LedgerVariables.{assigned}
 use Rattle.clif_builder.proofs.Standing.{current_open}
 use Rattle.clif_builder.proofs.StandingResults.{assigned_stands}
 use Rattle.clif_builder.proofs.Tracks.{binds}
+use Rattle.clif_builder.proofs.Fitting.{fits_bound}
 use Rattle.clif_builder.proofs.builder.FunctionBuilder.def_var.Goals as goal
 
 pub returns-clause-tracks : goal.returns-clause-tracks
@@ -42,5 +43,8 @@ invariant_of-self c =
     record {
       named = kept_by c.def_var-recorded.result _ _ _ _ _ _ c.if-self.false c.is_err-self.ensures.value (done.names _ c.requires.value_exists)
           (order-assigned c.def_var-recorded.result c.args.self.now.func.now c.args.self.now.ctx.now c.def_var-recorded.new.self c.args.variable c.in-Some.block c.args.value _
-          c.requires.same_type (c.requires.value_exists, refl) done.ok done.blocks done.status done.variables) c.args.self.now.named;
+          c.requires.same_type (c.requires.value_exists, refl) done.ok done.blocks done.status done.variables)
+          (λ order fits. fits_bound c.def_var-recorded.result c.args.self.now.func.now c.args.self.now.ctx.now c.def_var-recorded.new.self c.args.variable c.args.value c.requires.value_exists
+          c.requires.same_type done.tracking done.variables fits)
+          c.args.self.now.named;
     }

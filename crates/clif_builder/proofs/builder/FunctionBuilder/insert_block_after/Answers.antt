@@ -14,6 +14,7 @@ use Rattle.clif_meaning.specs.Request.{AnsweredCall, InsertBlockAfter}
 use Rattle.clif_builder.specs.Ledger.{LedgerAgrees, ledger_of}
 use Rattle.clif_builder.specs.StandsFor.{StandsIn}
 use Rattle.clif_builder.proofs.Laid.{laid, laid_stands, names_laid}
+use Rattle.clif_builder.proofs.Fitting.{fits_still}
 use Rattle.clif_builder.proofs.builder.FunctionBuilder.insert_block_after.Goals as goal
 
 pub invariant_of-self : goal.invariant_of-self
@@ -22,7 +23,9 @@ invariant_of-self c = record {
       (λ names. subst (λ (f : Body). NamesExist f c.args.self.now.ctx.now.ssa) (sym c.insert_block_after.ensures)
       (names_laid c.args.self.now.func.now c.args.self.now.ctx.now.ssa c.args.block c.args.after names))
       (λ order. subst (λ (f : Body). IsInOrder f c.args.self.now.ctx.now) (sym c.insert_block_after.ensures)
-      (order-laid c.args.self.now.func.now c.args.self.now.ctx.now c.args.block c.args.after order)) c.args.self.now.named;
+      (order-laid c.args.self.now.func.now c.args.self.now.ctx.now c.args.block c.args.after order))
+      (fits_still c.args.self.now.func.now _ c.args.self.now.ctx.now (λ v there. ap (λ (h : Body). (value_at h v).ty) c.insert_block_after.ensures))
+      c.args.self.now.named;
 }
 
 pub returns-clause-told : goal.returns-clause-told

@@ -11,6 +11,7 @@ use Rattle.clif_builder.proofs.Ordered.{order-sealed-all}
 use Rattle.clif_simulation.proofs.Shape.CarriedStructure.{sealed_parameters}
 use Rattle.clif_ssa.proofs.Constructing.{constructs_none}
 use Rattle.clif_ssa.proofs.SealPools.{first_pools}
+use Rattle.clif_builder.proofs.Fitting.{fits_sealed}
 use Rattle.clif_builder.proofs.builder.FunctionBuilder.seal_all_blocks.Goals as goal
 
 pub seal_all_blocks-sealed-requires : goal.seal_all_blocks-sealed-requires
@@ -70,6 +71,7 @@ invariant_of-self c =
     record {
       named = kept_by c.seal_all_blocks-sealed.result _ _ _ _ _ _ c.if-self.false c.is_err-self.ensures.value (λ names. done.names)
           (order-sealed-all c.seal_all_blocks-sealed.result c.args.self.now.func.now c.seal_all_blocks-sealed.new.func c.args.self.now.ctx.now c.seal_all_blocks-sealed.new.self done.is_sealing c.law_consistent.ensures c.law_consistent-2.ensures done.variables)
+          (fits_sealed c.seal_all_blocks-sealed.result c.args.self.now.func.now c.seal_all_blocks-sealed.new.func c.args.self.now.ctx.now c.seal_all_blocks-sealed.new.self (λ b. ltb b (length c.args.self.now.func.now.blocks)) done.is_sealing done.variables)
           c.args.self.now.named;
     }
 

@@ -1,13 +1,14 @@
 use Rattle.clif_builder.specs.Order.{IsInOrder}
 use Rattle.clif_builder.proofs.Named.{kept_still}
 use Rattle.clif_builder.proofs.Ordered.{order-cold}
-use Rattle.std.proofs.Common.{List, [], ◌∷◌, ◌++◌, sym, subst}
-use Rattle.clif_ir.specs.Body.{Body}
+use Rattle.std.proofs.Common.{List, [], ◌∷◌, ◌++◌, ap, sym, subst}
+use Rattle.clif_ir.specs.Body.{Body, value_at}
 use Rattle.clif_ssa.specs.Ssa.{NamesExist}
 use Rattle.clif_meaning.specs.Request.{AnsweredCall, SetColdBlock}
 use Rattle.clif_builder.specs.Ledger.{LedgerAgrees, ledger_of}
 use Rattle.clif_builder.specs.StandsFor.{StandsIn}
 use Rattle.clif_builder.proofs.Marking.{cold, cold_stands, names_cold}
+use Rattle.clif_builder.proofs.Fitting.{fits_still}
 use Rattle.clif_builder.proofs.builder.FunctionBuilder.set_cold_block.Goals as goal
 
 pub invariant_of-self : goal.invariant_of-self
@@ -15,6 +16,7 @@ invariant_of-self c = record {
   named = kept_still c.args.self.now.func.now _ c.args.self.now.ctx.now _ _
       (λ names. subst (λ (f : Body). NamesExist f c.args.self.now.ctx.now.ssa) (sym c.set_cold_block.ensures) (names_cold c.args.self.now.func.now c.args.self.now.ctx.now.ssa c.args.block names))
       (λ order. subst (λ (f : Body). IsInOrder f c.args.self.now.ctx.now) (sym c.set_cold_block.ensures) (order-cold c.args.self.now.func.now c.args.self.now.ctx.now c.args.block order))
+      (fits_still c.args.self.now.func.now _ c.args.self.now.ctx.now (λ v there. ap (λ (h : Body). (value_at h v).ty) c.set_cold_block.ensures))
       c.args.self.now.named;
 }
 

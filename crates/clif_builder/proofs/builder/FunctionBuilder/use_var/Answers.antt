@@ -15,6 +15,7 @@ use Rattle.clif_builder.proofs.Ordered.{order-used}
 use Rattle.std.specs.Prelude.{IfSome, OnOk, Option}
 use Rattle.clif_builder.specs.Context.{SetsStatus, begun, status_of}
 use Rattle.clif_simulation.proofs.Shape.CarriedStructure.{sealed_parameters}
+use Rattle.clif_builder.proofs.Fitting.{fits_used}
 use Rattle.clif_builder.proofs.builder.FunctionBuilder.use_var.Goals as goal
 
 pub returns-clause-told : goal.returns-clause-told
@@ -78,6 +79,8 @@ invariant_of-self c =
       named = kept_by c.use_variable-used.result _ _ _ _ _ _ c.if-self.false c.is_err-self.ensures.value (λ names. done.names)
           (order-used c.use_variable-used.result c.args.self.now.func.now c.use_variable-used.new.func c.args.self.now.ctx.now c.use_variable-used.new.ctx c.args.variable c.in-Some-var_type.ty c.in-Some.block
           (current_exists c.args.self.now c.requires.current c.in-Some.block c.in-Some.is) (sym c.var_type.ensures ∙ c.in-Some-var_type.is) done.is_use c.law_consistent-2.ensures done.variables)
+          (fits_used c.use_variable-used.result c.args.self.now.func.now c.use_variable-used.new.func c.args.self.now.ctx.now c.use_variable-used.new.ctx c.args.variable c.in-Some-var_type.ty c.in-Some.block
+          done.is_use done.variables)
           c.args.self.now.named;
     }
 

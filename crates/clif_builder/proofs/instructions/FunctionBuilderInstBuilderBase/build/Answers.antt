@@ -3,6 +3,7 @@ use Rattle.clif_builder.proofs.Built.{builds_appended}
 use Rattle.clif_builder.proofs.Named.{kept_by, opened}
 use Rattle.clif_builder.proofs.Ordered.{order-built}
 use Rattle.clif_builder.proofs.Standing.{current_exists, current_open}
+use Rattle.clif_builder.proofs.Fitting.{fits_built}
 use Rattle.clif_builder.proofs.instructions.FunctionBuilderInstBuilderBase.build.Goals as goal
 
 pub append-built-requires-clause-named : goal.append-built-requires-clause-named
@@ -25,5 +26,7 @@ invariant_of-self c =
       named = kept_by c.append-built.result _ _ _ _ _ _ c.if-self.false c.is_err-self.ensures.value (λ names. done.names)
           (order-built _ c.append-built.result c.args.self.now.func.now _ c.args.self.now.ctx.now _ c.in-Some.block c.args.shape c.args.ctrl_type c.law_consistent.ensures
           (current_exists c.args.self.now c.requires.current c.in-Some.block c.in-Some.is) (current_open c.args.self.now c.requires.current c.in-Some.block c.in-Some.is)
-          done.appends done.variables c.requires.edges done.declares done.ssa) c.args.self.now.named;
+          done.appends done.variables c.requires.edges done.declares done.ssa)
+          (λ order fits. fits_built _ c.append-built.result c.args.self.now.func.now _ c.args.self.now.ctx.now _ c.in-Some.block c.args.shape c.args.ctrl_type done.appends done.declares done.variables fits)
+          c.args.self.now.named;
     }
