@@ -27,7 +27,7 @@ use Rattle.clif_builder.specs.Construction.{IsDeclared, IsSealingOf, IsUse}
 use Rattle.clif_builder.specs.Context.{Begins, ContextState, empty_context}
 use Rattle.clif_builder.specs.Growth.{TypesStay}
 use Rattle.clif_builder.specs.Order.{IsInOrder}
-use Rattle.clif_builder.specs.Tracking.{FitsMaps, VariableFits, with_tracking}
+use Rattle.clif_builder.specs.Tracking.{AskedFits, FitsMaps, VariableFits, with_tracking}
 use Rattle.clif_builder.proofs.Tracks.{tracks_made}
 use Rattle.clif_builder.proofs.Framed.{appended-types, sealed-types, used-types}
 use Rattle.clif_builder.proofs.LedgerLists.{get-front}
@@ -147,6 +147,15 @@ module _ (f : Body) (c : ContextState) (fits : FitsMaps f c) where
 pub on_ok_all : {A E P : Type 0} (r : Result A E) → P → OnOk r P
 on_ok_all (Ok a) holds = holds
 on_ok_all (Err e) holds = tt
+
+-- the word for it
+pub asked_fits : {f : Body} {c : ContextState} → FitsMaps f c → AskedFits f c
+unfolding AskedFits
+asked_fits fits = fits
+
+pub fits_asked : {f : Body} {c : ContextState} → AskedFits f c → FitsMaps f c
+unfolding AskedFits
+fits_asked asked = asked
 
 -- CALLS -----------------------------------------------------------------------------------------------------------------
 

@@ -20,7 +20,7 @@ use Rattle.clif_builder.specs.Construction.{IsUse}
 use Rattle.clif_builder.specs.Context.{Begins, ContextState}
 use Rattle.clif_builder.specs.Order.{IsInOrder, IsKept, IsUntouched}
 use Rattle.clif_builder.specs.Tracking.{FitsMaps, RecordedFits}
-use Rattle.clif_builder.proofs.Fitting.{contained_has}
+use Rattle.clif_builder.proofs.Fitting.{asked_fits, contained_has, fits_asked}
 use Rattle.clif_records.specs.Tracking.{recorded_of}
 use Rattle.clif_builder.proofs.LedgerUsed.{used-typed}
 use Rattle.clif_builder.specs.Growth.{Grows}
@@ -42,7 +42,7 @@ kept_by {A} r f g c d was now sound fails names order fits kept =
     ∥∥₁_map kept (λ k. record {
       names = names k.names;
       in_order = λ fine. by r (IsInOrder g d) (sym fails ∙ fine) (order (k.in_order sound));
-      fits_maps = λ fine. by r (FitsMaps g d) (sym fails ∙ fine) (fits (order (k.in_order sound)) (k.fits_maps sound));
+      fits_maps = λ fine. asked_fits (by r (FitsMaps g d) (sym fails ∙ fine) (fits (order (k.in_order sound)) (fits_asked (k.fits_maps sound))));
     })
   where
     by : (r : Result A BuildError) (P : Type 0) → is_err r ≡ false → OnOk r P → P
@@ -53,15 +53,15 @@ kept_by {A} r f g c d was now sound fails names order fits kept =
 pub kept_still : (f g : Body) (c d : ContextState) (failed : Bool) → (NamesExist f c.ssa → NamesExist g d.ssa) → (IsInOrder f c → IsInOrder g d) → (FitsMaps f c → FitsMaps g d)
     → ∥ IsKept f c failed ∥₁ → ∥ IsKept g d failed ∥₁
 kept_still f g c d failed names order fits kept =
-    ∥∥₁_map kept (λ k. record { names = names k.names; in_order = λ fine. order (k.in_order fine); fits_maps = λ fine. fits (k.fits_maps fine) })
+    ∥∥₁_map kept (λ k. record { names = names k.names; in_order = λ fine. order (k.in_order fine); fits_maps = λ fine. asked_fits (fits (fits_asked (k.fits_maps fine))) })
 
 -- recorded values fit stack maps
 pub kept_recorded : (f : Body) (c : ContextState) (failed : Bool) → failed ≡ false → ∥ IsKept f c failed ∥₁ → RecordedFits f (recorded_of c.ssa.tracking)
 kept_recorded f c failed sound kept v here = record {
-  exists = ∥∥₁_elim kept (search props) (λ k. ((k.fits_maps sound).recorded v (contained_has (recorded_of c.ssa.tracking) v here)).exists);
+  exists = ∥∥₁_elim kept (search props) (λ k. ((fits_asked (k.fits_maps sound)).recorded v (contained_has (recorded_of c.ssa.tracking) v here)).exists);
   fits = record {
-    some = ∥∥₁_elim kept (search props) (λ k. ((k.fits_maps sound).recorded v (contained_has (recorded_of c.ssa.tracking) v here)).fits.some);
-    fits = ∥∥₁_elim kept (search props) (λ k. ((k.fits_maps sound).recorded v (contained_has (recorded_of c.ssa.tracking) v here)).fits.fits);
+    some = ∥∥₁_elim kept (search props) (λ k. ((fits_asked (k.fits_maps sound)).recorded v (contained_has (recorded_of c.ssa.tracking) v here)).fits.some);
+    fits = ∥∥₁_elim kept (search props) (λ k. ((fits_asked (k.fits_maps sound)).recorded v (contained_has (recorded_of c.ssa.tracking) v here)).fits.fits);
   };
 }
 

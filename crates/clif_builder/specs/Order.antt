@@ -11,7 +11,7 @@ use Rattle.clif_ssa.specs.Structured.{Structured, VariableTypes}
 use Rattle.clif_records.specs.Tables.{is_yes}
 use Rattle.clif_builder.specs.declared.context.BlockStatus.TheVariants.{Empty, Filled}
 use Rattle.clif_builder.specs.Context.{ContextState, status_of}
-use Rattle.clif_builder.specs.Tracking.{FitsMaps}
+use Rattle.clif_builder.specs.Tracking.{AskedFits}
 
 -- something was made in a block: it is in the layout, and no longer empty
 pub record IsBegun (f : Body) (c : ContextState) (block : ℕ) : Type 0 where
@@ -58,4 +58,4 @@ pub record IsInOrder (f : Body) (c : ContextState) : Type 0 where
 pub record IsKept (f : Body) (c : ContextState) (failed : Bool) : Type 0 where
   pub names : NamesExist f c.ssa
   pub in_order : failed ≡ false → IsInOrder f c
-  pub fits_maps : failed ≡ false → FitsMaps f c
+  pub fits_maps : failed ≡ false → AskedFits f c

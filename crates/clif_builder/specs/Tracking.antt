@@ -44,6 +44,10 @@ pub record FitsMaps (f : Body) (c : ContextState) : Type 0 where
   pub marked : (x : ℕ) → IsTrue (has (marked_of c.ssa.tracking) x) → VariableFits c x
   pub recorded : (v : ℕ) → IsTrue (has (recorded_of c.ssa.tracking) v) → MayBeSpilled f v
 
+-- what each builder keeps of that: a word that is unfolded on demand
+unfoldable pub AskedFits : Body → ContextState → Type 0
+AskedFits f c = FitsMaps f c
+
 -- recorded values exist, and fit stack maps
 abbrev pub RecordedFits : Body → (recorded : List ℕ) → Type 0
 RecordedFits f recorded = (v : ℕ) → Contains recorded v → MayBeSpilled f v

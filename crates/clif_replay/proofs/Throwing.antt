@@ -49,7 +49,7 @@ use Rattle.clif_replay.specs.Ready.{AnswerIs, IsReady, IsReadyAfter, TableAgrees
 use Rattle.clif_resolution.specs.Answers.{all_items, all_values, edge_at, item_in, value_of}
 use Rattle.clif_resolution.specs.Conditions.{can_seal, is_open, tries, tries_at}
 use Rattle.clif_replay.specs.Requests.{Naming, item_of, throwing_request}
-use Rattle.clif_replay.proofs.Conditions.{all-exist, all-numbered, open-same, values-same}
+use Rattle.clif_replay.proofs.Conditions.{all-exist, all-named, open-same, values-same}
 use Rattle.clif_replay.proofs.JumpTables.{arguments-exist, edges-lead, leads-same}
 use Rattle.clif_builder.proofs.Lasting.{ledger-more}
 use Rattle.clif_replay.proofs.Lasting.{as-many, exception-stays, exceptions-stay, held-missing, held-there, one-table-more, table-at, table-serves}
@@ -401,14 +401,14 @@ throwing-asked : RequestsAskForTheirShapes → {naming : Naming} {declared : Sig
 throwing-asked shapes {naming} calls old between answers ready stands (throwing.TryCall function args table) values made found at =
     let held = exceptions-held calls old answers ready table made at in
     (shapes calls between.func.now between.ctx.now between.position stands.ledger).try_call function table (map naming args.items) values held.0 made
-    (all-numbered calls old answers ready args.items values found) held.1 held.2
+    (all-named calls old answers ready args.items values found) held.1 held.2
 throwing-asked shapes {naming} calls old between answers ready stands (throwing.TryCallIndirect callee args table) [] made found at = let no_way : ⊥ = cc in absurd no_way
 throwing-asked shapes {naming} calls old between answers ready stands (throwing.TryCallIndirect callee args table) (address ∷ values) made found at =
     let here : value_of old.func.now answers callee ≡ Some address = cc in
     let rest : map (value_of old.func.now answers) args.items ≡ map Some values = cc in
     let held = exceptions-held calls old answers ready table made at in
     (shapes calls between.func.now between.ctx.now between.position stands.ledger).try_call_indirect table (naming callee) address (map naming args.items) values held.0 made
-    (value-found calls old answers ready callee address here) (all-numbered calls old answers ready args.items values rest) held.1 held.2
+    (value-found calls old answers ready callee address here) (all-named calls old answers ready args.items values rest) held.1 held.2
 
 is-answered : (naming : Naming) (ledger : Ledger) (called : ThrowingCall) (inst : ℕ) (results : List ℕ) → AnswerIs (answer.Inst inst) (answers_to ledger (throwing_request naming ledger called)) (inst ∷ results)
 is-answered naming ledger (throwing.TryCall function args table) inst results = ([], results, refl, refl)

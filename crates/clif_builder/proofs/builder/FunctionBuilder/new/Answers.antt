@@ -7,13 +7,13 @@ use Rattle.clif_builder.specs.Context.{ContextState}
 use Rattle.clif_builder.proofs.Declaring.{names_nothing}
 use Rattle.clif_builder.proofs.Standing.{stands_begins}
 use Rattle.clif_builder.proofs.LedgerEnds.{begins-empty}
-use Rattle.clif_builder.proofs.Fitting.{fits_cleared}
+use Rattle.clif_builder.proofs.Fitting.{asked_fits, fits_cleared}
 use Rattle.clif_builder.proofs.builder.FunctionBuilder.new.Goals as goal
 
 pub invariant_of-result : goal.invariant_of-result
 invariant_of-result c = record {
   named = ∥∥₁_map (names_nothing c.args.func.now c.args.ctx.now c.requires.empty) (λ names.
-      record { names = names; in_order = λ fine. order-begins c.args.func.now c.args.ctx.now c.requires.fresh c.requires.empty; fits_maps = λ fine. fits_cleared c.args.func.now c.args.ctx.now c.requires.empty });
+      record { names = names; in_order = λ fine. order-begins c.args.func.now c.args.ctx.now c.requires.fresh c.requires.empty; fits_maps = λ fine. asked_fits (fits_cleared c.args.func.now c.args.ctx.now c.requires.empty) });
 }
 
 pub returns-clause-ledger : goal.returns-clause-ledger
