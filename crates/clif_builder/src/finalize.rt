@@ -76,6 +76,7 @@ impl<'a> FunctionBuilder<'a> {
         carrying_keeps_in_order();
         spilled_means_the_script();
         let verdict = self.verdict();
+        // Named in this order: the context is given back cleared before the function, as the builder's invariant needs.
         let FunctionBuilder { ctx, func, .. } = self;
         let answer = finish(verdict, ctx, func, config.pointer_type());
         answer

@@ -96,8 +96,8 @@ const ZERO_MARKED: [Step; 9] = [
     Do(Return(1)),
 ];
 
-/// A marked variable's zero is put, and the function is finished. It is built twice with one context, and is the same. No
-/// stack map is made yet, so that nothing is spilled.
+/// A marked variable's zero is put, and the function is finished. It is built twice with one context, and is the same. Stack
+/// maps don't need the zero, so that nothing is spilled.
 #[test]
 fn zero_marked(rt: HostRuntime) -> Result<(), Fail> {
     let text =
