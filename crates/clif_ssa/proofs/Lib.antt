@@ -58,6 +58,7 @@ pub mod Steps
 pub mod LocalSteps
 pub mod SealSteps
 pub mod LeavesSteps
+pub mod Opened
 pub mod LookSteps
 pub mod StructuredEnds
 pub mod StructuredMachine

@@ -42,7 +42,8 @@ impl SsaTables {
         let reached = self.walk(func, variable, block, passed)?;
         let Reached { block, recorded } = reached;
         let value = self.record_or_parameter(func, variable, ty, block, recorded, look_up)?;
-        self.copy_record(variable, value, passed, block)
+        self.variables
+            .set_each(variable, passed.as_slice(), block, value)
     }
 
     /// Makes calls until none is left, and returns the one result.
@@ -96,7 +97,7 @@ impl SsaTables {
                 self.look_up_in(func, variable, ty, block, passed, look_up)
             }
             Call::FinishPredecessorsLookup(param, block) => {
-                let predecessors = self.predecessors(block);
+                let predecessors = self.blocks.predecessors(block);
                 finish_look_up(func, predecessors, param, block, look_up)
             }
         }

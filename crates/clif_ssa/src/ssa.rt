@@ -8,7 +8,6 @@ ghost use Rattle.clif_ssa.specs.Limits.{ConstructionIsFull};
 ghost use Rattle.clif_ssa.specs.Moving.{MovesBranch};
 ghost use Rattle.clif_ssa.specs.Pools.{types_of, MayPool, MayPoolAll, MayPoolWaiting, SealingIsFull, UseIsFull, WaitsWithType};
 ghost use Rattle.clif_records.specs.Tables.{is_yes, pending_of};
-ghost use Rattle.clif_records.specs.declared.tables.Pending.{Pending};
 ghost use Rattle.clif_paths.specs.Places.{start};
 ghost use Rattle.clif_paths.specs.Blocks.{Blocks, last_place, with_write};
 ghost use Rattle.clif_ssa.specs.Own.{Own};
@@ -21,20 +20,18 @@ ghost use Rattle.clif_records.specs.Tracking.{recorded_of, with_binding, with_ma
 ghost use Rattle.std.specs.Borrow.{sem};
 ghost use Rattle.clif_ssa.specs.Lending.{lends_builder_recorded};
 ghost use Rattle.clif_ssa.specs.LookUp.{branch_block, UsesVariable};
-ghost use Rattle.clif_ssa.specs.Running.{stage, found, ToComplete};
+ghost use Rattle.clif_ssa.specs.Running.{stage, found};
 ghost use Rattle.clif_ssa.specs.Sealing.{SealsBelow, SealsOne, SealsLocally, SealsByLookUp};
-ghost use Rattle.clif_ssa.specs.Steps.{SealKeeps, SealMakes, StepEnds, StepKeeps, StepPools, UsesLocally};
+ghost use Rattle.clif_ssa.specs.Steps.{SealKeeps, SealMakes, StepEnds, StepPools};
 ghost use Rattle.clif_ssa.specs.Tracked.{TracksMade};
 ghost use Rattle.clif_ssa.specs.Zeros.{steps_before};
 ghost use Rattle.clif_ssa.specs.Within.{HoldsBranches, HoldsWaiting, StaysWithin};
-ghost use Rattle.clif_ssa.specs.Ssa.{no_state, record_of, sealed_of, predecessors_of, lookups_of, completed, completing_blocks, CountsEach, CountsLookup, Declares, HasMore, IsLocal, MayBind, Named, NamesExist, Records, KnowsNoMore, RecordsStay, Removes, SamePredecessors, SameBlocks, SameLookups, SameRecords, SealedStays, Seals, Waits, Zeroes};
+ghost use Rattle.clif_ssa.specs.Ssa.{no_state, record_of, sealed_of, predecessors_of, lookups_of, CountsLookup, Declares, HasMore, IsLocal, MayBind, Named, NamesExist, Records, KnowsNoMore, RecordsStay, Removes, SamePredecessors, SameBlocks, SameLookups, SameRecords, SealedStays, Waits, Zeroes};
 
 use crate::ssa_tables::SsaTables;
-use crate::zeros::replace_by_zero;
 use clif_ir::Function;
 use clif_records::look_up::LookUp;
 use clif_records::passed::PassedBlocks;
-use clif_records::tables::Pending;
 use clif_records::{SideEffects, Variable};
 use clif_types::{Block, BuildError, EntityRef, EntitySet, Inst, Type, Value};
 use std::alloc::Global;
@@ -44,6 +41,7 @@ use std::marker::Model;
 #[derive(Debug)]
 pub struct SSABuilder {
     alloc: Global,
+    // What is known. A step of a look-up changes it together with the rooms below, which clauses don't see.
     tables: SsaTables,
     // The blocks that the last walk passed: room that each walk uses again.
     passed: PassedBlocks,
@@ -120,7 +118,7 @@ impl SSABuilder {
         ensures no_more { KnowsNoMore self.old self.new (block + 1) }
         ensures only_memory { OnErr result (result ≡ Err BuildError.Memory) }
     {
-        self.tables.declare_block(block)
+        self.tables.blocks.declare(block)
     }
 
     /// Puts a branch behind those that lead to a block, which isn't sealed. A branch is declared once for each block
@@ -142,7 +140,7 @@ impl SSABuilder {
         ensures no_more { KnowsNoMore self.old self.new (block + 1) }
         ensures only_memory { OnErr result (result ≡ Err BuildError.Memory) }
     {
-        self.tables.declare_predecessor(block, inst)
+        self.tables.blocks.declare_predecessor(block, inst)
     }
 
     /// Takes a branch away from those that lead to a block, which isn't sealed; the others keep their
@@ -159,7 +157,7 @@ impl SSABuilder {
         ensures structured { (types : VariableTypes) (own : Own) (f : Body) → Structured types own f self.old [] → Structured types own f self.new [] }
         ensures no_more { length self.new.blocks ≤ length self.old.blocks }
     {
-        self.tables.remove_predecessor(block, inst);
+        self.tables.blocks.remove_predecessor(block, inst);
     }
 
     /// Moves a branch from a block to another one, both of which aren't sealed: each of its edges to `from` goes to
@@ -224,7 +222,7 @@ impl SSABuilder {
         }
         self.tables.lead_once(to, inst)?;
         func.change_branch_target(inst, from, to);
-        self.tables.remove_predecessor(from, inst);
+        self.tables.blocks.remove_predecessor(from, inst);
         Ok(())
     }
 
@@ -232,14 +230,14 @@ impl SSABuilder {
     pub fn has_any_predecessors(&self, block: Block) -> bool
         ensures { IsTrue result ↔ (predecessors_of self.now block ≢ []) }
     {
-        self.tables.has_any_predecessors(block)
+        !self.tables.blocks.predecessors(block).is_empty()
     }
 
     /// Whether this branch leads to a block.
     pub fn leads_to(&self, inst: Inst, block: Block) -> bool
         ensures { IsTrue result ↔ Stands inst (predecessors_of self.now block) }
     {
-        self.tables.predecessors(block).contains(&inst)
+        self.tables.blocks.predecessors(block).contains(&inst)
     }
 
     /// Whether this branch is the one that was declared last at a block.
@@ -249,7 +247,7 @@ impl SSABuilder {
     pub fn is_last_predecessor(&self, block: Block, inst: Inst) -> bool
         ensures { IsTrue result ↔ (slice_get (predecessors_of self.now block) (length (predecessors_of self.now block) - 1) ≡ Some inst) }
     {
-        match self.tables.predecessors(block).last() {
+        match self.tables.blocks.predecessors(block).last() {
             Some(last) => *last == inst,
             None => false,
         }
@@ -259,21 +257,21 @@ impl SSABuilder {
     pub fn records(&self) -> usize
         ensures { result ≡ map.len self.now.records }
     {
-        self.tables.records()
+        self.tables.variables.records()
     }
 
     /// How many look-ups of a variable in the predecessors of a block began.
     pub fn lookups(&self, variable: Variable, block: Block) -> u32
         ensures { result ≡ lookups_of self.now variable block }
     {
-        self.tables.lookups(variable, block)
+        self.tables.variables.lookups(variable, block)
     }
 
     /// Whether a block is sealed.
     pub fn is_sealed(&self, block: Block) -> bool
         ensures { result ≡ is_yes (sealed_of self.now block) }
     {
-        self.tables.is_sealed(block)
+        self.tables.blocks.is_sealed(block)
     }
 
     /// Records that a variable has a value in a block from here on. Stack maps need the value, if the variable is
@@ -315,14 +313,14 @@ impl SSABuilder {
         ensures err { OnErr result (self.new ≡ self.old) }
         ensures only_memory { OnErr result (result ≡ Err BuildError.Memory) }
     {
-        self.tables.mark(variable)
+        self.tables.tracking.mark(variable)
     }
 
     /// The values that stack maps need.
     pub fn stack_map_values(&self) -> &EntitySet<Value>
         ensures { result.now ≡ recorded_of self.now.tracking }
     {
-        self.tables.stack_map_values()
+        self.tables.tracking.recorded()
     }
 
     /// The values that stack maps need, to which more may be added.
@@ -330,7 +328,7 @@ impl SSABuilder {
         ensures* writes_back { sem 𝓛 (lends_builder_recorded self.entry result) }
         ensures value { result.now ≡ recorded_of self.old.tracking }
     {
-        self.tables.stack_map_values_mut()
+        self.tables.tracking.recorded_mut()
     }
 
     /// The value of a variable of type `ty` in a block.
@@ -388,11 +386,13 @@ impl SSABuilder {
         ensures never_failed { result ≢ Err BuildError.Failed }
     {
         func.law_consistent();
-        if let Some(value) = self.tables.record_at(variable, block) {
+        if let Some(value) = self.tables.variables.get(variable, block) {
             return Ok((value, SideEffects::new(self.alloc)));
         }
         if self.tables.is_local(block) {
-            return self.use_locally(func, variable, ty, block);
+            return self
+                .tables
+                .use_locally(self.alloc, func, variable, ty, block);
         }
         self.look_up.clear();
         self.tables.look_up_in(
@@ -415,55 +415,6 @@ impl SSABuilder {
         ))
     }
 
-    // The value of a variable that isn't recorded in a block which is unsealed or has no predecessors.
-    fn use_locally(
-        &mut self,
-        func: &mut Function,
-        variable: Variable,
-        ty: Type,
-        block: Block,
-    ) -> Result<(Value, SideEffects), BuildError>
-        requires exists { block < length func.old.blocks }
-        requires unrecorded { record_of self.old variable block ≡ None }
-        ensures used { UsesLocally variable ty block func.old self.old func.new self.new result }
-        ensures keeps { StepKeeps variable ty func.old self.old func.new self.new }
-        ensures ends { StepEnds (UseIsFull ty) func.new result }
-    {
-        self.tables
-            .use_locally(self.alloc, func, variable, ty, block)
-    }
-
-    // Completes parameters that waited in a block to which nothing leads, in order.
-    fn complete_locally(
-        &mut self,
-        func: &mut Function,
-        block: Block,
-        waiting: &[Pending],
-    ) -> Result<SideEffects, BuildError>
-        ensures function { OnOk result (func.new ≡ completed func.old waiting.now) }
-        ensures told { IfOk result (λ r. r.instructions_added_to_blocks.items ≡ completing_blocks func.old waiting.now) }
-        ensures records { SameRecords self.old self.new }
-        ensures tracking { self.new.tracking ≡ self.old.tracking }
-        ensures counted { OnOk result (CountsEach self.old self.new block waiting.now) }
-        ensures blocks { self.new.blocks ≡ self.old.blocks }
-        ensures looks_once { ToComplete self.old block waiting.now → LooksOnce self.new }
-        ensures more { HasMore func.old func.new }
-        ensures constructs { OnlyConstructs func.old func.new }
-        ensures tells { IfOk result (λ r. TellsZeros func.old func.new r.instructions_added_to_blocks.items) }
-        ensures full { result ≡ Err BuildError.Full → ConstructionIsFull func.new }
-        ensures pools { ((p : Pending) → Contains waiting.now p → p.param < length func.old.values) → MayPoolAll (types_of func.old waiting.now) func.old.tables func.new.tables }
-        ensures full_waiting { ((p : Pending) → Contains waiting.now p → p.param < length func.old.values) → result ≡ Err BuildError.Full → SealingIsFull (Contains (types_of func.old waiting.now)) func.new }
-        ensures never_failed { result ≢ Err BuildError.Failed }
-    {
-        let mut side_effects = SideEffects::new(self.alloc);
-        for pending in waiting.iter() {
-            let Pending { variable, param } = *pending;
-            self.tables.count_lookup(variable, block)?;
-            replace_by_zero(func, param, &mut side_effects)?;
-        }
-        Ok(side_effects)
-    }
-
     // Seals a block, and completes what waits in it.
     fn seal_one_block(
         &mut self,
@@ -477,12 +428,14 @@ impl SSABuilder {
         ensures full_waiting { NamesExist func.old self.old → result ≡ Err BuildError.Full → SealingIsFull (Contains (types_of func.old (pending_of (sealed_of self.old block)))) func.new }
         ensures ends { StepEnds ConstructionIsFull func.new result }
     {
-        let waiting = self.tables.seal(block)?;
+        let waiting = self.tables.blocks.seal(block)?;
         if waiting.as_slice().is_empty() {
             return Ok(SideEffects::new(self.alloc));
         }
-        if !self.tables.has_any_predecessors(block) {
-            return self.complete_locally(func, block, waiting.as_slice());
+        if self.tables.blocks.predecessors(block).is_empty() {
+            return self
+                .tables
+                .complete_locally(self.alloc, func, block, waiting.as_slice());
         }
         self.look_up.clear();
         self.tables.complete_all(

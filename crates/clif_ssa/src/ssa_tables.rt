@@ -1,31 +1,28 @@
 //! What the construction knows, and the changes that a look-up makes of it.
-ghost use Rattle.std.specs.Prelude.{◌≡◌, ◌≢◌, ◌<◌, ◌≤◌, ◌+◌, ◌↔◌, ◌++◌, ◌∷◌, ◌==◌, ◌&&◌, ◌⊎◌, [], ℕ, IsTrue, length, Some, None, true, false, OnOk, OnErr, IfOk, IfSome, if◌then◌else◌};
-ghost use Rattle.std.specs.FinMap as map;
+ghost use Rattle.std.specs.Prelude.{◌≡◌, ◌≢◌, ◌<◌, ◌+◌, ◌↔◌, ◌++◌, ◌⊎◌, [], IsTrue, length, Some, None, true, false, Contains, OnOk, OnErr, IfOk, IfSome};
 ghost use Rattle.clif_ir.specs.Changes.{with_param};
-ghost use Rattle.clif_instructions.specs.Members.{Stands, stands_in};
-ghost use Rattle.clif_ssa.specs.Constructs.{TellsMore};
-ghost use Rattle.clif_records.specs.Tables.{is_yes, pending_of};
-ghost use Rattle.clif_records.specs.declared.tables.Sealed.{Sealed};
-ghost use Rattle.std.specs.Borrow.{sem};
-ghost use Rattle.clif_ssa.specs.Lending.{lends_tables_recorded};
-ghost use Rattle.clif_ssa.specs.Ssa.{no_state, MayBind, Declares, Removes, Seals, record_of, sealed_of, predecessors_of, lookups_of, Named, Records, KnowsNoMore, SameRecords, SameBlocks, SamePredecessors, SameLookups, CountsLookup};
+ghost use Rattle.clif_ssa.specs.Constructs.{OnlyConstructs, TellsMore, TellsZeros};
+ghost use Rattle.clif_records.specs.Tables.{is_yes};
+ghost use Rattle.clif_ssa.specs.Ssa.{no_state, MayBind, record_of, sealed_of, predecessors_of, completed, completing_blocks, CountsEach, HasMore, Named, Records, KnowsNoMore, SameRecords, SameBlocks, SamePredecessors, SameLookups, CountsLookup};
 ghost use Rattle.clif_ssa.specs.Moving.{LeadsOnce};
-ghost use Rattle.clif_ssa.specs.Pools.{UseIsFull};
-ghost use Rattle.clif_ssa.specs.Running.{stage, Got};
+ghost use Rattle.clif_ssa.specs.Limits.{ConstructionIsFull};
+ghost use Rattle.clif_records.specs.declared.tables.Pending.{Pending};
+ghost use Rattle.clif_ssa.specs.Structure.{LooksOnce};
+ghost use Rattle.clif_ssa.specs.Pools.{types_of, MayPoolAll, SealingIsFull, UseIsFull};
+ghost use Rattle.clif_ssa.specs.Running.{stage, Got, ToComplete};
 ghost use Rattle.clif_ssa.specs.Steps.{StepKeeps, StepEnds, UsesLocally};
-ghost use Rattle.clif_records.specs.Passed.{before_first};
 ghost use Rattle.clif_records.specs.Stacks.{calls_for};
-ghost use Rattle.clif_records.specs.Tracking.{recorded_of, with_binding, with_mark};
-ghost use Rattle.clif_ssa.specs.LookUp.{single_predecessor, WalksTo, Copies};
+ghost use Rattle.clif_records.specs.Tracking.{with_binding};
+ghost use Rattle.clif_ssa.specs.LookUp.{single_predecessor, WalksTo};
 
 use crate::zeros::replace_by_zero;
 use clif_ir::Function;
 use clif_records::look_up::LookUp;
 use clif_records::passed::PassedBlocks;
-use clif_records::tables::{BlockTable, PendingList, VariableTable};
+use clif_records::tables::{BlockTable, Pending, VariableTable};
 use clif_records::tracking::Tracking;
 use clif_records::{SideEffects, Variable};
-use clif_types::{Block, BuildError, EntitySet, Inst, Type, Value};
+use clif_types::{Block, BuildError, Inst, Type, Value};
 use std::alloc::Global;
 use std::marker::Model;
 
@@ -94,36 +91,6 @@ impl SsaTables {
         self.variables.is_empty() && self.blocks.is_empty() && self.tracking.is_empty()
     }
 
-    /// Makes a block known.
-    pub(crate) fn declare_block(&mut self, block: Block) -> Result<(), BuildError>
-        ensures records { self.new.records ≡ self.old.records }
-        ensures blocks { (b : ℕ) → sealed_of self.new b ≡ sealed_of self.old b }
-        ensures predecessors { SamePredecessors self.old self.new }
-        ensures tracking { self.new.tracking ≡ self.old.tracking }
-        ensures known { OnOk result (block < length self.new.blocks) }
-        ensures no_more { KnowsNoMore self.old self.new (block + 1) }
-        ensures only_memory { OnErr result (result ≡ Err BuildError.Memory) }
-    {
-        self.blocks.declare(block)
-    }
-
-    /// Puts a branch behind those that lead to a block.
-    pub(crate) fn declare_predecessor(
-        &mut self,
-        block: Block,
-        branch: Inst,
-    ) -> Result<(), BuildError>
-        ensures ok { OnOk result (Declares self.old self.new block branch) }
-        ensures err { OnErr result (SamePredecessors self.old self.new) }
-        ensures records { self.new.records ≡ self.old.records }
-        ensures blocks { SameBlocks self.old self.new }
-        ensures tracking { self.new.tracking ≡ self.old.tracking }
-        ensures no_more { KnowsNoMore self.old self.new (block + 1) }
-        ensures only_memory { OnErr result (result ≡ Err BuildError.Memory) }
-    {
-        self.blocks.declare_predecessor(block, branch)
-    }
-
     /// Puts a branch behind those that lead to a block, unless it is one of them.
     pub(crate) fn lead_once(&mut self, block: Block, branch: Inst) -> Result<(), BuildError>
         ensures ok { OnOk result (LeadsOnce self.old self.new block branch) }
@@ -140,66 +107,12 @@ impl SsaTables {
         self.blocks.declare_predecessor(block, branch)
     }
 
-    /// Takes a branch away from those that lead to a block; the others keep their order.
-    pub(crate) fn remove_predecessor(&mut self, block: Block, branch: Inst)
-        requires { Stands branch (predecessors_of self.old block) }
-        ensures removed { Removes self.old self.new block branch }
-        ensures records { self.new.records ≡ self.old.records }
-        ensures blocks { SameBlocks self.old self.new }
-        ensures tracking { self.new.tracking ≡ self.old.tracking }
-        ensures no_more { length self.new.blocks ≤ length self.old.blocks }
-    {
-        self.blocks.remove_predecessor(block, branch);
-    }
-
-    /// The branches that lead to a block, in order.
-    pub(crate) fn predecessors(&self, block: Block) -> &[Inst]
-        ensures { result.now ≡ predecessors_of self.now block }
-    {
-        self.blocks.predecessors(block)
-    }
-
-    /// Whether any branch leads to a block.
-    pub(crate) fn has_any_predecessors(&self, block: Block) -> bool
-        ensures { IsTrue result ↔ (predecessors_of self.now block ≢ []) }
-    {
-        !self.blocks.predecessors(block).is_empty()
-    }
-
-    /// Whether a block is sealed.
-    pub(crate) fn is_sealed(&self, block: Block) -> bool
-        ensures { result ≡ is_yes (sealed_of self.now block) }
-    {
-        self.blocks.is_sealed(block)
-    }
-
     /// Whether a block is unsealed or nothing leads to it.
     pub(crate) fn is_local(&self, block: Block) -> bool
         ensures yes { IsTrue result → is_yes (sealed_of self.now block) ≡ true → predecessors_of self.now block ≡ [] }
         ensures no { result ≡ false → (is_yes (sealed_of self.now block) ≡ true) × (predecessors_of self.now block ≢ []) }
     {
-        !self.is_sealed(block) || !self.has_any_predecessors(block)
-    }
-
-    /// The record of a variable in a block.
-    pub(crate) fn record_at(&self, variable: Variable, block: Block) -> Option<Value>
-        ensures { result ≡ record_of self.now variable block }
-    {
-        self.variables.get(variable, block)
-    }
-
-    /// In how many pairs of a variable and a block something is recorded.
-    pub(crate) fn records(&self) -> usize
-        ensures { result ≡ map.len self.now.records }
-    {
-        self.variables.records()
-    }
-
-    /// How many look-ups of a variable in the predecessors of a block began.
-    pub(crate) fn lookups(&self, variable: Variable, block: Block) -> u32
-        ensures { result ≡ lookups_of self.now variable block }
-    {
-        self.variables.lookups(variable, block)
+        !self.blocks.is_sealed(block) || self.blocks.predecessors(block).is_empty()
     }
 
     /// Records a value for a variable in a block, and for stack maps, if the variable is marked. After an
@@ -221,81 +134,6 @@ impl SsaTables {
     {
         self.tracking.bind(variable, value)?;
         self.variables.set(variable, block, value)
-    }
-
-    /// Marks a variable. After an error nothing has changed.
-    pub(crate) fn mark(&mut self, variable: Variable) -> Result<(), BuildError>
-        ensures ok { OnOk result (self.new ≡ record self.old { tracking = with_mark self.old.tracking variable }) }
-        ensures err { OnErr result (self.new ≡ self.old) }
-        ensures only_memory { OnErr result (result ≡ Err BuildError.Memory) }
-    {
-        self.tracking.mark(variable)
-    }
-
-    /// The values that stack maps need.
-    pub(crate) fn stack_map_values(&self) -> &EntitySet<Value>
-        ensures { result.now ≡ recorded_of self.now.tracking }
-    {
-        self.tracking.recorded()
-    }
-
-    /// The values that stack maps need, to which more may be added.
-    pub(crate) fn stack_map_values_mut(&mut self) -> &mut EntitySet<Value>
-        ensures* writes_back { sem 𝓛 (lends_tables_recorded self.entry result) }
-        ensures value { result.now ≡ recorded_of self.old.tracking }
-    {
-        self.tracking.recorded_mut()
-    }
-
-    /// Counts a look-up of a variable in the predecessors of a block.
-    #[inline(always)]
-    pub(crate) fn count_lookup(
-        &mut self,
-        variable: Variable,
-        block: Block,
-    ) -> Result<(), BuildError>
-        ensures ok { OnOk result (CountsLookup self.old self.new variable block) }
-        ensures err { OnErr result (SameLookups self.old self.new) }
-        ensures records { SameRecords self.old self.new }
-        ensures blocks { self.new.blocks ≡ self.old.blocks }
-        ensures tracking { self.new.tracking ≡ self.old.tracking }
-        ensures only_memory { OnErr result (result ≡ Err BuildError.Memory) }
-    {
-        self.variables.count_lookup(variable, block)
-    }
-
-    /// Puts a parameter behind those that wait in an unsealed block.
-    #[inline(always)]
-    pub(crate) fn wait(
-        &mut self,
-        block: Block,
-        variable: Variable,
-        param: Value,
-    ) -> Result<(), BuildError>
-        requires { is_yes (sealed_of self.old block) ≡ false }
-        ensures ok { OnOk result ((b : ℕ) → sealed_of self.new b ≡ (if b == block then Sealed.No (pending_of (sealed_of self.old b) ++ record { variable = variable; param = param } ∷ []) else sealed_of self.old b)) }
-        ensures err { OnErr result (SameBlocks self.old self.new) }
-        ensures records { self.new.records ≡ self.old.records }
-        ensures predecessors { SamePredecessors self.old self.new }
-        ensures tracking { self.new.tracking ≡ self.old.tracking }
-        ensures no_more { KnowsNoMore self.old self.new (block + 1) }
-        ensures only_memory { OnErr result (result ≡ Err BuildError.Memory) }
-    {
-        self.blocks.wait(block, variable, param)
-    }
-
-    /// Seals a block, and answers the parameters that waited in it.
-    pub(crate) fn seal(&mut self, block: Block) -> Result<PendingList, BuildError>
-        ensures pending { IfOk result (λ l. l ≡ pending_of (sealed_of self.old block)) }
-        ensures ok { OnOk result (Seals self.old self.new block) }
-        ensures err { OnErr result (SameBlocks self.old self.new) }
-        ensures records { self.new.records ≡ self.old.records }
-        ensures predecessors { SamePredecessors self.old self.new }
-        ensures tracking { self.new.tracking ≡ self.old.tracking }
-        ensures no_more { KnowsNoMore self.old self.new (block + 1) }
-        ensures only_memory { OnErr result (result ≡ Err BuildError.Memory) }
-    {
-        self.blocks.seal(block)
     }
 
     /// The block from which alone control comes to a sealed block, by one branch.
@@ -351,30 +189,6 @@ impl SsaTables {
             block: reached,
             recorded,
         })
-    }
-
-    /// Records a value for a variable in the blocks passed, up to the first `from` among them.
-    ///
-    /// The only error is `Memory`. Some blocks may have the record then.
-    #[inline(always)]
-    pub(crate) fn copy_record(
-        &mut self,
-        variable: Variable,
-        value: Value,
-        passed: &PassedBlocks,
-        from: Block,
-    ) -> Result<(), BuildError>
-        ensures ok { OnOk result (Copies self.old self.new variable value (before_first from passed.now)) }
-        ensures recorded { (x b v : ℕ) → record_of self.new x b ≡ Some v → (record_of self.old x b ≡ Some v) ⊎ (v ≡ value) }
-        ensures others { (x b : ℕ) → (record_of self.new x b ≡ record_of self.old x b) ⊎ ((x ≡ variable) × (stands_in b passed.now ≡ true)) }
-        ensures blocks { self.new.blocks ≡ self.old.blocks }
-        ensures lookups { SameLookups self.old self.new }
-        ensures tracking { self.new.tracking ≡ self.old.tracking }
-        ensures none_lost { (x b : ℕ) → record_of self.new x b ≡ None → record_of self.old x b ≡ None }
-        ensures only_memory { OnErr result (result ≡ Err BuildError.Memory) }
-    {
-        self.variables
-            .set_each(variable, passed.as_slice(), from, value)
     }
 
     /// Begins the look-up of a variable in the predecessors of a block, for a parameter of it.
@@ -440,13 +254,45 @@ impl SsaTables {
     {
         let param = self.new_parameter(func, variable, ty, block)?;
         let mut side_effects = SideEffects::new(alloc);
-        if self.is_sealed(block) {
-            self.count_lookup(variable, block)?;
+        if self.blocks.is_sealed(block) {
+            self.variables.count_lookup(variable, block)?;
             let zero = replace_by_zero(func, param, &mut side_effects)?;
             return Ok((zero, side_effects));
         }
-        self.wait(block, variable, param)?;
+        self.blocks.wait(block, variable, param)?;
         Ok((param, side_effects))
+    }
+
+    /// Completes parameters that waited in a block to which nothing leads, in order.
+    pub(crate) fn complete_locally(
+        &mut self,
+        alloc: Global,
+        func: &mut Function,
+        block: Block,
+        waiting: &[Pending],
+    ) -> Result<SideEffects, BuildError>
+        ensures function { OnOk result (func.new ≡ completed func.old waiting.now) }
+        ensures told { IfOk result (λ r. r.instructions_added_to_blocks.items ≡ completing_blocks func.old waiting.now) }
+        ensures records { SameRecords self.old self.new }
+        ensures tracking { self.new.tracking ≡ self.old.tracking }
+        ensures counted { OnOk result (CountsEach self.old self.new block waiting.now) }
+        ensures blocks { self.new.blocks ≡ self.old.blocks }
+        ensures looks_once { ToComplete self.old block waiting.now → LooksOnce self.new }
+        ensures more { HasMore func.old func.new }
+        ensures constructs { OnlyConstructs func.old func.new }
+        ensures tells { IfOk result (λ r. TellsZeros func.old func.new r.instructions_added_to_blocks.items) }
+        ensures full { result ≡ Err BuildError.Full → ConstructionIsFull func.new }
+        ensures pools { ((p : Pending) → Contains waiting.now p → p.param < length func.old.values) → MayPoolAll (types_of func.old waiting.now) func.old.tables func.new.tables }
+        ensures full_waiting { ((p : Pending) → Contains waiting.now p → p.param < length func.old.values) → result ≡ Err BuildError.Full → SealingIsFull (Contains (types_of func.old waiting.now)) func.new }
+        ensures never_failed { result ≢ Err BuildError.Failed }
+    {
+        let mut side_effects = SideEffects::new(alloc);
+        for pending in waiting.iter() {
+            let Pending { variable, param } = *pending;
+            self.variables.count_lookup(variable, block)?;
+            replace_by_zero(func, param, &mut side_effects)?;
+        }
+        Ok(side_effects)
     }
 
     /// Appends a parameter for a variable to a block that doesn't record it, and records it. In an
@@ -467,12 +313,12 @@ impl SsaTables {
         ensures ends { StepEnds (UseIsFull ty) func.new result }
     {
         let param = self.new_parameter(func, variable, ty, block)?;
-        if self.is_sealed(block) {
+        if self.blocks.is_sealed(block) {
             self.begin_look_up(variable, param, block, look_up)?;
             return Ok(param);
         }
         look_up.push_result(param)?;
-        self.wait(block, variable, param)?;
+        self.blocks.wait(block, variable, param)?;
         Ok(param)
     }
 

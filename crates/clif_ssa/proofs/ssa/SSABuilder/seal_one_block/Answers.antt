@@ -1,4 +1,4 @@
-use Rattle.std.proofs.Common.{rules, ap, ◌≡◌, ◌≢◌, ◌∙◌, [], false, true, arith, refl, subst}
+use Rattle.std.proofs.Common.{rules, ap, ◌≡◌, ◌≢◌, ◌∙◌, ◌+◌, [], arith, subst}
 use Rattle.std.specs.Prelude.{Contains, Err}
 use Rattle.std.proofs.lemmas.Grind.{common_steps}
 use Rattle.std.proofs.lemmas.Result.{err_from_is_err_and}
@@ -11,23 +11,24 @@ use Rattle.clif_ssa.specs.Structure.{LooksOnce}
 use Rattle.clif_ssa.proofs.SealSteps.{failed_makes, local_keeps, local_makes, looked_keeps, looked_makes, nothing_keeps, nothing_makes, refused_keeps, refused_makes}
 use Rattle.clif_ssa.proofs.Pooling.{sealing_full}
 use Rattle.clif_ssa.proofs.SealPools.{block_full, block_pools, pools_local, pools_nothing, pools_refused, pools_sealed, waiting_exist}
+use Rattle.clif_ssa.proofs.Opened.{no_more_known, predecessors_same, records_are, sealed_same, seals_in, state_of, tables_are, tracking_is}
 use Rattle.clif_ssa.proofs.Steps.{ends_as, ends_memory, ends_ok, ends_wider, ends_zeros}
 use Rattle.clif_ssa.proofs.Waited.{leading-named, sealed-named}
 use Rattle.clif_ssa.proofs.ssa.SSABuilder.seal_one_block.Goals as goal
 
 pub complete_all-requires-clause-named : goal.complete_all-requires-clause-named
 complete_all-requires-clause-named c =
-    let some : predecessors_of c.seal.new.self c.args.block ≢ [] = first_of (search rules, grind (arith, common_steps)) in
-    (sealed-named c.args.func.now c.self.inside.tables c.seal.new.self c.args.block c.in_ok-waiting.ensures.ok
-    (λ x b. ap (λ rows. record_at rows x b) c.seal.ensures.records) c.seal.ensures.predecessors
-    (leading-named c.args.func.now c.self.inside.tables c.args.block (rw (c.self.view_is) c.requires.named) (λ none. some (c.seal.ensures.predecessors c.args.block ∙ none))))
+    let some : predecessors_of (state_of c.self-inside.inside.0.1.0.variables c.seal.new.self c.self-inside.inside.0.1.0.tracking) c.args.block ≢ [] = first_of (search rules, grind (arith, common_steps)) in
+    (sealed-named c.args.func.now c.self.inside.tables (state_of c.self-inside.inside.0.1.0.variables c.seal.new.self c.self-inside.inside.0.1.0.tracking) c.args.block (seals_in _ _ _ _ (tables_are c.self-inside.view_is) c.seal.new.self c.args.block c.in_ok-waiting.ensures.ok)
+    (λ x b. ap (λ rows. record_at rows x b) (records_are _ _ _ _ (tables_are c.self-inside.view_is))) (predecessors_same _ _ _ _ (tables_are c.self-inside.view_is) c.seal.new.self c.seal.ensures.predecessors)
+    (leading-named c.args.func.now c.self.inside.tables c.args.block (rw (c.self.view_is) c.requires.named) (λ none. some ((predecessors_same _ _ _ _ (tables_are c.self-inside.view_is) c.seal.new.self c.seal.ensures.predecessors) c.args.block ∙ none))))
 
 pub complete_all-requires-clause-params_exist : goal.complete_all-requires-clause-params_exist
 complete_all-requires-clause-params_exist c = λ p here.
-    let some : predecessors_of c.seal.new.self c.args.block ≢ [] = first_of (search rules, grind (arith, common_steps)) in
+    let some : predecessors_of (state_of c.self-inside.inside.0.1.0.variables c.seal.new.self c.self-inside.inside.0.1.0.tracking) c.args.block ≢ [] = first_of (search rules, grind (arith, common_steps)) in
     let same : c.as_slice-2.result.now ≡ pending_of (sealed_of c.self.inside.tables c.args.block) = first_of (search rules, grind (arith, common_steps)) in
     let named : NamesExist c.args.func.now c.self.inside.tables =
-    leading-named c.args.func.now c.self.inside.tables c.args.block (rw (c.self.view_is) c.requires.named) (λ none. some (c.seal.ensures.predecessors c.args.block ∙ none)) in
+    leading-named c.args.func.now c.self.inside.tables c.args.block (rw (c.self.view_is) c.requires.named) (λ none. some ((predecessors_same _ _ _ _ (tables_are c.self-inside.view_is) c.seal.new.self c.seal.ensures.predecessors) c.args.block ∙ none)) in
     named.waiting c.args.block p (subst (λ ps. Contains ps p) same here)
 
 -- IT ISN'T SEALED -------------------------------------------------------------------------------------------------
@@ -36,11 +37,11 @@ pub returns-in_err-waiting-clause-makes : goal.returns-in_err-waiting-clause-mak
 returns-in_err-waiting-clause-makes c =
     let p = err_from_is_err_and c.from_residual.result c.from_residual.ensures.1 in
     rw (p.1, p.2, ← c.self.view_is)
-    (refused_makes c.args.block c.args.func.now c.self.inside.tables c.seal.new.self c.in_err-waiting.field-0.0 c.seal.ensures.records c.seal.ensures.tracking c.in_err-waiting.ensures.err)
+    (refused_makes c.args.block c.args.func.now c.self.inside.tables (state_of c.self-inside.inside.0.1.0.variables c.seal.new.self c.self-inside.inside.0.1.0.tracking) c.in_err-waiting.field-0.0 (records_are _ _ _ _ (tables_are c.self-inside.view_is)) (tracking_is _ _ _ _ (tables_are c.self-inside.view_is)) (sealed_same _ _ _ _ (tables_are c.self-inside.view_is) c.seal.new.self c.in_err-waiting.ensures.err))
 
 pub returns-in_err-waiting-clause-keeps : goal.returns-in_err-waiting-clause-keeps
 returns-in_err-waiting-clause-keeps c =
-    rw (← c.self.view_is) (refused_keeps c.args.block c.args.func.now c.self.inside.tables c.seal.new.self c.seal.ensures.records c.in_err-waiting.ensures.err c.seal.ensures.predecessors c.seal.ensures.no_more)
+    rw (← c.self.view_is) (refused_keeps c.args.block c.args.func.now c.self.inside.tables (state_of c.self-inside.inside.0.1.0.variables c.seal.new.self c.self-inside.inside.0.1.0.tracking) (records_are _ _ _ _ (tables_are c.self-inside.view_is)) (sealed_same _ _ _ _ (tables_are c.self-inside.view_is) c.seal.new.self c.in_err-waiting.ensures.err) (predecessors_same _ _ _ _ (tables_are c.self-inside.view_is) c.seal.new.self c.seal.ensures.predecessors) (no_more_known _ _ _ _ (tables_are c.self-inside.view_is) c.seal.new.self (c.args.block + 1) c.seal.ensures.no_more))
 
 pub returns-in_err-waiting-clause-ends : goal.returns-in_err-waiting-clause-ends
 returns-in_err-waiting-clause-ends c =
@@ -55,59 +56,59 @@ returns-then-is_empty-clause-makes c =
     let none : [] ≡ pending_of (sealed_of c.self.inside.tables c.args.block) = first_of (search rules, grind (arith, common_steps)) in
     let told : c.new.result.instructions_added_to_blocks.items ≡ [] = search rules in
     rw (← c.self.view_is)
-    (nothing_makes c.args.block c.args.func.now c.self.inside.tables c.seal.new.self c.new.result c.seal.ensures.records c.seal.ensures.tracking c.in_ok-waiting.ensures.ok c.seal.ensures.predecessors none told)
+    (nothing_makes c.args.block c.args.func.now c.self.inside.tables (state_of c.self-inside.inside.0.1.0.variables c.seal.new.self c.self-inside.inside.0.1.0.tracking) c.new.result (records_are _ _ _ _ (tables_are c.self-inside.view_is)) (tracking_is _ _ _ _ (tables_are c.self-inside.view_is)) (seals_in _ _ _ _ (tables_are c.self-inside.view_is) c.seal.new.self c.args.block c.in_ok-waiting.ensures.ok) (predecessors_same _ _ _ _ (tables_are c.self-inside.view_is) c.seal.new.self c.seal.ensures.predecessors) none told)
 
 pub returns-then-is_empty-clause-keeps : goal.returns-then-is_empty-clause-keeps
 returns-then-is_empty-clause-keeps c =
     let none : [] ≡ pending_of (sealed_of c.self.inside.tables c.args.block) = first_of (search rules, grind (arith, common_steps)) in
     rw (← c.self.view_is)
-    (nothing_keeps c.args.block c.args.func.now c.self.inside.tables c.seal.new.self c.seal.ensures.records c.in_ok-waiting.ensures.ok c.seal.ensures.predecessors c.seal.ensures.no_more none)
+    (nothing_keeps c.args.block c.args.func.now c.self.inside.tables (state_of c.self-inside.inside.0.1.0.variables c.seal.new.self c.self-inside.inside.0.1.0.tracking) (records_are _ _ _ _ (tables_are c.self-inside.view_is)) (seals_in _ _ _ _ (tables_are c.self-inside.view_is) c.seal.new.self c.args.block c.in_ok-waiting.ensures.ok) (predecessors_same _ _ _ _ (tables_are c.self-inside.view_is) c.seal.new.self c.seal.ensures.predecessors) (no_more_known _ _ _ _ (tables_are c.self-inside.view_is) c.seal.new.self (c.args.block + 1) c.seal.ensures.no_more) none)
 
 pub returns-then-is_empty-clause-ends : goal.returns-then-is_empty-clause-ends
 returns-then-is_empty-clause-ends c = ends_ok c.args.func.now _
 
 pub returns-then-is_empty-clause-pools : goal.returns-then-is_empty-clause-pools
 returns-then-is_empty-clause-pools c =
-    rw (← c.self.view_is) (λ named. pools_nothing _ c.args.func.now c.self.inside.tables c.seal.new.self c.args.block c.in_ok-waiting.ensures.ok)
+    rw (← c.self.view_is) (λ named. pools_nothing _ c.args.func.now c.self.inside.tables (state_of c.self-inside.inside.0.1.0.variables c.seal.new.self c.self-inside.inside.0.1.0.tracking) c.args.block (seals_in _ _ _ _ (tables_are c.self-inside.view_is) c.seal.new.self c.args.block c.in_ok-waiting.ensures.ok))
 
 -- NOTHING LEADS TO IT ---------------------------------------------------------------------------------------------
 
-pub returns-then-not-has_any_predecessors-clause-makes : goal.returns-then-not-has_any_predecessors-clause-makes
-returns-then-not-has_any_predecessors-clause-makes c =
-    let same : c.as_slice-then-not-has_any_predecessors.result.now ≡ pending_of (sealed_of c.self.inside.tables c.args.block) = first_of (search rules, grind (arith, common_steps)) in
+pub returns-then-is_empty-2-clause-makes : goal.returns-then-is_empty-2-clause-makes
+returns-then-is_empty-2-clause-makes c =
+    let same : c.as_slice-then-is_empty-2.result.now ≡ pending_of (sealed_of c.self.inside.tables c.args.block) = first_of (search rules, grind (arith, common_steps)) in
     rw (← c.self.view_is)
-    (local_makes c.args.block c.args.func.now c.complete_locally.new.func c.self.inside.tables c.seal.new.self c.complete_locally.new.self c.as_slice-then-not-has_any_predecessors.result.now c.complete_locally.result c.seal.ensures.records c.seal.ensures.tracking c.in_ok-waiting.ensures.ok c.seal.ensures.predecessors same (λ some. let no : false ≡ true = c.if-not-has_any_predecessors.ensures.1 some in cc)
+    (local_makes c.args.block c.args.func.now c.complete_locally.new.func c.self.inside.tables (state_of c.self-inside.inside.0.1.0.variables c.seal.new.self c.self-inside.inside.0.1.0.tracking) c.complete_locally.new.self c.as_slice-then-is_empty-2.result.now c.complete_locally.result (records_are _ _ _ _ (tables_are c.self-inside.view_is)) (tracking_is _ _ _ _ (tables_are c.self-inside.view_is)) (seals_in _ _ _ _ (tables_are c.self-inside.view_is) c.seal.new.self c.args.block c.in_ok-waiting.ensures.ok) (predecessors_same _ _ _ _ (tables_are c.self-inside.view_is) c.seal.new.self c.seal.ensures.predecessors) same (λ some. absurd (some (first_of (search rules, grind (arith, common_steps)))))
     c.complete_locally.ensures.records c.complete_locally.ensures.tracking c.complete_locally.ensures.blocks c.complete_locally.ensures.counted c.complete_locally.ensures.function c.complete_locally.ensures.told c.complete_locally.ensures.tells)
 
-pub returns-then-not-has_any_predecessors-clause-keeps : goal.returns-then-not-has_any_predecessors-clause-keeps
-returns-then-not-has_any_predecessors-clause-keeps c =
-    let same : c.as_slice-then-not-has_any_predecessors.result.now ≡ pending_of (sealed_of c.self.inside.tables c.args.block) = first_of (search rules, grind (arith, common_steps)) in
+pub returns-then-is_empty-2-clause-keeps : goal.returns-then-is_empty-2-clause-keeps
+returns-then-is_empty-2-clause-keeps c =
+    let same : c.as_slice-then-is_empty-2.result.now ≡ pending_of (sealed_of c.self.inside.tables c.args.block) = first_of (search rules, grind (arith, common_steps)) in
     rw (← c.self.view_is)
-    (local_keeps c.args.block c.args.func.now c.complete_locally.new.func c.self.inside.tables c.seal.new.self c.complete_locally.new.self c.as_slice-then-not-has_any_predecessors.result.now c.seal.ensures.records c.in_ok-waiting.ensures.ok c.seal.ensures.predecessors c.seal.ensures.no_more same c.complete_locally.ensures.records c.complete_locally.ensures.blocks c.complete_locally.ensures.looks_once c.complete_locally.ensures.more c.complete_locally.ensures.constructs)
+    (local_keeps c.args.block c.args.func.now c.complete_locally.new.func c.self.inside.tables (state_of c.self-inside.inside.0.1.0.variables c.seal.new.self c.self-inside.inside.0.1.0.tracking) c.complete_locally.new.self c.as_slice-then-is_empty-2.result.now (records_are _ _ _ _ (tables_are c.self-inside.view_is)) (seals_in _ _ _ _ (tables_are c.self-inside.view_is) c.seal.new.self c.args.block c.in_ok-waiting.ensures.ok) (predecessors_same _ _ _ _ (tables_are c.self-inside.view_is) c.seal.new.self c.seal.ensures.predecessors) (no_more_known _ _ _ _ (tables_are c.self-inside.view_is) c.seal.new.self (c.args.block + 1) c.seal.ensures.no_more) same c.complete_locally.ensures.records c.complete_locally.ensures.blocks c.complete_locally.ensures.looks_once c.complete_locally.ensures.more c.complete_locally.ensures.constructs)
 
-pub returns-then-not-has_any_predecessors-clause-ends : goal.returns-then-not-has_any_predecessors-clause-ends
-returns-then-not-has_any_predecessors-clause-ends c =
+pub returns-then-is_empty-2-clause-ends : goal.returns-then-is_empty-2-clause-ends
+returns-then-is_empty-2-clause-ends c =
     (ends_zeros c.complete_locally.new.func c.complete_locally.result c.complete_locally.ensures.full c.complete_locally.ensures.never_failed)
 
 -- BRANCHES LEAD TO IT ---------------------------------------------------------------------------------------------
 
 pub returns-in_err-complete_all-clause-makes : goal.returns-in_err-complete_all-clause-makes
 returns-in_err-complete_all-clause-makes c =
-    let leaves : StepLeaves c.args.func.now c.seal.new.self c.complete_all.new.func c.complete_all.new.self =
+    let leaves : StepLeaves c.args.func.now (state_of c.self-inside.inside.0.1.0.variables c.seal.new.self c.self-inside.inside.0.1.0.tracking) c.complete_all.new.func c.complete_all.new.self =
     c.complete_all.ensures.leaves in
     let p = err_from_is_err_and c.from_residual-in_err-complete_all.result c.from_residual-in_err-complete_all.ensures.1 in
     rw (p.1, p.2, ← c.self.view_is)
-    (failed_makes c.args.block c.args.func.now c.complete_all.new.func c.self.inside.tables c.seal.new.self c.complete_all.new.self c.in_err-complete_all.field-0.0 c.in_ok-waiting.ensures.ok c.seal.ensures.predecessors (c.if-not-has_any_predecessors.ensures.0 refl) leaves)
+    (failed_makes c.args.block c.args.func.now c.complete_all.new.func c.self.inside.tables (state_of c.self-inside.inside.0.1.0.variables c.seal.new.self c.self-inside.inside.0.1.0.tracking) c.complete_all.new.self c.in_err-complete_all.field-0.0 (seals_in _ _ _ _ (tables_are c.self-inside.view_is) c.seal.new.self c.args.block c.in_ok-waiting.ensures.ok) (predecessors_same _ _ _ _ (tables_are c.self-inside.view_is) c.seal.new.self c.seal.ensures.predecessors) (first_of (search rules, grind (arith, common_steps))) leaves)
 
 pub returns-in_err-complete_all-clause-keeps : goal.returns-in_err-complete_all-clause-keeps
 returns-in_err-complete_all-clause-keeps c =
-    let leaves : StepLeaves c.args.func.now c.seal.new.self c.complete_all.new.func c.complete_all.new.self =
+    let leaves : StepLeaves c.args.func.now (state_of c.self-inside.inside.0.1.0.variables c.seal.new.self c.self-inside.inside.0.1.0.tracking) c.complete_all.new.func c.complete_all.new.self =
     c.complete_all.ensures.leaves in
-    let once : ToComplete c.seal.new.self c.args.block c.as_slice-2.result.now → LooksOnce c.complete_all.new.self =
+    let once : ToComplete (state_of c.self-inside.inside.0.1.0.variables c.seal.new.self c.self-inside.inside.0.1.0.tracking) c.args.block c.as_slice-2.result.now → LooksOnce c.complete_all.new.self =
     c.complete_all.ensures.looks_once in
     let same : c.as_slice-2.result.now ≡ pending_of (sealed_of c.self.inside.tables c.args.block) = first_of (search rules, grind (arith, common_steps)) in
     rw (← c.self.view_is)
-    (looked_keeps c.args.block c.args.func.now c.complete_all.new.func c.self.inside.tables c.seal.new.self c.complete_all.new.self c.as_slice-2.result.now c.seal.ensures.records c.in_ok-waiting.ensures.ok c.seal.ensures.predecessors c.seal.ensures.no_more same leaves once)
+    (looked_keeps c.args.block c.args.func.now c.complete_all.new.func c.self.inside.tables (state_of c.self-inside.inside.0.1.0.variables c.seal.new.self c.self-inside.inside.0.1.0.tracking) c.complete_all.new.self c.as_slice-2.result.now (records_are _ _ _ _ (tables_are c.self-inside.view_is)) (seals_in _ _ _ _ (tables_are c.self-inside.view_is) c.seal.new.self c.args.block c.in_ok-waiting.ensures.ok) (predecessors_same _ _ _ _ (tables_are c.self-inside.view_is) c.seal.new.self c.seal.ensures.predecessors) (no_more_known _ _ _ _ (tables_are c.self-inside.view_is) c.seal.new.self (c.args.block + 1) c.seal.ensures.no_more) same leaves once)
 
 pub returns-in_err-complete_all-clause-ends : goal.returns-in_err-complete_all-clause-ends
 returns-in_err-complete_all-clause-ends c =
@@ -118,25 +119,25 @@ returns-in_err-complete_all-clause-ends c =
 
 pub returns-clause-makes : goal.returns-clause-makes
 returns-clause-makes c =
-    let leaves : StepLeaves c.args.func.now c.seal.new.self c.complete_all.new.func c.complete_all.new.self =
+    let leaves : StepLeaves c.args.func.now (state_of c.self-inside.inside.0.1.0.variables c.seal.new.self c.self-inside.inside.0.1.0.tracking) c.complete_all.new.func c.complete_all.new.self =
     c.complete_all.ensures.leaves in
-    let all : CompletesAll c.args.block c.as_slice-2.result.now (stage c.args.func.now c.seal.new.self c.clear.new.self) (stage c.complete_all.new.func c.complete_all.new.self c.complete_all.new.look_up) =
+    let all : CompletesAll c.args.block c.as_slice-2.result.now (stage c.args.func.now (state_of c.self-inside.inside.0.1.0.variables c.seal.new.self c.self-inside.inside.0.1.0.tracking) c.clear.new.self) (stage c.complete_all.new.func c.complete_all.new.self c.complete_all.new.look_up) =
     c.in_ok-complete_all.ensures.completes in
     let same : c.as_slice-2.result.now ≡ pending_of (sealed_of c.self.inside.tables c.args.block) = first_of (search rules, grind (arith, common_steps)) in
     let told : c.take_zeros-instructions_added_to_blocks.result.items ≡ c.complete_all.new.look_up.zeros = first_of (search rules, grind (arith, common_steps)) in
     rw (← c.self.view_is)
-    (looked_makes c.args.block c.args.func.now c.complete_all.new.func c.self.inside.tables c.seal.new.self c.complete_all.new.self c.as_slice-2.result.now c.clear.new.self c.complete_all.new.look_up (record { instructions_added_to_blocks = c.take_zeros-instructions_added_to_blocks.result }) c.seal.ensures.records c.seal.ensures.tracking c.in_ok-waiting.ensures.ok c.seal.ensures.predecessors same (c.if-not-has_any_predecessors.ensures.0 refl) leaves
+    (looked_makes c.args.block c.args.func.now c.complete_all.new.func c.self.inside.tables (state_of c.self-inside.inside.0.1.0.variables c.seal.new.self c.self-inside.inside.0.1.0.tracking) c.complete_all.new.self c.as_slice-2.result.now c.clear.new.self c.complete_all.new.look_up (record { instructions_added_to_blocks = c.take_zeros-instructions_added_to_blocks.result }) (records_are _ _ _ _ (tables_are c.self-inside.view_is)) (tracking_is _ _ _ _ (tables_are c.self-inside.view_is)) (seals_in _ _ _ _ (tables_are c.self-inside.view_is) c.seal.new.self c.args.block c.in_ok-waiting.ensures.ok) (predecessors_same _ _ _ _ (tables_are c.self-inside.view_is) c.seal.new.self c.seal.ensures.predecessors) same (first_of (search rules, grind (arith, common_steps))) leaves
     c.clear.ensures all c.in_ok-complete_all.ensures.tells told)
 
 pub returns-clause-keeps : goal.returns-clause-keeps
 returns-clause-keeps c =
-    let leaves : StepLeaves c.args.func.now c.seal.new.self c.complete_all.new.func c.complete_all.new.self =
+    let leaves : StepLeaves c.args.func.now (state_of c.self-inside.inside.0.1.0.variables c.seal.new.self c.self-inside.inside.0.1.0.tracking) c.complete_all.new.func c.complete_all.new.self =
     c.complete_all.ensures.leaves in
-    let once : ToComplete c.seal.new.self c.args.block c.as_slice-2.result.now → LooksOnce c.complete_all.new.self =
+    let once : ToComplete (state_of c.self-inside.inside.0.1.0.variables c.seal.new.self c.self-inside.inside.0.1.0.tracking) c.args.block c.as_slice-2.result.now → LooksOnce c.complete_all.new.self =
     c.complete_all.ensures.looks_once in
     let same : c.as_slice-2.result.now ≡ pending_of (sealed_of c.self.inside.tables c.args.block) = first_of (search rules, grind (arith, common_steps)) in
     rw (← c.self.view_is)
-    (looked_keeps c.args.block c.args.func.now c.complete_all.new.func c.self.inside.tables c.seal.new.self c.complete_all.new.self c.as_slice-2.result.now c.seal.ensures.records c.in_ok-waiting.ensures.ok c.seal.ensures.predecessors c.seal.ensures.no_more same leaves once)
+    (looked_keeps c.args.block c.args.func.now c.complete_all.new.func c.self.inside.tables (state_of c.self-inside.inside.0.1.0.variables c.seal.new.self c.self-inside.inside.0.1.0.tracking) c.complete_all.new.self c.as_slice-2.result.now (records_are _ _ _ _ (tables_are c.self-inside.view_is)) (seals_in _ _ _ _ (tables_are c.self-inside.view_is) c.seal.new.self c.args.block c.in_ok-waiting.ensures.ok) (predecessors_same _ _ _ _ (tables_are c.self-inside.view_is) c.seal.new.self c.seal.ensures.predecessors) (no_more_known _ _ _ _ (tables_are c.self-inside.view_is) c.seal.new.self (c.args.block + 1) c.seal.ensures.no_more) same leaves once)
 
 pub returns-clause-ends : goal.returns-clause-ends
 returns-clause-ends c =
@@ -147,17 +148,17 @@ returns-clause-ends c =
 pub returns-in_err-waiting-clause-pools : goal.returns-in_err-waiting-clause-pools
 returns-in_err-waiting-clause-pools c =
     rw (← c.self.view_is)
-    (λ named. pools_refused _ c.args.func.now c.self.inside.tables c.seal.new.self c.in_err-waiting.ensures.err)
+    (λ named. pools_refused _ c.args.func.now c.self.inside.tables (state_of c.self-inside.inside.0.1.0.variables c.seal.new.self c.self-inside.inside.0.1.0.tracking) (sealed_same _ _ _ _ (tables_are c.self-inside.view_is) c.seal.new.self c.in_err-waiting.ensures.err))
 
-pub returns-then-not-has_any_predecessors-clause-pools : goal.returns-then-not-has_any_predecessors-clause-pools
-returns-then-not-has_any_predecessors-clause-pools c =
-    let same : c.as_slice-then-not-has_any_predecessors.result.now ≡ pending_of (sealed_of c.self.inside.tables c.args.block) = first_of (search rules, grind (arith, common_steps)) in
+pub returns-then-is_empty-2-clause-pools : goal.returns-then-is_empty-2-clause-pools
+returns-then-is_empty-2-clause-pools c =
+    let same : c.as_slice-then-is_empty-2.result.now ≡ pending_of (sealed_of c.self.inside.tables c.args.block) = first_of (search rules, grind (arith, common_steps)) in
     rw (← c.self.view_is)
     (λ named.
-    block_pools c.args.func.now c.complete_locally.new.func c.self.inside.tables c.complete_locally.new.self c.args.block c.as_slice-then-not-has_any_predecessors.result.now same
-    (pools_local (types_of c.args.func.now c.as_slice-then-not-has_any_predecessors.result.now) c.args.func.now c.complete_locally.new.func c.self.inside.tables c.seal.new.self c.complete_locally.new.self c.args.block
-    (c.complete_locally.ensures.pools (waiting_exist c.args.func.now c.self.inside.tables c.args.block c.as_slice-then-not-has_any_predecessors.result.now same named))
-    c.complete_locally.ensures.constructs c.in_ok-waiting.ensures.ok c.complete_locally.ensures.blocks))
+    block_pools c.args.func.now c.complete_locally.new.func c.self.inside.tables c.complete_locally.new.self c.args.block c.as_slice-then-is_empty-2.result.now same
+    (pools_local (types_of c.args.func.now c.as_slice-then-is_empty-2.result.now) c.args.func.now c.complete_locally.new.func c.self.inside.tables (state_of c.self-inside.inside.0.1.0.variables c.seal.new.self c.self-inside.inside.0.1.0.tracking) c.complete_locally.new.self c.args.block
+    (c.complete_locally.ensures.pools (waiting_exist c.args.func.now c.self.inside.tables c.args.block c.as_slice-then-is_empty-2.result.now same named))
+    c.complete_locally.ensures.constructs (seals_in _ _ _ _ (tables_are c.self-inside.view_is) c.seal.new.self c.args.block c.in_ok-waiting.ensures.ok) c.complete_locally.ensures.blocks))
 
 pub returns-in_err-complete_all-clause-pools : goal.returns-in_err-complete_all-clause-pools
 returns-in_err-complete_all-clause-pools c =
@@ -165,7 +166,7 @@ returns-in_err-complete_all-clause-pools c =
     rw (← c.self.view_is)
     (λ named.
     block_pools c.args.func.now c.complete_all.new.func c.self.inside.tables c.complete_all.new.self c.args.block c.as_slice-2.result.now same
-    (pools_sealed (types_of c.args.func.now c.as_slice-2.result.now) c.args.func.now c.complete_all.new.func c.self.inside.tables c.seal.new.self c.complete_all.new.self c.args.block c.in_ok-waiting.ensures.ok
+    (pools_sealed (types_of c.args.func.now c.as_slice-2.result.now) c.args.func.now c.complete_all.new.func c.self.inside.tables (state_of c.self-inside.inside.0.1.0.variables c.seal.new.self c.self-inside.inside.0.1.0.tracking) c.complete_all.new.self c.args.block (seals_in _ _ _ _ (tables_are c.self-inside.view_is) c.seal.new.self c.args.block c.in_ok-waiting.ensures.ok)
     (c.complete_all.ensures.pools)))
 
 pub returns-clause-pools : goal.returns-clause-pools
@@ -174,16 +175,16 @@ returns-clause-pools c =
     rw (← c.self.view_is)
     (λ named.
     block_pools c.args.func.now c.complete_all.new.func c.self.inside.tables c.complete_all.new.self c.args.block c.as_slice-2.result.now same
-    (pools_sealed (types_of c.args.func.now c.as_slice-2.result.now) c.args.func.now c.complete_all.new.func c.self.inside.tables c.seal.new.self c.complete_all.new.self c.args.block c.in_ok-waiting.ensures.ok
+    (pools_sealed (types_of c.args.func.now c.as_slice-2.result.now) c.args.func.now c.complete_all.new.func c.self.inside.tables (state_of c.self-inside.inside.0.1.0.variables c.seal.new.self c.self-inside.inside.0.1.0.tracking) c.complete_all.new.self c.args.block (seals_in _ _ _ _ (tables_are c.self-inside.view_is) c.seal.new.self c.args.block c.in_ok-waiting.ensures.ok)
     (c.complete_all.ensures.pools)))
 
-pub returns-then-not-has_any_predecessors-clause-full_waiting : goal.returns-then-not-has_any_predecessors-clause-full_waiting
-returns-then-not-has_any_predecessors-clause-full_waiting c =
-    let same : c.as_slice-then-not-has_any_predecessors.result.now ≡ pending_of (sealed_of c.self.inside.tables c.args.block) = first_of (search rules, grind (arith, common_steps)) in
+pub returns-then-is_empty-2-clause-full_waiting : goal.returns-then-is_empty-2-clause-full_waiting
+returns-then-is_empty-2-clause-full_waiting c =
+    let same : c.as_slice-then-is_empty-2.result.now ≡ pending_of (sealed_of c.self.inside.tables c.args.block) = first_of (search rules, grind (arith, common_steps)) in
     rw (← c.self.view_is)
     (λ named is.
-    block_full c.args.func.now c.complete_locally.new.func c.self.inside.tables c.args.block c.as_slice-then-not-has_any_predecessors.result.now same
-    (c.complete_locally.ensures.full_waiting (waiting_exist c.args.func.now c.self.inside.tables c.args.block c.as_slice-then-not-has_any_predecessors.result.now same named) is))
+    block_full c.args.func.now c.complete_locally.new.func c.self.inside.tables c.args.block c.as_slice-then-is_empty-2.result.now same
+    (c.complete_locally.ensures.full_waiting (waiting_exist c.args.func.now c.self.inside.tables c.args.block c.as_slice-then-is_empty-2.result.now same named) is))
 
 pub returns-in_err-complete_all-clause-full_waiting : goal.returns-in_err-complete_all-clause-full_waiting
 returns-in_err-complete_all-clause-full_waiting c =

@@ -27,11 +27,13 @@ returns-in-Some-clause-keeps c = λ own tables both.
     known_use own c.args.func.now c.args.self.now tables c.args.variable c.args.block c.in-Some.value both is
 
 pub returns-then-is_local-clause-keeps : goal.returns-then-is_local-clause-keeps
-returns-then-is_local-clause-keeps c = λ own tables both.
-    let none : record_of c.args.self.now c.args.variable c.args.block ≡ None = search rules in
-    let alone : is_yes (sealed_of c.args.self.now c.args.block) ≡ true → predecessors_of c.args.self.now c.args.block ≡ [] = rw (← c.self.view_is) (c.if-is_local.ensures.yes refl) in
-    local_use own c.args.func.now c.use_locally.new.func c.args.self.now c.use_locally.new.self tables c.args.variable c.args.ty c.args.block c.use_locally.result
-    c.law_consistent.ensures both c.requires.exists none alone c.use_locally.ensures.keeps.predecessors c.use_locally.ensures.used.waits c.use_locally.ensures.used.zero
+returns-then-is_local-clause-keeps c =
+    rw (← c.self.view_is)
+    (λ own tables both.
+    let none : record_of c.self.inside.tables c.args.variable c.args.block ≡ None = search rules in
+    let alone : is_yes (sealed_of c.self.inside.tables c.args.block) ≡ true → predecessors_of c.self.inside.tables c.args.block ≡ [] = c.if-is_local.ensures.yes refl in
+    local_use own c.args.func.now c.use_locally.new.func c.self.inside.tables c.use_locally.new.self tables c.args.variable c.args.ty c.args.block c.use_locally.result
+    c.law_consistent.ensures both c.requires.exists none alone c.use_locally.ensures.keeps.predecessors c.use_locally.ensures.used.waits c.use_locally.ensures.used.zero)
 
 pub look_up_in-requires-clause-named : goal.look_up_in-requires-clause-named
 look_up_in-requires-clause-named c =
@@ -87,8 +89,8 @@ returns-in-Some-clause-recorded c =
 
 pub returns-then-is_local-clause-recorded : goal.returns-then-is_local-clause-recorded
 returns-then-is_local-clause-recorded c =
-    let none : record_of c.args.self.now c.args.variable c.args.block ≡ None = search rules in
-    local_recorded c.args.func.now c.use_locally.new.func c.args.self.now c.use_locally.new.self c.args.variable c.args.ty c.args.block c.use_locally.result
+    let none : record_of c.self.inside.tables c.args.variable c.args.block ≡ None = search rules in
+    local_recorded c.args.func.now c.use_locally.new.func c.self.inside.tables c.use_locally.new.self c.args.variable c.args.ty c.args.block c.use_locally.result
     c.law_consistent.ensures c.requires.exists none c.use_locally.ensures.used.waits c.use_locally.ensures.used.zero
 
 pub returns-clause-recorded : goal.returns-clause-recorded
@@ -105,10 +107,12 @@ pub returns-in-Some-clause-remembers : goal.returns-in-Some-clause-remembers
 returns-in-Some-clause-remembers c = λ x b. same_remembers x b c.args.func.now c.args.self.now c.args.self.now refl
 
 pub returns-then-is_local-clause-remembers : goal.returns-then-is_local-clause-remembers
-returns-then-is_local-clause-remembers c = λ x b.
-    let none : record_of c.args.self.now c.args.variable c.args.block ≡ None = search rules in
-    local_remembers c.args.func.now c.use_locally.new.func c.args.self.now c.use_locally.new.self c.args.variable c.args.ty c.args.block x b c.use_locally.result
-    c.law_consistent.ensures c.requires.exists none c.use_locally.ensures.used.waits c.use_locally.ensures.used.zero
+returns-then-is_local-clause-remembers c =
+    rw (← c.self.view_is)
+    (λ x b.
+    let none : record_of c.self.inside.tables c.args.variable c.args.block ≡ None = search rules in
+    local_remembers c.args.func.now c.use_locally.new.func c.self.inside.tables c.use_locally.new.self c.args.variable c.args.ty c.args.block x b c.use_locally.result
+    c.law_consistent.ensures c.requires.exists none c.use_locally.ensures.used.waits c.use_locally.ensures.used.zero)
 
 pub returns-clause-remembers : goal.returns-clause-remembers
 returns-clause-remembers c =
@@ -127,11 +131,13 @@ returns-clause-remembers c =
 -- WHERE NOTHING LEADS TO THE BLOCK --------------------------------------------------------------------------------
 
 pub returns-then-is_local-clause-parameters : goal.returns-then-is_local-clause-parameters
-returns-then-is_local-clause-parameters c = λ is_local sealed b.
-    let none : record_of c.args.self.now c.args.variable c.args.block ≡ None = search rules in
+returns-then-is_local-clause-parameters c =
+    rw (← c.self.view_is)
+    (λ is_local sealed b.
+    let none : record_of c.self.inside.tables c.args.variable c.args.block ≡ None = search rules in
     on_ok c.use_locally.result _ _ (λ params. params b)
-    (local_leaves c.args.func.now c.use_locally.new.func c.args.self.now c.use_locally.new.self c.args.variable c.args.ty c.args.block c.use_locally.result
-    c.law_consistent.ensures c.requires.exists none sealed c.use_locally.ensures.used.zero)
+    (local_leaves c.args.func.now c.use_locally.new.func c.self.inside.tables c.use_locally.new.self c.args.variable c.args.ty c.args.block c.use_locally.result
+    c.law_consistent.ensures c.requires.exists none sealed c.use_locally.ensures.used.zero))
 
 pub returns-clause-parameters : goal.returns-clause-parameters
 returns-clause-parameters c = λ is_local sealed b.
@@ -187,10 +193,12 @@ returns-in-Some-clause-structured c = λ types own same before.
     (before, subst (λ t. HasType c.args.func.now c.in-Some.value t) (sym same) (before.recorded c.args.variable c.args.block c.in-Some.value is))
 
 pub returns-then-is_local-clause-structured : goal.returns-then-is_local-clause-structured
-returns-then-is_local-clause-structured c = λ types own same before.
-    let none : record_of c.args.self.now c.args.variable c.args.block ≡ None = search rules in
-    local_structured types own c.args.func.now c.use_locally.new.func c.args.self.now c.use_locally.new.self c.args.variable c.args.ty c.args.block c.use_locally.result
-    c.law_consistent.ensures same before c.requires.exists none c.use_locally.ensures.keeps.predecessors c.use_locally.ensures.used.waits c.use_locally.ensures.used.zero
+returns-then-is_local-clause-structured c =
+    rw (← c.self.view_is)
+    (λ types own same before.
+    let none : record_of c.self.inside.tables c.args.variable c.args.block ≡ None = search rules in
+    local_structured types own c.args.func.now c.use_locally.new.func c.self.inside.tables c.use_locally.new.self c.args.variable c.args.ty c.args.block c.use_locally.result
+    c.law_consistent.ensures same before c.requires.exists none c.use_locally.ensures.keeps.predecessors c.use_locally.ensures.used.waits c.use_locally.ensures.used.zero)
 
 pub returns-clause-structured : goal.returns-clause-structured
 returns-clause-structured c =
@@ -206,9 +214,11 @@ pub returns-in-Some-clause-within : goal.returns-in-Some-clause-within
 returns-in-Some-clause-within c = λ holds branches held. same_within holds c.args.func.now _ (first_of (search rules, grind (arith, common_steps)))
 
 pub returns-then-is_local-clause-within : goal.returns-then-is_local-clause-within
-returns-then-is_local-clause-within c = λ holds branches held.
-    local_within holds c.args.func.now c.use_locally.new.func c.args.self.now c.use_locally.new.self c.args.variable c.args.ty c.args.block c.use_locally.result
-    held c.use_locally.ensures.used.waits c.use_locally.ensures.used.zero
+returns-then-is_local-clause-within c =
+    rw (← c.self.view_is)
+    (λ holds branches held.
+    local_within holds c.args.func.now c.use_locally.new.func c.self.inside.tables c.use_locally.new.self c.args.variable c.args.ty c.args.block c.use_locally.result
+    held c.use_locally.ensures.used.waits c.use_locally.ensures.used.zero)
 
 pub returns-clause-within : goal.returns-clause-within
 returns-clause-within c =
@@ -226,10 +236,12 @@ pub returns-in-Some-clause-tracks : goal.returns-in-Some-clause-tracks
 returns-in-Some-clause-tracks c = λ named. tracks_none (length c.args.func.now.values) c.args.self.now named.recorded
 
 pub returns-then-is_local-clause-tracks : goal.returns-then-is_local-clause-tracks
-returns-then-is_local-clause-tracks c = λ named.
-    let none : record_of c.args.self.now c.args.variable c.args.block ≡ None = search rules in
-    local_tracks c.args.func.now c.use_locally.new.func c.args.self.now c.use_locally.new.self c.args.variable c.args.ty c.args.block c.use_locally.result
-    named none c.use_locally.ensures.used.waits c.use_locally.ensures.used.zero
+returns-then-is_local-clause-tracks c =
+    rw (← c.self.view_is)
+    (λ named.
+    let none : record_of c.self.inside.tables c.args.variable c.args.block ≡ None = search rules in
+    local_tracks c.args.func.now c.use_locally.new.func c.self.inside.tables c.use_locally.new.self c.args.variable c.args.ty c.args.block c.use_locally.result
+    named none c.use_locally.ensures.used.waits c.use_locally.ensures.used.zero)
 
 pub returns-in_err-look_up_in-clause-tracks : goal.returns-in_err-look_up_in-clause-tracks
 returns-in_err-look_up_in-clause-tracks c =
@@ -256,16 +268,24 @@ returns-clause-tracks c =
 -- WHAT IS PASSED ON -----------------------------------------------------------------------------------------------
 
 pub returns-then-is_local-clause-predecessors : goal.returns-then-is_local-clause-predecessors
-returns-then-is_local-clause-predecessors c = c.use_locally.ensures.keeps.predecessors
+returns-then-is_local-clause-predecessors c =
+    rw (← c.self.view_is)
+    (c.use_locally.ensures.keeps.predecessors)
 
 pub returns-then-is_local-clause-stay : goal.returns-then-is_local-clause-stay
-returns-then-is_local-clause-stay c = c.use_locally.ensures.keeps.stay
+returns-then-is_local-clause-stay c =
+    rw (← c.self.view_is)
+    (c.use_locally.ensures.keeps.stay)
 
 pub returns-then-is_local-clause-flags : goal.returns-then-is_local-clause-flags
-returns-then-is_local-clause-flags c = c.use_locally.ensures.keeps.flags
+returns-then-is_local-clause-flags c =
+    rw (← c.self.view_is)
+    (c.use_locally.ensures.keeps.flags)
 
 pub returns-then-is_local-clause-no_more : goal.returns-then-is_local-clause-no_more
-returns-then-is_local-clause-no_more c = c.use_locally.ensures.keeps.no_more
+returns-then-is_local-clause-no_more c =
+    rw (← c.self.view_is)
+    (c.use_locally.ensures.keeps.no_more)
 
 pub returns-then-is_local-clause-more : goal.returns-then-is_local-clause-more
 returns-then-is_local-clause-more c = c.use_locally.ensures.keeps.more
@@ -274,7 +294,9 @@ pub returns-then-is_local-clause-constructs : goal.returns-then-is_local-clause-
 returns-then-is_local-clause-constructs c = c.use_locally.ensures.keeps.constructs
 
 pub returns-then-is_local-clause-names : goal.returns-then-is_local-clause-names
-returns-then-is_local-clause-names c = c.use_locally.ensures.keeps.names
+returns-then-is_local-clause-names c =
+    rw (← c.self.view_is)
+    (c.use_locally.ensures.keeps.names)
 
 pub returns-then-is_local-clause-tells : goal.returns-then-is_local-clause-tells
 returns-then-is_local-clause-tells c = c.use_locally.ensures.used.tells
@@ -286,7 +308,9 @@ pub returns-then-is_local-clause-never_failed : goal.returns-then-is_local-claus
 returns-then-is_local-clause-never_failed c = c.use_locally.ensures.ends.never_failed
 
 pub returns-then-is_local-clause-looks_once : goal.returns-then-is_local-clause-looks_once
-returns-then-is_local-clause-looks_once c = c.use_locally.ensures.keeps.once.looks_once
+returns-then-is_local-clause-looks_once c =
+    rw (← c.self.view_is)
+    (c.use_locally.ensures.keeps.once.looks_once)
 
 pub returns-in_err-look_up_in-clause-predecessors : goal.returns-in_err-look_up_in-clause-predecessors
 returns-in_err-look_up_in-clause-predecessors c =
@@ -503,6 +527,22 @@ returns-in_err-value-clause-never_failed c =
     rw (p.1, p.2) (ends_as c.make_calls.new.func c.in_err-value.field-0.0 c.in_err-value.ensures.ends).never_failed
 
 pub returns-then-is_local-clause-exists : goal.returns-then-is_local-clause-exists
-returns-then-is_local-clause-exists c = λ named.
-    used_exists c.args.variable c.args.ty c.args.block c.args.func.now c.args.self.now c.use_locally.new.func c.use_locally.new.self c.use_locally.result
-    c.use_locally.ensures.used
+returns-then-is_local-clause-exists c =
+    rw (← c.self.view_is)
+    (λ named.
+    used_exists c.args.variable c.args.ty c.args.block c.args.func.now c.self.inside.tables c.use_locally.new.func c.use_locally.new.self c.use_locally.result
+    c.use_locally.ensures.used)
+
+pub returns-in-Some-clause-exists : goal.returns-in-Some-clause-exists
+returns-in-Some-clause-exists c = λ named.
+    let is : record_of c.args.self.now c.args.variable c.args.block ≡ Some c.in-Some.value = search rules in
+    named.recorded c.args.variable c.args.block c.in-Some.value is
+
+pub returns-then-is_local-clause-counts_none : goal.returns-then-is_local-clause-counts_none
+returns-then-is_local-clause-counts_none c = rw (← c.self.view_is) (λ none unsealed. c.use_locally.ensures.used.counts_none unsealed)
+
+pub returns-then-is_local-clause-counts_one : goal.returns-then-is_local-clause-counts_one
+returns-then-is_local-clause-counts_one c = rw (← c.self.view_is) (λ none sealed alone. c.use_locally.ensures.used.counts_one sealed)
+
+pub returns-then-is_local-clause-err : goal.returns-then-is_local-clause-err
+returns-then-is_local-clause-err c = rw (← c.self.view_is) (λ is_local. c.use_locally.ensures.used.err)

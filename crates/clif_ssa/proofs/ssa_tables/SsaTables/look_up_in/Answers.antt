@@ -2,6 +2,7 @@ use Rattle.std.proofs.lemmas.Result.{err_from_is_err_and}
 use Rattle.clif_ssa.specs.Running.{stage}
 use Rattle.clif_ssa.proofs.Making.{got-exists}
 use Rattle.clif_ssa.proofs.LookSteps.{ends_copied, keeps_looked, looked_copied}
+use Rattle.clif_ssa.proofs.Opened.{blocks_are, copied_none_lost, copied_others, copied_recorded, copies_to, lookups_same, state_of, tracking_is}
 use Rattle.clif_ssa.proofs.Steps.{ends_as, ends_memory, keeps_none}
 use Rattle.clif_ssa.proofs.Waited.{on_any}
 use Rattle.clif_ssa.proofs.ssa_tables.SsaTables.look_up_in.Goals as goal
@@ -48,19 +49,19 @@ returns-in_err-value-clause-ends c =
 
 pub returns-clause-looks : goal.returns-clause-looks
 returns-clause-looks c =
-    (looked_copied c.args.variable c.args.ty c.args.block c.walk.new.passed c.in_ok-reached.reached.block c.in_ok-value.value (stage c.args.func.now c.args.self.now c.args.look_up.now) (stage c.record_or_parameter.new.func c.record_or_parameter.new.self c.record_or_parameter.new.look_up) c.copy_record.new.self c.copy_record.result c.in_ok-reached.ensures.ok c.in_ok-reached.ensures.exists
-    c.in_ok-value.ensures.got c.copy_record.ensures.ok c.copy_record.ensures.blocks c.copy_record.ensures.lookups c.copy_record.ensures.tracking)
+    (looked_copied c.args.variable c.args.ty c.args.block c.walk.new.passed c.in_ok-reached.reached.block c.in_ok-value.value (stage c.args.func.now c.args.self.now c.args.look_up.now) (stage c.record_or_parameter.new.func c.record_or_parameter.new.self c.record_or_parameter.new.look_up) (state_of c.set_each.new.self c.self.inside.blocks c.self.inside.tracking) c.set_each.result c.in_ok-reached.ensures.ok c.in_ok-reached.ensures.exists
+    c.in_ok-value.ensures.got (copies_to _ _ _ _ c.self.view_is c.set_each.new.self c.args.variable c.in_ok-value.value c.in_ok-reached.reached.block c.walk.new.passed c.as_slice.result.now c.set_each.result c.as_slice.ensures c.set_each.ensures.ok) (blocks_are _ _ _ _ c.self.view_is) (lookups_same _ _ _ _ c.self.view_is c.set_each.new.self c.set_each.ensures.lookups) (tracking_is _ _ _ _ c.self.view_is))
 
 pub returns-clause-keeps : goal.returns-clause-keeps
 returns-clause-keeps c =
-    (keeps_looked c.args.variable c.args.func.now c.args.self.now c.record_or_parameter.new.func c.record_or_parameter.new.self c.copy_record.new.self c.args.block c.in_ok-reached.reached.block c.in_ok-value.value c.walk.new.passed c.law_consistent.ensures c.requires.named c.requires.exists c.in_ok-reached.ensures.ok.walk
+    (keeps_looked c.args.variable c.args.func.now c.args.self.now c.record_or_parameter.new.func c.record_or_parameter.new.self (state_of c.set_each.new.self c.self.inside.blocks c.self.inside.tracking) c.args.block c.in_ok-reached.reached.block c.in_ok-value.value c.walk.new.passed c.law_consistent.ensures c.requires.named c.requires.exists c.in_ok-reached.ensures.ok.walk
     (got-exists c.args.variable c.args.ty c.in_ok-reached.reached.block c.in_ok-value.value (stage c.args.func.now c.args.self.now c.args.look_up.now) (stage c.record_or_parameter.new.func c.record_or_parameter.new.self c.record_or_parameter.new.look_up) c.in_ok-value.ensures.got c.requires.named)
-    c.record_or_parameter.ensures.keeps c.copy_record.ensures.blocks c.copy_record.ensures.lookups c.copy_record.ensures.recorded c.copy_record.ensures.others c.copy_record.ensures.none_lost)
+    c.record_or_parameter.ensures.keeps (blocks_are _ _ _ _ c.self.view_is) (lookups_same _ _ _ _ c.self.view_is c.set_each.new.self c.set_each.ensures.lookups) (copied_recorded _ _ _ _ c.self.view_is c.set_each.new.self c.args.variable c.in_ok-value.value c.as_slice.result.now c.set_each.ensures.part) (copied_others _ _ _ _ c.self.view_is c.set_each.new.self c.args.variable c.in_ok-value.value c.walk.new.passed c.as_slice.result.now c.as_slice.ensures c.set_each.ensures.part) (copied_none_lost _ _ _ _ c.self.view_is c.set_each.new.self c.args.variable c.in_ok-value.value c.as_slice.result.now c.set_each.ensures.part))
 
 pub returns-clause-tells : goal.returns-clause-tells
 returns-clause-tells c =
-    on_any c.copy_record.result c.in_ok-value.ensures.tells
+    on_any c.set_each.result c.in_ok-value.ensures.tells
 
 pub returns-clause-ends : goal.returns-clause-ends
 returns-clause-ends c =
-    (ends_copied c.record_or_parameter.new.func c.copy_record.result c.copy_record.ensures.only_memory)
+    (ends_copied c.record_or_parameter.new.func c.set_each.result c.set_each.ensures.only_memory)

@@ -1,16 +1,16 @@
-use Rattle.std.proofs.Common.{rules, ◌<◌, ◌+◌, ◌∙◌, ◌∷◌, ap, length, drop, arith, refl, sym, inl, inr}
+use Rattle.std.proofs.Common.{rules, ◌<◌, ◌+◌, ◌∙◌, ◌∷◌, length, drop, arith, refl, sym, inl, inr}
 use Rattle.std.proofs.lemmas.Grind.{common_steps}
-use Rattle.clif_records.specs.Tables.{sealed_at}
 use Rattle.clif_ssa.proofs.CountedOnce.{once_same, once_completes}
 use Rattle.clif_ssa.proofs.Constructing.{constructs_none, constructs_then, tells_all, tells_more_none, tells_more_then}
 use Rattle.std.proofs.lemmas.Result.{err_from_is_err_and}
 use Rattle.clif_ir.specs.Body.{value_at}
+use Rattle.clif_ssa.specs.contracts.ssa_tables.SsaTables.{the_view}
 use Rattle.clif_ssa.proofs.Naming.{has_more}
 use Rattle.clif_ssa.proofs.Pooling.{pool_none, use_full}
 use Rattle.clif_ssa.proofs.PuttingSteps.{full_before}
 use Rattle.clif_ssa.proofs.SealPools.{full_further, pool_further, same_type}
 use Rattle.clif_ssa.proofs.Waited.{counted-next, counted-all, drop-item}
-use Rattle.clif_ssa.proofs.ssa.SSABuilder.complete_locally.Goals as goal
+use Rattle.clif_ssa.proofs.ssa_tables.SsaTables.complete_locally.Goals as goal
 
 pub loop-pending-init : goal.loop-pending-init
 loop-pending-init c = record {
@@ -35,7 +35,7 @@ loop-pending-preserved c =
       told = first_of (search rules, grind (arith, common_steps));
       records = first_of (search rules, grind (arith, common_steps));
       counted = λ v b.
-          counted-next c.loop-pending.self-inside.tables c.count_lookup.new.self c.args.block c.pending-item.result (drop (c.loop-pending.pending-index + 1) c.args.waiting.now)
+          counted-next (the_view c.loop-pending.self-inside) (the_view (record c.loop-pending.self-inside { variables = c.count_lookup.new.self })) c.args.block c.pending-item.result (drop (c.loop-pending.pending-index + 1) c.args.waiting.now)
           (drop c.loop-pending.pending-index c.args.waiting.now)
           (drop-item c.args.waiting.now c.loop-pending.pending-index c.pending-item.result inside c.pending-item.is) c.in_ok-count_lookup.ensures.ok v b
           ∙ c.loop-pending.invariant.counted v b;
@@ -54,9 +54,9 @@ loop-pending-preserved c =
           tells_more_then c.args.func.now c.loop-pending.func c.replace_by_zero.new.func _ _ _ c.replace_by_zero.ensures.constructs c.loop-pending.invariant.tells
           (_, c.in_ok-replace_by_zero.ensures.told, c.in_ok-replace_by_zero.ensures.tells);
       once = λ before.
-          once_completes c.loop-pending.self-inside.tables c.count_lookup.new.self c.args.block c.pending-item.result (drop (c.loop-pending.pending-index + 1) c.args.waiting.now)
-          c.count_lookup.ensures.records (λ b. ap (λ blocks. sealed_at blocks b) c.count_lookup.ensures.blocks) (inr c.in_ok-count_lookup.ensures.ok)
-          (once_same c.loop-pending.self-inside.tables c.args.block (drop c.loop-pending.pending-index c.args.waiting.now)
+          once_completes (the_view c.loop-pending.self-inside) (the_view (record c.loop-pending.self-inside { variables = c.count_lookup.new.self })) c.args.block c.pending-item.result (drop (c.loop-pending.pending-index + 1) c.args.waiting.now)
+          c.count_lookup.ensures.records (λ b. refl) (inr c.in_ok-count_lookup.ensures.ok)
+          (once_same (the_view c.loop-pending.self-inside) c.args.block (drop c.loop-pending.pending-index c.args.waiting.now)
           (c.pending-item.result ∷ drop (c.loop-pending.pending-index + 1) c.args.waiting.now)
           (drop-item c.args.waiting.now c.loop-pending.pending-index c.pending-item.result inside c.pending-item.is) (c.loop-pending.invariant.once before));
     }
@@ -67,9 +67,9 @@ returns-in_err-count_lookup-clause-looks_once c =
     let inside : c.loop-pending.pending-index < length c.args.waiting.now = search rules in
     rw (← c.self.view_is)
     (λ before.
-    (once_completes c.loop-pending.self-inside.tables c.count_lookup.new.self c.args.block c.pending-item.result (drop (c.loop-pending.pending-index + 1) c.args.waiting.now)
-    c.count_lookup.ensures.records (λ b. ap (λ blocks. sealed_at blocks b) c.count_lookup.ensures.blocks) (inl c.in_err-count_lookup.ensures.err)
-    (once_same c.loop-pending.self-inside.tables c.args.block (drop c.loop-pending.pending-index c.args.waiting.now)
+    (once_completes (the_view c.loop-pending.self-inside) (the_view (record c.loop-pending.self-inside { variables = c.count_lookup.new.self })) c.args.block c.pending-item.result (drop (c.loop-pending.pending-index + 1) c.args.waiting.now)
+    c.count_lookup.ensures.records (λ b. refl) (inl c.in_err-count_lookup.ensures.err)
+    (once_same (the_view c.loop-pending.self-inside) c.args.block (drop c.loop-pending.pending-index c.args.waiting.now)
     (c.pending-item.result ∷ drop (c.loop-pending.pending-index + 1) c.args.waiting.now)
     (drop-item c.args.waiting.now c.loop-pending.pending-index c.pending-item.result inside c.pending-item.is) (c.loop-pending.invariant.once before))).once)
 
@@ -79,16 +79,16 @@ returns-in_err-replace_by_zero-clause-looks_once c =
     let inside : c.loop-pending.pending-index < length c.args.waiting.now = search rules in
     rw (← c.self.view_is)
     (λ before.
-    (once_completes c.loop-pending.self-inside.tables c.count_lookup.new.self c.args.block c.pending-item.result (drop (c.loop-pending.pending-index + 1) c.args.waiting.now)
-    c.count_lookup.ensures.records (λ b. ap (λ blocks. sealed_at blocks b) c.count_lookup.ensures.blocks) (inr c.in_ok-count_lookup.ensures.ok)
-    (once_same c.loop-pending.self-inside.tables c.args.block (drop c.loop-pending.pending-index c.args.waiting.now)
+    (once_completes (the_view c.loop-pending.self-inside) (the_view (record c.loop-pending.self-inside { variables = c.count_lookup.new.self })) c.args.block c.pending-item.result (drop (c.loop-pending.pending-index + 1) c.args.waiting.now)
+    c.count_lookup.ensures.records (λ b. refl) (inr c.in_ok-count_lookup.ensures.ok)
+    (once_same (the_view c.loop-pending.self-inside) c.args.block (drop c.loop-pending.pending-index c.args.waiting.now)
     (c.pending-item.result ∷ drop (c.loop-pending.pending-index + 1) c.args.waiting.now)
     (drop-item c.args.waiting.now c.loop-pending.pending-index c.pending-item.result inside c.pending-item.is) (c.loop-pending.invariant.once before))).once)
 
 pub returns-clause-counted : goal.returns-clause-counted
 returns-clause-counted c =
     rw (← c.self.view_is)
-    (counted-all c.self.inside.tables c.loop-pending.self-inside.tables c.args.block c.args.waiting.now c.loop-pending.pending-index
+    (counted-all (the_view c.self.inside) (the_view c.loop-pending.self-inside) c.args.block c.args.waiting.now c.loop-pending.pending-index
     (first_of (search rules, grind (arith, common_steps))) c.loop-pending.invariant.counted)
 
 pub returns-clause-looks_once : goal.returns-clause-looks_once
