@@ -20,7 +20,7 @@ use Rattle.clif_ssa.specs.Ssa.{SealedStays, SsaState}
 use Rattle.clif_ssa.specs.Structure.{LooksOnce}
 use Rattle.clif_records.specs.Tables.{is_yes}
 use Rattle.clif_builder.specs.declared.context.BlockStatus.TheVariants.{Filled}
-use Rattle.clif_builder.specs.Context.{begun, status_of}
+use Rattle.clif_builder.specs.Context.{SameVariables, begun, status_of}
 use Rattle.clif_builder.specs.declared.builder.FunctionBuilder.{FunctionBuilder}
 use Rattle.clif_builder.specs.Builder.{Appends, AppendsPair, AppendsValue, CanLead, FillsCurrent, HasCurrent, IsLeft, SameLoans, status_after}
 use Rattle.clif_builder.specs.Built.{Builds, BuildsPair, BuildsValue, after_build, numbers_of, numbers_with, numbers_with_pair}
@@ -76,7 +76,7 @@ module _ (old new : FunctionBuilder) (shape : InstructionData) (ty : «Type») (
     (operands_exist : All (λ value. value < length old.func.now.values) (operands shape)) (edges : All (CanLead old) (destinations shape)) (loans : SameLoans old new) (position : new.position ≡ old.position) (srcloc : new.srcloc ≡ old.srcloc)
     (fails : new.failed ≡ is_err r) (appends : IfOk r (Appends old new block shape ty))
     (declares : IfOk r (λ inst. IsDeclared old.ctx.now.ssa inst (targets (destinations shape)) new.ctx.now.ssa))
-    (ssa : is_branch shape ≡ false → new.ctx.now.ssa ≡ old.ctx.now.ssa) (variables : new.ctx.now.variables ≡ old.ctx.now.variables)
+    (ssa : is_branch shape ≡ false → new.ctx.now.ssa ≡ old.ctx.now.ssa) (variables : SameVariables old.ctx.now new.ctx.now)
     (full : r ≡ Err Full → HasNoRoom old.func.now (count_of_results old.func.now.tables shape)) (never_failed : r ≢ Err Failed) (looks_once : LooksOnce old.ctx.now.ssa → LooksOnce new.ctx.now.ssa) where
   appends_at : IfSome old.position (λ block. IfOk r (Appends old new block shape ty))
   appends_at = subst (λ (o : Option ℕ). IfSome o (λ b. IfOk r (Appends old new b shape ty))) (sym at) appends
@@ -100,7 +100,7 @@ module _ (old new : FunctionBuilder) (shape : InstructionData) (ty : «Type») (
         appends = appends_at;
         declares = declares;
         ssa = ssa;
-        variables = variables;
+        variables = variables.0;
         position = position;
         srcloc = srcloc;
         full = full;

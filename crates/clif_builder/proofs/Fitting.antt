@@ -31,7 +31,7 @@ use Rattle.clif_builder.specs.Tracking.{AskedFits, FitsMaps, VariableFits, with_
 use Rattle.clif_builder.proofs.Tracks.{tracks_made}
 use Rattle.clif_builder.proofs.Framed.{appended-types, sealed-types, used-types}
 use Rattle.clif_builder.proofs.LedgerLists.{get-front}
-use Rattle.clif_builder.proofs.Placed.{are_listed, listed_structured}
+use Rattle.clif_builder.proofs.Placed.{listed_structured, listed_type}
 
 -- a value that doesn't exist has a type that doesn't fit
 exists_if_fits : (f : Body) (v : ℕ) → FitsStackMap (value_at f v).ty → v < length f.values
@@ -100,7 +100,7 @@ module _ (f : Body) (c : ContextState) (fits : FitsMaps f c) where
           let typed = (listed_structured g d order).recorded new.variable new.block v new.on_record in
           record {
             exists = typed.0;
-            fits = subst FitsStackMap (sym (typed.1 ∙ are_listed d.variables new.variable variable.ty variable.declared)) variable.fits;
+            fits = subst FitsStackMap (sym (typed.1 ∙ listed_type d.variables new.variable variable.ty variable.declared)) variable.fits;
           }
 
   -- a value is recorded

@@ -22,15 +22,16 @@ use Rattle.clif_ssa.proofs.Structuring.{same_structured}
 use Rattle.clif_ssa.proofs.StructuredLaws.{block_structured}
 use Rattle.clif_builder.specs.declared.context.BlockStatus.{BlockStatus}
 use Rattle.clif_builder.specs.declared.context.BlockStatus.TheVariants.{Empty}
-use Rattle.clif_builder.specs.Context.{Begins, ContextState, SameStatus, status_of}
+use Rattle.clif_builder.specs.Context.{Begins, ContextState, SameStatus, SameVariables, status_of}
 use Rattle.clif_builder.specs.Builder.{is_empty_status, is_filled_status}
 use Rattle.clif_builder.specs.Construction.{IsSealing}
-use Rattle.clif_builder.specs.Ledger.{AnswersAgree, AreTypesOf, BlockAgrees, HaveTypes, IsBegun, IsEnded, IsStructured, LedgerAgrees, NamesBlock, block_name, ledger_of, value_type, tables_of_calls, TracksAgree}
+use Rattle.clif_builder.specs.Ledger.{AnswersAgree, BlockAgrees, HaveTypes, IsBegun, IsEnded, IsStructured, LedgerAgrees, NamesBlock, VariablesAgree, block_name, ledger_of, value_type, tables_of_calls, TracksAgree}
 use Rattle.clif_builder.proofs.LedgerLists.{get-front, get-last, get-push, if-yes, if-no, named-more, one-named-more, map-some}
 use Rattle.clif_builder.proofs.LedgerNames.{name-number, named-block, state-entries}
 use Rattle.clif_builder.proofs.LedgerKept.{answer-still, Extends, Keeps, extends-constructs, keeps-block, keeps-itself, keeps-of, answers-after, places-after, answers-none, answers-one, concluded, types-kept}
 use Rattle.clif_builder.proofs.LedgerMade.{block-exists, changed-names, numbers-kept}
 use Rattle.clif_builder.proofs.Placed.{in_order, are_listed, listed_structured, listed_types, sealed_alone, sealed_branches, sealed_layout, sealed_status}
+use Rattle.clif_builder.proofs.Touching.{agree_same, are_types}
 use Rattle.clif_builder.proofs.Tracks.{tracks_on, tracks_still, untracked_made, untracked_same}
 
 -- a block that doesn't exist has no parameters
@@ -72,7 +73,7 @@ block-kept calls call f g c d k s was cold sealed leads status =
 -- a call that changes neither function nor blocks
 pub agrees-kept : (calls : List AnsweredCall) (call : AnsweredCall) (old new : Ledger) (f : Body) (c d : ContextState) (p q : Option ℕ) (answered : List Answered)
     (agrees : LedgerAgrees calls old f c p) → new.answers ≡ old.answers ++ answered ∷ [] → new.blocks ≡ old.blocks → new.layout ≡ old.layout → new.tables ≡ old.tables
-    → option_map Some new.current ≡ option_map (block_name old) q → map (λ (v : VariableState). v.ty) new.variables ≡ d.variables
+    → option_map Some new.current ≡ option_map (block_name old) q → VariablesAgree new.variables d
     → ((b : ℕ) → is_yes (sealed_of d.ssa b) ≡ is_yes (sealed_of c.ssa b)) → SamePredecessors c.ssa d.ssa → SameStatus c d → TracksAgree (calls ++ call ∷ []) d → IsStructured agrees.own f d
     → AnswersAgree new f (length calls) answered call.numbers → LedgerAgrees (calls ++ call ∷ []) new f d q
 agrees-kept calls call old new f c d p q answered agrees answers blocks layout tables current variables sealed leads status tracks structured fresh =
@@ -133,7 +134,7 @@ switched calls f c p name block agrees names =
 -- a new block
 pub agrees-created : (calls : List AnsweredCall) (ledger : Ledger) (f g : Body) (c d : ContextState) (p : Option ℕ) (block : ℕ)
     → LedgerAgrees calls ledger f c p → g ≡ with_block f → block ≡ length f.blocks
-    → d.ssa.records ≡ c.ssa.records → SameBlocks c.ssa d.ssa → SamePredecessors c.ssa d.ssa → d.status ≡ c.status → d.variables ≡ c.variables → d.ssa.tracking ≡ c.ssa.tracking
+    → d.ssa.records ≡ c.ssa.records → SameBlocks c.ssa d.ssa → SamePredecessors c.ssa d.ssa → d.status ≡ c.status → SameVariables c d → d.ssa.tracking ≡ c.ssa.tracking
     → LedgerAgrees (calls ++ record { request = CreateBlock; numbers = block ∷ [] } ∷ []) (ledger_with ledger CreateBlock) g d p
 agrees-created calls ledger f g c d p block agrees function number records sealed leads status variables tracking =
     record {
@@ -146,13 +147,13 @@ agrees-created calls ledger f g c d p block agrees function number records seale
       current = one-named-more (block_name ledger) (block_name (ledger_with ledger CreateBlock)) ledger.current p names agrees.current;
       layout = named-more (block_name ledger) (block_name (ledger_with ledger CreateBlock)) ledger.layout f.layout names agrees.layout
           ∙ ap (λ (h : Body). map (block_name (ledger_with ledger CreateBlock)) h.layout) (sym function);
-      variables = agrees.variables ∙ sym variables;
+      variables = agree_same ledger.variables c d variables agrees.variables;
       tables = agrees.tables ∙ ap (λ (h : Body). tables_of_calls h.tables) (sym function);
       tracks = tracks_on calls _ c d tt (untracked_same c d tracking) agrees.tracks;
       own = agrees.own;
       structured = λ types are.
           let own : Own = agrees.own in
-          let before : Structured types own f c.ssa [] = agrees.structured types (subst (λ (xs : List «Type»). AreTypesOf xs types) variables are) in
+          let before : Structured types own f c.ssa [] = agrees.structured types (are_types c d types variables are) in
           let made : Structured types own g c.ssa [] = subst (λ (h : Body). Structured types own h c.ssa []) (sym function) (block_structured types own f c.ssa before) in
           same_structured types own g c.ssa d.ssa [] (λ x b. ap (λ (m : RecordMap). record_at m x b) records) sealed leads made;
       callers_types = types_agree;
@@ -258,7 +259,7 @@ agrees-created calls ledger f g c d p block agrees function number records seale
 -- what comes of a creation
 pub created : {E : Type 0} (calls : List AnsweredCall) (f g : Body) (c d : ContextState) (p : Option ℕ) (r : Result ℕ E)
     → LedgerAgrees calls (ledger_of calls) f c p → OnOk r (g ≡ with_block f) → IfOk r (λ block. block ≡ length f.blocks)
-    → d.ssa.records ≡ c.ssa.records → SameBlocks c.ssa d.ssa → SamePredecessors c.ssa d.ssa → d.status ≡ c.status → d.variables ≡ c.variables → d.ssa.tracking ≡ c.ssa.tracking
+    → d.ssa.records ≡ c.ssa.records → SameBlocks c.ssa d.ssa → SamePredecessors c.ssa d.ssa → d.status ≡ c.status → SameVariables c d → d.ssa.tracking ≡ c.ssa.tracking
     → IfOk r (λ block. LedgerAgrees (calls ++ record { request = CreateBlock; numbers = block ∷ [] } ∷ []) (ledger_of (calls ++ record { request = CreateBlock; numbers = block ∷ [] } ∷ [])) g d p)
 created calls f g c d p (Err e) agrees function number records sealed leads status variables tracking = tt
 created calls f g c d p (Ok block) agrees function number records sealed leads status variables tracking =
@@ -268,7 +269,7 @@ created calls f g c d p (Ok block) agrees function number records sealed leads s
 -- a sealed block
 module _ (calls : List AnsweredCall) (ledger : Ledger) (f g : Body) (c d : ContextState) (p : Option ℕ) (name : Name) (block : ℕ) (told : List ℕ)
     (agrees : LedgerAgrees calls ledger f c p) (named : block_name ledger block ≡ Some name) (sealing : IsSealing f c.ssa g d.ssa block told)
-    (begins : Begins c d told) (firm : IsConsistent f) (consistent : IsConsistent g) (variables : d.variables ≡ c.variables) where
+    (begins : Begins c d told) (firm : IsConsistent f) (consistent : IsConsistent g) (variables : SameVariables c d) where
   abbrev call : AnsweredCall
   call = record { request = SealBlock name; numbers = [] }
 
@@ -308,7 +309,7 @@ module _ (calls : List AnsweredCall) (ledger : Ledger) (f g : Body) (c d : Conte
       block-kept calls call f g c d k s was (extends.cold k) (sealing.sealed k ∙ if-no (k == block) true (is_yes (sealed_of c.ssa k)) other) (sealing.predecessors k) (status_at k)
 
   structured : IsStructured agrees.own g d
-  structured types are = sealing.structured types agrees.own (agrees.structured types (subst (λ (xs : List «Type»). AreTypesOf xs types) variables are))
+  structured types are = sealing.structured types agrees.own (agrees.structured types (are_types c d types variables are))
 
   kept_types : (test : Bool) (s : BlockState) → (if test then change s else s).parameters ≡ s.parameters
   kept_types true s = refl
@@ -327,7 +328,7 @@ module _ (calls : List AnsweredCall) (ledger : Ledger) (f g : Body) (c d : Conte
             answer-still ledger new [] x ABlock refl (agrees.block_answers k x (sym (changed-names ledger new name change (λ s. refl) refl k) ∙ is));
         current = one-named-more (block_name ledger) (block_name new) ledger.current p names agrees.current;
         layout = named-more (block_name ledger) (block_name new) ledger.layout f.layout names agrees.layout ∙ ap (map (block_name new)) (sym layout);
-        variables = agrees.variables ∙ sym variables;
+        variables = agree_same ledger.variables c d variables agrees.variables;
         tables = agrees.tables ∙ sym extends.tables;
         tracks = tracks_on calls call c d tt (untracked_made (length f.values) c d sealing.tracks) agrees.tracks;
         own = agrees.own;
@@ -338,7 +339,7 @@ module _ (calls : List AnsweredCall) (ledger : Ledger) (f g : Body) (c d : Conte
             ∙ ap (map Some) (sym (kept_types (k == block) entry.0) ∙ ap (λ (s : BlockState). s.parameters) entry.2);
         callers_alone = λ b.
             sealed_alone f c (in_order agrees) g d (λ b. b == block) told sealing firm consistent begins agrees.own (listed_types d.variables)
-            (structured (listed_types d.variables) (are_listed d.variables)) b (agrees.callers_alone b);
+            (structured (listed_types d.variables) (are_listed d)) b (agrees.callers_alone b);
         branches = sealed_branches f c (in_order agrees) g d (λ b. b == block) told sealing firm consistent begins;
         fresh = λ k above.
             let past : length f.blocks ≤ k = omega (arith, above, extends.block_count) in
@@ -353,7 +354,7 @@ module _ (calls : List AnsweredCall) (ledger : Ledger) (f g : Body) (c d : Conte
 -- what comes of sealing
 pub sealed : {E : Type 0} (calls : List AnsweredCall) (f g : Body) (c d : ContextState) (p : Option ℕ) (name : Name) (block : ℕ) (r : Result (Unit {0}) E)
     → LedgerAgrees calls (ledger_of calls) f c p → NamesBlock calls name block
-    → OnOk r ((told : List ℕ) × IsSealing f c.ssa g d.ssa block told × Begins c d told) → IsConsistent f → IsConsistent g → d.variables ≡ c.variables
+    → OnOk r ((told : List ℕ) × IsSealing f c.ssa g d.ssa block told × Begins c d told) → IsConsistent f → IsConsistent g → SameVariables c d
     → OnOk r (LedgerAgrees (calls ++ record { request = SealBlock name; numbers = [] } ∷ []) (ledger_of (calls ++ record { request = SealBlock name; numbers = [] } ∷ [])) g d p)
 sealed calls f g c d p name block (Err e) agrees names seals firm consistent variables = tt
 sealed calls f g c d p name block (Ok done) agrees names seals firm consistent variables =

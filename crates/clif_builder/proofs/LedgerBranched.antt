@@ -18,22 +18,23 @@ use Rattle.clif_records.specs.Tables.{is_yes}
 use Rattle.clif_ssa.specs.LookUp.{branch_block}
 use Rattle.clif_ssa.specs.Ssa.{predecessors_of, sealed_of}
 use Rattle.clif_simulation.proofs.Telling.{along_told}
-use Rattle.clif_builder.specs.Context.{ContextState, SameStatus}
+use Rattle.clif_builder.specs.Context.{ContextState, SameStatus, SameVariables}
 use Rattle.clif_builder.specs.Builder.{is_empty_status, is_filled_status}
 use Rattle.clif_builder.specs.Construction.{IsDeclared}
-use Rattle.clif_builder.specs.Ledger.{BlockAgrees, IsBegun, IsEnded, IsStructured, LedgerAgrees, block_name, value_type}
+use Rattle.clif_builder.specs.Ledger.{BlockAgrees, IsBegun, IsEnded, IsStructured, LedgerAgrees, VariablesAgree, block_name, value_type}
 use Rattle.clif_builder.proofs.LedgerLists.{if-yes, if-no, map-some, named-more, one-named-more}
 use Rattle.clif_builder.proofs.LedgerNames.{IsNumbered, name-number}
 use Rattle.clif_builder.proofs.LedgerKept.{answers-kept, keeps-itself}
 use Rattle.clif_builder.proofs.LedgerMade.{block-exists}
 use Rattle.clif_builder.proofs.LedgerLeads.{LeadTo, LedLedger, blocks-along, goes, goes-to, leads-along, led, led-block, unheard}
+use Rattle.clif_builder.proofs.Touching.{agree_same}
 use Rattle.clif_builder.proofs.Tracks.{untracked_same, tracks_same}
 
 -- `calls` ends with the call that makes the branch; the ledger `old` and the context `c` have all of it but its edges
 module _ (calls : List AnsweredCall) (old new : Ledger) (g : Body) (c d : ContextState) (p : Option ℕ) (branch : Name) (inst : ℕ) (edges : List (Edge Name Name)) (made : List BlockCall)
     (agrees : LedgerAgrees calls old g c p) (number : number_of calls branch ≡ Some inst) (is_new : (b : ℕ) → Contains (predecessors_of c.ssa b) inst → ⊥)
     (ledger : LedLedger old new branch edges) (lead : LeadTo old edges made) (declared : IsDeclared c.ssa inst (targets made) d.ssa)
-    (same_status : SameStatus c d) (variables : d.variables ≡ c.variables) (mine : Own) (structured : IsStructured mine g d) (callers : (b : ℕ) → mine.params b ≡ agrees.own.params b) (ended : IsEnded g d (branch_block g inst)) where
+    (same_status : SameStatus c d) (variables : SameVariables c d) (mine : Own) (structured : IsStructured mine g d) (callers : (b : ℕ) → mine.params b ≡ agrees.own.params b) (ended : IsEnded g d (branch_block g inst)) where
   numbered : IsNumbered calls old
   numbered = name-number calls old g c p agrees
 
@@ -162,7 +163,7 @@ module _ (calls : List AnsweredCall) (old new : Ledger) (g : Body) (c d : Contex
             ap (λ (xs : List (List Answered)). answer_at (record old { answers = xs }) x) ledger.answers ∙ agrees.block_answers k x (name_was k x is);
         current = ap (option_map Some) ledger.current ∙ one-named-more (block_name old) (block_name new) old.current p names agrees.current;
         layout = ap (map Some) ledger.layout ∙ named-more (block_name old) (block_name new) old.layout g.layout names agrees.layout;
-        variables = ap (map (λ (v : VariableState). v.ty)) ledger.variables ∙ agrees.variables ∙ sym variables;
+        variables = agree_same new.variables c d variables (subst (λ (states : List VariableState). VariablesAgree states c) (sym ledger.variables) agrees.variables);
         tables = ledger.tables ∙ agrees.tables;
         tracks = tracks_same calls c d (untracked_same c d declared.tracking) agrees.tracks;
         own = mine;

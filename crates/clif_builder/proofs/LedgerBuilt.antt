@@ -1,6 +1,6 @@
 -- An instruction is built: the agreement with the ledger is kept.
 use Rattle.std.proofs.Common.{◌≡◌, ◌≢◌, ◌<◌, ◌+◌, ◌==◌, ℕ, zero, suc, List, [], ◌∷◌, ◌++◌, length, refl, sym, ◌∙◌, ap, subst, arith, inl, inr, length-append}
-use Rattle.std.specs.Prelude.{map, slice_get, Option, Some, option_map, Bool, true, false, if◌then◌else◌, fold, All, Contains}
+use Rattle.std.specs.Prelude.{map, slice_get, Option, Some, None, option_map, Bool, true, false, if◌then◌else◌, fold, All, Contains}
 use Rattle.std.specs.List.{range_with_len}
 use Rattle.std.proofs.lemmas.Bool.{eq-eqb, or_cases, or_left, or_right, eqb-true}
 use Rattle.std.proofs.lemmas.Option.{get_or_from_slice_get}
@@ -22,7 +22,7 @@ use Rattle.clif_meaning.specs.Name.{Name}
 use Rattle.clif_meaning.specs.Instruction.{Instruction, Operation}
 use Rattle.clif_meaning.specs.Request.{AnsweredCall, Build, GivenEntry, Request, number_of}
 use Rattle.clif_meaning.specs.Program as program
-use Rattle.clif_meaning.specs.Ledger.{Answered, AValue, AnInstruction, BlockState, Ledger, is_terminator, ledger_with, next_answer, with_begun, with_filled_at, with_predecessor, with_served, with_tried, with_state}
+use Rattle.clif_meaning.specs.Ledger.{Answered, AValue, AnInstruction, BlockState, Ledger, VariableState, is_terminator, ledger_with, next_answer, with_begun, with_filled_at, with_predecessor, with_served, with_tried, with_state}
 use Rattle.clif_meaning.proofs.CallLists as earlier
 use Rattle.clif_ssa.specs.Own.{Own}
 use Rattle.clif_records.specs.Tables.{is_yes}
@@ -39,19 +39,20 @@ use Rattle.clif_ssa.proofs.StructuredLaws.{inserted_structured, instruction_stru
 use Rattle.clif_simulation.proofs.Telling.{MayLead, along_structured}
 use Rattle.clif_builder.specs.declared.context.BlockStatus.{BlockStatus}
 use Rattle.clif_builder.specs.declared.context.BlockStatus.TheVariants.{Empty, Filled}
-use Rattle.clif_builder.specs.Context.{ContextState, status_of, begun, SetsStatus}
+use Rattle.clif_builder.specs.Context.{ContextState, SameVariables, SetsStatus, begun, status_of}
 use Rattle.clif_builder.specs.Builder.{CanLeadIn}
 use Rattle.clif_builder.specs.Construction.{IsDeclared}
-use Rattle.clif_builder.specs.Ledger.{AnswersAgree, AreTypesOf, IsEnded, IsStructured, LedgerAgrees, NamesEdges, block_name, value_type, ledger_of}
+use Rattle.clif_builder.specs.Ledger.{AnswersAgree, IsEnded, IsStructured, LedgerAgrees, NamesEdges, VariablesAgree, block_name, value_type, ledger_of}
 use Rattle.clif_builder.specs.Order.{IsInOrder}
 use Rattle.clif_builder.proofs.LedgerLists.{get-last, name-of-some}
 use Rattle.clif_builder.proofs.LedgerNames.{name-number, state-twice}
 use Rattle.clif_builder.proofs.LedgerKept.{Continues, Extends, Extends-then, Extends-inserted, Continues-inst, branch-kept, inserted-insts, keeps-of, answers-one, answers-results}
-use Rattle.clif_builder.proofs.LedgerMade.{ChangeAgrees, MadeLedger, Makes, agrees-made, alone-still, begun-ledger, changed-names, ended-here, ended-still, made-callers, unpristine}
+use Rattle.clif_builder.proofs.LedgerMade.{ChangeAgrees, MadeLedger, Makes, agrees-made, alone-still, begun-ledger, begun-variables, changed-names, ended-here, ended-still, made-callers, unpristine}
 use Rattle.clif_builder.proofs.LedgerUsed.{begun-agrees, begun-not-empty}
 use Rattle.clif_builder.proofs.LedgerLeads.{LedLedger, lead-still, lead-to, led-ledger}
 use Rattle.clif_builder.proofs.LedgerBranched.{agrees-led}
 use Rattle.clif_builder.proofs.Placed.{in_order, branch_exists}
+use Rattle.clif_builder.proofs.Touching.{agree_same, are_types}
 use Rattle.clif_builder.proofs.Tracks.{untracked_ssa}
 
 -- what the caller made, with one more instruction
@@ -64,18 +65,18 @@ appended-structured place types own f s block shape results consistent exists be
     (inserted_structured types own f s block before)
 
 appended-is-structured : (place : ℕ) (f g : Body) (c d : ContextState) (block : ℕ) (shape : InstructionData) (results : List «Type») → IsConsistent f → block < length f.blocks
-    → g ≡ with_inst (inserted_in f block) block Back shape results place → d.ssa ≡ c.ssa → d.variables ≡ c.variables → (mine : Own) → IsStructured mine f c → IsStructured (with_own mine block (length (inserted_in f block).insts) shape) g d
+    → g ≡ with_inst (inserted_in f block) block Back shape results place → d.ssa ≡ c.ssa → SameVariables c d → (mine : Own) → IsStructured mine f c → IsStructured (with_own mine block (length (inserted_in f block).insts) shape) g d
 appended-is-structured place f g c d block shape results consistent exists function ssa variables mine before types are =
     let own : Own = with_own mine block (length (inserted_in f block).insts) shape in
     subst (λ (s : SsaState). Structured types own g s []) (sym ssa)
     (subst (λ (h : Body). Structured types own h c.ssa []) (sym function)
-    (appended-structured _ types mine f c.ssa block shape results consistent exists (before types (subst (λ (xs : List «Type»). AreTypesOf xs types) variables are))))
+    (appended-structured _ types mine f c.ssa block shape results consistent exists (before types (are_types c d types variables are))))
 
 -- what an appended instruction makes
 pub appends-make : (place : ℕ) (f g : Body) (c d : ContextState) (block : ℕ) (shape : InstructionData) (types : List «Type») (status : BlockStatus)
     (order : IsInOrder f c) → IsConsistent f → block < length f.blocks
     → g ≡ with_inst (inserted_in f block) block Back shape types place → SetsStatus c d block status → status ≢ Empty → (status_of c block ≡ Filled → status ≡ Filled)
-    → d.ssa ≡ c.ssa → d.variables ≡ c.variables → Makes order.own f c g d block
+    → d.ssa ≡ c.ssa → SameVariables c d → Makes order.own f c g d block
 appends-make place f g c d block shape types status order consistent exists function sets some stays ssa variables =
     let made : Continues (inserted_in f block) g = subst (Continues (inserted_in f block)) (sym function) (Continues-inst (inserted_in f block) block Back shape types place) in
     let extends : Extends f g = Extends-then f (inserted_in f block) g (Extends-inserted f block) made.extends in
@@ -84,7 +85,6 @@ appends-make place f g c d block shape types status order consistent exists func
       layout = made.layout;
       sealed = λ b. ap (λ (s : SsaState). is_yes (sealed_of s b)) ssa;
       predecessors = λ b. ap (λ (s : SsaState). predecessors_of s b) ssa;
-      variables = variables;
       untracked = untracked_ssa c d ssa;
       own = with_own order.own block (length (inserted_in f block).insts) shape;
       structured = appended-is-structured _ f g c d block shape types consistent exists function ssa variables order.own order.structured;
@@ -134,7 +134,7 @@ results-types place f g block shape types function k ty at =
 pub agrees-plain : (place : ℕ) (calls : List AnsweredCall) (ledger : Ledger) (f g : Body) (c d : ContextState) (p : Option ℕ) (block : ℕ) (shape : InstructionData) (entries : List GivenEntry)
     (operation : Operation) (controlling : «Type») (types : List «Type») (operands contexts : List Name) (inst : ℕ) (results : List ℕ)
     → LedgerAgrees calls ledger f c p → p ≡ Some block → IsConsistent f → block < length f.blocks → g ≡ with_inst (inserted_in f block) block Back shape types place
-    → SetsStatus c d block (begun (status_of c block)) → d.ssa ≡ c.ssa → d.variables ≡ c.variables → is_terminator operation ≡ false → program.result_types operation controlling ≡ types
+    → SetsStatus c d block (begun (status_of c block)) → d.ssa ≡ c.ssa → SameVariables c d → is_terminator operation ≡ false → program.result_types operation controlling ≡ types
     → ((new : Ledger) → AnswersAgree new g (length calls) (AnInstruction ∷ map AValue types) (inst ∷ results))
     → LedgerAgrees (calls ++ record { request = Build entries (record { operation = operation; controlling = controlling; operands = operands; contexts = contexts; edges = [] }); numbers = inst ∷ results } ∷ [])
     (ledger_with ledger (Build entries (record { operation = operation; controlling = controlling; operands = operands; contexts = contexts; edges = [] }))) g d p
@@ -146,6 +146,7 @@ agrees-plain place calls ledger f g c d p block shape entries operation controll
     let changed : MadeLedger ledger new current.0 unpristine = begun_by (is_terminator operation) goes_on current.0 current.1 in
     agrees-made calls call ledger new f g c d p block current.0 unpristine (begun (status_of c block)) (AnInstruction ∷ map AValue types) agrees tt current.2
     (ap (λ (ts : List «Type»). ledger.answers ++ (AnInstruction ∷ map AValue ts) ∷ []) typed) changed
+    (agree_same _ c d variables (subst (λ (states : List VariableState). VariablesAgree states c) (sym (variables_by (is_terminator operation) goes_on)) agrees.variables))
     (begun-agrees (status_of c block)) sets
     (appends-make _ f g c d block shape types (begun (status_of c block)) (in_order agrees) consistent exists function sets (begun-not-empty (status_of c block)) (λ filled. ap begun filled) ssa variables)
     (answers new)
@@ -156,13 +157,17 @@ agrees-plain place calls ledger f g c d p block shape entries operation controll
     begun_by true is x at = let no_way : ⊥ = cc in absurd no_way
     begun_by false is x at =
         let begins = begun-ledger ledger x at in
-        record { blocks = begins.blocks; layout = begins.layout; current = begins.current; variables = begins.variables; tables = begins.tables }
+        record { blocks = begins.blocks; layout = begins.layout; current = begins.current; tables = begins.tables }
+
+    variables_by : (ends : Bool) → ends ≡ false → (if ends then with_filled_at (with_begun ledger) (with_begun ledger).current else with_begun ledger).variables ≡ ledger.variables
+    variables_by true is = let no_way : ⊥ = cc in absurd no_way
+    variables_by false is = begun-variables ledger
 
 -- with its results, which have the next numbers of values
 pub agrees-built : (place : ℕ) (calls : List AnsweredCall) (ledger : Ledger) (f g : Body) (c d : ContextState) (p : Option ℕ) (block : ℕ) (shape : InstructionData) (entries : List GivenEntry)
     (operation : Operation) (controlling : «Type») (types : List «Type») (operands contexts : List Name) (inst : ℕ)
     → LedgerAgrees calls ledger f c p → p ≡ Some block → IsConsistent f → block < length f.blocks → g ≡ with_inst (inserted_in f block) block Back shape types place
-    → SetsStatus c d block (begun (status_of c block)) → d.ssa ≡ c.ssa → d.variables ≡ c.variables → inst ≡ length f.insts
+    → SetsStatus c d block (begun (status_of c block)) → d.ssa ≡ c.ssa → SameVariables c d → inst ≡ length f.insts
     → is_terminator operation ≡ false → program.result_types operation controlling ≡ types
     → LedgerAgrees
     (calls ++ record { request = Build entries (record { operation = operation; controlling = controlling; operands = operands; contexts = contexts; edges = [] }); numbers = inst ∷ range_with_len (length (inserted_in f block).values) (length types) } ∷ [])
@@ -200,9 +205,15 @@ filled-ledger ledger name current =
           ∙ state-twice ledger.blocks name unpristine filled (λ s. refl);
       layout = begins.layout;
       current = begins.current;
-      variables = begins.variables;
       tables = begins.tables;
     })
+
+filled-variables : (ledger : Ledger) → (with_filled_at (with_begun ledger) (with_begun ledger).current).variables ≡ ledger.variables
+filled-variables ledger = by (with_begun ledger).current ∙ begun-variables ledger
+  where
+    by : (current : Option Name) → (with_filled_at (with_begun ledger) current).variables ≡ (with_begun ledger).variables
+    by None = refl
+    by (Some name) = refl
 
 -- A TERMINATOR ------------------------------------------------------------------------------------------------------
 
@@ -225,7 +236,7 @@ unsealed-target f c (edge ∷ edges) may x there =
 
 module _ (place : ℕ) (calls : List AnsweredCall) (f g : Body) (c d : ContextState) (p : Option ℕ) (block : ℕ) (shape : InstructionData) (entries : List GivenEntry) (instruction : Instruction Name Name) (inst : ℕ)
     (agrees : LedgerAgrees calls (ledger_of calls) f c p) (at : p ≡ Some block) (consistent : IsConsistent f) (exists : block < length f.blocks) (open_in : status_of c block ≢ Filled)
-    (function : g ≡ with_inst (inserted_in f block) block Back shape [] place) (sets : SetsStatus c d block Filled) (variables : d.variables ≡ c.variables) (is_inst : inst ≡ length f.insts)
+    (function : g ≡ with_inst (inserted_in f block) block Back shape [] place) (sets : SetsStatus c d block Filled) (variables : SameVariables c d) (is_inst : inst ≡ length f.insts)
     (names : NamesEdges calls instruction.edges (destinations shape)) (may : All (CanLeadIn f c) (destinations shape)) (declared : IsDeclared c.ssa inst (targets (destinations shape)) d.ssa) where
   abbrev ledger : Ledger
   ledger = ledger_of calls
@@ -265,19 +276,22 @@ module _ (place : ℕ) (calls : List AnsweredCall) (f g : Body) (c d : ContextSt
   changed : MadeLedger ledger (record ended_ledger { answers = answered }) current.0 (λ (t : BlockState). filled (unpristine t))
   changed =
       let fills = filled-ledger ledger current.0 current.1 in
-      record { blocks = fills.blocks; layout = fills.layout; current = fills.current; variables = fills.variables; tables = fills.tables }
+      record { blocks = fills.blocks; layout = fills.layout; current = fills.current; tables = fills.tables }
+
+  agree : VariablesAgree ended_ledger.variables undeclared
+  agree = agree_same _ c undeclared variables (subst (λ (states : List VariableState). VariablesAgree states c) (sym (filled-variables ledger)) agrees.variables)
 
   -- the ledger agrees before the branch is declared
   abbrev ended : LedgerAgrees (calls ++ call ∷ []) (record ended_ledger { answers = answered }) g undeclared p
   ended =
       agrees-made calls call ledger (record ended_ledger { answers = answered }) f g c undeclared p block current.0 (λ (t : BlockState). filled (unpristine t)) Filled (AnInstruction ∷ [])
-      agrees tt current.2 refl changed (filled-agrees (status_of c block)) sets makes
+      agrees tt current.2 refl changed agree (filled-agrees (status_of c block)) sets makes
       (answers-one (record ended_ledger { answers = answered }) g (length calls) AnInstruction inst (node, there) (node, there, refl))
 
   same_callers : (b : ℕ) → agrees.own.params b ≡ ended.own.params b
   same_callers b = sym
       (made-callers calls call ledger (record ended_ledger { answers = answered }) f g c undeclared p block current.0 (λ (t : BlockState). filled (unpristine t)) Filled (AnInstruction ∷ [])
-      agrees tt current.2 refl changed (filled-agrees (status_of c block)) sets makes
+      agrees tt current.2 refl changed agree (filled-agrees (status_of c block)) sets makes
       (answers-one (record ended_ledger { answers = answered }) g (length calls) AnInstruction inst (node, there) (node, there, refl)) b)
 
   number : number_of (calls ++ call ∷ []) (next_answer ledger) ≡ Some inst
@@ -312,7 +326,7 @@ module _ (place : ℕ) (calls : List AnsweredCall) (f g : Body) (c d : ContextSt
       ∙ ap (λ passes. passes k) (sym (updated-same agrees.own.passed (length (inserted_in f block).insts) (shape_passes shape) inst same)))
       declared.along (subst (λ (h : Body). Structured types mine h c.ssa []) (sym function)
       (appended-structured _ types agrees.own f c.ssa block shape [] consistent exists
-      (agrees.structured types (subst (λ (xs : List «Type»). AreTypesOf xs types) variables are))))
+      (agrees.structured types (are_types c d types variables are))))
 
   led : LedLedger (record ended_ledger { answers = answered }) (record (fold (with_predecessor (next_answer ledger)) ended_ledger instruction.edges) { answers = answered; jump_tables = with_served ledger.jump_tables entries; exception_tables = with_tried ledger.exception_tables entries })
       (next_answer ledger) instruction.edges
@@ -327,7 +341,7 @@ module _ (place : ℕ) (calls : List AnsweredCall) (f g : Body) (c d : ContextSt
       (lead-still ledger (record ended_ledger { answers = answered }) instruction.edges (destinations shape)
       (λ k x is. changed-names ledger (record ended_ledger { answers = answered }) current.0 (λ (t : BlockState). filled (unpristine t)) (λ s. refl) changed.blocks k ∙ is)
       (lead-to calls instruction.edges (destinations shape) (name-number calls ledger f c p agrees) names))
-      declared (λ b. refl) refl mine structured same_callers (subst (IsEnded g d) (sym stands) (ended-here f g c d block makes.layout sets))
+      declared (λ b. refl) (refl, refl) mine structured same_callers (subst (IsEnded g d) (sym stands) (ended-here f g c d block makes.layout sets))
 
   -- a terminator, with its edges
   pub agrees-ended : is_terminator instruction.operation ≡ true → program.result_types instruction.operation instruction.controlling ≡ []

@@ -21,11 +21,15 @@ use Rattle.clif_builder.specs.declared.error.FinalizeError.TheVariants as error
 use Rattle.clif_builder.specs.declared.builder.FunctionBuilder.{FunctionBuilder}
 use Rattle.clif_builder.specs.Context.{ContextState, empty_context, status_of}
 use Rattle.clif_builder.specs.Builder.{answer_of, block_fault, first_fault, is_empty_status, is_filled_status, or_else, verdict_of}
-use Rattle.clif_builder.specs.Ledger.{AgreesWithLedger, BlockAgrees, LedgerAgrees, RefusalAgrees, ledger_of}
+use Rattle.clif_builder.specs.Ledger.{AgreesWithLedger, BlockAgrees, LedgerAgrees, RefusalAgrees, ledger_of, was_touched}
 
 none_marked : (x : ℕ) → marked (slice_get [] x) ≡ false
 none_marked zero = refl
 none_marked (suc x) = refl
+
+none_touched : (x : ℕ) → was_touched (slice_get [] x) ≡ false
+none_touched zero = refl
+none_touched (suc x) = refl
 
 -- no calls, and nothing made
 pub agrees-empty : (name : UserFuncName) (signature : SignatureShape) → LedgerAgrees [] empty_ledger (empty_body name signature) empty_context None
@@ -38,7 +42,7 @@ agrees-empty name signature =
       block_answers = λ k x is. absurd (none-some x is);
       current = refl;
       layout = refl;
-      variables = refl;
+      variables = record { types = refl; touched = none_touched };
       tables = refl;
       tracks = record { marks = none_marked; untracked = λ asks. refl };
       own = no_own;

@@ -1,6 +1,6 @@
 -- Something is made in the current block: the agreement with the ledger is kept.
 use Rattle.std.proofs.Common.{◌≡◌, ◌≢◌, ◌<◌, ◌≤◌, ℕ, suc, List, [], ◌∷◌, ◌++◌, length, refl, sym, ◌∙◌, ap, subst, arith, inl, inr}
-use Rattle.std.specs.Prelude.{map, slice_get, Option, Some, option_map, Bool, true, false, if◌then◌else◌, ◌==◌, Contains}
+use Rattle.std.specs.Prelude.{map, slice_get, Option, Some, None, option_map, Bool, true, false, if◌then◌else◌, ◌==◌, Contains}
 use Rattle.std.proofs.lemmas.Option.{slice_get_within}
 use Rattle.std.proofs.lemmas.Bool.{cases_eq, eq-eqb, eqb-true, ne_eqb}
 use Rattle.std.proofs.lemmas.List.{map_push}
@@ -21,7 +21,7 @@ use Rattle.clif_builder.specs.declared.context.BlockStatus.{BlockStatus}
 use Rattle.clif_builder.specs.declared.context.BlockStatus.TheVariants.{Empty, Filled}
 use Rattle.clif_builder.specs.Context.{ContextState, status_of, SetsStatus}
 use Rattle.clif_builder.specs.Builder.{is_empty_status, is_filled_status}
-use Rattle.clif_builder.specs.Ledger.{AloneUnlessBegun, AnswersAgree, BlockAgrees, IsBegun, IsEnded, IsStructured, LedgerAgrees, block_name, value_type}
+use Rattle.clif_builder.specs.Ledger.{AloneUnlessBegun, AnswersAgree, BlockAgrees, IsBegun, IsEnded, IsStructured, LedgerAgrees, VariablesAgree, block_name, value_type}
 use Rattle.clif_builder.proofs.LedgerLists.{if-yes, if-no, named-more, numbered-more, one-named-more, map-some}
 use Rattle.clif_builder.proofs.LedgerNames.{IsNumbered, name-number, block-inserted, state-names, state-entries}
 use Rattle.clif_builder.proofs.LedgerKept.{answer-still, Extends, keeps-of, answers-after, places-after, stands-inserted, stands-still, types-kept}
@@ -43,7 +43,6 @@ pub record MadeLedger (old new : Ledger) (name : Name) (change : BlockState → 
   pub blocks : new.blocks ≡ (with_state old name change).blocks
   pub layout : new.layout ≡ (with_layout old name).layout
   pub current : new.current ≡ old.current
-  pub variables : map (λ (v : VariableState). v.ty) new.variables ≡ map (λ (v : VariableState). v.ty) old.variables
   pub tables : new.tables ≡ old.tables
 
 -- the function and the context in which something was made in a block: `mine` is what the caller made before
@@ -52,7 +51,6 @@ pub record Makes (mine : Own) (f : Body) (c : ContextState) (g : Body) (d : Cont
   pub layout : g.layout ≡ (inserted_in f block).layout
   pub sealed : (b : ℕ) → is_yes (sealed_of d.ssa b) ≡ is_yes (sealed_of c.ssa b)
   pub predecessors : SamePredecessors c.ssa d.ssa
-  pub variables : d.variables ≡ c.variables
   pub own : Own
   pub structured : IsStructured own g d
   pub callers : (b : ℕ) → own.params b ≡ mine.params b
@@ -182,10 +180,10 @@ layout-after calls old new f block name numbered same named names =
 
 pub agrees-made : (calls : List AnsweredCall) (call : AnsweredCall) (old new : Ledger) (f g : Body) (c d : ContextState) (p : Option ℕ) (block : ℕ) (name : Name) (change : BlockState → BlockState) (status : BlockStatus) (answered : List Answered)
     (agrees : LedgerAgrees calls old f c p) → AsksForNoMaps call.request → block_name old block ≡ Some name
-    → new.answers ≡ old.answers ++ answered ∷ [] → MadeLedger old new name change
+    → new.answers ≡ old.answers ++ answered ∷ [] → MadeLedger old new name change → VariablesAgree new.variables d
     → ChangeAgrees change (status_of c block) status → SetsStatus c d block status → Makes agrees.own f c g d block
     → AnswersAgree new g (length calls) answered call.numbers → LedgerAgrees (calls ++ call ∷ []) new g d p
-agrees-made calls call old new f g c d p block name change status answered agrees asks named answers ledger changes sets makes fresh =
+agrees-made calls call old new f g c d p block name change status answered agrees asks named answers ledger variables changes sets makes fresh =
     record {
       places = places-after calls call old new answered agrees.places answers;
       answers = answers-after calls call old new f g c p answered agrees answers names (keeps-of f g makes.extends) fresh;
@@ -195,7 +193,7 @@ agrees-made calls call old new f g c d p block name change status answered agree
           answer-still old new answered x ABlock answers (agrees.block_answers k x (sym (changed-names old new name change changes.block ledger.blocks k) ∙ is));
       current = ap (option_map Some) ledger.current ∙ one-named-more (block_name old) (block_name new) old.current p names agrees.current;
       layout = ap (map Some) ledger.layout ∙ layout-after calls old new f block name numbered agrees.layout named names ∙ ap (map (block_name new)) (sym makes.layout);
-      variables = ledger.variables ∙ agrees.variables ∙ sym makes.variables;
+      variables = variables;
       tables = ledger.tables ∙ agrees.tables ∙ sym makes.extends.tables;
       tracks = tracks_on calls call c d asks makes.untracked agrees.tracks;
       own = makes.own;
@@ -236,12 +234,12 @@ agrees-made calls call old new f g c d p block name change status answered agree
 -- the caller's parameters then
 pub made-callers : (calls : List AnsweredCall) (call : AnsweredCall) (old new : Ledger) (f g : Body) (c d : ContextState) (p : Option ℕ) (block : ℕ) (name : Name) (change : BlockState → BlockState) (status : BlockStatus) (answered : List Answered)
     (agrees : LedgerAgrees calls old f c p) (asks : AsksForNoMaps call.request) (named : block_name old block ≡ Some name)
-    (answers : new.answers ≡ old.answers ++ answered ∷ []) (ledger : MadeLedger old new name change)
+    (answers : new.answers ≡ old.answers ++ answered ∷ []) (ledger : MadeLedger old new name change) (variables : VariablesAgree new.variables d)
     (changes : ChangeAgrees change (status_of c block) status) (sets : SetsStatus c d block status) (makes : Makes agrees.own f c g d block)
     (fresh : AnswersAgree new g (length calls) answered call.numbers)
-    → (b : ℕ) → (agrees-made calls call old new f g c d p block name change status answered agrees asks named answers ledger changes sets makes fresh).own.params b ≡ agrees.own.params b
+    → (b : ℕ) → (agrees-made calls call old new f g c d p block name change status answered agrees asks named answers ledger variables changes sets makes fresh).own.params b ≡ agrees.own.params b
 unfolding agrees-made
-made-callers calls call old new f g c d p block name change status answered agrees asks named answers ledger changes sets makes fresh b = makes.callers b
+made-callers calls call old new f g c d p block name change status answered agrees asks named answers ledger variables changes sets makes fresh b = makes.callers b
 
 -- the ledger in which something was made in the current block
 abbrev pub unpristine : BlockState → BlockState
@@ -253,7 +251,6 @@ begun-ledger ledger name current =
       blocks = same_blocks (is_inserted ledger name);
       layout = refl;
       current = same_current (is_inserted ledger name);
-      variables = same_variables (is_inserted ledger name);
       tables = same_tables (is_inserted ledger name);
     })
   where
@@ -272,7 +269,14 @@ begun-ledger ledger name current =
     same_tables true = refl
     same_tables false = refl
 
-    same_variables : (inserted : Bool)
-        → map (λ (v : VariableState). v.ty) (if inserted then ledger else record ledger { layout = ledger.layout ++ name ∷ [] }).variables ≡ map (λ (v : VariableState). v.ty) ledger.variables
-    same_variables true = refl
-    same_variables false = refl
+-- the variables then
+pub begun-variables : (ledger : Ledger) → (with_begun ledger).variables ≡ ledger.variables
+begun-variables ledger = by ledger.current
+  where
+    inserted : (name : Name) (test : Bool) → (if test then ledger else record ledger { layout = ledger.layout ++ name ∷ [] }).variables ≡ ledger.variables
+    inserted name true = refl
+    inserted name false = refl
+
+    by : (current : Option Name) → (with_begun_at ledger current).variables ≡ ledger.variables
+    by None = refl
+    by (Some name) = inserted name (is_inserted ledger name)

@@ -47,7 +47,7 @@ use Rattle.clif_meaning.specs.Ledger as meaning
 use Rattle.clif_meaning.specs.View.{operation_of, try_call_of}
 use Rattle.clif_builder.specs.declared.context.BlockStatus.TheVariants.{Filled}
 use Rattle.clif_builder.specs.declared.builder.FunctionBuilder.{FunctionBuilder}
-use Rattle.clif_builder.specs.Context.{ContextState, SetsStatus, begun, status_of}
+use Rattle.clif_builder.specs.Context.{ContextState, SameVariables, SetsStatus, begun, status_of}
 use Rattle.clif_builder.specs.Builder.{AppendsIn, CanLeadIn, HasCurrent}
 use Rattle.clif_builder.specs.Construction.{IsDeclared}
 use Rattle.clif_builder.specs.Ledger.{HasShape, LedgerAgrees, NamesArguments, NamesEdge, NamesEdges, NamesExceptions, NamesValue, NamesValues, ledger_of}
@@ -100,7 +100,7 @@ same_end calls f instruction shape ty has =
 
 module _ (place : ℕ) (calls : List AnsweredCall) (f g : Body) (c d : ContextState) (p : Option ℕ) (block : ℕ) (entries : List GivenEntry) (instruction : Instruction Name Name) (shape : InstructionData) (ty : «Type») (inst : ℕ)
     (agrees : LedgerAgrees calls (ledger_of calls) f c p) (at : p ≡ Some block) (exists : block < length f.blocks) (consistent : IsConsistent f)
-    (has : HasShape calls f instruction shape ty) (appends : AppendsIn place f c g d block shape ty inst) (variables : d.variables ≡ c.variables) where
+    (has : HasShape calls f instruction shape ty) (appends : AppendsIn place f c g d block shape ty inst) (variables : SameVariables c d) where
   function_of : (types : List «Type») → types_of_results f.tables shape ty ≡ types → g ≡ with_inst (inserted_in f block) block Back shape types place
   function_of types is = appends.function ∙ ap (λ (ts : List «Type»). with_inst (inserted_in f block) block Back shape ts place) is
 
@@ -145,7 +145,7 @@ module _ (place : ℕ) (calls : List AnsweredCall) (f g : Body) (c d : ContextSt
 pub shaped-ledger : (place : ℕ) (calls : List AnsweredCall) (f g : Body) (c d : ContextState) (p : Option ℕ) (block : ℕ) (entries : List GivenEntry) (instruction : Instruction Name Name) (shape : InstructionData) (ty : «Type») (inst : ℕ)
     → LedgerAgrees calls (ledger_of calls) f c p → p ≡ Some block → block < length f.blocks → status_of c block ≢ Filled → IsConsistent f
     → HasShape calls f instruction shape ty → All (CanLeadIn f c) (destinations shape) → AppendsIn place f c g d block shape ty inst
-    → IsDeclared c.ssa inst (targets (destinations shape)) d.ssa → (is_branch shape ≡ false → d.ssa ≡ c.ssa) → d.variables ≡ c.variables
+    → IsDeclared c.ssa inst (targets (destinations shape)) d.ssa → (is_branch shape ≡ false → d.ssa ≡ c.ssa) → SameVariables c d
     → LedgerAgrees (calls ++ built entries instruction (inst ∷ (inst_at g inst).results) ∷ []) (ledger_of (calls ++ built entries instruction (inst ∷ (inst_at g inst).results) ∷ [])) g d p
 shaped-ledger place calls f g c d p block entries instruction shape ty inst agrees at exists open_in consistent has may appends declared ssa variables = by (sort_of f.tables shape ty)
   where
@@ -158,7 +158,7 @@ shaped-ledger place calls f g c d p block entries instruction shape ty inst agre
 pub ledger-shaped : (place : ℕ) {E : Type 0} (calls : List AnsweredCall) (f g : Body) (c d : ContextState) (p : Option ℕ) (block : ℕ) (entries : List GivenEntry) (instruction : Instruction Name Name) (shape : InstructionData) (ty : «Type») (r : Result ℕ E)
     → LedgerAgrees calls (ledger_of calls) f c p → p ≡ Some block → (block < length f.blocks) × (status_of c block ≢ Filled) → IsConsistent f
     → HasShape calls f instruction shape ty → All (CanLeadIn f c) (destinations shape) → IfOk r (λ inst. AppendsIn place f c g d block shape ty inst)
-    → IfOk r (λ inst. IsDeclared c.ssa inst (targets (destinations shape)) d.ssa) → (is_branch shape ≡ false → d.ssa ≡ c.ssa) → d.variables ≡ c.variables
+    → IfOk r (λ inst. IsDeclared c.ssa inst (targets (destinations shape)) d.ssa) → (is_branch shape ≡ false → d.ssa ≡ c.ssa) → SameVariables c d
     → IfOk r (λ inst. LedgerAgrees (calls ++ built entries instruction (inst ∷ (inst_at g inst).results) ∷ []) (ledger_of (calls ++ built entries instruction (inst ∷ (inst_at g inst).results) ∷ [])) g d p)
 ledger-shaped place calls f g c d p block entries instruction shape ty (Err e) agrees at current consistent has may appends declared ssa variables = tt
 ledger-shaped place calls f g c d p block entries instruction shape ty (Ok inst) agrees at current consistent has may appends declared ssa variables =

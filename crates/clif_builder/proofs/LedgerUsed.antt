@@ -1,7 +1,8 @@
 -- A variable is used: the agreement with the ledger is kept.
-use Rattle.std.proofs.Common.{◌≡◌, ◌≢◌, ℕ, zero, suc, List, [], ◌∷◌, ◌++◌, length, refl, sym, ◌∙◌, ap, subst}
+use Rattle.std.proofs.Common.{◌≡◌, ◌≢◌, ◌<◌, ℕ, zero, suc, List, [], ◌∷◌, ◌++◌, length, refl, sym, ◌∙◌, ap, subst, arith}
 use Rattle.std.specs.Prelude.{map, slice_get, Option, Some, option_map, false, IfOk, OnOk, Result, Ok, Err}
-use Rattle.std.proofs.lemmas.Option.{slice_get-get_or, slice_get-map}
+use Rattle.std.proofs.lemmas.Option.{slice_get-get_or, slice_get-map, slice_get_within}
+use Rattle.std.proofs.lemmas.List.{length-map}
 use Rattle.clif_types.specs.declared.types.«Type».{«Type»}
 use Rattle.clif_nodes.specs.declared.nodes.ValueNode.{ValueNode}
 use Rattle.clif_ir.specs.Body.{Body}
@@ -15,28 +16,23 @@ use Rattle.clif_ssa.specs.Structured.{HasType, Structured, VariableTypes}
 use Rattle.clif_ssa.proofs.StructuredLaws.{inserted_structured}
 use Rattle.clif_builder.specs.declared.context.BlockStatus.{BlockStatus}
 use Rattle.clif_builder.specs.declared.context.BlockStatus.TheVariants.{Empty, Partial, Filled}
-use Rattle.clif_builder.specs.Context.{Begins, ContextState, status_of, begun, SetsStatus}
+use Rattle.clif_builder.specs.Context.{Begins, ContextState, SetsStatus, TouchesVariable, begun, status_of}
 use Rattle.clif_builder.specs.Builder.{is_empty_status, is_filled_status}
 use Rattle.clif_builder.specs.Construction.{IsUse}
-use Rattle.clif_builder.specs.Ledger.{AreTypesOf, LedgerAgrees, block_name, value_type, ledger_of}
+use Rattle.clif_builder.specs.Ledger.{AreTypesOf, LedgerAgrees, VariablesAgree, block_name, value_type, ledger_of}
 use Rattle.clif_builder.specs.Order.{IsInOrder}
 use Rattle.clif_builder.proofs.LedgerLists.{name-of-some}
 use Rattle.clif_builder.proofs.LedgerKept.{Extends-inserted, Extends-then, answers-one, concluded, extends-constructs}
-use Rattle.clif_builder.proofs.LedgerMade.{ChangeAgrees, MadeLedger, Makes, agrees-made, begun-ledger, unpristine}
-use Rattle.clif_builder.proofs.Placed.{in_order, are_listed, listed_types, used_alone, used_branches, used_layout, used_status}
+use Rattle.clif_builder.proofs.LedgerMade.{ChangeAgrees, MadeLedger, Makes, agrees-made, begun-ledger, begun-variables, unpristine}
+use Rattle.clif_builder.proofs.Placed.{in_order, are_listed, listed_type, listed_types, used_alone, used_branches, used_layout, used_status}
+use Rattle.clif_builder.proofs.Touching.{agree_touched, type_touched, types_before}
 use Rattle.clif_builder.proofs.Tracks.{untracked_made}
-
--- a mark on a variable leaves the types
-pub types-touched : (variable : ℕ) (states : List VariableState) → map (λ (v : VariableState). v.ty) (touched_at variable states) ≡ map (λ (v : VariableState). v.ty) states
-types-touched variable [] = refl
-types-touched zero (s ∷ states) = refl
-types-touched (suc variable) (s ∷ states) = ap (λ (types : List «Type»). s.ty ∷ types) (types-touched variable states)
 
 -- the ledger's type of a variable is the context's
 pub ledger-type : (calls : List AnsweredCall) (ledger : Ledger) (f : Body) (c : ContextState) (p : Option ℕ) → LedgerAgrees calls ledger f c p
     → (variable : ℕ) → variable_type ledger variable ≡ slice_get c.variables variable
 ledger-type calls ledger f c p agrees variable =
-    sym (slice_get-map (λ (v : VariableState). v.ty) ledger.variables variable) ∙ ap (λ (types : List «Type»). slice_get types variable) agrees.variables
+    sym (slice_get-map (λ (v : VariableState). v.ty) ledger.variables variable) ∙ ap (λ (types : List «Type»). slice_get types variable) agrees.variables.types
 
 -- a block that is begun agrees with one in which something was made
 pub begun-agrees : (s : BlockStatus) → ChangeAgrees unpristine s (begun s)
@@ -74,18 +70,23 @@ typed-value f v ty has = ap (option_map (λ (n : ValueNode). n.ty)) (slice_get-g
 pub used-typed : (f g : Body) (c d : ContextState) (variable : ℕ) (ty : «Type») (block value : ℕ) (told : List ℕ) → IsInOrder f c → slice_get c.variables variable ≡ Some ty
     → IsUse (inserted_in f block) c.ssa g d.ssa variable ty block value told → HasType g value ty
 used-typed f g c d variable ty block value told order declared use_of =
-    (use_of.structured (listed_types c.variables) order.own (sym (are_listed c.variables variable ty declared))
-    (inserted_structured (listed_types c.variables) order.own f c.ssa block (order.structured (listed_types c.variables) (are_listed c.variables)))).1
+    (use_of.structured (listed_types c.variables) order.own (sym (listed_type c.variables variable ty declared))
+    (inserted_structured (listed_types c.variables) order.own f c.ssa block (order.structured (listed_types c.variables) (are_listed c)))).1
 
 -- a use of a declared variable in the current block
 module _ (f g : Body) (c d : ContextState) (variable : ℕ) (ty : «Type») (block value : ℕ) (told : List ℕ)
     (order : IsInOrder f c) (declared : slice_get c.variables variable ≡ Some ty)
     (use_of : IsUse (inserted_in f block) c.ssa g d.ssa variable ty block value told) (begins : Begins c d (block ∷ told)) (consistent : IsConsistent g)
-    (variables : d.variables ≡ c.variables) where
+    (touches : TouchesVariable c d variable) where
   -- the structure then
-  pub used-structured : (types : VariableTypes) → AreTypesOf c.variables types → Structured types order.own g d.ssa [] × HasType g value ty
+  pub used-structured : (types : VariableTypes) → AreTypesOf d types → Structured types order.own g d.ssa [] × HasType g value ty
   used-structured types are =
-      use_of.structured types order.own (sym (are variable ty declared)) (inserted_structured types order.own f c.ssa block (order.structured types are))
+      use_of.structured types order.own (sym (type_touched c d variable ty types touches declared are))
+      (inserted_structured types order.own f c.ssa block (order.structured types (types_before c d variable types touches are)))
+
+  -- the types that are listed
+  listed_after : AreTypesOf d (listed_types c.variables)
+  listed_after x kind is touched = listed_type c.variables x kind (ap (λ (xs : List «Type»). slice_get xs x) (sym touches.0) ∙ is)
 
   -- what a use makes, and the type of its answer
   pub use-makes : Makes order.own f c g d block
@@ -95,25 +96,24 @@ module _ (f g : Body) (c d : ContextState) (variable : ℕ) (ty : «Type») (blo
         layout = used_layout f c order g d variable ty block value told use_of consistent;
         sealed = use_of.flags;
         predecessors = use_of.predecessors;
-        variables = variables;
         untracked = untracked_made (length (inserted_in f block).values) c d use_of.tracks;
         own = order.own;
-        structured = λ types are. (used-structured types (subst (λ (xs : List «Type»). AreTypesOf xs types) variables are)).0;
+        structured = λ types are. (used-structured types are).0;
         callers = λ b. refl;
         callers_alone = λ b.
             used_alone f c order g d variable ty block value told use_of consistent begins order.own (listed_types c.variables)
-            (used-structured (listed_types c.variables) (are_listed c.variables)).0 b (order.callers_alone b);
+            (used-structured (listed_types c.variables) listed_after).0 b (order.callers_alone b);
         branches = used_branches f c order g d variable ty block value told use_of consistent begins;
       }
 
   pub use-typed : value_type g value ≡ Some ty
-  use-typed = typed-value g value ty (used-structured (listed_types c.variables) (are_listed c.variables)).1
+  use-typed = typed-value g value ty (used-structured (listed_types c.variables) listed_after).1
 
 -- the agreement then
 module _ (calls : List AnsweredCall) (ledger : Ledger) (f g : Body) (c d : ContextState) (p : Option ℕ) (variable : ℕ) (ty : «Type») (block value : ℕ) (told : List ℕ)
     (agrees : LedgerAgrees calls ledger f c p) (declared : slice_get c.variables variable ≡ Some ty)
     (use_of : IsUse (inserted_in f block) c.ssa g d.ssa variable ty block value told) (begins : Begins c d (block ∷ told)) (consistent : IsConsistent g)
-    (variables : d.variables ≡ c.variables) where
+    (touches : TouchesVariable c d variable) where
   pub agrees-used : p ≡ Some block
       → LedgerAgrees (calls ++ record { request = UseVar variable; numbers = value ∷ [] } ∷ []) (ledger_with ledger (UseVar variable)) g d p
   agrees-used at =
@@ -127,26 +127,30 @@ module _ (calls : List AnsweredCall) (ledger : Ledger) (f g : Body) (c d : Conte
         blocks = begun_ledger.blocks;
         layout = begun_ledger.layout;
         current = begun_ledger.current;
-        variables = types-touched variable (with_begun ledger).variables ∙ begun_ledger.variables;
         tables = begun_ledger.tables;
       } in
       let typed : variable_type ledger variable ≡ Some ty = ledger-type calls ledger f c p agrees variable ∙ declared in
+      let inside : variable < length ledger.variables =
+      omega (arith, slice_get_within c.variables variable ty declared, ap (λ (xs : List «Type»). length xs) agrees.variables.types, length-map ledger.variables (λ (v : VariableState). v.ty)) in
+      let variables : VariablesAgree (touched_at variable (with_begun ledger).variables) d =
+      subst (λ (states : List VariableState). VariablesAgree (touched_at variable states) d) (sym (begun-variables ledger))
+      (agree_touched ledger.variables c d variable inside touches agrees.variables) in
       agrees-made calls call ledger new f g c d p block name unpristine (begun (status_of c block)) (AValue ty ∷ []) agrees tt current.2
-      (ap (λ (o : Option «Type»). ledger.answers ++ (AValue (or_invalid o) ∷ []) ∷ []) typed) changed
+      (ap (λ (o : Option «Type»). ledger.answers ++ (AValue (or_invalid o) ∷ []) ∷ []) typed) changed variables
       (begun-agrees (status_of c block)) (used_status f c (in_order agrees) g d variable ty block value told use_of begins)
-      (use-makes f g c d variable ty block value told (in_order agrees) declared use_of begins consistent variables)
-      (answers-one new g (length calls) (AValue ty) value (use-typed f g c d variable ty block value told (in_order agrees) declared use_of begins consistent variables) tt)
+      (use-makes f g c d variable ty block value told (in_order agrees) declared use_of begins consistent touches)
+      (answers-one new g (length calls) (AValue ty) value (use-typed f g c d variable ty block value told (in_order agrees) declared use_of begins consistent touches) tt)
 
 -- what comes of a use
 pub used : {E : Type 0} (calls : List AnsweredCall) (f g : Body) (c d : ContextState) (p : Option ℕ) (variable : ℕ) (ty : «Type») (block : ℕ) (r : Result ℕ E)
     → LedgerAgrees calls (ledger_of calls) f c p → p ≡ Some block → slice_get c.variables variable ≡ Some ty
     → IfOk r (λ value. (told : List ℕ) × IsUse (inserted_in f block) c.ssa g d.ssa variable ty block value told × Begins c d (block ∷ told))
-    → IsConsistent g → d.variables ≡ c.variables
+    → IsConsistent g → OnOk r (TouchesVariable c d variable)
     → IfOk r (λ value. LedgerAgrees (calls ++ record { request = UseVar variable; numbers = value ∷ [] } ∷ []) (ledger_of (calls ++ record { request = UseVar variable; numbers = value ∷ [] } ∷ [])) g d p)
-used calls f g c d p variable ty block (Err e) agrees at declared uses consistent variables = tt
-used calls f g c d p variable ty block (Ok value) agrees at declared uses consistent variables =
+used calls f g c d p variable ty block (Err e) agrees at declared uses consistent touches = tt
+used calls f g c d p variable ty block (Ok value) agrees at declared uses consistent touches =
     concluded calls (record { request = UseVar variable; numbers = value ∷ [] }) g d p
-    (agrees-used calls (ledger_of calls) f g c d p variable ty block value uses.0 agrees declared uses.1 uses.2 consistent variables at)
+    (agrees-used calls (ledger_of calls) f g c d p variable ty block value uses.0 agrees declared uses.1 uses.2 consistent touches at)
 
 -- the statuses after a use
 pub used-statuses : {E : Type 0} (calls : List AnsweredCall) (f g : Body) (c d : ContextState) (p : Option ℕ) (variable : ℕ) (ty : «Type») (block : ℕ) (r : Result ℕ E)

@@ -31,6 +31,7 @@ pub mod Marking
 pub mod Entries
 pub mod TableCalls
 pub mod Tabling
+pub mod Touching
 pub mod SealingAll
 pub mod Finishing
 pub mod StandingBuilt

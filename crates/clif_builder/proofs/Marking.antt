@@ -12,7 +12,7 @@ use Rattle.clif_ir.specs.Changes.{inserted_in, with_cold, with_layout}
 use Rattle.clif_instructions.specs.Members.{stands_in}
 use Rattle.clif_meaning.specs.Name.{Name, same_name}
 use Rattle.clif_meaning.specs.Request.{AnsweredCall, EnsureInsertedBlock, SetColdBlock}
-use Rattle.clif_meaning.specs.Ledger.{ABlock, BlockState, Ledger, ledger_with, with_cold_mark}
+use Rattle.clif_meaning.specs.Ledger.{ABlock, BlockState, Ledger, VariableState, ledger_with, with_cold_mark}
 use Rattle.clif_meaning.proofs.CallLists.{kept}
 use Rattle.clif_ssa.specs.Ssa.{NamesExist, SsaState, predecessors_of, sealed_of}
 use Rattle.clif_records.specs.Tables.{is_yes}
@@ -24,18 +24,19 @@ use Rattle.clif_simulation.specs.Carries.{Carries}
 use Rattle.clif_simulation.proofs.Further.{carries_cold, carries_ensured, cold_insts, cold_params}
 use Rattle.clif_simulation.proofs.Redirections.Predecessors.{leads_on}
 use Rattle.clif_builder.specs.declared.context.BlockStatus.TheVariants.{Empty}
-use Rattle.clif_builder.specs.Context.{ContextState, begun, status_of, SetsStatus}
-use Rattle.clif_builder.specs.Ledger.{AreTypesOf, BlockAgrees, IsEnded, LedgerAgrees, NamesBlock, block_name, ledger_of}
+use Rattle.clif_builder.specs.Context.{ContextState, SameVariables, SetsStatus, begun, status_of}
+use Rattle.clif_builder.specs.Ledger.{BlockAgrees, IsEnded, LedgerAgrees, NamesBlock, VariablesAgree, block_name, ledger_of}
 use Rattle.clif_builder.specs.Order.{IsInOrder}
 use Rattle.clif_builder.specs.StandsFor.{StandsIn}
 use Rattle.clif_builder.proofs.LedgerKept.{Extends-inserted, Keeps, answer-still, answers-after, answers-none, branch-kept, concluded, keeps-of, places-after}
 use Rattle.clif_builder.proofs.LedgerLists.{name-of-some, named-more, one-named-more}
-use Rattle.clif_builder.proofs.LedgerMade.{MadeLedger, Makes, agrees-made, alone-still, begun-ledger, block-exists, ended-still, numbers-kept, unpristine}
+use Rattle.clif_builder.proofs.LedgerMade.{MadeLedger, Makes, agrees-made, alone-still, begun-ledger, begun-variables, block-exists, ended-still, numbers-kept, unpristine}
 use Rattle.clif_builder.proofs.LedgerNames.{name-number, named-block, state-entries, state-names}
 use Rattle.clif_builder.proofs.LedgerUsed.{begun-agrees, begun-not-empty}
 use Rattle.clif_builder.proofs.Placed.{in_order, branch_exists}
 use Rattle.clif_builder.proofs.Standing.{current_name, first_cases}
 use Rattle.clif_builder.proofs.StandingCallers.{alone_after, kept_alone, same_callers}
+use Rattle.clif_builder.proofs.Touching.{agree_same, are_types}
 use Rattle.clif_builder.proofs.Tracks.{untracked_ssa, tracks_still}
 
 -- COLD BLOCKS -------------------------------------------------------------------------------------------------------------
@@ -167,7 +168,7 @@ cold_stands declared calls f c p name b stands ledger =
 
 -- a block that is brought into the layout
 pub ensured-makes : (f : Body) (c d : ContextState) (block : ℕ) (order : IsInOrder f c)
-    → SetsStatus c d block (begun (status_of c block)) → d.ssa ≡ c.ssa → d.variables ≡ c.variables → Makes order.own f c (inserted_in f block) d block
+    → SetsStatus c d block (begun (status_of c block)) → d.ssa ≡ c.ssa → SameVariables c d → Makes order.own f c (inserted_in f block) d block
 ensured-makes f c d block order sets ssa variables =
     let g : Body = inserted_in f block in
     let extends = Extends-inserted f block in
@@ -176,12 +177,11 @@ ensured-makes f c d block order sets ssa variables =
       layout = refl;
       sealed = λ b. ap (λ (s : SsaState). is_yes (sealed_of s b)) ssa;
       predecessors = λ b. ap (λ (s : SsaState). predecessors_of s b) ssa;
-      variables = variables;
       untracked = untracked_ssa c d ssa;
       own = order.own;
       structured = λ types are.
           subst (λ (s : SsaState). Structured types order.own g s []) (sym ssa)
-          (inserted_structured types order.own f c.ssa block (order.structured types (subst (λ (xs : List «Type»). AreTypesOf xs types) variables are)));
+          (inserted_structured types order.own f c.ssa block (order.structured types (are_types c d types variables are)));
       callers = λ b. refl;
       callers_alone = λ b.
           alone-still order.own order.own f g c d block (begun (status_of c block)) refl sets (begun-not-empty (status_of c block)) b refl
@@ -195,7 +195,7 @@ ensured-makes f c d block order sets ssa variables =
 
 pub ensured : {E : Type 0} (calls : List AnsweredCall) (f g : Body) (c d : ContextState) (p : Option ℕ) (block : ℕ) (r : Result (Unit {0}) E)
     → LedgerAgrees calls (ledger_of calls) f c p → p ≡ Some block → OnOk r (g ≡ inserted_in f block) → OnOk r (SetsStatus c d block (begun (status_of c block)))
-    → d.ssa ≡ c.ssa → d.variables ≡ c.variables
+    → d.ssa ≡ c.ssa → SameVariables c d
     → OnOk r (LedgerAgrees (calls ++ record { request = EnsureInsertedBlock; numbers = [] } ∷ []) (ledger_of (calls ++ record { request = EnsureInsertedBlock; numbers = [] } ∷ [])) g d p)
 ensured calls f g c d p block (Err e) agrees at is sets ssa variables = tt
 ensured calls f g c d p block (Ok u) agrees at is sets ssa variables =
@@ -205,10 +205,11 @@ ensured calls f g c d p block (Ok u) agrees at is sets ssa variables =
     let current = name-of-some (block_name ledger) ledger.current block (agrees.current ∙ ap (option_map (block_name ledger)) at) in
     let begins = begun-ledger ledger current.0 current.1 in
     let changed : MadeLedger ledger new current.0 unpristine =
-    record { blocks = begins.blocks; layout = begins.layout; current = begins.current; variables = begins.variables; tables = begins.tables } in
+    record { blocks = begins.blocks; layout = begins.layout; current = begins.current; tables = begins.tables } in
     concluded calls call g d p
     (subst (λ (h : Body). LedgerAgrees (calls ++ call ∷ []) new h d p) (sym is)
     (agrees-made calls call ledger new f (inserted_in f block) c d p block current.0 unpristine (begun (status_of c block)) [] agrees tt current.2 refl changed
+    (agree_same _ c d variables (subst (λ (states : List VariableState). VariablesAgree states c) (sym (begun-variables ledger)) agrees.variables))
     (begun-agrees (status_of c block)) sets (ensured-makes f c d block (in_order agrees) sets ssa variables) (answers-none new (inserted_in f block) (length calls))))
 
 -- one block has another status than empty, if it had one, or is the one in which something was made

@@ -1,5 +1,5 @@
 -- What the construction names exists: what calls of the builder keep of it.
-use Rattle.std.specs.Coded.{Coded-set}
+use Rattle.std.specs.Coded.{Coded-set, coded_option, coded_ℕ}
 use Rattle.clif_types.specs.contracts.types.«Type» as value_type
 use Rattle.clif_builder.specs.contracts.context.BlockStatus as block_status
 use Rattle.std.proofs.Common.{◌≡◌, ℕ, ◌<◌, ◌==◌, ◌&&◌, if◌then◌else◌, Bool, true, false, List, length, sym, ◌∙◌, ap, subst, arith}
@@ -17,7 +17,9 @@ use Rattle.clif_records.specs.Tables.{predecessors_at, sealed_at, pending_of}
 use Rattle.clif_ssa.specs.Ssa.{SsaState, NamesExist, record_of, Records, SameRecords}
 use Rattle.clif_builder.proofs.Growing.{Grows-inserted, Grows-with_block, Grows-with_inst, Grows-with_param}
 use Rattle.clif_builder.specs.Construction.{IsUse}
-use Rattle.clif_builder.specs.Context.{Begins, ContextState}
+use Rattle.clif_builder.specs.Context.{Begins, ContextState, is_untouched}
+use Rattle.clif_builder.specs.Marks.{IsUnused}
+use Rattle.clif_builder.proofs.Touching.{new_unused}
 use Rattle.clif_builder.specs.Order.{IsInOrder, IsKept, IsUntouched}
 use Rattle.clif_builder.specs.Tracking.{FitsMaps, RecordedFits}
 use Rattle.clif_builder.proofs.Fitting.{asked_fits, contained_has, fits_asked}
@@ -72,6 +74,10 @@ kept_fresh f c failed sound kept = record {
   pristine = ∥∥₁_elim kept (Coded-set (block_status.the_row).coded _ _) (λ k. ((k.in_order sound).fresh (length f.blocks) (omega arith)).1);
   alone = ∥∥₁_elim kept (search props) (λ k. ((k.in_order sound).fresh (length f.blocks) (omega arith)).2);
 }
+
+-- a variable that is declared, and that no call used or assigned, has no record
+pub kept_unused : (f : Body) (c : ContextState) (failed : Bool) (x : ℕ) → failed ≡ false → is_untouched c x ≡ true → ∥ IsKept f c failed ∥₁ → IsUnused c x
+kept_unused f c failed x sound new kept block = ∥∥₁_elim kept (Coded-set (coded_option coded_ℕ) _ _) (λ k. new_unused f c x (k.in_order sound) new block)
 
 -- a use of a variable answers a value of its type
 pub kept_typed : {E : Type 0} (r : Result ℕ E) (f g : Body) (c d : ContextState) (failed : Bool) (variable : ℕ) (ty : «Type») (block : ℕ) → failed ≡ false → slice_get c.variables variable ≡ Some ty

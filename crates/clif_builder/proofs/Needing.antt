@@ -23,7 +23,7 @@ use Rattle.clif_simulation.proofs.Redirections.Predecessors.{leads_on}
 use Rattle.clif_builder.specs.declared.builder.FunctionBuilder.{FunctionBuilder}
 use Rattle.clif_builder.specs.Calls.{IsTold, answered}
 use Rattle.clif_builder.specs.Context.{ContextState}
-use Rattle.clif_builder.specs.Ledger.{AgreesWithLedger, LedgerAgrees, NamesValue, TracksAgree, ledger_of}
+use Rattle.clif_builder.specs.Ledger.{AgreesWithLedger, LedgerAgrees, NamesValue, TracksAgree, VariablesAgree, ledger_of}
 use Rattle.clif_builder.specs.Marks.{IsUnused, VariableFits}
 use Rattle.clif_builder.specs.StandsFor.{StandsFor, StandsIn}
 use Rattle.clif_builder.specs.Tracking.{with_tracking}
@@ -32,19 +32,12 @@ use Rattle.clif_builder.proofs.Growing.{on_ok_step}
 use Rattle.clif_builder.proofs.LedgerBlocks.{agrees-kept}
 use Rattle.clif_builder.proofs.LedgerKept.{answers-none, concluded, ledger-more}
 use Rattle.clif_builder.proofs.LedgerVariables.{variable-count}
+use Rattle.clif_builder.proofs.Touching.{agree_marked, agree_same}
 use Rattle.clif_builder.proofs.Standing.{unchanged_alone}
 
-abbrev types_in : List VariableState → List «Type»
-types_in states = map (λ (state : VariableState). state.ty) states
-
-types_marked : (variable : ℕ) (states : List VariableState) → types_in (marked_at variable states) ≡ types_in states
-types_marked variable [] = refl
-types_marked zero (state ∷ states) = refl
-types_marked (suc variable) (state ∷ states) = ap (λ (types : List «Type»). state.ty ∷ types) (types_marked variable states)
-
-types_needed : (need : StackMapNeed) (states : List VariableState) → types_in (with_need need states) ≡ types_in states
-types_needed (OfVariable variable) states = types_marked variable states
-types_needed (OfValue value) states = refl
+agree_needed : (need : StackMapNeed) (states : List VariableState) (c : ContextState) → VariablesAgree states c → VariablesAgree (with_need need states) c
+agree_needed (OfVariable variable) states c agree = agree_marked states c variable agree
+agree_needed (OfValue value) states c agree = agree
 
 -- a list that ends with such a call asks for stack maps
 asks_last : {X : Type 0} (calls : List AnsweredCall) (need : StackMapNeed) → TracksNothing (script_of (calls ++ answered (NeedStackMap need) [] ∷ [])) → X
@@ -72,7 +65,7 @@ module _ (calls : List AnsweredCall) (f : Body) (c : ContextState) (p : Option �
   need_agrees marks agrees =
       let new : Ledger = ledger_with (ledger_of calls) (NeedStackMap need) in
       concluded calls call f d p
-      (agrees-kept calls call (ledger_of calls) new f c d p p [] agrees refl refl refl refl agrees.current (types_needed need (ledger_of calls).variables ∙ agrees.variables)
+      (agrees-kept calls call (ledger_of calls) new f c d p p [] agrees refl refl refl refl agrees.current (agree_same _ c d (refl, refl) (agree_needed need (ledger_of calls).variables c agrees.variables))
       (λ b. refl) (λ b. refl) (λ b. refl) (need_tracks marks)
       (λ types are. same_structured types agrees.own f c.ssa d.ssa [] (λ x b. refl) (λ b. refl) (λ b. refl) (agrees.structured types are))
       (answers-none new f (length calls)))

@@ -41,7 +41,7 @@ use Rattle.clif_builder.specs.declared.context.BlockStatus.{BlockStatus}
 use Rattle.clif_builder.specs.declared.context.BlockStatus.TheVariants.{Empty, Filled}
 use Rattle.clif_builder.specs.Builder.{AppendsIn, CanLeadIn}
 use Rattle.clif_builder.specs.Construction.{IsDeclared, IsSealingOf, IsUse}
-use Rattle.clif_builder.specs.Context.{Begins, ContextState, SameStatus, SetsStatus, begun, empty_context, status_of}
+use Rattle.clif_builder.specs.Context.{Begins, ContextState, SameStatus, SameVariables, SetsStatus, TouchesVariable, begun, empty_context, status_of}
 use Rattle.clif_builder.specs.Order.{AloneUnlessBegun, AreTypesOf, IsEnded, IsInOrder, IsStructured}
 use Rattle.clif_builder.proofs.Laid.{still_stands}
 use Rattle.clif_builder.proofs.LedgerBuilt.{appended-structured, appends-make, contained-stands, node-there, unsealed-target}
@@ -52,6 +52,7 @@ use Rattle.clif_builder.proofs.LedgerMade.{Makes, ended-here}
 use Rattle.clif_builder.proofs.LedgerUsed.{begun-not-empty, use-makes}
 use Rattle.clif_builder.proofs.Marking.{ensured-makes}
 use Rattle.clif_builder.proofs.Parameters.{Extends-params}
+use Rattle.clif_builder.proofs.Touching.{are_types, type_touched, types_before}
 use Rattle.clif_builder.proofs.Placed.{are_listed, branch_exists, listed_types, sealed_alone, sealed_branches, sealed_status, used_status}
 
 -- nothing made
@@ -99,7 +100,7 @@ order-bare f alias_types = record {
 }
 
 cleared : (f : Body) (c : ContextState) → IsInOrder f c → IsInOrder f empty_context
-cleared f c order = order-bare f (order.structured (listed_types c.variables) (are_listed c.variables)).alias_types
+cleared f c order = order-bare f (order.structured (listed_types c.variables) (are_listed c)).alias_types
 
 pub order-cleared : (f : Body) (c d : ContextState) → d ≡ empty_context → IsInOrder f c → IsInOrder f d
 order-cleared f c d empty order = subst (IsInOrder f) (sym empty) (cleared f c order)
@@ -126,18 +127,18 @@ order-declared (Err e) f c d ty is order = tt
 order-declared (Ok x) f c d ty is order =
     subst (IsInOrder f) (sym is)
     (order-kept f c (record c { variables = c.variables ++ ty ∷ [] }) order (λ b. refl) (λ b. refl) (λ b. refl)
-    (λ types are. order.structured types (λ y t at. are y t (get-front c.variables _ y t at))))
+    (λ types are. order.structured types (λ y t at touched. are y t (get-front c.variables _ y t at) touched)))
 
 -- a variable is assigned
 pub order-assigned : {E : Type 0} (r : Result (Unit {0}) E) (f : Body) (c d : ContextState) (variable block value : ℕ) (ty : «Type») → slice_get c.variables variable ≡ Some ty → HasType f value ty
-    → OnOk r (Records c.ssa d.ssa variable block value) → d.ssa.blocks ≡ c.ssa.blocks → d.status ≡ c.status → d.variables ≡ c.variables → IsInOrder f c → OnOk r (IsInOrder f d)
+    → OnOk r (Records c.ssa d.ssa variable block value) → d.ssa.blocks ≡ c.ssa.blocks → d.status ≡ c.status → OnOk r (TouchesVariable c d variable) → IsInOrder f c → OnOk r (IsInOrder f d)
 order-assigned (Err e) f c d variable block value ty declared typed records blocks status variables order = tt
 order-assigned (Ok u) f c d variable block value ty declared typed records blocks status variables order =
     order-kept f c d order (λ b. ap (λ (xs : List SsaBlock). is_yes (sealed_at xs b)) blocks) leads
     (λ b. ap (λ (xs : List BlockStatus). slice_index_or xs b Empty) status)
     (λ types are.
-    let before : AreTypesOf c.variables types = subst (λ (xs : List «Type»). AreTypesOf xs types) variables are in
-    let has : HasType f value (types variable) = subst (HasType f value) (sym (before variable ty declared)) typed in
+    let before : AreTypesOf c types = types_before c d variable types variables are in
+    let has : HasType f value (types variable) = subst (HasType f value) (sym (type_touched c d variable ty types variables declared are)) typed in
     assigned_structured types order.own f c.ssa d.ssa variable block value has records (λ b. ap (λ (xs : List SsaBlock). sealed_at xs b) blocks) leads
     (order.structured types before))
   where
@@ -164,7 +165,7 @@ order-made f g c d block status order exists sets makes = record {
 -- a variable is used
 pub order-used : {E : Type 0} (r : Result ℕ E) (f g : Body) (c d : ContextState) (variable : ℕ) (ty : «Type») (block : ℕ) → block < length f.blocks → slice_get c.variables variable ≡ Some ty
     → IfOk r (λ value. (told : List ℕ) × IsUse (inserted_in f block) c.ssa g d.ssa variable ty block value told × Begins c d (block ∷ told))
-    → IsConsistent g → d.variables ≡ c.variables → IsInOrder f c → OnOk r (IsInOrder g d)
+    → IsConsistent g → OnOk r (TouchesVariable c d variable) → IsInOrder f c → OnOk r (IsInOrder g d)
 order-used (Err e) f g c d variable ty block exists declared uses consistent variables order = tt
 order-used (Ok value) f g c d variable ty block exists declared uses consistent variables order =
     order-made f g c d block (begun (status_of c block)) order exists (used_status f c order g d variable ty block value uses.0 uses.1 uses.2)
@@ -172,7 +173,7 @@ order-used (Ok value) f g c d variable ty block exists declared uses consistent 
 
 -- a block is brought into the layout
 pub order-ensured : {E : Type 0} (r : Result (Unit {0}) E) (f g : Body) (c d : ContextState) (block : ℕ) → block < length f.blocks → OnOk r (g ≡ inserted_in f block)
-    → OnOk r (SetsStatus c d block (begun (status_of c block))) → d.ssa ≡ c.ssa → d.variables ≡ c.variables → IsInOrder f c → OnOk r (IsInOrder g d)
+    → OnOk r (SetsStatus c d block (begun (status_of c block))) → d.ssa ≡ c.ssa → SameVariables c d → IsInOrder f c → OnOk r (IsInOrder g d)
 order-ensured (Err e) f g c d block exists is sets ssa variables order = tt
 order-ensured (Ok u) f g c d block exists is sets ssa variables order =
     subst (λ (h : Body). IsInOrder h d) (sym is)
@@ -180,13 +181,13 @@ order-ensured (Ok u) f g c d block exists is sets ssa variables order =
 
 -- a block is made
 pub order-created : {E : Type 0} (r : Result ℕ E) (f g : Body) (c d : ContextState) → OnOk r (g ≡ with_block f)
-    → d.ssa.records ≡ c.ssa.records → SameBlocks c.ssa d.ssa → SamePredecessors c.ssa d.ssa → d.status ≡ c.status → d.variables ≡ c.variables → IsInOrder f c → OnOk r (IsInOrder g d)
+    → d.ssa.records ≡ c.ssa.records → SameBlocks c.ssa d.ssa → SamePredecessors c.ssa d.ssa → d.status ≡ c.status → SameVariables c d → IsInOrder f c → OnOk r (IsInOrder g d)
 order-created (Err e) f g c d function records sealed leads status variables order = tt
 order-created (Ok block) f g c d function records sealed leads status variables order = record {
   own = order.own;
   structured = λ types are.
       let own : Own = order.own in
-      let before : Structured types own f c.ssa [] = order.structured types (subst (λ (xs : List «Type»). AreTypesOf xs types) variables are) in
+      let before : Structured types own f c.ssa [] = order.structured types (are_types c d types variables are) in
       let made : Structured types own g c.ssa [] = subst (λ (h : Body). Structured types own h c.ssa []) (sym function) (block_structured types own f c.ssa before) in
       same_structured types own g c.ssa d.ssa [] (λ x b. ap (λ (m : RecordMap). record_at m x b) records) sealed leads made;
   callers_alone = λ b. elim (order.callers_alone b) [
@@ -214,13 +215,13 @@ order-created (Ok block) f g c d function records sealed leads status variables 
 
 -- blocks of the function are sealed
 order-sealed : (f g : Body) (c d : ContextState) (seals : ℕ → Bool) (told : List ℕ) → ((k : ℕ) → length f.blocks ≤ k → seals k ≡ false) → IsSealingOf f c.ssa g d.ssa seals told → Begins c d told
-    → IsConsistent f → IsConsistent g → d.variables ≡ c.variables → IsInOrder f c → IsInOrder g d
+    → IsConsistent f → IsConsistent g → SameVariables c d → IsInOrder f c → IsInOrder g d
 order-sealed f g c d seals told none sealing begins firm consistent variables order = record {
   own = order.own;
   structured = structured;
   callers_alone = λ b.
       sealed_alone f c order g d seals told sealing firm consistent begins order.own (listed_types d.variables)
-      (structured (listed_types d.variables) (are_listed d.variables)) b (order.callers_alone b);
+      (structured (listed_types d.variables) (are_listed d)) b (order.callers_alone b);
   branches = sealed_branches f c order g d seals told sealing firm consistent begins;
   fresh = λ k above.
       let extends = extends-constructs f g sealing.constructs in
@@ -232,16 +233,16 @@ order-sealed f g c d seals told none sealing begins firm consistent variables or
 }
   where
     structured : IsStructured order.own g d
-    structured types are = sealing.structured types order.own (order.structured types (subst (λ (xs : List «Type»). AreTypesOf xs types) variables are))
+    structured types are = sealing.structured types order.own (order.structured types (are_types c d types variables are))
 
 pub order-sealed-one : {E : Type 0} (r : Result (Unit {0}) E) (f g : Body) (c d : ContextState) (block : ℕ) → block < length f.blocks
-    → OnOk r ((told : List ℕ) × IsSealingOf f c.ssa g d.ssa (λ b. b == block) told × Begins c d told) → IsConsistent f → IsConsistent g → d.variables ≡ c.variables → IsInOrder f c → OnOk r (IsInOrder g d)
+    → OnOk r ((told : List ℕ) × IsSealingOf f c.ssa g d.ssa (λ b. b == block) told × Begins c d told) → IsConsistent f → IsConsistent g → SameVariables c d → IsInOrder f c → OnOk r (IsInOrder g d)
 order-sealed-one (Err e) f g c d block exists seals firm consistent variables order = tt
 order-sealed-one (Ok u) f g c d block exists seals firm consistent variables order =
     order-sealed f g c d (λ b. b == block) seals.0 (λ k past. ne_eqb k block (omega (arith, past, exists))) seals.1 seals.2 firm consistent variables order
 
 pub order-sealed-all : {E : Type 0} (r : Result (Unit {0}) E) (f g : Body) (c d : ContextState)
-    → OnOk r ((told : List ℕ) × IsSealingOf f c.ssa g d.ssa (λ b. ltb b (length f.blocks)) told × Begins c d told) → IsConsistent f → IsConsistent g → d.variables ≡ c.variables → IsInOrder f c → OnOk r (IsInOrder g d)
+    → OnOk r ((told : List ℕ) × IsSealingOf f c.ssa g d.ssa (λ b. ltb b (length f.blocks)) told × Begins c d told) → IsConsistent f → IsConsistent g → SameVariables c d → IsInOrder f c → OnOk r (IsInOrder g d)
 order-sealed-all (Err e) f g c d seals firm consistent variables order = tt
 order-sealed-all (Ok u) f g c d seals firm consistent variables order =
     order-sealed f g c d (λ b. ltb b (length f.blocks)) seals.0 (λ k past. le-ltb k (length f.blocks) past) seals.1 seals.2 firm consistent variables order
@@ -321,7 +322,7 @@ order-more (Ok a) f g c b types consistent there empty is order =
 -- an instruction that ends its block is appended, and declared along its edges
 module _ (place : ℕ) (f g : Body) (c d : ContextState) (block : ℕ) (shape : InstructionData) (types : List «Type») (inst : ℕ)
     (order : IsInOrder f c) (consistent : IsConsistent f) (exists : block < length f.blocks) (open_in : status_of c block ≢ Filled)
-    (function : g ≡ with_inst (inserted_in f block) block Back shape types place) (sets : SetsStatus c d block Filled) (variables : d.variables ≡ c.variables) (is_inst : inst ≡ length f.insts)
+    (function : g ≡ with_inst (inserted_in f block) block Back shape types place) (sets : SetsStatus c d block Filled) (variables : SameVariables c d) (is_inst : inst ≡ length f.insts)
     (may : All (CanLeadIn f c) (destinations shape)) (declared : IsDeclared c.ssa inst (targets (destinations shape)) d.ssa) where
   -- the context before the branch is declared
   abbrev undeclared : ContextState
@@ -365,7 +366,7 @@ module _ (place : ℕ) (f g : Body) (c d : ContextState) (block : ℕ) (shape : 
       ∙ ap (λ passes. passes k) (sym (updated-same order.own.passed (length (inserted_in f block).insts) (shape_passes shape) inst same)))
       declared.along (subst (λ (h : Body). Structured types mine h c.ssa []) (sym function)
       (appended-structured _ types order.own f c.ssa block shape _ consistent exists
-      (order.structured types (subst (λ (xs : List «Type»). AreTypesOf xs types) variables are))))
+      (order.structured types (are_types c d types variables are))))
 
   -- nothing leads to a block that doesn't exist
   not_led : (k : ℕ) → length f.blocks ≤ k → (edges : List BlockCall) → All (CanLeadIn f c) edges → stands_in k (targets edges) ≡ false
@@ -409,7 +410,7 @@ inner_plain _ goes_on = refl
 
 -- an instruction is appended
 order-appended : (place : ℕ) (f g : Body) (c d : ContextState) (block : ℕ) (shape : InstructionData) (ty : «Type») (inst : ℕ) → IsConsistent f → block < length f.blocks → status_of c block ≢ Filled
-    → AppendsIn place f c g d block shape ty inst → d.variables ≡ c.variables → All (CanLeadIn f c) (destinations shape) → IsDeclared c.ssa inst (targets (destinations shape)) d.ssa
+    → AppendsIn place f c g d block shape ty inst → SameVariables c d → All (CanLeadIn f c) (destinations shape) → IsDeclared c.ssa inst (targets (destinations shape)) d.ssa
     → (is_branch shape ≡ false → d.ssa ≡ c.ssa) → IsInOrder f c → IsInOrder g d
 order-appended place f g c d block shape ty inst consistent exists open_in appends variables may declared ssa order = by (is_terminator shape) refl
   where
@@ -424,7 +425,7 @@ order-appended place f g c d block shape ty inst consistent exists open_in appen
         (λ filled. ap begun filled) (ssa (inner_plain shape is)) variables)
 
 pub order-built : (place : ℕ) {E : Type 0} (r : Result ℕ E) (f g : Body) (c d : ContextState) (block : ℕ) (shape : InstructionData) (ty : «Type») → IsConsistent f → block < length f.blocks → status_of c block ≢ Filled
-    → IfOk r (AppendsIn place f c g d block shape ty) → d.variables ≡ c.variables → All (CanLeadIn f c) (destinations shape) → IfOk r (λ inst. IsDeclared c.ssa inst (targets (destinations shape)) d.ssa)
+    → IfOk r (AppendsIn place f c g d block shape ty) → SameVariables c d → All (CanLeadIn f c) (destinations shape) → IfOk r (λ inst. IsDeclared c.ssa inst (targets (destinations shape)) d.ssa)
     → (is_branch shape ≡ false → d.ssa ≡ c.ssa) → IsInOrder f c → OnOk r (IsInOrder g d)
 order-built place (Err e) f g c d block shape ty consistent exists open_in appends variables may declared ssa order = tt
 order-built place (Ok inst) f g c d block shape ty consistent exists open_in appends variables may declared ssa order =

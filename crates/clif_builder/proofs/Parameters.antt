@@ -25,7 +25,7 @@ use Rattle.clif_simulation.proofs.Appending.{bare_still, own_after, own_elsewher
 use Rattle.clif_simulation.proofs.ParameterCalls.{Makes}
 use Rattle.clif_builder.specs.declared.context.BlockStatus.TheVariants.{Empty}
 use Rattle.clif_builder.specs.Context.{ContextState, status_of}
-use Rattle.clif_builder.specs.Ledger.{AloneUnlessBegun, AnswerAgrees, AnswersAgree, BlockAgrees, HaveTypes, IsBegun, LedgerAgrees, ResultsFollow, block_name, value_type}
+use Rattle.clif_builder.specs.Ledger.{AloneUnlessBegun, AnswerAgrees, AnswersAgree, BlockAgrees, HaveTypes, IsBegun, LedgerAgrees, VariablesAgree, ResultsFollow, block_name, value_type}
 use Rattle.clif_builder.proofs.LedgerLists.{get-last, named-more, one-named-more}
 use Rattle.clif_builder.proofs.LedgerNames.{name-number, state-entries}
 use Rattle.clif_builder.proofs.LedgerKept.{answer-still, answers-after, branch-kept, Extends, Extends-param, Extends-same, Extends-then, keeps-of, places-after, types-kept}
@@ -219,7 +219,7 @@ module _ (calls : List AnsweredCall) (ledger : Ledger) (f : Body) (c : ContextSt
     layout =
         ap (map Some) layout_is ∙ named-more (block_name ledger) (block_name new) ledger.layout f.layout names agrees.layout
         ∙ ap (map (block_name new)) (sym (same_layout f b types));
-    variables = ap (map (λ (v : VariableState). v.ty)) variables_are ∙ agrees.variables;
+    variables = subst (λ (states : List VariableState). VariablesAgree states c) (sym variables_are) agrees.variables;
     tables = tables_are ∙ agrees.tables ∙ sym extends.tables;
     tracks = tracks_still calls call c (asks_none makes) agrees.tracks;
     own = mine;

@@ -125,13 +125,16 @@ layout_stays f g constructs consistent no_other = by constructs.layout.0 constru
 abbrev pub listed_types : List «Type» → VariableTypes
 listed_types variables x = or_invalid (slice_get variables x)
 
-pub are_listed : (variables : List «Type») → AreTypesOf variables (listed_types variables)
-are_listed variables x ty is = ap or_invalid is
+pub listed_type : (variables : List «Type») (x : ℕ) (ty : «Type») → slice_get variables x ≡ Some ty → listed_types variables x ≡ ty
+listed_type variables x ty is = ap or_invalid is
+
+pub are_listed : (c : ContextState) → AreTypesOf c (listed_types c.variables)
+are_listed c x ty is touched = listed_type c.variables x ty is
 
 -- parameters, edges and records are in order, by the types that were declared
 pub listed_structured : (f : Body) (c : ContextState) (order : IsInOrder f c)
     → Structured (listed_types c.variables) order.own f c.ssa []
-listed_structured f c order = order.structured (listed_types c.variables) (are_listed c.variables)
+listed_structured f c order = order.structured (listed_types c.variables) (are_listed c)
 
 -- a branch that leads somewhere exists
 pub branch_exists : (f : Body) (c : ContextState) → IsInOrder f c

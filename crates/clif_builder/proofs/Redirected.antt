@@ -40,10 +40,10 @@ use Rattle.clif_simulation.proofs.Redirections.Redirecting.{MayRedirect, carries
 use Rattle.clif_builder.specs.declared.context.BlockStatus.{BlockStatus}
 use Rattle.clif_builder.specs.declared.context.BlockStatus.TheVariants.{Filled}
 use Rattle.clif_builder.specs.Builder.{is_empty_status, is_filled_status}
-use Rattle.clif_builder.specs.Context.{ContextState, status_of}
+use Rattle.clif_builder.specs.Context.{ContextState, SameVariables, status_of}
 use Rattle.clif_builder.specs.Growth.{Grows, TypesStay}
 use Rattle.clif_builder.specs.Ledger.{BlockAgrees, LedgerAgrees, NamesBlock, NamesInstruction, block_name, ledger_of}
-use Rattle.clif_builder.specs.Order.{AreTypesOf, IsBegun, IsEnded, IsInOrder}
+use Rattle.clif_builder.specs.Order.{IsBegun, IsEnded, IsInOrder}
 use Rattle.clif_builder.specs.Redirecting.{Redirects}
 use Rattle.clif_builder.specs.StandsFor.{StandsIn}
 use Rattle.clif_builder.proofs.Growing.{Grows-same, on_ok_step}
@@ -53,6 +53,7 @@ use Rattle.clif_builder.proofs.LedgerMade.{block-exists, numbers-kept}
 use Rattle.clif_builder.proofs.LedgerNames.{IsNumbered, by-number, name-number, named-block, same-block, state-by-name}
 use Rattle.clif_builder.proofs.Placed.{in_order}
 use Rattle.clif_builder.proofs.StandingCallers.{alone_after, kept_alone, same_callers}
+use Rattle.clif_builder.proofs.Touching.{agree_same, are_types}
 use Rattle.clif_builder.proofs.Tracks.{untracked_same, tracks_on}
 
 -- WHAT THE CALLER PASSED ------------------------------------------------------------------------------------------------
@@ -278,7 +279,7 @@ module _ (f : Body) (c : ContextState) (g : Body) (d : ContextState) (i a b : �
   order_redirected consistent exists order = record {
     own = own_passing order.own f b;
     structured = λ types are.
-        structured_still order.own consistent types (order.structured types (subst (λ (xs : List «Type»). AreTypesOf xs types) redirects.variables are));
+        structured_still order.own consistent types (order.structured types (are_types c d types redirects.variables are));
     callers_alone = λ e. elim (order.callers_alone e) [
       | inl alone ↦ inl (same_params e ∙ alone)
       | inr begun ↦ inr (begun_still e begun)
@@ -487,13 +488,13 @@ module _ (declared : SignatureShape) (calls : List AnsweredCall) (f : Body) (c :
     current = one-named-more (block_name old) (block_name new) old.current p still_named agrees.current;
     layout = named-more (block_name old) (block_name new) old.layout f.layout still_named agrees.layout
         ∙ ap (map (block_name new)) (sym (same_layout f c g d i a b redirects within open_a open_b leads));
-    variables = agrees.variables ∙ sym redirects.variables;
+    variables = agree_same old.variables c d redirects.variables agrees.variables;
     tables = agrees.tables ∙ sym extends.tables;
     tracks = tracks_on calls _ c d tt (untracked_same c d redirects.tracking) agrees.tracks;
     own = own_passing agrees.own f b;
     structured = λ types are.
         structured_still f c g d i a b redirects within open_a open_b leads agrees.own consistent types
-        (agrees.structured types (subst (λ (xs : List «Type»). AreTypesOf xs types) redirects.variables are));
+        (agrees.structured types (are_types c d types redirects.variables are));
     callers_types = λ k t there.
         let entry = states k t there in
         types-kept f g (keeps-of f g extends) (agrees.own.params k) entry.0.parameters (agrees.callers_types k entry.0 entry.1)
@@ -601,7 +602,7 @@ module _ {E : Type 0} (r : Result (Unit {0}) E) (f : Body) (c : ContextState) (g
       both (Ok u) done alike = record { recorded = λ v is. ap (λ (m : RecordMap). record_at m x block) done.records ∙ is; alike = alike }
 
 pub redirects_from : {E : Type 0} (r : Result (Unit {0}) E) (f : Body) (c : ContextState) (g : Body) (d : ContextState) (i a b : ℕ) → OnOk r (MovesBranch f c.ssa g d.ssa i a b)
-    → d.ssa.records ≡ c.ssa.records → d.ssa.tracking ≡ c.ssa.tracking → d.status ≡ c.status → d.variables ≡ c.variables → OnOk r (Redirects f c g d i a b)
+    → d.ssa.records ≡ c.ssa.records → d.ssa.tracking ≡ c.ssa.tracking → d.status ≡ c.status → SameVariables c d → OnOk r (Redirects f c g d i a b)
 redirects_from r f c g d i a b moved records tracking status variables =
     on_ok_step r _ _ (λ (done : MovesBranch f c.ssa g d.ssa i a b). record { moved = done; records = records; tracking = tracking; status = status; variables = variables }) moved
 

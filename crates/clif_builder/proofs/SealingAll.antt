@@ -16,10 +16,10 @@ use Rattle.clif_records.specs.Tables.{is_yes}
 use Rattle.clif_ssa.specs.Ssa.{predecessors_of, sealed_of}
 use Rattle.clif_simulation.proofs.Further.{carries_sealed_all}
 use Rattle.clif_simulation.proofs.Redirections.Predecessors.{leads_on}
-use Rattle.clif_builder.specs.Context.{Begins, ContextState, SameStatus}
+use Rattle.clif_builder.specs.Context.{Begins, ContextState, SameStatus, SameVariables}
 use Rattle.clif_builder.specs.Builder.{is_empty_status, is_filled_status}
 use Rattle.clif_builder.specs.Construction.{IsSealingAll}
-use Rattle.clif_builder.specs.Ledger.{AreTypesOf, BlockAgrees, IsStructured, LedgerAgrees, block_name, ledger_of}
+use Rattle.clif_builder.specs.Ledger.{BlockAgrees, IsStructured, LedgerAgrees, block_name, ledger_of}
 use Rattle.clif_builder.specs.StandsFor.{StandsIn}
 use Rattle.clif_builder.proofs.LedgerLists.{if-yes, if-no, map-some, named-more, one-named-more}
 use Rattle.clif_builder.proofs.LedgerKept.{Extends, answer-still, answers-after, answers-none, concluded, extends-constructs, keeps-of, places-after, types-kept}
@@ -29,13 +29,14 @@ use Rattle.clif_builder.proofs.Standing.{begins_not_empty}
 use Rattle.clif_builder.proofs.StandingCallers.{alone_after, same_callers}
 use Rattle.clif_simulation.proofs.Whole.{declared_types}
 use Rattle.clif_simulation.proofs.Calls.{structured_so_far}
+use Rattle.clif_builder.proofs.Touching.{agree_same, are_types}
 use Rattle.clif_builder.proofs.Tracks.{tracks_made, tracks_on, untracked_made}
 
 abbrev seals_all : AnsweredCall
 seals_all = record { request = SealAllBlocks; numbers = [] }
 
 module _ (calls : List AnsweredCall) (ledger : Ledger) (f g : Body) (c d : ContextState) (p : Option ℕ) (told : List ℕ) (agrees : LedgerAgrees calls ledger f c p)
-    (sealing : IsSealingAll f c.ssa g d.ssa told) (begins : Begins c d told) (firm : IsConsistent f) (consistent : IsConsistent g) (variables : d.variables ≡ c.variables) where
+    (sealing : IsSealingAll f c.ssa g d.ssa told) (begins : Begins c d told) (firm : IsConsistent f) (consistent : IsConsistent g) (variables : SameVariables c d) where
   abbrev new : Ledger
   new = ledger_with ledger SealAllBlocks
 
@@ -76,7 +77,7 @@ module _ (calls : List AnsweredCall) (ledger : Ledger) (f g : Body) (c d : Conte
   state_here k t there = map-some sealed (slice_get ledger.blocks k) t (sym (slice_get-map sealed ledger.blocks k) ∙ there)
 
   structured : IsStructured agrees.own g d
-  structured types are = sealing.structured types agrees.own (agrees.structured types (subst (λ (xs : List «Type»). AreTypesOf xs types) variables are))
+  structured types are = sealing.structured types agrees.own (agrees.structured types (are_types c d types variables are))
 
   blocks_agree : (k : ℕ) (t : BlockState) → slice_get new.blocks k ≡ Some t → BlockAgrees (calls ++ seals_all ∷ []) g d k t
   blocks_agree k t there =
@@ -94,7 +95,7 @@ module _ (calls : List AnsweredCall) (ledger : Ledger) (f g : Body) (c d : Conte
     block_answers = λ k x is. answer-still ledger new [] x ABlock refl (agrees.block_answers k x (sym (same_names k) ∙ is));
     current = one-named-more (block_name ledger) (block_name new) ledger.current p names agrees.current;
     layout = named-more (block_name ledger) (block_name new) ledger.layout f.layout names agrees.layout ∙ ap (map (block_name new)) (sym layout);
-    variables = agrees.variables ∙ sym variables;
+    variables = agree_same ledger.variables c d variables agrees.variables;
     tables = agrees.tables ∙ sym extends.tables;
     tracks = tracks_on calls seals_all c d tt (untracked_made (length f.values) c d sealing.tracks) agrees.tracks;
     own = agrees.own;
@@ -105,7 +106,7 @@ module _ (calls : List AnsweredCall) (ledger : Ledger) (f g : Body) (c d : Conte
         ∙ ap (λ (s : BlockState). map Some s.parameters) state.2;
     callers_alone = λ b.
         sealed_alone f c (in_order agrees) g d all_blocks told sealing firm consistent begins agrees.own (listed_types d.variables)
-        (structured (listed_types d.variables) (are_listed d.variables)) b (agrees.callers_alone b);
+        (structured (listed_types d.variables) (are_listed d)) b (agrees.callers_alone b);
     branches = sealed_branches f c (in_order agrees) g d all_blocks told sealing firm consistent begins;
     fresh = λ k above.
         let past : length f.blocks ≤ k = omega (arith, above, extends.block_count) in (
@@ -117,7 +118,7 @@ module _ (calls : List AnsweredCall) (ledger : Ledger) (f g : Body) (c d : Conte
 
 -- what comes of it
 pub sealed_all : {E : Type 0} (calls : List AnsweredCall) (f g : Body) (c d : ContextState) (p : Option ℕ) (r : Result (Unit {0}) E)
-    → LedgerAgrees calls (ledger_of calls) f c p → OnOk r ((told : List ℕ) × IsSealingAll f c.ssa g d.ssa told × Begins c d told) → IsConsistent f → IsConsistent g → d.variables ≡ c.variables
+    → LedgerAgrees calls (ledger_of calls) f c p → OnOk r ((told : List ℕ) × IsSealingAll f c.ssa g d.ssa told × Begins c d told) → IsConsistent f → IsConsistent g → SameVariables c d
     → OnOk r (LedgerAgrees (calls ++ seals_all ∷ []) (ledger_of (calls ++ seals_all ∷ [])) g d p)
 sealed_all calls f g c d p (Err e) agrees seals firm consistent variables = tt
 sealed_all calls f g c d p (Ok u) agrees seals firm consistent variables =

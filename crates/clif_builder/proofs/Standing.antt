@@ -172,7 +172,7 @@ module _ (declared : SignatureShape) (calls : List AnsweredCall) (f : Body) (c :
   -- the type of a variable is the ledger's
   pub ledger_type : (variable : ℕ) (ty : «Type») → slice_get c.variables variable ≡ Some ty → variable_type (ledger_of calls) variable ≡ Some ty
   ledger_type variable ty is =
-      sym (slice_get-map (λ (s : VariableState). s.ty) (ledger_of calls).variables variable) ∙ ap (λ (tys : List «Type»). slice_get tys variable) stands.ledger.variables ∙ is
+      sym (slice_get-map (λ (s : VariableState). s.ty) (ledger_of calls).variables variable) ∙ ap (λ (tys : List «Type»). slice_get tys variable) stands.ledger.variables.types ∙ is
 
   pub stands_assigned : (d : ContextState) (variable value block : ℕ) (name : Name) → p ≡ Some block → IsConsistent f → status_of c block ≢ Filled
       → value < length f.values → slice_get c.variables variable ≡ Some (value_at f value).ty → NamesValue calls name value → Records c.ssa d.ssa variable block value

@@ -1,6 +1,6 @@
 -- How a builder agrees with the ledger of the calls that were made on it: what the ledger tells of answers, blocks,
 -- layout and variables is what the builder answered and its queries answer. Own.
-use Rattle.std.specs.Prelude.{◌≡◌, ℕ, ◌≤◌, List, [], ◌∷◌, length, map, slice_get, Option, Some, None, option_map, Contains, false, IsTrue, Result, Ok, Err}
+use Rattle.std.specs.Prelude.{◌≡◌, ℕ, ◌≤◌, List, [], ◌∷◌, length, map, slice_get, Option, Some, None, option_map, Bool, Contains, false, not, IsTrue, Result, Ok, Err}
 use Rattle.std.specs.List.{AllByRecursion}
 use Rattle.clif_types.specs.declared.types.«Type».{«Type»}
 use Rattle.clif_instructions.specs.declared.instructions.InstructionData.{InstructionData}
@@ -17,7 +17,7 @@ use Rattle.clif_nodes.specs.declared.nodes.InstNode.{InstNode}
 use Rattle.clif_ir.specs.Body.{Body, block_at}
 use Rattle.clif_meaning.specs.Name.{Name, answer_of}
 use Rattle.clif_meaning.specs.Request.{AnsweredCall, Finalize, script_of, number_of}
-use Rattle.clif_meaning.specs.Ledger.{Answered, ABlock, AVariable, AValue, AnInstruction, AnEntry, AnEdge, AJumpTable, AnExceptionTable, BlockState, ExceptionTable, Ledger, ledger_after, answer_at, has_block, has_instruction, has_value, is_marked}
+use Rattle.clif_meaning.specs.Ledger.{Answered, ABlock, AVariable, AValue, AnInstruction, AnEntry, AnEdge, AJumpTable, AnExceptionTable, BlockState, ExceptionTable, Ledger, VariableState, ledger_after, answer_at, has_block, has_instruction, has_value, is_marked}
 use Rattle.clif_meaning.specs.Tracked.{TracksNothing}
 use Rattle.clif_meaning.specs.Acceptance.{Refusal, refusal_of}
 use Rattle.clif_meaning.specs.Acceptance as refusal
@@ -159,6 +159,24 @@ HaveTypes f values types = map (value_type f) values ≡ map Some types
 abbrev pub tables_of_calls : TableLists → TableLists
 tables_of_calls tables = record tables { constants = []; jump_tables = []; exception_tables = []; value_labels = None }
 
+-- whether a call used or assigned the variable with this state, if there is one
+abbrev pub was_touched : Option VariableState → Bool
+was_touched None = false
+was_touched (Some state) = state.is_touched
+
+-- a variable was declared, and no call used or assigned it
+abbrev pub is_new : Option VariableState → Bool
+is_new None = false
+is_new (Some state) = not state.is_touched
+
+abbrev pub never_touched : Ledger → ℕ → Bool
+never_touched ledger variable = is_new (slice_get ledger.variables variable)
+
+-- the types of the variables, in order, and which were used or assigned
+pub record VariablesAgree (states : List VariableState) (c : ContextState) : Type 0 where
+  pub types : map (λ (state : VariableState). state.ty) states ≡ c.variables
+  pub touched : (variable : ℕ) → was_touched (slice_get states variable) ≡ has c.touched variable
+
 -- a ledger of calls agrees with the parts of a builder: its function, its context and its current block
 pub record LedgerAgrees (calls : List AnsweredCall) (ledger : Ledger) (f : Body) (c : ContextState) (position : Option ℕ) : Type 0 where
   -- each call is in the ledger, with its answers
@@ -172,8 +190,7 @@ pub record LedgerAgrees (calls : List AnsweredCall) (ledger : Ledger) (f : Body)
   -- the current block, and the blocks of the layout in their order: one has the name, the other the number
   pub current : option_map Some ledger.current ≡ option_map (block_name ledger) position
   pub layout : map Some ledger.layout ≡ map (block_name ledger) f.layout
-  -- the types of the variables, in order
-  pub variables : map (λ variable. variable.ty) ledger.variables ≡ c.variables
+  pub variables : VariablesAgree ledger.variables c
   -- stack slots, signatures, functions and so on
   pub tables : ledger.tables ≡ tables_of_calls f.tables
   -- what is asked for of stack maps

@@ -1,5 +1,5 @@
 -- What a ledger and requests say by names, where it agrees with a builder, as this crate's law functions state it. Own.
-use Rattle.std.specs.Prelude.{◌≡◌, ℕ, ◌<◌, ◌==◌, List, [], ◌∷◌, ◌++◌, length, slice_get, Bool, Option, Some, true, ℤ}
+use Rattle.std.specs.Prelude.{◌≡◌, ℕ, ◌<◌, ◌==◌, List, [], ◌∷◌, ◌++◌, length, slice_get, Bool, Option, Some, true, false, ℤ}
 use Rattle.clif_types.specs.declared.condcodes.IntCC.{IntCC}
 use Rattle.clif_types.specs.declared.trapcode.TrapCode.{TrapCode}
 use Rattle.clif_types.specs.MemFlags.{MemFlagsShape}
@@ -30,7 +30,8 @@ use Rattle.clif_builder.specs.declared.builder.FunctionBuilder.{FunctionBuilder}
 use Rattle.clif_builder.specs.Calls.{answered}
 use Rattle.clif_builder.specs.Context.{ContextState}
 use Rattle.clif_builder.specs.StandsFor.{StandsFor}
-use Rattle.clif_builder.specs.Ledger.{AgreesWithLedger, BlockAgrees, HasShape, LedgerAgrees, NamesBlock, NamesEdge, NamesEdges, NamesExceptions, NamesValue, NamesValues, block_name, ledger_of, value_type}
+use Rattle.clif_builder.specs.Ledger.{AgreesWithLedger, BlockAgrees, HasShape, LedgerAgrees, NamesBlock, NamesEdge, NamesEdges, NamesExceptions, NamesValue, NamesValues, block_name, ledger_of, value_type, was_touched}
+use Rattle.clif_builder.specs.Marks.{IsUnused}
 
 -- this request asks for an instruction of this shape, made at this type
 abbrev pub AsksForShape : List AnsweredCall → Body → Request → InstructionData → «Type» → Type 0
@@ -148,6 +149,8 @@ pub record IsReadByNumber (calls : List AnsweredCall) (f : Body) (c : ContextSta
   pub value : (name : Name) (value : ℕ) → NamesValue calls name value → (ty : «Type») × (type_of (ledger_of calls) name ≡ Some ty) × (value_type f value ≡ Some ty)
   pub variable : (variable : ℕ) → variable_type (ledger_of calls) variable ≡ slice_get c.variables variable
   pub variable_count : length (ledger_of calls).variables ≡ length c.variables
+  -- a variable that no call used or assigned has no record in any block, and no number has one that isn't declared
+  pub unused : (variable : ℕ) → was_touched (slice_get (ledger_of calls).variables variable) ≡ false → IsUnused c variable
 
 -- It is so where the ledger agrees with a builder's parts.
 abbrev pub LedgerIsReadByNumber : Type 0

@@ -1,6 +1,7 @@
 -- What holds of the parts of a builder after each call that succeeds, whatever the calls were. Source: own, after the
 -- crate's documentation of `FunctionBuilder`.
-use Rattle.std.specs.Prelude.{◌≡◌, ◌≢◌, ◌≤◌, ◌⊎◌, ℕ, List, [], length, true, false, Bool, Some, Contains, slice_get}
+use Rattle.std.specs.Prelude.{◌≡◌, ◌≢◌, ◌≤◌, ◌⊎◌, ℕ, List, [], length, true, false, Bool, IsTrue, Some, Contains, slice_get}
+use Rattle.clif_types.specs.EntitySet.{has}
 use Rattle.clif_types.specs.declared.types.«Type».{«Type»}
 use Rattle.clif_ir.specs.Body.{Body, block_at}
 use Rattle.clif_instructions.specs.Members.{stands_in}
@@ -23,14 +24,14 @@ pub record IsEnded (f : Body) (c : ContextState) (block : ℕ) : Type 0 where
   pub inserted : stands_in block f.layout ≡ true
   pub filled : status_of c block ≡ Filled
 
--- types of variables: those that were declared have these types
-abbrev pub AreTypesOf : List «Type» → VariableTypes → Type 0
-AreTypesOf variables types = (x : ℕ) (ty : «Type») → slice_get variables x ≡ Some ty → types x ≡ ty
+-- types of variables: those that were declared, and were used or assigned, have these types
+abbrev pub AreTypesOf : ContextState → VariableTypes → Type 0
+AreTypesOf c types = (x : ℕ) (ty : «Type») → slice_get c.variables x ≡ Some ty → IsTrue (has c.touched x) → types x ≡ ty
 
 -- what the construction has made is in order beside what the caller made, whatever the types of variables that weren't
--- declared: these have no records
+-- declared, or that weren't used or assigned: these have no records
 abbrev pub IsStructured : Own → Body → ContextState → Type 0
-IsStructured own f c = (types : VariableTypes) → AreTypesOf c.variables types → Structured types own f c.ssa []
+IsStructured own f c = (types : VariableTypes) → AreTypesOf c types → Structured types own f c.ssa []
 
 -- a block has the caller's parameters alone, and none of a variable, unless something was made in it
 abbrev pub AloneUnlessBegun : Own → Body → ContextState → ℕ → Type 0

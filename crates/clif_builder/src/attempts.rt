@@ -119,11 +119,18 @@ impl<'a> FunctionBuilder<'a> {
         Ok(Ok(()))
     }
 
+    /// The type of a variable, if it is declared.
+    pub fn variable_type(&self, variable: Variable) -> Option<Type>
+        ensures { result ≡ slice_get self.now.ctx.now.variables variable }
+    {
+        self.ctx.var_type(variable)
+    }
+
     // Whether a variable is declared.
     fn is_declared(&self, variable: Variable) -> bool
         ensures { result ≡ is_some (slice_get self.now.ctx.now.variables variable) }
     {
-        self.ctx.var_type(variable).is_some()
+        self.variable_type(variable).is_some()
     }
 
     // Whether a value may be assigned to a variable.

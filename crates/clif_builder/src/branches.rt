@@ -21,7 +21,8 @@ impl<'a> FunctionBuilder<'a> {
     pub fn leads_to(&self, inst: Inst, block: Block) -> bool
         ensures { IsTrue result ↔ Stands inst (predecessors_of self.now.ctx.now.ssa block) }
     {
-        self.ctx.leads_to(inst, block)
+        let ctx = &*self.ctx;
+        ctx.ssa.leads_to(inst, block)
     }
 
     /// Lets each edge of a branch that leads to `old_block` lead to `new_block`, and pass what it passed. The edges

@@ -96,6 +96,8 @@ pub struct FunctionBuilderContext {
     pub(crate) ssa: SSABuilder,
     pub(crate) status: StatusTable,
     pub(crate) variables: Vec<Type>,
+    // Those that a call used or assigned.
+    touched: EntitySet<Variable>,
     // It keeps its memory from one function to the next, and each run begins by forgetting the last one.
     safepoints: SafepointSpiller,
 }
@@ -108,6 +110,7 @@ impl Drop for FunctionBuilderContext {
             ssa: _,
             status: _,
             variables: _,
+            touched: _,
             safepoints: _,
         } = self;
     }
@@ -121,13 +124,13 @@ impl Model for FunctionBuilderContext {
 
     ghost coded = { context_code };
 
-    ghost view = { λ c. record { ssa = c.ssa; status = c.status; variables = c.variables.items } };
+    ghost view = { λ c. record { ssa = c.ssa; status = c.status; variables = c.variables.items; touched = c.touched } };
 
     ghost invariant = { λ c. length c.variables.items < 2 ^ 32 };
 }
 
 impl FunctionBuilderContext {
-    ghost use Rattle.clif_builder.specs.Context.{empty_context, status_of, SetsStatus, Begins};
+    ghost use Rattle.clif_builder.specs.Context.{Begins, SameVariables, SetsStatus, TouchesVariable, empty_context, is_untouched, status_of};
     ghost use Rattle.clif_builder.specs.Construction.{IsUse, IsSealing, IsSealingAll, IsDeclared};
     ghost use Rattle.clif_ir.specs.Body.{Body, empty_function};
     ghost use Rattle.clif_instructions.specs.Edges.{targets};
@@ -158,43 +161,29 @@ impl FunctionBuilderContext {
             ssa: SSABuilder::new(alloc),
             status: StatusTable::new(alloc),
             variables: Vec::new(alloc),
+            touched: EntitySet::new(alloc),
             safepoints: SafepointSpiller::new(alloc),
         }
     }
 
-    /// Forgets everything. It keeps the room of blocks and variables, and gives back the memory of the records.
+    /// Forgets everything. It keeps the room of blocks and variables, and gives back the memory of the records and of the sets.
     pub(crate) fn clear(&mut self)
         ensures { self.new ≡ empty_context }
     {
         self.ssa.clear();
         self.status.clear();
         self.variables.clear();
+        self.touched = EntitySet::new(self.alloc);
     }
 
     /// Whether the context is as a new one.
     pub fn is_empty(&self) -> bool
         ensures { IsTrue result ↔ (self.now ≡ empty_context) }
     {
-        self.ssa.is_empty() && self.status.is_empty() && self.variables.is_empty()
-    }
-
-    /// The allocator of the context.
-    pub(crate) fn allocator(&self) -> Global {
-        self.alloc
-    }
-
-    /// How far a block has come.
-    pub(crate) fn block_status(&self, block: Block) -> BlockStatus
-        ensures { result ≡ status_of self.now block }
-    {
-        self.status.get(block)
-    }
-
-    /// Whether a block is sealed.
-    pub(crate) fn is_sealed(&self, block: Block) -> bool
-        ensures { result ≡ is_yes (sealed_of self.now.ssa block) }
-    {
-        self.ssa.is_sealed(block)
+        self.ssa.is_empty()
+            && self.status.is_empty()
+            && self.variables.is_empty()
+            && self.touched.is_empty()
     }
 
     /// Says how far a block has come.
@@ -202,7 +191,7 @@ impl FunctionBuilderContext {
     pub(crate) fn set_status(&mut self, block: Block, status: BlockStatus) -> Result<(), BuildError>
         ensures ok { OnOk result (SetsStatus self.old self.new block status) }
         ensures ssa { self.new.ssa ≡ self.old.ssa }
-        ensures variables { self.new.variables ≡ self.old.variables }
+        ensures variables { SameVariables self.old self.new }
         ensures only_memory { OnErr result (result ≡ Err BuildError.Memory) }
     {
         self.status.set(block, status)
@@ -218,7 +207,7 @@ impl FunctionBuilderContext {
         ensures names { (f : Body) → NamesExist f self.old.ssa → NamesExist f self.new.ssa }
         ensures tracking { self.new.ssa.tracking ≡ self.old.ssa.tracking }
         ensures status { self.new.status ≡ self.old.status }
-        ensures variables { self.new.variables ≡ self.old.variables }
+        ensures variables { SameVariables self.old self.new }
         ensures looks_once { LooksOnce self.old.ssa → LooksOnce self.new.ssa }
         ensures known { OnOk result (block < length self.new.ssa.blocks) }
         ensures only_memory { OnErr result (result ≡ Err BuildError.Memory) }
@@ -248,6 +237,13 @@ impl FunctionBuilderContext {
         ensures { result ≡ slice_get self.now.variables variable }
     {
         self.variables.get(variable.index()).copied()
+    }
+
+    /// Whether a variable is declared, and no call used or assigned it.
+    pub(crate) fn is_untouched(&self, variable: Variable) -> bool
+        ensures { result ≡ is_untouched self.now variable }
+    {
+        self.var_type(variable).is_some() && !self.touched.contains(variable)
     }
 
     /// Marks a variable. After an error nothing has changed.
@@ -291,13 +287,6 @@ impl FunctionBuilderContext {
         }
     }
 
-    /// The values that stack maps need.
-    pub(crate) fn stack_map_values(&self) -> &EntitySet<Value>
-        ensures { result.now ≡ recorded_of self.now.ssa.tracking }
-    {
-        self.ssa.stack_map_values()
-    }
-
     #[tactic(auto, using(crate::proofs::Named::names_rules))]
     /// Records that a variable has a value in a block from here on. Stack maps need the value, if the
     /// variable is marked.
@@ -315,8 +304,10 @@ impl FunctionBuilderContext {
         ensures looks_once { LooksOnce self.old.ssa → LooksOnce self.new.ssa }
         ensures status { self.new.status ≡ self.old.status }
         ensures variables { self.new.variables ≡ self.old.variables }
+        ensures touches { OnOk result (TouchesVariable self.old self.new variable) }
         ensures only_memory { OnErr result (result ≡ Err BuildError.Memory) }
     {
+        self.touched.insert(variable)?;
         self.ssa.def_var(variable, value, block)
     }
 
@@ -344,11 +335,13 @@ impl FunctionBuilderContext {
         ensures looks_once { LooksOnce self.old.ssa → LooksOnce self.new.ssa }
         ensures more { HasMore func.old func.new }
         ensures variables { self.new.variables ≡ self.old.variables }
+        ensures touches { OnOk result (TouchesVariable self.old self.new variable) }
         ensures constructs { OnlyConstructs func.old func.new }
         ensures pools { MayPool ty func.old.tables func.new.tables }
         ensures full { result ≡ Err BuildError.Full → UseIsFull ty func.new }
         ensures never_failed { result ≢ Err BuildError.Failed }
     {
+        self.touched.insert(variable)?;
         let (value, side_effects) = self.ssa.use_var(func, variable, ty, block)?;
         self.begin_all(side_effects.instructions_added_to_blocks.as_slice())?;
         Ok(value)
@@ -366,7 +359,7 @@ impl FunctionBuilderContext {
         ensures looks_once { LooksOnce self.old.ssa → LooksOnce self.new.ssa }
         ensures more { HasMore func.old func.new }
         ensures stay { RecordsStay self.old.ssa self.new.ssa }
-        ensures variables { self.new.variables ≡ self.old.variables }
+        ensures variables { SameVariables self.old self.new }
         ensures constructs { OnlyConstructs func.old func.new }
         ensures pools { MayPoolAll (types_of func.old (pending_of (sealed_of self.old.ssa block))) func.old.tables func.new.tables }
         ensures full { result ≡ Err BuildError.Full → SealingIsFull (Contains (types_of func.old (pending_of (sealed_of self.old.ssa block)))) func.new }
@@ -385,7 +378,7 @@ impl FunctionBuilderContext {
         ensures looks_once { LooksOnce self.old.ssa → LooksOnce self.new.ssa }
         ensures more { HasMore func.old func.new }
         ensures stay { RecordsStay self.old.ssa self.new.ssa }
-        ensures variables { self.new.variables ≡ self.old.variables }
+        ensures variables { SameVariables self.old self.new }
         ensures constructs { OnlyConstructs func.old func.new }
         ensures pools { MayPoolWaiting func.old self.old.ssa func.new.tables }
         ensures full { result ≡ Err BuildError.Full → SealingIsFull (WaitsWithType func.old self.old.ssa) func.new }
@@ -393,13 +386,6 @@ impl FunctionBuilderContext {
     {
         let side_effects = self.ssa.seal_all_blocks(func)?;
         self.begin_all(side_effects.instructions_added_to_blocks.as_slice())
-    }
-
-    /// Whether any branch leads to a block.
-    pub(crate) fn has_any_predecessors(&self, block: Block) -> bool
-        ensures { IsTrue result ↔ (predecessors_of self.now.ssa block ≢ []) }
-    {
-        self.ssa.has_any_predecessors(block)
     }
 
     /// Lets each edge of a branch to one block go to another one, both of which are unsealed.
@@ -421,18 +407,11 @@ impl FunctionBuilderContext {
         ensures tracking { self.new.ssa.tracking ≡ self.old.ssa.tracking }
         ensures blocks { SameBlocks self.old.ssa self.new.ssa }
         ensures status { self.new.status ≡ self.old.status }
-        ensures variables { self.new.variables ≡ self.old.variables }
+        ensures variables { SameVariables self.old self.new }
         ensures looks_once { LooksOnce self.old.ssa → LooksOnce self.new.ssa }
         ensures only_memory { OnErr result (result ≡ Err BuildError.Memory) }
     {
         self.ssa.move_branch(func, inst, from, to)
-    }
-
-    /// Whether this branch leads to a block.
-    pub(crate) fn leads_to(&self, inst: Inst, block: Block) -> bool
-        ensures { IsTrue result ↔ Stands inst (predecessors_of self.now.ssa block) }
-    {
-        self.ssa.leads_to(inst, block)
     }
 
     #[tactic(auto, using(crate::proofs::Declaring::declare_rules))]
@@ -449,7 +428,7 @@ impl FunctionBuilderContext {
         ensures names { (f : Body) → inst < length f.insts → NamesExist f self.old.ssa → NamesExist f self.new.ssa }
         ensures looks_once { LooksOnce self.old.ssa → LooksOnce self.new.ssa }
         ensures status { self.new.status ≡ self.old.status }
-        ensures variables { self.new.variables ≡ self.old.variables }
+        ensures variables { SameVariables self.old self.new }
         ensures only_memory { OnErr result (result ≡ Err BuildError.Memory) }
     {
         for edge in edges.iter() {
@@ -466,11 +445,11 @@ impl FunctionBuilderContext {
     fn begin_all(&mut self, blocks: &[Block]) -> Result<(), BuildError>
         ensures status { OnOk result (Begins self.old self.new blocks.now) }
         ensures ssa { self.new.ssa ≡ self.old.ssa }
-        ensures variables { self.new.variables ≡ self.old.variables }
+        ensures variables { SameVariables self.old self.new }
         ensures only_memory { OnErr result (result ≡ Err BuildError.Memory) }
     {
         for block in blocks.iter() {
-            if self.block_status(*block) == BlockStatus::Empty {
+            if self.status.get(*block) == BlockStatus::Empty {
                 self.set_status(*block, BlockStatus::Partial)?;
             }
         }

@@ -121,7 +121,8 @@ impl<'a> FunctionBuilder<'a> {
             return Err(BuildError::Failed);
         }
         self.func.law_consistent();
-        let edge = BlockCall::new(self.ctx.allocator(), block, args);
+        let ctx = &*self.ctx;
+        let edge = BlockCall::new(ctx.alloc, block, args);
         self.failed = edge.is_err();
         edge
     }

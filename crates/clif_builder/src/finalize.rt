@@ -90,7 +90,8 @@ impl<'a> FunctionBuilder<'a> {
             return Err(FinalizeError::Failed);
         }
         check_blocks(self.ctx, self.func.block_count())?;
-        check_contexts(self.func, self.ctx.stack_map_values())
+        let ctx = &*self.ctx;
+        check_contexts(self.func, ctx.ssa.stack_map_values())
     }
 }
 
@@ -109,11 +110,11 @@ fn check_blocks(ctx: &FunctionBuilderContext, count: usize) -> Result<(), Finali
 fn check_block(ctx: &FunctionBuilderContext, block: Block) -> Result<(), FinalizeError>
     ensures { result ≡ answer_of (block_fault ctx.now block) }
 {
-    let status = ctx.block_status(block);
+    let status = ctx.status.get(block);
     if status == BlockStatus::Empty {
         return Ok(());
     }
-    if !ctx.is_sealed(block) {
+    if !ctx.ssa.is_sealed(block) {
         return Err(FinalizeError::Unsealed(block));
     }
     if status != BlockStatus::Filled {
@@ -151,7 +152,7 @@ fn finish(
     ensures emptied { OnErr result ((func.new ≡ func.old) ⊎ (func.new ≡ empty_function)) }
     ensures context { ctx.new ≡ empty_context }
 {
-    let answer = if verdict.is_err() || ctx.stack_map_values().is_empty() {
+    let answer = if verdict.is_err() || ctx.ssa.stack_map_values().is_empty() {
         verdict
     } else {
         ctx.spill(func, pointer)

@@ -1,6 +1,6 @@
 //! The builder of a function.
 ghost use Rattle.std.specs.Prelude.{◌≡◌, ◌≢◌, ◌<◌, ◌-◌, ◌^◌, ◌+◌, ◌++◌, ◌∷◌, [], ◌==◌, ℕ, List, IsTrue, ◌↔◌, OnOk, OnErr, IfOk, IfSome, IsSome, is_err, Some, None, true, false, length, slice_index, slice_get, EachIndex, Contains};
-ghost use Rattle.clif_builder.specs.Context.{IsClear, IsFresh, status_of, begun, Begins, SetsStatus};
+ghost use Rattle.clif_builder.specs.Context.{Begins, IsClear, IsFresh, SameVariables, SetsStatus, TouchesVariable, begun, status_of};
 ghost use Rattle.clif_builder.specs.Growth.{Grows, HasRecordIn, RemembersIn};
 ghost use Rattle.clif_builder.specs.Construction.{IsUse, IsSealing, IsSealingAll, SealsAtMost};
 ghost use Rattle.clif_builder.specs.Calls.{IsCall, IsTold, answered};
@@ -85,14 +85,16 @@ impl<'a> FunctionBuilder<'a> {
     pub fn is_sealed(&self, block: Block) -> bool
         ensures { result ≡ is_yes (sealed_of self.now.ctx.now.ssa block) }
     {
-        self.ctx.is_sealed(block)
+        let ctx = &*self.ctx;
+        ctx.ssa.is_sealed(block)
     }
 
     /// Whether a block has its terminator. Nothing can be appended to it then.
     pub fn is_filled(&self, block: Block) -> bool
         ensures { IsTrue result ↔ (status_of self.now.ctx.now block ≡ BlockStatus.Filled) }
     {
-        self.ctx.block_status(block) == BlockStatus::Filled
+        let ctx = &*self.ctx;
+        ctx.status.get(block) == BlockStatus::Filled
     }
 
     /// Whether a block is pristine: no instruction was appended to it, no variable used in it, and
@@ -100,14 +102,16 @@ impl<'a> FunctionBuilder<'a> {
     pub fn is_pristine(&self, block: Block) -> bool
         ensures { IsTrue result ↔ (status_of self.now.ctx.now block ≡ BlockStatus.Empty) }
     {
-        self.ctx.block_status(block) == BlockStatus::Empty
+        let ctx = &*self.ctx;
+        ctx.status.get(block) == BlockStatus::Empty
     }
 
     /// Whether a branch that was built so far leads to a block.
     pub fn has_any_predecessors(&self, block: Block) -> bool
         ensures { IsTrue result ↔ (predecessors_of self.now.ctx.now.ssa block ≢ []) }
     {
-        self.ctx.has_any_predecessors(block)
+        let ctx = &*self.ctx;
+        ctx.ssa.has_any_predecessors(block)
     }
 
     /// Whether control can't reach the current block: the layout isn't empty, and the current block isn't
@@ -456,11 +460,11 @@ pub(crate) fn begin_block(
     ensures tables { func.new.tables ≡ func.old.tables }
     ensures ssa { ctx.new.ssa ≡ ctx.old.ssa }
     ensures names { NamesExist func.old ctx.old.ssa → NamesExist func.new ctx.new.ssa }
-    ensures variables { ctx.new.variables ≡ ctx.old.variables }
+    ensures variables { SameVariables ctx.old ctx.new }
     ensures only_memory { OnErr result (result ≡ Err BuildError.Memory) }
 {
     func.ensure_block_inserted(block)?;
-    match ctx.block_status(block) {
+    match ctx.status.get(block) {
         BlockStatus::Empty => ctx.set_status(block, BlockStatus::Partial),
         BlockStatus::Partial | BlockStatus::Filled => Ok(()),
     }
@@ -482,6 +486,7 @@ fn use_variable(
     ensures exists { IfOk result (λ value. value < length func.new.values) }
     ensures looks_once { LooksOnce ctx.old.ssa → LooksOnce ctx.new.ssa }
     ensures variables { ctx.new.variables ≡ ctx.old.variables }
+    ensures touches { OnOk result (TouchesVariable ctx.old ctx.new variable) }
     ensures pools { MayPool ty func.old.tables func.new.tables }
     ensures full { result ≡ Err BuildError.Full → UseIsFull ty func.new }
     ensures constructs { result ≡ Err BuildError.Full →
@@ -504,7 +509,7 @@ fn make_block(func: &mut Function, ctx: &mut FunctionBuilderContext) -> Result<B
     ensures looks_once { LooksOnce ctx.old.ssa → LooksOnce ctx.new.ssa }
     ensures tracking { ctx.new.ssa.tracking ≡ ctx.old.ssa.tracking }
     ensures status { ctx.new.status ≡ ctx.old.status }
-    ensures variables { ctx.new.variables ≡ ctx.old.variables }
+    ensures variables { SameVariables ctx.old ctx.new }
     ensures full { result ≡ Err BuildError.Full → length func.old.blocks ≡ 2 ^ 32 - 1 }
     ensures never_failed { result ≢ Err BuildError.Failed }
     ensures known { IfOk result (λ b. b < length ctx.new.ssa.blocks) }

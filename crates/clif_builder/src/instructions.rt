@@ -12,6 +12,7 @@ ghost use Rattle.clif_ssa.specs.Structure.{LooksOnce};
 ghost use Rattle.clif_builder.specs.Builder.{HasCurrent, CanLead, CanLeadIn, AppendsIn};
 ghost use Rattle.clif_builder.specs.Built.{Builds, BuildsPair, BuildsValue};
 ghost use Rattle.clif_builder.specs.Construction.{IsDeclared};
+ghost use Rattle.clif_builder.specs.Context.{SameVariables};
 ghost use Rattle.clif_builder.specs.Entries.{MayServe, MayServeTry, PoolsConstant, TakesExceptionTable, TakesJumpTable};
 ghost use Rattle.std.proofs.lemmas.Option.{slice_get_within as pooled_below};
 
@@ -129,7 +130,8 @@ impl<'a> InstBuilderBase for FunctionBuilder<'a> {
     }
 
     fn allocator(&self) -> Global {
-        self.ctx.allocator()
+        let ctx = &*self.ctx;
+        ctx.alloc
     }
 
     fn pool_constant(&mut self, bytes: &[u8]) -> Result<Constant, BuildError> {
@@ -235,7 +237,7 @@ fn append(
     ensures ssa { is_branch shape ≡ false → ctx.new.ssa ≡ ctx.old.ssa }
     ensures names { NamesExist func.new ctx.new.ssa }
     ensures looks_once { LooksOnce ctx.old.ssa → LooksOnce ctx.new.ssa }
-    ensures variables { ctx.new.variables ≡ ctx.old.variables }
+    ensures variables { SameVariables ctx.old ctx.new }
     ensures full { result ≡ Err BuildError.Full → HasNoRoom func.old (count_of_results func.old.tables shape) }
     ensures never_failed { result ≢ Err BuildError.Failed }
 {

@@ -1,10 +1,11 @@
 //! The builder's calls that ask for stack maps, by which a collector finds the objects that it moves. `finalize` makes
 //! them.
-ghost use Rattle.std.specs.Prelude.{[]};
+ghost use Rattle.std.specs.Prelude.{◌≡◌, [], IsTrue, List, false};
 ghost use Rattle.clif_meaning.specs.Name.{Name};
-ghost use Rattle.clif_meaning.specs.Request.{NeedStackMap, OfValue, OfVariable};
+ghost use Rattle.clif_meaning.specs.Request.{AnsweredCall, NeedStackMap, OfValue, OfVariable};
 ghost use Rattle.clif_builder.specs.Calls.{IsTold, answered};
-ghost use Rattle.clif_builder.specs.Ledger.{NamesValue};
+ghost use Rattle.clif_builder.specs.Context.{is_untouched};
+ghost use Rattle.clif_builder.specs.Ledger.{AgreesWithLedger, NamesValue, ledger_of, never_touched};
 ghost use Rattle.clif_builder.specs.Marks.{IsUnused, MarksVariable, RecordsValue, ValueFits, VariableFits};
 
 use crate::builder::FunctionBuilder;
@@ -12,10 +13,29 @@ use clif_ssa::Variable;
 use clif_types::{BuildError, Value};
 
 impl<'a> FunctionBuilder<'a> {
+    /// Whether a variable is declared, and was neither used nor assigned so far, so that it may be marked
+    /// ([`FunctionBuilder::declare_var_needs_stack_map`]).
+    ///
+    /// An assignment that [`FunctionBuilder::try_def_var`] refuses is none. After an error of an earlier call the answer is
+    /// false. It takes no memory.
+    pub fn is_untouched(&self, variable: Variable) -> bool
+        ensures exact { self.now.failed ≡ false → result ≡ is_untouched self.now.ctx.now variable }
+        ensures failed { IsTrue self.now.failed → result ≡ false }
+        ensures unused { IsTrue result → IsUnused self.now.ctx.now variable }
+        ensures ledger { (calls : List AnsweredCall) → AgreesWithLedger calls self.now
+            → self.now.failed ≡ false → result ≡ never_touched (ledger_of calls) variable }
+    {
+        if self.failed {
+            return false;
+        }
+        self.ctx.is_untouched(variable)
+    }
+
     /// Has stack maps name each value that a variable gets: those that are assigned to it, and the block parameters
     /// that are made for it.
     ///
-    /// The variable is declared, was neither used nor assigned so far, and has a type of 1 to 16 bytes. No
+    /// The variable is declared, was neither used nor assigned so far ([`FunctionBuilder::is_untouched`]), and has a
+    /// type of 1 to 16 bytes ([`FunctionBuilder::variable_type`]). No
     /// instruction is made, and no other call answers otherwise.
     ///
     /// # Errors

@@ -19,3 +19,4 @@ mod refusals;
 mod steps;
 mod tracked;
 mod try_calls;
+mod variables;

@@ -50,7 +50,8 @@ use Rattle.clif_calls.specs.declared.switch.SwitchEntry.{SwitchEntry}
 use Rattle.clif_replay.specs.Emits.{constant_in, plain_calls_under, plain_in}
 use Rattle.clif_replay.specs.Cases.{keys_of, switch_under}
 use Rattle.clif_replay.specs.Helpers.{IsSized, first_answer, helper_under, moves_nothing, operands_in, operation_in}
-use Rattle.clif_replay.specs.Requests.{ArePlainCalls, IsOfWidth, Naming, emission_under, emitted_in, name_of, operand_in, operand_type, request_of, request_under}
+use Rattle.clif_replay.specs.Requests.{Naming, emission_under, emitted_in, name_of, operand_in, operand_type, request_of, request_under}
+use Rattle.clif_replay.specs.Replayed.{ArePlainCalls, IsOfWidth}
 use Rattle.clif_replay.proofs.HelperLines.{line-of, may-made}
 use Rattle.clif_replay.proofs.Narrowing.{narrowed, narrowed-emission}
 use Rattle.clif_replay.proofs.Nowhere.{AreAnswered, AreDenied, IsNowhere, emitted, nowhere, read-answered, told}

@@ -27,7 +27,8 @@ use Rattle.clif_replay.specs.Errors.{replay_error_at}
 use Rattle.clif_replay.specs.declared.script.ReplayError.{ReplayError}
 use Rattle.clif_replay.specs.declared.script.ReplayError.TheVariants as replay
 use Rattle.clif_replay.specs.Replay.{ReplayMakes, ReplayTells}
-use Rattle.clif_replay.specs.Requests.{IsReplayed, IsStoppedByTable, MayBeRefused, attempts_of, calls_of, is_refusable}
+use Rattle.clif_replay.specs.Requests.{attempts_of, calls_of, is_refusable}
+use Rattle.clif_replay.specs.Replayed.{IsReplayed, IsStoppedByTable, MayBeRefused}
 use Rattle.clif_expansion.specs.CallsVerdict.{verdict_on_call_attempts}
 use Rattle.clif_expansion.proofs.calls.Headline.{keep_premises}
 use Rattle.clif_replay.proofs.Verdicts.{all-of-width, all-replayed, means-replayed, verdict-accepted}

@@ -14,7 +14,8 @@ use Rattle.clif_calls.specs.declared.memory.MemoryCall.{MemoryCall}
 use Rattle.clif_expansion.specs.ScriptCall.{Ask, ledger_with_call}
 use Rattle.clif_expansion.proofs.calls.Asked.{CallAsksForNoMaps, CallsTrackNothing, plain_calls_track_nothing}
 use Rattle.clif_replay.specs.Helpers.{helper_under, moves_nothing, nothing_moved, operation_in}
-use Rattle.clif_replay.specs.Requests.{IsReplayed, call_of, calls_from, calls_of, name_of}
+use Rattle.clif_replay.specs.Requests.{call_of, calls_from, calls_of, name_of}
+use Rattle.clif_replay.specs.Replayed.{IsReplayed}
 use Rattle.clif_replay.proofs.Verdicts.{all-replayed}
 
 moved-asks : (config : TargetFrontendConfig) (ledger : Ledger) (called : MemoryCall) (nothing : Bool)

@@ -26,7 +26,8 @@ use Rattle.clif_replay.specs.declared.script.ReplayError.{ReplayError}
 use Rattle.clif_replay.specs.declared.script.ReplayError.TheVariants as replay
 use Rattle.clif_replay.specs.Errors.{replay_error_at}
 use Rattle.clif_replay.specs.Ready.{IsCallJudged}
-use Rattle.clif_replay.specs.Requests.{ArePlainCalls, IsOfWidth, IsReplayed, attempt_of, attempts_from, attempts_of, call_of, calls_from, calls_of, is_tried, name_of}
+use Rattle.clif_replay.specs.Requests.{attempt_of, attempts_from, attempts_of, call_of, calls_from, calls_of, is_tried, name_of}
+use Rattle.clif_replay.specs.Replayed.{ArePlainCalls, IsOfWidth, IsReplayed}
 use Rattle.clif_replay.proofs.Options.{if-no}
 use Rattle.clif_expansion.specs.CallsHeadline.{CallsMeanTheSame}
 use Rattle.clif_expansion.specs.CallsVerdict.{CallAttempt, call_blames_variable, made, verdict_on_call_attempts, verdict_on_calls_from}

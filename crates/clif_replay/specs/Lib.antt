@@ -4,6 +4,7 @@ pub mod Helpers
 pub mod Errors
 pub mod Limits
 pub mod Requests
+pub mod Replayed
 pub mod Ready
 pub mod Makes
 pub mod Emits

@@ -13,7 +13,8 @@ use Rattle.clif_expansion.specs.CallsHeadline.{CallersEdgesMatchInCalls, CallsMe
 use Rattle.clif_expansion.specs.CallsVerdict.{verdict_on_call_attempts}
 use Rattle.clif_replay.specs.declared.script.ReplayError.{ReplayError}
 use Rattle.clif_replay.specs.declared.script.ReplayError.TheVariants as replay
-use Rattle.clif_replay.specs.Requests.{IsBuiltBy, IsStoppedByTable, MayBeRefused, attempts_of, calls_of, verdict_of}
+use Rattle.clif_replay.specs.Requests.{attempts_of, calls_of}
+use Rattle.clif_replay.specs.Replayed.{IsBuiltBy, IsStoppedByTable, MayBeRefused, verdict_of}
 
 -- the function that the calls make
 pub record ReplayMakes (calls : List Call) (name : UserFuncName) (declared : SignatureShape) (config : TargetFrontendConfig) (f : Body) : Type 0 where

@@ -23,7 +23,8 @@ use Rattle.clif_expansion.specs.ScriptCall.{Ask, ScriptCall, ledger_of}
 use Rattle.clif_expansion.proofs.JoinedCalls.{joined_calls}
 use Rattle.clif_expansion.proofs.ScriptCalls.{asking_stays}
 use Rattle.clif_expansion.proofs.calls.Alone.{asking_means}
-use Rattle.clif_replay.specs.Requests.{ArePlainCalls, calls_of}
+use Rattle.clif_replay.specs.Requests.{calls_of}
+use Rattle.clif_replay.specs.Replayed.{ArePlainCalls}
 use Rattle.clif_builder.specs.Context.{ContextState}
 use Rattle.clif_builder.specs.StandsFor.{StandsIn}
 use Rattle.clif_sealing_laws.specs.Laws.{BuiltFunctionsAgree, ReplayedFunctionsAgree, requests_of}

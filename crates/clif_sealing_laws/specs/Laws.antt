@@ -17,7 +17,8 @@ use Rattle.clif_calls.specs.declared.call.Call.{Call}
 use Rattle.clif_renaming.specs.Sealing.{DifferInSealing}
 use Rattle.clif_expansion.specs.CallsHeadline.{CallsMeanTheSame}
 use Rattle.clif_expansion.specs.ScriptCall.{Ask, Emit, ScriptCall}
-use Rattle.clif_replay.specs.Requests.{IsBuiltBy, calls_of}
+use Rattle.clif_replay.specs.Requests.{calls_of}
+use Rattle.clif_replay.specs.Replayed.{IsBuiltBy}
 use Rattle.clif_builder.specs.Context.{ContextState}
 use Rattle.clif_builder.specs.StandsFor.{StandsIn}
 

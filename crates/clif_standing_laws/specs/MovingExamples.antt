@@ -107,7 +107,7 @@ moved_state = moved_state_with (sets (0 ∷ []) (0 ∷ []))
 
 -- the builder's context then: the block has its terminator
 abbrev pub moved_context : ContextState
-moved_context = record { ssa = moved_state; status = Filled ∷ []; variables = i64 ∷ [] }
+moved_context = record { ssa = moved_state; status = Filled ∷ []; variables = i64 ∷ []; touched = 0 ∷ [] }
 
 -- the values that are recorded
 abbrev pub recorded_values : ℕ → Bool

@@ -2,7 +2,9 @@
 #![tactic(auto)]
 
 use crate::asserted::{asserts_block, asserts_value, last_inst};
-use cranelift_frontend::{Block, EntityRef, FunctionBuilder, SourceLoc, Value, ValueDef};
+use cranelift_frontend::{
+    Block, EntityRef, FunctionBuilder, SourceLoc, Type, Value, ValueDef, Variable,
+};
 use std::process::Abort;
 
 /// What is expected of a builder, which shows or doesn't.
@@ -32,10 +34,20 @@ pub enum Query {
     Values(usize),
     /// Instructions get this source place from now on.
     Place(u32),
+    /// The variable is declared, and was neither used nor assigned.
+    Untouched(u8),
+    /// The variable is declared with this type.
+    Typed(u8, Type),
+    /// The variable isn't declared.
+    Undeclared(u8),
 }
 
 fn block(number: u8) -> Block {
     Block::from_u32(u32::from(number))
+}
+
+fn variable(number: u8) -> Variable {
+    Variable::from_u32(u32::from(number))
 }
 
 // Whether a block is in the layout.
@@ -72,6 +84,9 @@ pub fn shows(rt: &impl Abort, builder: &FunctionBuilder<'_>, query: &Query) -> b
         Query::Params(number, count) => param_count(rt, builder, block(number)) == count,
         Query::Values(count) => builder.func().value_count() == count,
         Query::Place(place) => builder.srcloc() == SourceLoc::new(place),
+        Query::Untouched(number) => builder.is_untouched(variable(number)),
+        Query::Typed(number, ty) => builder.variable_type(variable(number)) == Some(ty),
+        Query::Undeclared(number) => builder.variable_type(variable(number)).is_none(),
     }
 }
 

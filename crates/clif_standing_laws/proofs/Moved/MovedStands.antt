@@ -1,6 +1,7 @@
 -- The parts of a builder stand for the calls of the worked example: what the ledger of the calls says of answers, blocks, layout,
 -- variables and tables is what the function, the context and the current block hold.
 use Rattle.std.proofs.Common.{◌≡◌, ◌≢◌, ◌≤◌, ℕ, zero, suc, false, List, [], ◌∷◌, length, slice_get, Some, None, Contains, inl, refl, sym, subst, arith}
+use Rattle.clif_types.specs.EntitySet.{has}
 use Rattle.clif_ir.specs.Body.{block_at}
 use Rattle.clif_records.specs.Tables.{is_yes}
 use Rattle.clif_ssa.specs.Own.{Own}
@@ -14,7 +15,7 @@ use Rattle.clif_meaning.proofs.StraightLine.{nothing_contained}
 use Rattle.clif_simulation.specs.Carries.{AreTypes}
 use Rattle.clif_simulation.specs.Structure.{HasCallersAlone}
 use Rattle.clif_builder.specs.Context.{status_of}
-use Rattle.clif_builder.specs.Ledger.{AloneUnlessBegun, AnswerAgrees, AnswersAgree, BlockAgrees, HaveTypes, IsStructured, LedgerAgrees, ResultsFollow, block_name, ledger_of}
+use Rattle.clif_builder.specs.Ledger.{AloneUnlessBegun, AnswerAgrees, AnswersAgree, BlockAgrees, HaveTypes, IsStructured, LedgerAgrees, ResultsFollow, block_name, ledger_of, was_touched}
 use Rattle.clif_builder.specs.StandsFor.{StandsIn}
 use Rattle.clif_builder.specs.declared.context.BlockStatus.TheVariants.{Empty, Filled}
 use Rattle.clif_standing_laws.specs.MovingExamples.{moved_body, moved_calls, moved_context, moved_signature}
@@ -111,7 +112,7 @@ structured : IsStructured own moved_body moved_context
 structured types are = MovedRow.carried.holds.structured types declared
   where
     declared : AreTypes moved_calls types
-    declared zero ty is = are 0 ty is
+    declared zero ty is = are 0 ty is refl
     declared (suc x) ty is = absurd (none_some is)
 
 callers_types : (k : ℕ) (state : BlockState) → slice_get ledger.blocks k ≡ Some state → HaveTypes moved_body (own.params k) state.parameters
@@ -127,6 +128,10 @@ alone (suc b) = refl
 own_alone : (b : ℕ) → AloneUnlessBegun own moved_body moved_context b
 own_alone b = inl (subst (λ (values : List ℕ). (block_at moved_body b).params ≡ values) (sym (MovedRow.carried.holds.parameters b)) (alone b))
 
+touched : (x : ℕ) → was_touched (slice_get ledger.variables x) ≡ has moved_context.touched x
+touched zero = refl
+touched (suc x) = refl
+
 -- Together ----------------------------------------------------------------------------------------------------------------
 
 agrees_with_ledger : LedgerAgrees moved_calls ledger moved_body moved_context (Some 0)
@@ -138,7 +143,7 @@ agrees_with_ledger = record {
   block_answers = block_answers;
   current = refl;
   layout = refl;
-  variables = refl;
+  variables = record { types = refl; touched = touched };
   tables = refl;
   tracks = record { marks = MovedRow.marks; untracked = λ nothing. absurd nothing.1.1.1.0 };
   own = own;

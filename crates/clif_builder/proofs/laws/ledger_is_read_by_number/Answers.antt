@@ -1,4 +1,4 @@
-use Rattle.std.proofs.Common.{◌≡◌, ℕ, ap, ◌∙◌}
+use Rattle.std.proofs.Common.{◌≡◌, ℕ, ap, sym, ◌∙◌}
 use Rattle.std.specs.Prelude.{Some, option_map, true}
 use Rattle.clif_meaning.specs.Name.{Name}
 use Rattle.clif_meaning.specs.Ledger.{BlockState, block_state, has_block}
@@ -10,6 +10,7 @@ use Rattle.clif_builder.proofs.LedgerKept.{named-value}
 use Rattle.clif_builder.proofs.LedgerMade.{block-exists}
 use Rattle.clif_builder.proofs.LedgerUsed.{ledger-type}
 use Rattle.clif_builder.proofs.LedgerVariables.{variable-count}
+use Rattle.clif_builder.proofs.Touching.{untouched_unused}
 use Rattle.clif_builder.proofs.laws.ledger_is_read_by_number.Goals as goal
 
 read-by-number : LedgerIsReadByNumber
@@ -24,6 +25,7 @@ read-by-number calls f c position agrees =
       value = λ name value names. named-value calls (ledger_of calls) f c position agrees name value names.number names.is_value;
       variable = ledger-type calls (ledger_of calls) f c position agrees;
       variable_count = variable-count calls (ledger_of calls) f c position agrees;
+      unused = λ variable untouched. untouched_unused agrees.own f c variable agrees.structured (sym (agrees.variables.touched variable) ∙ untouched);
     }
   where
     numbers : IsNumbered calls (ledger_of calls)

@@ -7,7 +7,8 @@ use Rattle.clif_types.specs.Signature.{SignatureShape}
 use Rattle.clif_types.specs.declared.target.TargetFrontendConfig.{TargetFrontendConfig}
 use Rattle.clif_resolution.specs.declared.answers.Answer.{Answer}
 use Rattle.clif_replay.specs.Ready.{IsCallJudged, TablesAgree}
-use Rattle.clif_replay.specs.Requests.{IsReplayed, calls_of, name_of}
+use Rattle.clif_replay.specs.Requests.{calls_of, name_of}
+use Rattle.clif_replay.specs.Replayed.{IsReplayed}
 use Rattle.std.specs.Prelude.{ℕ, Bool, true, length, Err, Ok, Result, Some, slice_get, take}
 use Rattle.clif_resolution.specs.declared.answers.CallError.{CallError}
 use Rattle.clif_resolution.specs.declared.answers.CallError.TheVariants as error

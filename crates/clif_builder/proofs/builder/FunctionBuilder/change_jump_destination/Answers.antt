@@ -52,7 +52,7 @@ invariant_of-self c =
           (λ order fits. fits_kept c.move_branch-moved.result c.args.self.now.func.now c.move_branch-moved.new.func c.args.self.now.ctx.now c.move_branch-moved.new.self
           (redirected_types c.move_branch-moved.result c.args.self.now.func.now c.args.self.now.ctx.now c.move_branch-moved.new.func c.move_branch-moved.new.self c.args.inst c.args.old_block c.args.new_block c.requires.inst_exists
           (redirects_from c.move_branch-moved.result c.args.self.now.func.now c.args.self.now.ctx.now c.move_branch-moved.new.func c.move_branch-moved.new.self c.args.inst c.args.old_block c.args.new_block done.moved done.records done.tracking done.status done.variables))
-          (on_ok_all c.move_branch-moved.result done.tracking) (on_ok_all c.move_branch-moved.result done.variables) fits)
+          (on_ok_all c.move_branch-moved.result done.tracking) (on_ok_all c.move_branch-moved.result done.variables.0) fits)
           c.args.self.now.named;
     }
 

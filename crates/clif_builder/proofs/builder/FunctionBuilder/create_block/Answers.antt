@@ -43,6 +43,6 @@ invariant_of-self c =
       named = kept_by c.make_block-made.result _ _ _ _ _ _ c.if-self.false c.is_err-self.ensures.value made.names
           (order-created c.make_block-made.result _ _ _ _ made.function made.records made.sealed made.predecessors made.status made.variables)
           (λ order fits. fits_kept c.make_block-made.result _ _ _ _ (made-types c.make_block-made.result _ _ made.function) (on_ok_all c.make_block-made.result made.tracking)
-          (on_ok_all c.make_block-made.result made.variables) fits)
+          (on_ok_all c.make_block-made.result made.variables.0) fits)
           c.args.self.now.named;
     }

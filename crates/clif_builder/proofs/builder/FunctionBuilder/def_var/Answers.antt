@@ -19,7 +19,7 @@ returns-clause-told c = λ name.
     told c.args.self.now _ c.def_var-recorded.result _ _
     (λ calls agrees names.
     let done = c.def_var-recorded.ensures in
-    assigned calls _ _ _ _ c.args.variable name c.in-Some.block c.args.value _ agrees c.requires.value_exists c.requires.same_type done.ok done.tracking done.blocks done.status done.variables)
+    assigned calls _ _ _ _ c.args.variable name c.in-Some.block c.args.value _ agrees c.requires.value_exists c.requires.same_type done.ok done.tracking done.blocks done.status done.touches)
     (λ signature calls stands names ledger.
     let done = c.def_var-recorded.ensures in
     assigned_stands signature calls _ _ _ _ c.args.variable c.args.value c.in-Some.block name _ stands c.in-Some.is c.law_consistent.ensures
@@ -43,7 +43,7 @@ invariant_of-self c =
     record {
       named = kept_by c.def_var-recorded.result _ _ _ _ _ _ c.if-self.false c.is_err-self.ensures.value (done.names _ c.requires.value_exists)
           (order-assigned c.def_var-recorded.result c.args.self.now.func.now c.args.self.now.ctx.now c.def_var-recorded.new.self c.args.variable c.in-Some.block c.args.value _
-          c.requires.same_type (c.requires.value_exists, refl) done.ok done.blocks done.status done.variables)
+          c.requires.same_type (c.requires.value_exists, refl) done.ok done.blocks done.status done.touches)
           (λ order fits. fits_bound c.def_var-recorded.result c.args.self.now.func.now c.args.self.now.ctx.now c.def_var-recorded.new.self c.args.variable c.args.value c.requires.value_exists
           c.requires.same_type done.tracking done.variables fits)
           c.args.self.now.named;

@@ -18,7 +18,7 @@ invariant_of-self c =
           (current_exists c.args.self.now c.requires.current c.in-Some.block c.in-Some.is) done.function done.status done.ssa done.variables)
           (λ order fits. fits_kept c.begin_block-begun.result c.args.self.now.func.now _ c.args.self.now.ctx.now _
           (inserted-types c.begin_block-begun.result c.args.self.now.func.now _ c.in-Some.block done.function) (on_ok_all c.begin_block-begun.result (ap (λ (s : SsaState). s.tracking) done.ssa))
-          (on_ok_all c.begin_block-begun.result done.variables) fits)
+          (on_ok_all c.begin_block-begun.result done.variables.0) fits)
           c.args.self.now.named;
     }
 

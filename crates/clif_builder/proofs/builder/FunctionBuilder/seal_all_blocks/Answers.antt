@@ -71,7 +71,7 @@ invariant_of-self c =
     record {
       named = kept_by c.seal_all_blocks-sealed.result _ _ _ _ _ _ c.if-self.false c.is_err-self.ensures.value (λ names. done.names)
           (order-sealed-all c.seal_all_blocks-sealed.result c.args.self.now.func.now c.seal_all_blocks-sealed.new.func c.args.self.now.ctx.now c.seal_all_blocks-sealed.new.self done.is_sealing c.law_consistent.ensures c.law_consistent-2.ensures done.variables)
-          (fits_sealed c.seal_all_blocks-sealed.result c.args.self.now.func.now c.seal_all_blocks-sealed.new.func c.args.self.now.ctx.now c.seal_all_blocks-sealed.new.self (λ b. ltb b (length c.args.self.now.func.now.blocks)) done.is_sealing done.variables)
+          (fits_sealed c.seal_all_blocks-sealed.result c.args.self.now.func.now c.seal_all_blocks-sealed.new.func c.args.self.now.ctx.now c.seal_all_blocks-sealed.new.self (λ b. ltb b (length c.args.self.now.func.now.blocks)) done.is_sealing done.variables.0)
           c.args.self.now.named;
     }
 

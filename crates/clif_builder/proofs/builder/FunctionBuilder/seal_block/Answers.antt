@@ -68,7 +68,7 @@ invariant_of-self c =
     record {
       named = kept_by c.seal_block-sealed.result _ _ _ _ _ _ c.if-self.false c.is_err-self.ensures.value (λ names. done.names)
           (order-sealed-one c.seal_block-sealed.result c.args.self.now.func.now c.seal_block-sealed.new.func c.args.self.now.ctx.now c.seal_block-sealed.new.self c.args.block c.requires.exists done.is_sealing c.law_consistent.ensures c.law_consistent-2.ensures done.variables)
-          (fits_sealed c.seal_block-sealed.result c.args.self.now.func.now c.seal_block-sealed.new.func c.args.self.now.ctx.now c.seal_block-sealed.new.self (λ b. b == c.args.block) done.is_sealing done.variables)
+          (fits_sealed c.seal_block-sealed.result c.args.self.now.func.now c.seal_block-sealed.new.func c.args.self.now.ctx.now c.seal_block-sealed.new.self (λ b. b == c.args.block) done.is_sealing done.variables.0)
           c.args.self.now.named;
     }
 

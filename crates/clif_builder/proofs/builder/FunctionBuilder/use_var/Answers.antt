@@ -23,7 +23,7 @@ returns-clause-told c =
     told_by c.args.self.now _ c.use_variable-used.result _ _
     (λ calls agrees _.
     used calls _ _ _ _ _ c.args.variable c.in-Some-var_type.ty c.in-Some.block _ agrees c.in-Some.is (sym c.var_type.ensures ∙ c.in-Some-var_type.is)
-    c.use_variable-used.ensures.is_use c.law_consistent-2.ensures c.use_variable-used.ensures.variables)
+    c.use_variable-used.ensures.is_use c.law_consistent-2.ensures c.use_variable-used.ensures.touches)
     (λ signature calls stands _ ledger.
     used_stands signature calls _ _ _ _ _ c.args.variable c.in-Some-var_type.ty c.in-Some.block _ stands c.law_consistent.ensures c.in-Some.is
     (current_open c.args.self.now c.requires.current c.in-Some.block c.in-Some.is) (sym c.var_type.ensures ∙ c.in-Some-var_type.is)
@@ -78,7 +78,7 @@ invariant_of-self c =
     record {
       named = kept_by c.use_variable-used.result _ _ _ _ _ _ c.if-self.false c.is_err-self.ensures.value (λ names. done.names)
           (order-used c.use_variable-used.result c.args.self.now.func.now c.use_variable-used.new.func c.args.self.now.ctx.now c.use_variable-used.new.ctx c.args.variable c.in-Some-var_type.ty c.in-Some.block
-          (current_exists c.args.self.now c.requires.current c.in-Some.block c.in-Some.is) (sym c.var_type.ensures ∙ c.in-Some-var_type.is) done.is_use c.law_consistent-2.ensures done.variables)
+          (current_exists c.args.self.now c.requires.current c.in-Some.block c.in-Some.is) (sym c.var_type.ensures ∙ c.in-Some-var_type.is) done.is_use c.law_consistent-2.ensures done.touches)
           (fits_used c.use_variable-used.result c.args.self.now.func.now c.use_variable-used.new.func c.args.self.now.ctx.now c.use_variable-used.new.ctx c.args.variable c.in-Some-var_type.ty c.in-Some.block
           done.is_use done.variables)
           c.args.self.now.named;

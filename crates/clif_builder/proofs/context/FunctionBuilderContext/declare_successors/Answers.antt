@@ -46,7 +46,7 @@ loop-edge-preserved c =
           let not_last : slice_get (predecessors_of t block) (length (predecessors_of t block) - 1) ≡ Some c.args.inst → ⊥ =
           λ last. not_both (c.is_last_predecessor.ensures.1 last) w.if-not-is_last_predecessor.true in
           subst (λ (i : Inside). IsDeclared s c.args.inst (targets (take (c.loop-edge.edge-index + 1) c.args.edges.now)) i.ssa
-          × ((f : Body) → c.args.inst < length f.insts → NamesExist f s → NamesExist f i.ssa) × (i.status ≡ c.self.inside.status) × (i.variables ≡ c.self.inside.variables)
+          × ((f : Body) → c.args.inst < length f.insts → NamesExist f s → NamesExist f i.ssa) × (i.status ≡ c.self.inside.status) × (i.variables ≡ c.self.inside.variables) × (i.touched ≡ c.self.inside.touched)
           × (c.args.edges.now ≡ [] → i.ssa ≡ s) × (LooksOnce s → LooksOnce i.ssa))
           (sym w.self-inside-is) (
             declare_more s t w.declare_block_predecessor.new.self c.args.inst c.args.edges.now c.loop-edge.edge-index c.edge-item.result c.edge-item.result inside c.edge-item.is
@@ -54,21 +54,23 @@ loop-edge-preserved c =
             (λ f exists before. names_more f t w.declare_block_predecessor.new.self c.args.inst block exists done.records done.blocks done.ok (c.loop-edge.invariant.1 f exists before)),
             c.loop-edge.invariant.2,
             c.loop-edge.invariant.3,
+            c.loop-edge.invariant.4,
             none_inside w.declare_block_predecessor.new.self,
-            (λ before. done.looks_once (c.loop-edge.invariant.5 before)),
+            (λ before. done.looks_once (c.loop-edge.invariant.6 before)),
           )
       | else-not-is_last_predecessor w ↦
           let last : slice_get (predecessors_of t block) (length (predecessors_of t block) - 1) ≡ Some c.args.inst = c.is_last_predecessor.ensures.0 (is_true w.if-not-is_last_predecessor.false) in
           subst (λ (i : Inside). IsDeclared s c.args.inst (targets (take (c.loop-edge.edge-index + 1) c.args.edges.now)) i.ssa
-          × ((f : Body) → c.args.inst < length f.insts → NamesExist f s → NamesExist f i.ssa) × (i.status ≡ c.self.inside.status) × (i.variables ≡ c.self.inside.variables)
+          × ((f : Body) → c.args.inst < length f.insts → NamesExist f s → NamesExist f i.ssa) × (i.status ≡ c.self.inside.status) × (i.variables ≡ c.self.inside.variables) × (i.touched ≡ c.self.inside.touched)
           × (c.args.edges.now ≡ [] → i.ssa ≡ s) × (LooksOnce s → LooksOnce i.ssa))
           (sym w.self-inside-is) (
             declare_skipped s t c.args.inst c.args.edges.now c.loop-edge.edge-index c.edge-item.result c.edge-item.result inside c.edge-item.is new c.loop-edge.invariant.0 last,
             c.loop-edge.invariant.1,
             c.loop-edge.invariant.2,
             c.loop-edge.invariant.3,
+            c.loop-edge.invariant.4,
             none_inside t,
-            c.loop-edge.invariant.5,
+            c.loop-edge.invariant.6,
           )
     ]
   where
@@ -86,7 +88,7 @@ pub returns-in_err-declare_block_predecessor-clause-looks_once :
     goal.returns-in_err-declare_block_predecessor-clause-looks_once
 returns-in_err-declare_block_predecessor-clause-looks_once c = λ before.
     c.declare_block_predecessor.ensures.looks_once
-    (c.loop-edge.invariant.5 (subst (λ (v : ContextState). LooksOnce v.ssa) (sym c.self.view_is) before))
+    (c.loop-edge.invariant.6 (subst (λ (v : ContextState). LooksOnce v.ssa) (sym c.self.view_is) before))
 
 pub returns-clause-looks_once : goal.returns-clause-looks_once
-returns-clause-looks_once c = λ before. c.loop-edge.invariant.5 (subst (λ (v : ContextState). LooksOnce v.ssa) (sym c.self.view_is) before)
+returns-clause-looks_once c = λ before. c.loop-edge.invariant.6 (subst (λ (v : ContextState). LooksOnce v.ssa) (sym c.self.view_is) before)

@@ -11,6 +11,6 @@ invariant-loop-edge l =
     IsDeclared l.initial.self-inside.ssa l.inst (targets (take l.edge-index l.edges)) l.self-inside.ssa
     × ((f : Body) → l.inst < length f.insts → NamesExist f l.initial.self-inside.ssa → NamesExist f l.self-inside.ssa)
     × (l.self-inside.status ≡ l.initial.self-inside.status)
-    × (l.self-inside.variables ≡ l.initial.self-inside.variables)
+    × (l.self-inside.variables ≡ l.initial.self-inside.variables) × (l.self-inside.touched ≡ l.initial.self-inside.touched)
     × (l.edges ≡ [] → l.self-inside.ssa ≡ l.initial.self-inside.ssa)
     × (LooksOnce l.initial.self-inside.ssa → LooksOnce l.self-inside.ssa)

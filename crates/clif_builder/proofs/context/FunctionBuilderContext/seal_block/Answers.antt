@@ -34,7 +34,7 @@ returns-clause-is_sealing c =
       told,
       subst (λ (v : ContextState). IsSealing c.args.func.now v.ssa c.seal_block.new.func c.begin_all.new.self.ssa c.args.block told) c.self.view_is
           (subst (λ (t : SsaState). IsSealing c.args.func.now c.self.inside.ssa c.seal_block.new.func t c.args.block told) (sym c.begin_all.ensures.ssa) sealing),
-      begins_from c.args.self.now (record { ssa = c.seal_block.new.self; status = c.self.inside.status; variables = c.self.inside.variables.items }) c.begin_all.new.self c.as_slice.result.now told
+      begins_from c.args.self.now (record { ssa = c.seal_block.new.self; status = c.self.inside.status; variables = c.self.inside.variables.items; touched = c.self.inside.touched }) c.begin_all.new.self c.as_slice.result.now told
           (ap (λ (v : ContextState). v.status) c.self.view_is) c.as_slice.ensures.value begins,
     )) c.begin_all.ensures.status
 

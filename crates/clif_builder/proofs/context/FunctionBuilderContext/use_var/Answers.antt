@@ -1,10 +1,14 @@
 use Rattle.std.proofs.Common.{List, ℕ, sym, ap, subst}
 use Rattle.clif_ssa.specs.Ssa.{SsaState, NamesExist}
+use Rattle.clif_ssa.proofs.Constructing.{constructs_none}
 use Rattle.clif_builder.specs.Context.{ContextState}
 use Rattle.clif_builder.specs.Construction.{IsUse}
 use Rattle.clif_builder.proofs.Statuses.{begins_from}
 use Rattle.clif_builder.proofs.Tracks.{tracks}
 use Rattle.clif_builder.proofs.context.FunctionBuilderContext.use_var.Goals as goal
+
+pub returns-in_err-insert-clause-constructs : goal.returns-in_err-insert-clause-constructs
+returns-in_err-insert-clause-constructs c = constructs_none c.args.func.now
 
 pub returns-clause-is_use : goal.returns-clause-is_use
 returns-clause-is_use c =
@@ -27,6 +31,6 @@ returns-clause-is_use c =
       told,
       subst (λ (v : ContextState). IsUse c.args.func.now v.ssa c.use_var.new.func c.begin_all.new.self.ssa c.args.variable c.args.ty c.args.block c.in_ok-value.value told) c.self.view_is
           (subst (λ (t : SsaState). IsUse c.args.func.now c.self.inside.ssa c.use_var.new.func t c.args.variable c.args.ty c.args.block c.in_ok-value.value told) (sym c.begin_all.ensures.ssa) is_use),
-      begins_from c.args.self.now (record { ssa = c.use_var.new.self; status = c.self.inside.status; variables = c.self.inside.variables.items }) c.begin_all.new.self c.as_slice.result.now told
+      begins_from c.args.self.now (record { ssa = c.use_var.new.self; status = c.self.inside.status; variables = c.self.inside.variables.items; touched = c.insert.new.self }) c.begin_all.new.self c.as_slice.result.now told
           (ap (λ (v : ContextState). v.status) c.self.view_is) c.as_slice.ensures.value c.in_ok-begin_all.ensures.status,
     )

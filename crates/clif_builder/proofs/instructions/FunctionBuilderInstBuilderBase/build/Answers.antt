@@ -27,6 +27,6 @@ invariant_of-self c =
           (order-built _ c.append-built.result c.args.self.now.func.now _ c.args.self.now.ctx.now _ c.in-Some.block c.args.shape c.args.ctrl_type c.law_consistent.ensures
           (current_exists c.args.self.now c.requires.current c.in-Some.block c.in-Some.is) (current_open c.args.self.now c.requires.current c.in-Some.block c.in-Some.is)
           done.appends done.variables c.requires.edges done.declares done.ssa)
-          (λ order fits. fits_built _ c.append-built.result c.args.self.now.func.now _ c.args.self.now.ctx.now _ c.in-Some.block c.args.shape c.args.ctrl_type done.appends done.declares done.variables fits)
+          (λ order fits. fits_built _ c.append-built.result c.args.self.now.func.now _ c.args.self.now.ctx.now _ c.in-Some.block c.args.shape c.args.ctrl_type done.appends done.declares done.variables.0 fits)
           c.args.self.now.named;
     }

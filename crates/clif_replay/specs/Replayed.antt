@@ -1,0 +1,92 @@
+-- What comes of a list of calls: that plain calls made a function of it, and the verdict on it. Own.
+use Rattle.std.specs.Prelude.{◌≡◌, ◌⊎◌, ℕ, List, [], ◌∷◌, ◌++◌, length, take, drop, slice_get, Option, Some, None, true, Result, Ok, Err}
+use Rattle.std.specs.List.{AllByRecursion}
+use Rattle.clif_ir.specs.Body.{Body}
+use Rattle.clif_meaning.specs.Instruction.{Bytes, Operation}
+use Rattle.clif_meaning.specs.Request.{Finalize, Script, AnsweredCall, script_of}
+use Rattle.clif_meaning.specs.Ledger.{empty_ledger}
+use Rattle.clif_meaning.specs.Acceptance.{Verdict, Accepted, Misuse, Refused}
+use Rattle.clif_types.specs.declared.types.«Type».{«Type»}
+use Rattle.clif_types.specs.Signature.{SignatureShape}
+use Rattle.clif_types.specs.Types.{bits_of}
+use Rattle.clif_types.specs.declared.extname.UserFuncName.{UserFuncName}
+use Rattle.clif_types.specs.declared.target.TargetFrontendConfig.{TargetFrontendConfig}
+use Rattle.clif_builder.specs.Context.{ContextState}
+use Rattle.clif_builder.specs.StandsFor.{LeavesNoParameter, StandsIn}
+use Rattle.clif_calls.specs.declared.call.Call.{Call}
+use Rattle.clif_expansion.specs.CallsVerdict.{AreCallsTaken, verdict_on_call_attempts, verdict_on_calls_from}
+use Rattle.clif_expansion.specs.CallsVerdict as verdict
+use Rattle.clif_expansion.specs.JoinedCalls.{AreJoinedCalls}
+use Rattle.clif_expansion.specs.PerformedCalls.{ArePerformed}
+use Rattle.clif_expansion.specs.Reading.{Reading}
+use Rattle.clif_expansion.specs.ScriptCall.{Ask, Emit, ScriptCall, call_allowed, ledger_of}
+use Rattle.clif_replay.specs.declared.script.ReplayError.{ReplayError}
+use Rattle.clif_replay.specs.declared.script.ReplayError.TheVariants as replay
+use Rattle.clif_replay.specs.Limits.{MeetsFullTable}
+use Rattle.clif_replay.specs.Requests.{attempts_from, attempts_of, call_of, calls_of, is_refusable}
+
+abbrev pub AreBytesOf : (pointer_width : ℕ) → Operation → «Type» → Type 0
+AreBytesOf pointer_width (Bytes operation) ty = bits_of ty ≡ pointer_width
+AreBytesOf pointer_width _ ty = Unit {0}
+
+-- what is emitted is of pointers of this width, if it is a memory helper
+abbrev pub IsOfWidth : (pointer_width : ℕ) → ScriptCall → Type 0
+IsOfWidth pointer_width (Ask request) = Unit {0}
+IsOfWidth pointer_width (Emit imports instruction) = AreBytesOf pointer_width instruction.operation instruction.controlling
+
+-- These are plain calls of a script's calls: their names are read as the script's, and the code of each emission does what the
+-- instruction does that is emitted, whatever the width of pointers, if it is that of the memory helpers.
+pub record ArePlainCalls (plain : Script) (calls : List ScriptCall) : Type 0 where
+  pub reading : Reading
+  pub joined : AreJoinedCalls reading plain calls
+  pub performed : (pointer_width : ℕ) → AllByRecursion (IsOfWidth pointer_width) calls → ArePerformed pointer_width reading plain calls joined
+
+-- the first calls of a list were made, as many as `place` says, and the verdict on the list is that on the rest
+pub record IsReplayed (config : TargetFrontendConfig) (signature : SignatureShape) (calls : List Call) (place : ℕ) (made : List AnsweredCall) : Type 0 where
+  pub plain : ArePlainCalls (script_of made) (calls_of config signature (take place calls))
+  pub taken : AreCallsTaken empty_ledger (calls_of config signature (take place calls))
+  pub rest : verdict_on_call_attempts (attempts_of config signature calls)
+      ≡ verdict_on_calls_from place (ledger_of (calls_of config signature (take place calls)))
+      (attempts_from config signature (ledger_of (calls_of config signature (take place calls))) (drop place calls) ++ verdict.made (Ask Finalize) ∷ [])
+
+-- the calls that may be refused: `finalize`, behind the last one, switches, and those that are only tried
+abbrev pub MayBeRefused : List Call → ℕ → Type 0
+MayBeRefused calls place = (place ≡ length calls) ⊎ ((call : Call) × (slice_get calls place ≡ Some call) × (is_refusable call ≡ true))
+
+-- the verdict that a replay's answer tells; refused memory and a full table tell none
+abbrev pub verdict_of : Result Body ReplayError → Option Verdict
+verdict_of (Ok function) = Some Accepted
+verdict_of (Err (replay.Misuse place)) = Some (Misuse place)
+verdict_of (Err (replay.Refused place)) = Some (Refused place)
+verdict_of (Err replay.Memory) = None
+verdict_of (Err replay.Full) = None
+
+-- The function was built by plain calls of these calls, and by no others: a builder of it, with this context and current block,
+-- stands for them, on a function of the caller's signature; and no variable's parameter is left in a block to which at most one
+-- branch leads.
+pub record IsBuiltBy (config : TargetFrontendConfig) (calls : List Call) (declared : SignatureShape) (f : Body) : Type 0 where
+  pub made : List AnsweredCall
+  pub plain : ArePlainCalls (script_of made) (calls_of config declared calls)
+  pub context : ContextState
+  pub position : Option ℕ
+  pub stands : StandsIn declared made f context position
+  pub parameters : LeavesNoParameter made f context.ssa
+
+-- A full table ends a list of calls: the calls before some place were made, and a builder of a function of this name and
+-- signature, with this context and current block, stands for them; and the call at that place is allowed then, and meets a full
+-- table.
+pub record IsStoppedByTable (config : TargetFrontendConfig) (calls : List Call) (name : UserFuncName) (declared : SignatureShape) : Type 0 where
+  pub place : ℕ
+  pub call : Call
+  pub here : slice_get calls place ≡ Some call
+  pub made : List AnsweredCall
+  pub replayed : IsReplayed config declared calls place made
+  pub function : Body
+  pub context : ContextState
+  pub position : Option ℕ
+  pub stands : StandsIn declared made function context position
+  pub named : function.name ≡ name
+  pub allowed :
+      let ledger = ledger_of (calls_of config declared (take place calls)) in
+      call_allowed ledger (call_of config declared ledger call) ≡ true
+  pub meets : MeetsFullTable call function context
