@@ -1,6 +1,8 @@
 -- The parts of a builder stand for the calls of the worked example: what the ledger of the calls says of answers, blocks, layout,
 -- variables and tables is what the function, the context and the current block hold.
 use Rattle.std.proofs.Common.{◌≡◌, ◌≢◌, ◌≤◌, ℕ, zero, suc, false, List, [], ◌∷◌, length, slice_get, Some, None, Contains, inl, refl, sym, subst, arith}
+use Rattle.std.proofs.lemmas.Bool.Decides.{nat_tests}
+use Rattle.std.specs.Prelude.{◌==◌}
 use Rattle.clif_types.specs.EntitySet.{has}
 use Rattle.clif_ir.specs.Body.{block_at}
 use Rattle.clif_records.specs.Tables.{is_yes}
@@ -130,7 +132,10 @@ own_alone b = inl (subst (λ (values : List ℕ). (block_at moved_body b).params
 
 touched : (x : ℕ) → was_touched (slice_get ledger.variables x) ≡ has moved_context.touched x
 touched zero = refl
-touched (suc x) = refl
+touched (suc x) = rw (other x) refl
+  where
+    other : (x : ℕ) → (0 == suc x) ≡ false
+    other x = grind (arith, nat_tests)
 
 -- Together ----------------------------------------------------------------------------------------------------------------
 
