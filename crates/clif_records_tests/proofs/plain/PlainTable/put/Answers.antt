@@ -1,5 +1,3 @@
-use Rattle.std.proofs.Common.{◌∙◌}
-use Rattle.clif_records.proofs.RecordLaws.{on_ok}
 use Rattle.clif_records_tests.proofs.Sorted.{put}
 use Rattle.clif_records_tests.proofs.plain.PlainTable.put.Goals as goal
 
