@@ -1,0 +1,6 @@
+use Rattle.std.proofs.Common.{ap}
+use Rattle.std.specs.FinMap as map
+use Rattle.clif_records_tests.proofs.plain.PlainTable.new.Goals as goal
+
+pub returns : goal.returns
+returns c = ap map.from_entries c.new.ensures.empty
