@@ -54,7 +54,8 @@ fn operands_of(func: &Function, answers: &[Answer], call: &MemoryCall) -> Option
     requires { AnswersExist func.now answers.now }
     ensures found { IfSome result (AreOperands func.now answers.now call.now) }
     ensures named { IfSome result (λ values. IsNamed func.now answers.now values.second) }
-    ensures missing { result ≡ None → all_values func.now answers.now (operands_in call.now) ≡ false }
+    ensures missing { result ≡ None
+        → all_values func.now answers.now (operands_in call.now) ≡ false }
 {
     match call {
         MemoryCall::CallLibrary {
@@ -78,10 +79,14 @@ fn three_of(
     third: Name,
 ) -> Option<Operands>
     requires { AnswersExist func.now answers.now }
-    ensures first { IfSome result (λ values. value_of func.now answers.now first ≡ Some values.first) }
-    ensures second { IfSome result (λ values. value_of func.now answers.now second ≡ Some values.second) }
-    ensures third { IfSome result (λ values. value_of func.now answers.now third ≡ Some values.third) }
-    ensures missing { result ≡ None → all_values func.now answers.now (first ∷ second ∷ third ∷ []) ≡ false }
+    ensures first { IfSome result (λ values.
+        value_of func.now answers.now first ≡ Some values.first) }
+    ensures second { IfSome result (λ values.
+        value_of func.now answers.now second ≡ Some values.second) }
+    ensures third { IfSome result (λ values.
+        value_of func.now answers.now third ≡ Some values.third) }
+    ensures missing { result ≡ None
+        → all_values func.now answers.now (first ∷ second ∷ third ∷ []) ≡ false }
 {
     Some(Operands {
         first: value_named(func, answers, first)?,

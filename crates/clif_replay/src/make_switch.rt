@@ -96,7 +96,9 @@ fn switch_of(
     requires { are_targets builder.now answers.now entries.now ≡ true }
     ensures ok { IfOk result (λ switch. switch ≡ cases_at answers.now entries.now) }
     ensures once { IfOk result (λ switch. are_twice entries.now ≡ false) }
-    ensures err { IfErr result (λ error. ((error ≡ CallError.Refused) × (are_twice entries.now ≡ true)) ⊎ (error ≡ CallError.Memory)) }
+    ensures err { IfErr result (λ error.
+        ((error ≡ CallError.Refused) × (are_twice entries.now ≡ true))
+        ⊎ (error ≡ CallError.Memory)) }
 {
     let mut switch = Switch::new(builder.func().allocator());
     for entry in entries.iter() {

@@ -98,16 +98,26 @@ pub fn replay(
     config: TargetFrontendConfig,
 ) -> Result<Function, ReplayError>
     requires { ctx.old ≡ empty_context }
-    ensures same_meaning { IfOk result (λ function. CallsMeanTheSame (calls_of config signature calls.now) signature config.pointer_width (view_of function)) }
+    ensures same_meaning { IfOk result (λ function.
+        CallsMeanTheSame (calls_of config signature calls.now) signature config.pointer_width
+        (view_of function)) }
     ensures built { IfOk result (λ function. IsBuiltBy config calls.now signature function) }
-    ensures edges_match { IfOk result (λ function. CallersEdgesMatchInCalls (calls_of config signature calls.now) → EdgesMatch (view_of function)) }
-    ensures well_placed { IfOk result (λ function. CallsPlacementPremises (calls_of config signature calls.now) signature → WellPlaced (view_of function)) }
+    ensures edges_match { IfOk result (λ function.
+        CallersEdgesMatchInCalls (calls_of config signature calls.now)
+        → EdgesMatch (view_of function)) }
+    ensures well_placed { IfOk result (λ function.
+        CallsPlacementPremises (calls_of config signature calls.now) signature
+        → WellPlaced (view_of function)) }
     ensures name { IfOk result (λ function. function.name ≡ name) }
     ensures context { ctx.new ≡ empty_context }
     ensures misuse { (i : ℕ) → result ≡ Err (ReplayError.Misuse i) → i < length calls.now }
     ensures refused { (i : ℕ) → result ≡ Err (ReplayError.Refused i) → MayBeRefused calls.now i }
-    ensures table_full { result ≡ Err ReplayError.Full → IsStoppedByTable config calls.now name signature }
-    ensures verdict { result ≢ Err ReplayError.Memory → result ≢ Err ReplayError.Full → verdict_of result ≡ Some (verdict_on_call_attempts (attempts_of config signature calls.now)) }
+    ensures table_full { result ≡ Err ReplayError.Full
+        → IsStoppedByTable config calls.now name signature }
+    ensures verdict { result ≢ Err ReplayError.Memory
+        → result ≢ Err ReplayError.Full
+        → verdict_of result
+        ≡ Some (verdict_on_call_attempts (attempts_of config signature calls.now)) }
 {
     let mut func = Function::with_name_signature(alloc, name, signature);
     build(alloc, calls, &mut func, ctx, config)?;
@@ -125,7 +135,8 @@ fn build(
     requires fresh { func.old ≡ empty_body func.old.name func.old.signature }
     requires empty { ctx.old ≡ empty_context }
     ensures finished { OnOk result (ReplayMakes calls.now func.old.name func.old.signature config func.new) }
-    ensures told { IfErr result (λ error. ReplayTells calls.now func.old.name func.old.signature config (Err error)) }
+    ensures told { IfErr result (λ error.
+        ReplayTells calls.now func.old.name func.old.signature config (Err error)) }
     ensures context { ctx.new ≡ empty_context }
 {
     let mut builder = FunctionBuilder::new(func, ctx);
@@ -154,13 +165,22 @@ fn make_calls(
     requires sound { builder.old.failed ≡ false }
     ensures loans { SameLoans builder.old builder.new }
     ensures name { OnOk result (builder.new.func.now.name ≡ builder.old.func.now.name) }
-    ensures ready { OnOk result ((made : List AnsweredCall) × StandsFor builder.old.func.now.signature made builder.new × IsReplayed config builder.old.func.now.signature calls.now (length calls.now) made) }
+    ensures ready { OnOk result ((made : List AnsweredCall)
+        × StandsFor builder.old.func.now.signature made builder.new
+        × IsReplayed config builder.old.func.now.signature calls.now (length calls.now) made) }
     ensures sound { OnOk result (builder.new.failed ≡ false) }
     ensures misuse { (i : ℕ) → result ≡ Err (ReplayError.Misuse i) → i < length calls.now }
-    ensures judged { (i : ℕ) → result ≡ Err (ReplayError.Misuse i) → verdict_on_call_attempts (attempts_of config builder.old.func.now.signature calls.now) ≡ acceptance.Misuse i }
+    ensures judged { (i : ℕ)
+        → result ≡ Err (ReplayError.Misuse i)
+        → verdict_on_call_attempts (attempts_of config builder.old.func.now.signature calls.now)
+        ≡ acceptance.Misuse i }
     ensures tried { (i : ℕ) → result ≡ Err (ReplayError.Refused i) → MayBeRefused calls.now i }
-    ensures refused { (i : ℕ) → result ≡ Err (ReplayError.Refused i) → verdict_on_call_attempts (attempts_of config builder.old.func.now.signature calls.now) ≡ acceptance.Refused i }
-    ensures table_full { result ≡ Err ReplayError.Full → IsStoppedByTable config calls.now builder.old.func.now.name builder.old.func.now.signature }
+    ensures refused { (i : ℕ)
+        → result ≡ Err (ReplayError.Refused i)
+        → verdict_on_call_attempts (attempts_of config builder.old.func.now.signature calls.now)
+        ≡ acceptance.Refused i }
+    ensures table_full { result ≡ Err ReplayError.Full
+        → IsStoppedByTable config calls.now builder.old.func.now.name builder.old.func.now.signature }
 {
     ledger_is_read_by_number();
     let mut answers = Vec::new(alloc);
