@@ -3,8 +3,8 @@
 //! One has a tag, a default and a context. It goes on in block2 with what it returns. An exception with the tag 1 goes to
 //! block3 with its first part, and any other one to block4.
 //!
-//! The other one has a default alone. It goes on in block1 with a value and what it returns. An exception goes to block2, with
-//! values.
+//! The other one has a default alone. It goes on in block1 with a value and what it returns. An exception goes to block2
+//! with values.
 #![tactic(auto)]
 
 ghost use Rattle.std.specs.Prelude.{◌≡◌, ◌<◌, ◌∷◌, [], length, IfOk, Some};
@@ -121,7 +121,8 @@ fn call_passing(
     thrown: &[BlockArg],
 )
     requires exists { sig < length builder.old.func.now.tables.signatures }
-    requires held { table_held exception_tables builder.old table ≡ Some (passing_table sig x thrown.now) }
+    requires held { table_held exception_tables builder.old table
+        ≡ Some (passing_table sig x thrown.now) }
 {
     asserts_current(rt, builder);
     asserts_value(rt, builder, x);

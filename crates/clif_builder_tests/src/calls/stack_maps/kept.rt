@@ -58,8 +58,8 @@ block0:
 }
 ";
 
-// The building of `%kept` ends with this answer, and the function is the one that was built. The row `slot_reuse` is built with
-// the context before and afterwards.
+// The building of `%kept` ends with this answer, and the function is the one that was built. The row `slot_reuse` is built
+// with the context before and afterwards.
 fn keeps(
     rt: &impl Abort,
     alloc: Global,

@@ -327,8 +327,8 @@ block2(v3: i64):
 ",
 };
 
-// `zero_marked`: a marked variable that is never assigned is used in a sealed block to which nothing leads, before a call and
-// after it.
+// `zero_marked`: a marked variable that is never assigned is used in a sealed block to which nothing leads, before a call
+// and after it.
 const ZERO_MARKED: Row = Row {
     header: Header {
         name: Some("zero_marked"),

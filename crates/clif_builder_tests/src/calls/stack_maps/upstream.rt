@@ -59,8 +59,8 @@ block0(v0: i32, v1: i32):
 ",
 };
 
-// `needs_stack_map_simple`: one value less is live across each call. v3 is live across none, and what is only passed to a call
-// isn't live across it.
+// `needs_stack_map_simple`: one value less is live across each call. v3 is live across none, and what is only passed to a
+// call isn't live across it.
 const SIMPLE: Row = Row {
     header: Header {
         name: Some("sample"),
@@ -272,8 +272,8 @@ block2:
 ",
 };
 
-// `needs_stack_map_and_cfg_diamond`: block1 passes v1 and v2 to block3, and block2 passes v3 twice. v4 isn't live, and block3
-// uses v1, which block2 doesn't make.
+// `needs_stack_map_and_cfg_diamond`: block1 passes v1 and v2 to block3, and block2 passes v3 twice. v4 isn't live, and
+// block3 uses v1, which block2 doesn't make.
 const DIAMOND: Row = Row {
     header: Header {
         name: Some("sample"),
