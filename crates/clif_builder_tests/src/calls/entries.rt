@@ -80,7 +80,7 @@ pub fn import_function(
     Ok(())
 }
 
-/// Imports the next function, which is called `u0:0`, is near, and has the first signature.
+/// Imports the next function, which is named `u0:0`, is colocated, and has the first signature.
 pub fn import_colocated(rt: &impl Abort, builder: &mut FunctionBuilder<'_>) {
     import(rt, builder, ExternalName::user(0, 0), SigRef::new(0), true);
 }

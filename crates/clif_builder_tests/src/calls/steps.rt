@@ -93,7 +93,7 @@ pub enum Entry {
     Signature(&'static [Type], &'static [Type]),
     /// The next function, which has this signature.
     Function(&'static str, u8),
-    /// The next function, `u0:0`, which is near and has the first signature.
+    /// The next function, `u0:0`, which is colocated and has the first signature.
     Colocated,
     Slot,
     DynamicSlot,
