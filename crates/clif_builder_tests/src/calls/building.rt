@@ -1,6 +1,7 @@
 //! Functions that are built call by call, and what is asked on the way.
 #![tactic(auto)]
 
+use crate::calls::built::{builds, finishes, plain};
 use crate::calls::queries::Query::{
     Current, Failed, Filled, LaidOut, Leads, Params, Place as PlaceNow, Pristine, Reached, Sealed,
     Unreachable,
@@ -13,7 +14,7 @@ use crate::calls::steps::Note::{CollectLabels, Label, Place};
 use crate::calls::steps::Operand::{AtCursor, ByDouble, Constant, DoubleAtCursor, Param, Read};
 use crate::calls::steps::Step::{Do, Enter, Has, Is, Isnt, Make, Note};
 use crate::calls::steps::Trait::{Labels, Place as PlaceOf};
-use crate::calls::steps::{Deed, Step, builds, finishes, plain};
+use crate::calls::steps::{Deed, Step};
 use clif_types::types::I32;
 use cranelift_frontend::{Block, FinalizeError};
 use std::test::Fail;
@@ -135,7 +136,7 @@ fn by_the_cursor(rt: HostRuntime) -> Result<(), Fail> {
 
 const ENTRIES: [Step; 5] = [
     Enter(Signature(&[I32], &[])),
-    Enter(Function("g")),
+    Enter(Function("g", 0)),
     Enter(Slot),
     Enter(DynamicSlot),
     Enter(GlobalContext),

@@ -3,11 +3,11 @@
 
 ghost use Rattle.std.specs.Prelude.{◌≡◌, ◌<◌, length};
 
-use crate::asserted::asserts_current;
+use crate::asserted::{asserts_current, asserts_function, asserts_signature, asserts_values};
 use crate::fixture::signature;
 use cranelift_frontend::{
     DynamicStackSlotData, EntityRef, ExtFuncData, ExternalName, FuncRef, FunctionBuilder,
-    GlobalValueData, InstBuilder, SigRef, StackSlotData, Type,
+    GlobalValueData, Inst, InstBuilder, SigRef, StackSlotData, Type, Value,
 };
 use std::alloc::Global;
 use std::process::Abort;
@@ -30,7 +30,7 @@ pub fn first_function(rt: &impl Abort, builder: &FunctionBuilder<'_>) -> FuncRef
     FuncRef::new(0)
 }
 
-/// Imports the first signature.
+/// Imports the next signature.
 pub fn import_signature(
     rt: &impl Abort,
     alloc: Global,
@@ -38,30 +38,51 @@ pub fn import_signature(
     params: &[Type],
     returns: &[Type],
 ) -> Result<(), Fail> {
-    assert!(rt; builder.signature(SigRef::new(0)).is_none());
+    let count = builder.func().tables().signature_count();
+    assert!(rt; count < 10);
+    assert!(rt; builder.signature(SigRef::new(count)).is_none());
     let number = builder.import_signature(signature(alloc, params, returns)?)?;
-    assert!(rt; number.index() == 0);
+    assert!(rt; number.index() == count);
     assert!(rt; builder.signature(number).is_some());
     Ok(())
 }
 
-/// Imports the first function, which has this name and the first signature.
+// Imports the next function.
+fn import(
+    rt: &impl Abort,
+    builder: &mut FunctionBuilder<'_>,
+    name: ExternalName,
+    signature: SigRef,
+    colocated: bool,
+) {
+    asserts_signature(rt, builder, signature);
+    let count = builder.func().tables().function_count();
+    let function = ExtFuncData {
+        name,
+        signature,
+        colocated,
+        patchable: false,
+    };
+    let number = builder.import_function(function).expect(rt, "a function");
+    assert!(rt; number.index() == count);
+}
+
+/// Imports the next function, which has this name, and a signature that was imported before.
 pub fn import_function(
     rt: &impl Abort,
     alloc: Global,
     builder: &mut FunctionBuilder<'_>,
     name: &str,
+    signature: SigRef,
 ) -> Result<(), Fail> {
     let name = ExternalName::testcase(String::from_str(alloc, name)?);
-    let signature = first_signature(rt, builder);
-    let number = builder.import_function(ExtFuncData {
-        name,
-        signature,
-        colocated: false,
-        patchable: false,
-    })?;
-    assert!(rt; number.index() == 0);
+    import(rt, builder, name, signature, false);
     Ok(())
+}
+
+/// Imports the next function, which is named `u0:0`, is colocated, and has the first signature.
+pub fn import_colocated(rt: &impl Abort, builder: &mut FunctionBuilder<'_>) {
+    import(rt, builder, ExternalName::user(0, 0), SigRef::new(0), true);
 }
 
 /// Makes the first stack slot, of four bytes.
@@ -88,9 +109,30 @@ pub fn create_context(rt: &impl Abort, builder: &mut FunctionBuilder<'_>) {
     assert!(rt; number.index() == 0);
 }
 
-/// Calls the first function, which takes nothing.
-pub fn call(rt: &impl Abort, builder: &mut FunctionBuilder<'_>) {
+/// Calls a function that was imported, with these values.
+pub fn call(
+    rt: &impl Abort,
+    builder: &mut FunctionBuilder<'_>,
+    function: FuncRef,
+    args: &[Value],
+) -> Inst
+    ensures { result < length builder.new.func.now.insts }
+{
     asserts_current(rt, builder);
-    let function = first_function(rt, builder);
-    builder.ins().call(function, &[]).expect(rt, "a call");
+    asserts_function(rt, builder, function);
+    asserts_values(rt, builder, args);
+    builder.ins().call(function, args).expect(rt, "a call")
+}
+
+/// What such a call returns, which is one value.
+pub fn returned(
+    rt: &impl Abort,
+    builder: &mut FunctionBuilder<'_>,
+    function: FuncRef,
+    args: &[Value],
+) -> Value {
+    let inst = call(rt, builder, function, args);
+    let results = builder.inst_results(inst);
+    assert!(rt; results.len() == 1);
+    results[0]
 }

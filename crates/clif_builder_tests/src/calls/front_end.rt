@@ -2,13 +2,15 @@
 #![tactic(auto)]
 
 use crate::asserted::{
-    asserts_block, asserts_current, asserts_target, asserts_unsealed, asserts_value, last_inst,
+    asserts_block, asserts_current, asserts_edge, asserts_target, asserts_unsealed, asserts_value,
+    asserts_values, last_inst,
 };
 use crate::calls::generic::there_and_back;
 use clif_types::types::I32;
 use cranelift_frontend::{
-    Block, DefVariableError, EntityRef, FunctionBuilder, InstBuilder, InstBuilderBase,
-    InstructionData, Type, UseVariableError, Value, Variable,
+    Block, BlockArg, BuildError, ConstantOperands, DefVariableError, EntityRef, FunctionBuilder,
+    InstBuilder, InstBuilderBase, InstructionData, TrapCode, Type, UseVariableError, Value,
+    Variable,
 };
 use std::process::Abort;
 
@@ -141,6 +143,68 @@ pub fn give_back(rt: &impl Abort, builder: &mut FunctionBuilder<'_>, value: Valu
     asserts_value(rt, builder, value);
     let inst = builder.ins().return_(&[value]).expect(rt, "a return");
     assert!(rt; builder.inst_results(inst).len() == 0);
+}
+
+/// Ends the current block with a return of these values.
+pub fn give_back_each(rt: &impl Abort, builder: &mut FunctionBuilder<'_>, values: &[Value]) {
+    asserts_current(rt, builder);
+    asserts_values(rt, builder, values);
+    builder.ins().return_(values).expect(rt, "a return");
+}
+
+/// Ends the current block with a jump that passes this.
+pub fn jump(rt: &impl Abort, builder: &mut FunctionBuilder<'_>, block: Block, passed: &[BlockArg]) {
+    asserts_current(rt, builder);
+    asserts_edge(rt, builder, block, passed);
+    builder.ins().jump(block, passed).expect(rt, "a jump");
+}
+
+/// Ends the current block with a trap.
+pub fn trap(rt: &impl Abort, builder: &mut FunctionBuilder<'_>, code: u8) {
+    asserts_current(rt, builder);
+    builder
+        .ins()
+        .trap(TrapCode::User(code))
+        .expect(rt, "a trap");
+}
+
+/// The sum of a value and a constant.
+pub fn sum(rt: &impl Abort, builder: &mut FunctionBuilder<'_>, x: Value, imm: i64) -> Value {
+    asserts_current(rt, builder);
+    asserts_value(rt, builder, x);
+    assert!(rt; builder.func().value_type(x).is_int());
+    builder.ins().iadd_imm_s(x, imm).expect(rt, "a sum")
+}
+
+/// Appends the function's parameters to a block.
+pub fn take_params(rt: &impl Abort, builder: &mut FunctionBuilder<'_>, block: Block) {
+    asserts_block(rt, builder, block);
+    assert!(rt; builder.is_pristine(block));
+    assert!(rt; !builder.has_any_predecessors(block));
+    builder
+        .append_block_params_for_function_params(block)
+        .expect(rt, "parameters");
+}
+
+/// The parameter at a place of a block.
+pub fn param_at(
+    rt: &impl Abort,
+    builder: &FunctionBuilder<'_>,
+    block: Block,
+    place: usize,
+) -> Value {
+    asserts_block(rt, builder, block);
+    *builder
+        .block_params(block)
+        .get(place)
+        .expect(rt, "a parameter")
+}
+
+/// Fails, as a call does to which memory is refused.
+pub fn fail(rt: &impl Abort, builder: &mut FunctionBuilder<'_>) {
+    let error = builder.refuse();
+    assert!(rt; error == BuildError::Memory);
+    assert!(rt; builder.has_failed());
 }
 
 /// Ends the current block with a return of nothing.

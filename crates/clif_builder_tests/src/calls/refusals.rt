@@ -1,13 +1,14 @@
 //! The texts of errors, and what holds after a refusal.
 #![tactic(auto)]
 
+use crate::calls::built::{finishes, plain};
 use crate::calls::queries::Query::{Current, Entry, Pristine, Values};
 use crate::calls::steps::Attempt::{Define, DefineEarly, DefineMistyped, UseEarly};
 use crate::calls::steps::Deed::{Create, Declare, Seal, Switch};
 use crate::calls::steps::Operand::{Constant, Read};
+use crate::calls::steps::Step;
 use crate::calls::steps::Step::{Do, Has, Is, Isnt, Make, Try};
 use crate::calls::steps::Trait::Number;
-use crate::calls::steps::{Step, finishes, plain};
 use clif_types::types::{I16, I32};
 use cranelift_frontend::{
     Block, DefVariableError, EntityRef, FinalizeError, Inst, UseVariableError, VERSION, Value,

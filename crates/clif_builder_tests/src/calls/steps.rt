@@ -5,15 +5,13 @@
 
 use crate::asserted::param;
 use crate::calls::queries::{Query, shows};
-use crate::calls::{entries, front_end, marks, notes, queries, try_calls};
-use crate::fixture::{CONFIG, function, named, signature};
-use clif_types::types::I32;
+use crate::calls::{entries, front_end, notes, queries, try_calls};
+use crate::fixture::{all_named, named, passing};
 use cranelift_frontend::{
-    Block, DefVariableError, FinalizeError, FunctionBuilder, FunctionBuilderContext, Type,
-    UseVariableError, Value, Variable,
+    Block, BlockArg, DefVariableError, FuncRef, FunctionBuilder, SigRef, Type, UseVariableError,
+    Value, Variable,
 };
-use std::alloc::Global;
-use std::fmt::Write;
+use std::alloc::{AllocError, Global};
 use std::process::Abort;
 use std::test::Fail;
 
@@ -37,6 +35,8 @@ pub enum Step {
 pub enum Operand {
     /// A new parameter of a block.
     Param(u8, Type),
+    /// The parameter at a place of a block.
+    ParamAt(u8, usize),
     /// What a variable holds.
     Read(u8),
     Constant(Type, i64),
@@ -44,11 +44,17 @@ pub enum Operand {
     DoubleAtCursor(usize),
     /// What a generic caller makes of a value.
     ByDouble(usize),
+    /// The sum of a value and a constant.
+    Sum(usize, i64),
+    /// What a function returns that is called with these values.
+    Returned(u8, &'static [usize]),
 }
 
 /// What is done with blocks and variables.
 pub enum Deed {
     Create,
+    /// Appends the function's parameters to a block.
+    TakeParams(u8),
     Switch(u8),
     Seal(u8),
     SealAll,
@@ -57,10 +63,16 @@ pub enum Deed {
     /// A constant, by its shape.
     Shaped(i64),
     Branch(usize, u8, u8),
+    /// Jumps to a block, and passes these values.
+    Jump(u8, &'static [usize]),
     /// Changes the branch that was made last from the first block to the second one.
     Change(u8, u8),
     End,
     Return(usize),
+    ReturnEach(&'static [usize]),
+    Trap(u8),
+    /// Fails, as after refused memory.
+    Fail,
 }
 
 /// What is tried with a variable.
@@ -77,17 +89,21 @@ pub enum Attempt {
 
 /// An entry of a table, or a call of one.
 pub enum Entry {
-    /// The first signature.
+    /// The next signature.
     Signature(&'static [Type], &'static [Type]),
-    /// The first function.
-    Function(&'static str),
+    /// The next function, which has this signature.
+    Function(&'static str, u8),
+    /// The next function, `u0:0`, which is colocated and has the first signature.
+    Colocated,
     Slot,
     DynamicSlot,
     GlobalContext,
-    /// Calls the first function, which takes nothing.
-    Call,
+    /// Calls a function with these values.
+    Call(u8, &'static [usize]),
     /// Calls the first function with a value, and with a context for the unwinder.
     TryCall(usize, usize),
+    /// Calls the first function with a value, and passes that on, or these values when it throws.
+    TryPassing(usize, &'static [usize]),
 }
 
 /// What doesn't change what the function does.
@@ -118,6 +134,34 @@ fn variable(number: u8) -> Variable {
     Variable::from_u32(u32::from(number))
 }
 
+fn func_ref(number: u8) -> FuncRef {
+    FuncRef::from_u32(u32::from(number))
+}
+
+// What an edge passes: the values at these places.
+fn passed_at(
+    rt: &impl Abort,
+    alloc: Global,
+    values: &[Value],
+    places: &[usize],
+) -> Result<Vec<BlockArg>, AllocError> {
+    let named = all_named(rt, alloc, values, places)?;
+    passing(alloc, named.as_slice())
+}
+
+// What a function returns that is called with the values at these places.
+fn returned(
+    rt: &impl Abort,
+    builder: &mut FunctionBuilder<'_>,
+    values: &[Value],
+    function: u8,
+    places: &[usize],
+) -> Value {
+    let alloc = builder.func().allocator();
+    let args = all_named(rt, alloc, values, places).expect(rt, "room");
+    entries::returned(rt, builder, func_ref(function), args.as_slice())
+}
+
 fn read(rt: &impl Abort, builder: &mut FunctionBuilder<'_>, number: u8) -> Value {
     let answer = front_end::try_use(rt, builder, variable(number));
     answer.expect(rt, "a declared variable")
@@ -131,6 +175,7 @@ fn make(
 ) -> Value {
     match *operand {
         Operand::Param(number, ty) => param(rt, builder, block(number), ty),
+        Operand::ParamAt(number, place) => front_end::param_at(rt, builder, block(number), place),
         Operand::Read(number) => read(rt, builder, number),
         Operand::Constant(ty, imm) => front_end::constant(rt, builder, ty, imm),
         Operand::AtCursor(imm) => front_end::constant_at_cursor(rt, builder, imm),
@@ -138,12 +183,40 @@ fn make(
             front_end::double_at_cursor(rt, builder, named(rt, values, x))
         }
         Operand::ByDouble(x) => front_end::by_double(rt, builder, named(rt, values, x)),
+        Operand::Sum(x, imm) => front_end::sum(rt, builder, named(rt, values, x), imm),
+        Operand::Returned(function, args) => returned(rt, builder, values, function, args),
     }
+}
+
+// Ends the current block with a jump that passes the values at these places.
+fn jump(
+    rt: &impl Abort,
+    builder: &mut FunctionBuilder<'_>,
+    values: &[Value],
+    target: u8,
+    places: &[usize],
+) {
+    let alloc = builder.func().allocator();
+    let passed = passed_at(rt, alloc, values, places).expect(rt, "room");
+    front_end::jump(rt, builder, block(target), passed.as_slice());
+}
+
+// Ends the current block with a return of the values at these places.
+fn give_back_each(
+    rt: &impl Abort,
+    builder: &mut FunctionBuilder<'_>,
+    values: &[Value],
+    places: &[usize],
+) {
+    let alloc = builder.func().allocator();
+    let returned = all_named(rt, alloc, values, places).expect(rt, "room");
+    front_end::give_back_each(rt, builder, returned.as_slice());
 }
 
 fn act(rt: &impl Abort, builder: &mut FunctionBuilder<'_>, values: &[Value], deed: &Deed) {
     match *deed {
         Deed::Create => front_end::create(rt, builder),
+        Deed::TakeParams(number) => front_end::take_params(rt, builder, block(number)),
         Deed::Switch(number) => front_end::enter(rt, builder, block(number)),
         Deed::Seal(number) => front_end::seal(rt, builder, block(number)),
         Deed::SealAll => front_end::seal_all(rt, builder),
@@ -153,9 +226,13 @@ fn act(rt: &impl Abort, builder: &mut FunctionBuilder<'_>, values: &[Value], dee
             let condition = named(rt, values, condition);
             front_end::branch(rt, builder, condition, block(taken), block(other));
         }
+        Deed::Jump(number, passed) => jump(rt, builder, values, number, passed),
         Deed::Change(from, to) => front_end::change(rt, builder, block(from), block(to)),
         Deed::End => front_end::end(rt, builder),
         Deed::Return(value) => front_end::give_back(rt, builder, named(rt, values, value)),
+        Deed::ReturnEach(returned) => give_back_each(rt, builder, values, returned),
+        Deed::Trap(code) => front_end::trap(rt, builder, code),
+        Deed::Fail => front_end::fail(rt, builder),
     }
 }
 
@@ -200,6 +277,32 @@ fn make_attempt(
     }
 }
 
+// Calls a function.
+fn call(
+    rt: &impl Abort,
+    alloc: Global,
+    builder: &mut FunctionBuilder<'_>,
+    values: &[Value],
+    function: u8,
+    places: &[usize],
+) {
+    let args = all_named(rt, alloc, values, places).expect(rt, "room");
+    entries::call(rt, builder, func_ref(function), args.as_slice());
+}
+
+// Calls the first function with a value, and goes on in block1 or block2.
+fn try_passing(
+    rt: &impl Abort,
+    alloc: Global,
+    builder: &mut FunctionBuilder<'_>,
+    values: &[Value],
+    x: usize,
+    thrown: &[usize],
+) {
+    let passed = passed_at(rt, alloc, values, thrown).expect(rt, "room");
+    try_calls::try_passing(rt, alloc, builder, named(rt, values, x), passed.as_slice());
+}
+
 fn enter(
     rt: &impl Abort,
     alloc: Global,
@@ -211,15 +314,20 @@ fn enter(
         Entry::Signature(params, returns) => {
             entries::import_signature(rt, alloc, builder, params, returns)?;
         }
-        Entry::Function(name) => entries::import_function(rt, alloc, builder, name)?,
+        Entry::Function(name, number) => {
+            let signature = SigRef::from_u32(u32::from(number));
+            entries::import_function(rt, alloc, builder, name, signature)?;
+        }
+        Entry::Colocated => entries::import_colocated(rt, builder),
         Entry::Slot => entries::create_slot(rt, builder),
         Entry::DynamicSlot => entries::create_dynamic_slot(rt, builder),
         Entry::GlobalContext => entries::create_context(rt, builder),
-        Entry::Call => entries::call(rt, builder),
+        Entry::Call(function, args) => call(rt, alloc, builder, values, function, args),
         Entry::TryCall(x, context) => {
             let (x, context) = (named(rt, values, x), named(rt, values, context));
             try_calls::try_call(rt, alloc, builder, x, context);
         }
+        Entry::TryPassing(x, thrown) => try_passing(rt, alloc, builder, values, x, thrown),
     }
     Ok(())
 }
@@ -265,8 +373,8 @@ fn take(
     Ok(None)
 }
 
-// Takes the steps of each part, one after the other.
-fn take_all(
+/// Takes the steps of each part, one after the other.
+pub fn take_all(
     rt: &impl Abort,
     alloc: Global,
     builder: &mut FunctionBuilder<'_>,
@@ -281,120 +389,4 @@ fn take_all(
         }
     }
     Ok(())
-}
-
-/// The name of a function, and the types that it takes and returns.
-#[derive(Clone, Copy)]
-pub struct Header {
-    pub name: &'static str,
-    pub params: &'static [Type],
-    pub returns: &'static [Type],
-    /// Whether it has a first variable of type I64 that stack maps need.
-    pub is_marked: bool,
-}
-
-// What was built: the answer of `finalize`, and the text.
-#[derive(Drop)]
-struct Built {
-    answer: Result<(), FinalizeError>,
-    text: String,
-}
-
-// What the parts of a list of steps build with a context, which is empty before and afterwards.
-fn built_with(
-    rt: &impl Abort,
-    alloc: Global,
-    ctx: &mut FunctionBuilderContext,
-    header: Header,
-    parts: &[&[Step]],
-) -> Result<Built, Fail> {
-    assert!(rt; ctx.is_empty());
-    let signature = signature(alloc, header.params, header.returns)?;
-    let mut func = function(alloc, header.name, signature)?;
-    let mut builder = FunctionBuilder::new(&mut func, ctx);
-    if header.is_marked {
-        marks::declare_marked(rt, &mut builder);
-    }
-    take_all(rt, alloc, &mut builder, parts)?;
-    let answer = builder.finalize(CONFIG);
-    assert!(rt; ctx.is_empty());
-    let text = format!(in alloc; "{}", func.display())?;
-    Ok(Built { answer, text })
-}
-
-/// The building ends with this answer.
-pub fn finishes(
-    rt: &impl Abort,
-    alloc: Global,
-    header: Header,
-    parts: &[&[Step]],
-    answer: Result<(), FinalizeError>,
-) -> Result<(), Fail> {
-    let mut ctx = FunctionBuilderContext::new(alloc);
-    let built = built_with(rt, alloc, &mut ctx, header, parts)?;
-    assert!(rt; built.answer == answer);
-    Ok(())
-}
-
-// The building with a context ends with this answer, and the function has this text.
-fn ends_with(
-    rt: &impl Abort,
-    alloc: Global,
-    ctx: &mut FunctionBuilderContext,
-    header: Header,
-    parts: &[&[Step]],
-    answer: Result<(), FinalizeError>,
-    text: &str,
-) -> Result<(), Fail> {
-    let built = built_with(rt, alloc, ctx, header, parts)?;
-    assert!(rt; built.answer == answer);
-    assert_eq!(rt; built.text.as_str(), text);
-    Ok(())
-}
-
-/// The building ends with this answer, and the function has this text.
-pub fn ends(
-    rt: &impl Abort,
-    alloc: Global,
-    header: Header,
-    parts: &[&[Step]],
-    answer: Result<(), FinalizeError>,
-    text: &str,
-) -> Result<(), Fail> {
-    let mut ctx = FunctionBuilderContext::new(alloc);
-    ends_with(rt, alloc, &mut ctx, header, parts, answer, text)
-}
-
-/// The steps give a finished function of this text.
-pub fn builds(
-    rt: &impl Abort,
-    alloc: Global,
-    header: Header,
-    steps: &[Step],
-    text: &str,
-) -> Result<(), Fail> {
-    ends(rt, alloc, header, &[steps], Ok(()), text)
-}
-
-/// They do so twice with one context.
-pub fn builds_twice(
-    rt: &impl Abort,
-    alloc: Global,
-    header: Header,
-    steps: &[Step],
-    text: &str,
-) -> Result<(), Fail> {
-    let mut ctx = FunctionBuilderContext::new(alloc);
-    ends_with(rt, alloc, &mut ctx, header, &[steps], Ok(()), text)?;
-    ends_with(rt, alloc, &mut ctx, header, &[steps], Ok(()), text)
-}
-
-/// The header of a function that takes nothing and returns an I32.
-pub const fn plain(name: &'static str) -> Header {
-    Header {
-        name,
-        params: &[],
-        returns: &[I32],
-        is_marked: false,
-    }
 }

@@ -1,31 +1,22 @@
 //! Values that stack maps need. A try call's context isn't one of them: no collector can move what an unwinder keeps of it.
 #![tactic(auto)]
 
+use crate::calls::built::{Header, ends, finishes, typed};
 use crate::calls::steps::Deed::{Create, Return, Seal, Switch};
-use crate::calls::steps::Entry::{Call, Function, Signature, TryCall};
+use crate::calls::steps::Entry::{Function, Signature, TryCall};
 use crate::calls::steps::Note::Need;
 use crate::calls::steps::Operand::{Param, Read};
+use crate::calls::steps::Step;
 use crate::calls::steps::Step::{Do, Enter, Has, Make, Note};
 use crate::calls::steps::Trait::Number;
-use crate::calls::steps::{Header, Step, builds_twice, ends, finishes};
 use clif_types::types::{I32, I64};
 use cranelift_frontend::{EntityRef, FinalizeError, Inst};
 use std::test::Fail;
 
-// The function `name`, which takes and returns an I64.
-const fn wide(name: &'static str) -> Header {
-    Header {
-        name,
-        params: &[I64],
-        returns: &[I64],
-        is_marked: false,
-    }
-}
-
 // Two parameters of block0, the second of which stack maps need, and what block2 and block3 take.
 const BEGINNING: [Step; 14] = [
     Enter(Signature(&[I64], &[I32])),
-    Enter(Function("f")),
+    Enter(Function("f", 0)),
     Do(Create),
     Do(Create),
     Do(Create),
@@ -61,7 +52,14 @@ fn reached(rt: HostRuntime) -> Result<(), Fail> {
     let refusal = FinalizeError::TrackedContext(Inst::new(0));
     let text =
         "function %tracked(i64) -> i64 system_v {\n    sig0 = (i64) -> i32 system_v\n    fn0 = %f sig0\n\nblock0(v0: i64, v1: i64):\n    try_call fn0(v0), sig0, block2(ret0), [ tag1: block3(exn0), default: block4, context v1 ]\n\nblock2(v2: i32):\n    return v0\n\nblock3(v3: i64):\n    return v0\n\nblock4:\n    return v0\n}\n";
-    ends(&rt, rt.alloc(), wide("tracked"), &parts, Err(refusal), text)
+    ends(
+        &rt,
+        rt.alloc(),
+        typed("tracked", &[I64], &[I64]),
+        &parts,
+        Err(refusal),
+        text,
+    )
 }
 
 const ALONE: [Step; 3] = [Do(Return(0)), Do(Switch(1)), Do(Seal(1))];
@@ -70,44 +68,26 @@ const ALONE: [Step; 3] = [Do(Return(0)), Do(Switch(1)), Do(Seal(1))];
 #[test]
 fn unreached(rt: HostRuntime) -> Result<(), Fail> {
     let parts = [BEGINNING.as_slice(), ALONE.as_slice(), CALLED.as_slice()];
-    finishes(&rt, rt.alloc(), wide("unreached"), &parts, Ok(()))
+    finishes(
+        &rt,
+        rt.alloc(),
+        typed("unreached", &[I64], &[I64]),
+        &parts,
+        Ok(()),
+    )
 }
 
-// The function `name` of the row `zero_marked`, whose first variable stack maps need.
-const fn marked(name: &'static str) -> Header {
-    Header {
-        name,
-        params: &[],
-        returns: &[I64],
-        is_marked: true,
-    }
-}
-
-// A variable that is never assigned is used in a sealed block to which nothing leads, before a call and after it.
-const ZERO_MARKED: [Step; 9] = [
-    Do(Create),
-    Do(Seal(0)),
-    Do(Switch(0)),
-    Enter(Signature(&[], &[])),
-    Enter(Function("g")),
-    Make(Read(0)),
-    Enter(Call),
-    Make(Read(0)),
-    Do(Return(1)),
-];
-
-/// A marked variable's zero is put, and the function is finished. It is built twice with one context, and is the same. Stack
-/// maps don't need the zero, so that nothing is spilled.
-#[test]
-fn zero_marked(rt: HostRuntime) -> Result<(), Fail> {
-    let text =
-        "function %zero_marked() -> i64 system_v {\n    sig0 = () system_v\n    fn0 = %g sig0\n\nblock0:\n    v1 = iconst.i64 0\n    v0 -> v1\n    call fn0()\n    return v0  ; v0 = 0\n}\n";
-    builds_twice(&rt, rt.alloc(), marked("zero_marked"), &ZERO_MARKED, text)
-}
+// The function of the next test, whose first variable stack maps need.
+const ZERO_AS_CONTEXT: Header = Header {
+    name: Some("zero_as_context"),
+    params: &[],
+    returns: &[I64],
+    marked: Some(I64),
+};
 
 const ZERO_USED: [Step; 11] = [
     Enter(Signature(&[I64], &[I32])),
-    Enter(Function("f")),
+    Enter(Function("f", 0)),
     Do(Create),
     Do(Create),
     Do(Create),
@@ -123,7 +103,7 @@ const ZERO_USED: [Step; 11] = [
 #[test]
 fn zero_as_context(rt: HostRuntime) -> Result<(), Fail> {
     let parts = [ZERO_USED.as_slice(), ZERO_CALLED.as_slice()];
-    finishes(&rt, rt.alloc(), marked("zero_as_context"), &parts, Ok(()))
+    finishes(&rt, rt.alloc(), ZERO_AS_CONTEXT, &parts, Ok(()))
 }
 
 // A call with the zero as its context, after which each block returns the zero.

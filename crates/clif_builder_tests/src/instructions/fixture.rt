@@ -35,7 +35,7 @@ pub struct Given {
 pub fn function(alloc: Global) -> Result<Function, AllocError>
     ensures { IfOk result (λ func. func ≡ empty_body func.name func.signature) }
 {
-    fixture::function(alloc, "row", fixture::signature(alloc, &[], &[])?)
+    fixture::function(alloc, Some("row"), fixture::signature(alloc, &[], &[])?)
 }
 
 /// A signature that takes and returns an I32.

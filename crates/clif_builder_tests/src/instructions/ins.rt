@@ -4,7 +4,9 @@
 ghost use Rattle.std.specs.Prelude.{◌≡◌, ◌<◌, length};
 ghost use Rattle.clif_ir.specs.Body.{value_at};
 
-use crate::asserted::{asserts_current, asserts_target, asserts_value, param};
+use crate::asserted::{
+    asserts_current, asserts_function, asserts_signature, asserts_target, asserts_value, param,
+};
 use crate::instructions::fixture::{Given, callee, is_same_type, signature};
 use crate::instructions::formats::make_by_format;
 use crate::instructions::methods::{branch, make};
@@ -31,20 +33,6 @@ fn asserts_slot(rt: &impl Abort, builder: &FunctionBuilder<'_>, slot: StackSlot)
     ensures { slot < length builder.now.func.now.tables.stack_slots }
 {
     assert!(rt; slot.index() < builder.func().tables().stack_slot_count());
-}
-
-/// Asserts that a signature was imported.
-pub fn asserts_signature(rt: &impl Abort, builder: &FunctionBuilder<'_>, signature: SigRef)
-    ensures { signature < length builder.now.func.now.tables.signatures }
-{
-    assert!(rt; signature.index() < builder.func().tables().signature_count());
-}
-
-/// Asserts that a function was imported.
-pub fn asserts_function(rt: &impl Abort, builder: &FunctionBuilder<'_>, function: FuncRef)
-    ensures { function < length builder.now.func.now.tables.functions }
-{
-    assert!(rt; function.index() < builder.func().tables().function_count());
 }
 
 // Asserts that the values that an instruction may name exist, with their types.

@@ -7,8 +7,10 @@ ghost use Rattle.clif_inst_builder.specs.Served.{exception_tables, jump_tables};
 ghost use Rattle.clif_instructions.specs.ExceptionTables.{exception_shape};
 ghost use Rattle.clif_builder_tests.specs.RowTables.{bare_table, catching_table, entries_passing};
 
-use crate::asserted::{asserts_current, asserts_target, asserts_value, create_exception_table};
-use crate::instructions::ins::{asserts_function, asserts_signature};
+use crate::asserted::{
+    asserts_current, asserts_function, asserts_signature, asserts_target, asserts_value,
+    create_exception_table,
+};
 use cranelift_frontend::{
     Block, BlockArg, BlockCall, BuildError, EntityRef, ExceptionTable, ExceptionTableData,
     ExceptionTableItem, FuncRef, FunctionBuilder, InstBuilder, JumpTable, JumpTableData, SigRef,
