@@ -1,12 +1,13 @@
 //! Which variables were used or assigned, and of which type they are.
 #![tactic(auto)]
 
+use crate::calls::built::{finishes, plain};
 use crate::calls::queries::Query::{Typed, Undeclared, Untouched};
 use crate::calls::steps::Attempt::{Define, DefineEarly, DefineMistyped, UseEarly};
 use crate::calls::steps::Deed::{Branch, Create, Declare, Seal, Switch};
 use crate::calls::steps::Operand::{Constant, Read};
+use crate::calls::steps::Step;
 use crate::calls::steps::Step::{Do, Is, Isnt, Make, Try};
-use crate::calls::steps::{Step, finishes, plain};
 use clif_types::types::{I16, I32};
 use cranelift_frontend::{Block, FinalizeError};
 use std::test::Fail;
