@@ -2,7 +2,7 @@
 #![tactic(auto)]
 
 use crate::support::{Pair, memory_of, returned};
-use clif_interpreter::Memory;
+use clif_worlds::Memory;
 use std::alloc::Global;
 use std::cmp::Ordering;
 use std::process::Abort;

@@ -2,8 +2,8 @@
 #![tactic(auto)]
 
 use crate::support::{Pair, SIZE, memory_of, returned};
-use clif_interpreter::{End, Memory};
 use clif_types::TrapCode;
+use clif_worlds::{End, Memory};
 use std::alloc::Global;
 use std::process::Abort;
 use std::test::Fail;

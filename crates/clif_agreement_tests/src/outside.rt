@@ -5,8 +5,8 @@
 use crate::support::{Pair, SIZE, both_end, memory_of, returned, world_of, zeros};
 use Answering::{Same, TenTimes, Throwing};
 use Called::{AtAddress, Named};
-use clif_interpreter::{Callee, Ending, Event, Memory, Outside};
 use clif_types::{EntityRef, ExternalName, SigRef};
+use clif_worlds::{Callee, Ending, Event, Memory, Outside};
 use std::alloc::{AllocError, Global};
 use std::process::Abort;
 use std::test::Fail;

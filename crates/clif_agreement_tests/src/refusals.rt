@@ -2,9 +2,10 @@
 #![tactic(auto)]
 
 use crate::support::{STEPS, built, script_of, world_of, zeros};
-use clif_interpreter::outside::Zeros;
-use clif_interpreter::{End, Ending, Memory, RunError, function, script};
+use clif_interpreter::{function, script};
 use clif_text::Script;
+use clif_worlds::outside::Zeros;
+use clif_worlds::{End, Ending, Memory, RunError};
 use std::alloc::Global;
 use std::process::Abort;
 use std::test::Fail;

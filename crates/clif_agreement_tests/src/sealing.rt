@@ -2,10 +2,10 @@
 #![tactic(auto)]
 
 use crate::support::{STEPS, both_end, built, returned, script_of, world_of, zeros};
-use clif_interpreter::Ending;
-use clif_interpreter::outside::Zeros;
 use clif_script::{Call, Name};
 use clif_text::Script;
+use clif_worlds::Ending;
+use clif_worlds::outside::Zeros;
 use std::alloc::{AllocError, Global};
 use std::process::Abort;
 use std::test::Fail;

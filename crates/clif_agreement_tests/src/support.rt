@@ -2,11 +2,12 @@
 #![tactic(auto)]
 
 use clif_builder::FunctionBuilderContext;
-use clif_interpreter::outside::Zeros;
-use clif_interpreter::{End, Ending, Memory, Outside, World, function, script};
+use clif_interpreter::{function, script};
 use clif_ir::Function;
 use clif_script::replay;
 use clif_text::{Script, read};
+use clif_worlds::outside::Zeros;
+use clif_worlds::{End, Ending, Memory, Outside, World};
 use std::alloc::Global;
 use std::process::Abort;
 use std::test::Fail;

@@ -3,8 +3,8 @@
 
 use crate::support::{Pair, STEPS, returned, world_of, zeros};
 use clif_interpreter::function;
-use clif_interpreter::outside::Zeros;
-use clif_interpreter::run::Choices;
+use clif_worlds::outside::Zeros;
+use clif_worlds::run::Choices;
 use std::alloc::Global;
 use std::process::Abort;
 use std::test::Fail;

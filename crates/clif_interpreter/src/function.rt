@@ -1,15 +1,16 @@
 //! The interpreter of functions, written from the function machine. It has the bits of values, and follows aliases.
-use crate::collector::{Collector, Mover};
-use crate::error::{Cause, Operand, Place, RunError};
-use crate::outside::{Callee, Event, Outside, Payload, call_library, cut, show};
-use crate::run::{Choices, End, Ending, Trace, World};
 use clif_ir::{BlockArg, BlockCall, ExceptionTargets, Function, InstructionData};
-use clif_opcodes::StackOpcode;
 use clif_operations::arithmetic::bits_of_bytes;
 use clif_operations::{Fault, Operation, Outcome, Store, Typed, bits_of, carry_out, kept};
 use clif_types::{
     Block, Constant, EntityRef, EntitySet, ExternalName, FuncRef, Inst, PointerWidth, SigRef,
     Signature, StackSlot, Type, UserStackMapEntry, Value,
+};
+use clif_worlds::outside::{Payload, call_library, cut, show};
+use clif_worlds::run::Trace;
+use clif_worlds::{
+    Callee, Cause, Choices, Collector, End, Ending, Event, Mover, Operand, Outside, Place,
+    RunError, World,
 };
 use std::alloc::Global;
 
@@ -345,72 +346,24 @@ impl<'a, O: Outside> State<'a, O> {
 
     // Moves what the last outside call moves.
     fn collect(&mut self) -> Result<(), Cause> {
+        let calls = self.events.len();
         match self.collector {
             Collector::Nothing => {}
-            Collector::ByMaps(mover) => self.move_entries(mover)?,
-            Collector::OverSet(members, mover) => self.move_members(members, mover),
+            Collector::ByMaps(mover) => self.move_entries(mover, calls)?,
+            Collector::OverSet(members, mover) => {
+                mover.move_members(members, self.func, self.values.as_mut_slice(), calls)
+            }
         }
         Ok(())
     }
 
     // Moves what lies in the slots that the stack map names.
-    fn move_entries(&mut self, mover: Mover) -> Result<(), Cause> {
+    fn move_entries(&mut self, mover: Mover, calls: usize) -> Result<(), Cause> {
         let entries = self.entries;
         for entry in entries {
-            self.move_entry(*entry, mover)?;
+            mover.move_entry(self.alloc, *entry, &mut self.store, calls)?;
         }
         Ok(())
-    }
-
-    fn move_entry(&mut self, entry: UserStackMapEntry, mover: Mover) -> Result<(), Cause> {
-        let UserStackMapEntry { ty, slot, offset } = entry;
-        let Ok(offset) = i32::try_from(offset) else {
-            return Err(Cause::Fault(Fault::NoPlace));
-        };
-        let opcode = StackOpcode::StackLoad;
-        let read = Operation::Stack {
-            opcode,
-            slot,
-            offset,
-        };
-        let held = kept(ty, self.access(&read, ty, &[])?)?;
-        let bits = mover.moved(ty, held.bits, self.events.len());
-        let write = Operation::StackStore { slot, offset };
-        self.access(&write, ty, &[Typed { ty, bits }])?;
-        Ok(())
-    }
-
-    // Reads or writes a stack slot. The answer is what was read.
-    fn access(
-        &mut self,
-        operation: &Operation,
-        ty: Type,
-        operands: &[Typed],
-    ) -> Result<u128, Cause> {
-        match carry_out(self.alloc, operation, ty, operands, &[], &mut self.store)? {
-            (_, Outcome::Gave(bits)) => Ok(bits.first().copied().unwrap_or(0)),
-            _ => Err(Cause::Fault(Fault::NoPlace)),
-        }
-    }
-
-    // Moves the values of a set.
-    fn move_members(&mut self, members: &EntitySet<Value>, mover: Mover) {
-        let mut members = members.iter();
-        while let Some(member) = members.next() {
-            self.move_member(member, mover);
-        }
-    }
-
-    // Moves a value, if it was given: aliases never are.
-    fn move_member(&mut self, value: Value, mover: Mover) {
-        if value.index() >= self.func.value_count() {
-            return;
-        }
-        let ty = self.func.value_type(value);
-        let calls = self.events.len();
-        if let Some(Some(bits)) = self.values.get_mut(value.index()) {
-            *bits = mover.moved(ty, *bits, calls);
-        }
     }
 
     // Makes a call that isn't a try call, which gives its results.

@@ -1,8 +1,5 @@
 //! The interpreter of scripts, written from the script machine: it runs the variable program of a script. It has
 //! variables and names of answers, and no aliases and no parameters of variables.
-use crate::error::{Cause, Operand, Place, RunError};
-use crate::outside::{Callee, Event, Outside, Payload, call_library, cut, show};
-use crate::run::{End, Ending, Trace, World};
 use clif_calls::{
     Call, Edge, ImmediateCall, MemoryCall, Name, OutsideCall, Passed, TableEdge, ThrowingCall,
 };
@@ -15,6 +12,9 @@ use clif_script_program::program::{Program, ProgramBlock};
 use clif_types::{
     AbiParam, EntityRef, ExceptionTable, ExternalName, PointerWidth, Signature, Type,
 };
+use clif_worlds::outside::{Payload, call_library, cut, show};
+use clif_worlds::run::Trace;
+use clif_worlds::{Callee, Cause, End, Ending, Event, Operand, Outside, Place, RunError, World};
 use std::alloc::{AllocError, Global};
 
 /// What comes behind an item.

@@ -6,9 +6,10 @@ use crate::shown::Shown;
 use crate::table::Answers;
 use crate::trace::{Numbering, Trace};
 use clif_calls::{Call, OutsideAnswer};
-use clif_interpreter::{End, Ending, Memory, RunError, World, function, script};
+use clif_interpreter::{function, script};
 use clif_ir::Function;
 use clif_types::{AbiParam, PointerWidth, Signature};
+use clif_worlds::{End, Ending, Memory, RunError, World};
 use std::alloc::{AllocError, Global};
 use std::fmt;
 

@@ -1,5 +1,5 @@
 //! The words before the file of a run.
-use clif_interpreter::STEPS;
+use clif_worlds::STEPS;
 
 /// How two runs are made.
 #[derive(Clone, Copy, PartialEq, Eq)]

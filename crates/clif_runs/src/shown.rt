@@ -1,7 +1,7 @@
 //! How the end of a run is printed.
-use clif_interpreter::End;
 use clif_operations::arithmetic::{is_negative, magnitude};
 use clif_types::{AbiParam, Type};
+use clif_worlds::End;
 use std::fmt;
 
 /// How a run ended that has a bound on its steps, for a function that returns these types. It prints as

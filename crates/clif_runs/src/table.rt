@@ -1,7 +1,7 @@
 //! Outside calls, answered by a table.
 use clif_calls::OutsideAnswer;
-use clif_interpreter::{Callee, Event, Memory, Outside};
 use clif_types::{ExternalName, UserFuncName};
+use clif_worlds::{Callee, Event, Memory, Outside};
 
 /// Answers a call of a named function by the first entry of its name, and with zeros what no entry says; leaves memory as it
 /// is.

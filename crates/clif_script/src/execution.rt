@@ -6,13 +6,13 @@ use crate::command::Run;
 use crate::program::{Notes, tell_call, tell_no_text, tell_refused, tell_unbuilt, tell_unread};
 use clif_builder::FunctionBuilderContext;
 use clif_conditions::block_numbers;
-use clif_interpreter::{Place, RunError, Told};
 use clif_replay::{ReplayError, replay};
 use clif_runs::{
     ArgumentError, Comparison, Given, Numbering, Options, Report, Verdict, arguments_of, compare,
 };
 use clif_text::{ReadError, Script, read};
 use clif_types::AbiParam;
+use clif_worlds::{Place, RunError, Told};
 use std::alloc::{AllocError, Global};
 use std::{io, str};
 

@@ -15,9 +15,9 @@ pub use clif_calls::{
 };
 pub use clif_conditions::{Condition, broken_condition};
 pub use clif_graph::Graph;
-pub use clif_interpreter::STEPS;
 pub use clif_replay::{ReplayError, replay};
 pub use clif_runs::Options;
+pub use clif_worlds::STEPS;
 pub use command::{Command, Run, USAGE};
 pub use execution::execute;
 pub use program::{Form, Printing, TypeCheck, build};

@@ -5,10 +5,11 @@ use crate::generator::{random_script, signature};
 use crate::worlds::{Answering, SIZE, START};
 use clif_builder::FunctionBuilderContext;
 use clif_calls::Call;
-use clif_interpreter::{End, Ending, Memory, RunError, World, function, script};
+use clif_interpreter::{function, script};
 use clif_ir::Function;
 use clif_replay::{ReplayError, replay};
 use clif_types::{CallConv, PointerWidth, Signature, TargetFrontendConfig, UserFuncName};
+use clif_worlds::{End, Ending, Memory, RunError, World};
 use std::alloc::{AllocError, Global};
 use std::fmt;
 

@@ -1,5 +1,5 @@
 //! The worlds that scripts run in.
-use clif_interpreter::{Event, Memory, Outside};
+use clif_worlds::{Event, Memory, Outside};
 
 /// How many bytes are accessible, from [`START`] on.
 pub const SIZE: usize = 64;

@@ -2,12 +2,12 @@
 ghost use Rattle.std.specs.Prelude.{◌<◌, IfOk};
 
 use crate::command::Run;
-use clif_interpreter::{RunError, Told};
 use clif_ir::Function;
 use clif_runs::{
     ArgumentError, Comparison, Given, Numbering, Report, Verdict, arguments_of, compare,
 };
 use clif_types::{AbiParam, PointerWidth};
+use clif_worlds::{RunError, Told};
 use std::alloc::Global;
 use std::{io, str};
 use toy_compiler::{CompiledFunction, Program, ToyError, compile};

@@ -79,8 +79,8 @@ impl Cause {
         if self.is_limit() { 1 } else { 4 }
     }
 
-    /// The same, at a place.
-    pub(crate) fn at(self, place: Place) -> RunError {
+    /// This, at a place.
+    pub fn at(self, place: Place) -> RunError {
         RunError { cause: self, place }
     }
 

@@ -29,7 +29,11 @@ pub struct World<'a, O> {
 
 impl<O> World<'_, O> {
     /// An argument for a parameter of a type.
-    pub(crate) fn argument(&self, ty: Type, bits: u128) -> Result<Typed, Cause> {
+    ///
+    /// # Errors
+    ///
+    /// Where the type has fewer bits than the argument, or more than are kept.
+    pub fn argument(&self, ty: Type, bits: u128) -> Result<Typed, Cause> {
         if bits > greatest(ty) {
             return Err(Cause::Arguments);
         }
@@ -37,7 +41,11 @@ impl<O> World<'_, O> {
     }
 
     /// Memory as the run begins, with no slot placed in it yet.
-    pub(crate) fn store(&self, alloc: Global) -> Result<Store, Cause> {
+    ///
+    /// # Errors
+    ///
+    /// Where memory is refused.
+    pub fn store(&self, alloc: Global) -> Result<Store, Cause> {
         Ok(Store {
             memory: self.memory.clone()?,
             slots: Slots::new(alloc, self.pointer_width, self.slots),
@@ -45,7 +53,7 @@ impl<O> World<'_, O> {
     }
 
     /// No block, as the run begins.
-    pub(crate) fn trace(&self, alloc: Global) -> Trace {
+    pub fn trace(&self, alloc: Global) -> Trace {
         Trace {
             is_kept: self.is_traced,
             blocks: Vec::new(alloc),
@@ -55,14 +63,19 @@ impl<O> World<'_, O> {
 
 /// The blocks that a run passed so far, if they are kept.
 #[derive(Drop)]
-pub(crate) struct Trace {
+pub struct Trace {
     is_kept: bool,
-    pub(crate) blocks: Vec<usize>,
+    /// Their numbers, in order.
+    pub blocks: Vec<usize>,
 }
 
 impl Trace {
     /// The run enters the block with this number.
-    pub(crate) fn pass(&mut self, number: usize) -> Result<(), AllocError> {
+    ///
+    /// # Errors
+    ///
+    /// Where memory is refused.
+    pub fn pass(&mut self, number: usize) -> Result<(), AllocError> {
         if self.is_kept {
             self.blocks.push(number)?;
         }

@@ -77,7 +77,7 @@ impl Outside for Zeros {
 
 /// How a call was answered: what the parts `ret0` or `exn0` of its edges hold.
 #[derive(Clone, Copy)]
-pub(crate) enum Payload<'a> {
+pub enum Payload<'a> {
     /// The instruction is no call.
     None,
     /// It returned values of these types.
@@ -90,7 +90,7 @@ pub(crate) enum Payload<'a> {
 
 impl Payload<'_> {
     /// The type of what was returned at a place.
-    pub(crate) fn returned(self, place: usize) -> Option<Type> {
+    pub fn returned(self, place: usize) -> Option<Type> {
         match self {
             Payload::Returned(returns) => returns.get(place).map(|param| param.value_type),
             Payload::None | Payload::Thrown | Payload::Gave => None,
@@ -98,7 +98,7 @@ impl Payload<'_> {
     }
 
     /// The type of what was thrown at a place: two integers of 64 bits are.
-    pub(crate) fn thrown(self, place: usize) -> Option<Type> {
+    pub fn thrown(self, place: usize) -> Option<Type> {
         match self {
             Payload::Thrown if place < 2 => Some(types::I64),
             _ => None,
@@ -107,13 +107,17 @@ impl Payload<'_> {
 }
 
 /// The low bits of an answer, as many as a type has.
-pub(crate) fn cut(ty: Type, bits: u128) -> u128 {
+pub fn cut(ty: Type, bits: u128) -> u128 {
     bits & greatest(ty)
 }
 
 /// Shows a call, and has it answered, which may change memory. The answer is which of so many items with an edge it goes
 /// along, if it throws.
-pub(crate) fn show<O: Outside>(
+///
+/// # Errors
+///
+/// Where memory is refused.
+pub fn show<O: Outside>(
     outside: &O,
     events: &mut Vec<Event>,
     event: Event,
@@ -127,7 +131,12 @@ pub(crate) fn show<O: Outside>(
 }
 
 /// What a function of the C library gives, called by this signature: it does its work.
-pub(crate) fn call_library(
+///
+/// # Errors
+///
+/// Where it has another signature or other arguments, touches bytes that aren't accessible, copies between bytes that
+/// overlap though it must not, and where memory is refused.
+pub fn call_library(
     alloc: Global,
     callee: LibCall,
     pointer_width: PointerWidth,
