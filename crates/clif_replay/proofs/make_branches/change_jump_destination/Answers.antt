@@ -67,7 +67,7 @@ returns c =
     let new = c.change_jump_destination.new.self in
     let done = c.in_ok-change_jump_destination.ensures in
     made-answer old new c.args.answers.now answer.Nothing c.change_jump_destination.ensures.call.loans done.grows.3
-    (answered-sound _ c.change_jump_destination.result _ c.change_jump_destination.ensures.call.fails c.in_ok-change_jump_destination.was) done.redirects.variables
+    (answered-sound _ c.change_jump_destination.result _ c.change_jump_destination.ensures.call.fails c.in_ok-change_jump_destination.was) done.redirects.variables.0
     (λ naming declared calls ready.
     change-some c.leads_are_read_by_number.ensures calls old c.args.answers.now ready c.args.branch c.args.from c.args.to c.in-Some.inst
     c.in-Some-block_named.source c.in-Some-block_named-2.target (sym c.inst_named.ensures ∙ c.in-Some.is) (sym c.block_named.ensures ∙ c.in-Some-block_named.is)
