@@ -1,26 +1,33 @@
 -- What goes on holding of a builder's blocks and values while more calls are made.
 use Rattle.std.proofs.Common.{◌≡◌, ◌≢◌, ℕ, ◌<◌, ◌≤◌, false, List, [], ◌∷◌, ◌++◌, length, refl, sym, ◌∙◌, ap, subst, arith}
-use Rattle.std.specs.Prelude.{true, slice_index, slice_index_or, slice_get, Some, Ok}
+use Rattle.std.specs.Prelude.{true, slice_index, slice_index_or, slice_get, Some, None, Ok, Err, OnOk, Result}
 use Rattle.std.proofs.lemmas.Option.{slice_get_within}
 use Rattle.clif_types.specs.declared.types.«Type».{«Type»}
+use Rattle.clif_types.specs.declared.error.BuildError.{BuildError}
+use Rattle.clif_tables.specs.Entries.{TableEntry}
 use Rattle.clif_instructions.specs.Instruction.{is_terminator, result_type_of}
 use Rattle.clif_instructions.specs.declared.instructions.InstructionData.{InstructionData}
-use Rattle.clif_ir.specs.Body.{value_at}
+use Rattle.clif_ir.specs.Body.{Body, value_at}
 use Rattle.clif_records.specs.Tables.{is_yes}
+use Rattle.clif_records.specs.Tracking.{Tracked}
+use Rattle.clif_records.proofs.RecordMaps.{record_at-empty}
 use Rattle.clif_ssa.proofs.Passing.{some_pushed}
-use Rattle.clif_ssa.specs.Ssa.{SameBlocks, SealedStays, sealed_of}
+use Rattle.clif_ssa.specs.Ssa.{SameBlocks, SealedStays, SsaState, no_state, record_of, sealed_of}
 use Rattle.clif_builder.specs.declared.builder.FunctionBuilder.{FunctionBuilder}
 use Rattle.clif_builder.specs.declared.context.BlockStatus.TheVariants.{Filled}
-use Rattle.clif_builder.specs.Builder.{CanLead, IsLeft, with_position}
+use Rattle.clif_builder.specs.Builder.{CanLead, HasCurrent, IsLeft, with_position}
 use Rattle.clif_builder.specs.Built.{Builds, BuildsValue}
 use Rattle.clif_builder.specs.Calls.{IsCall}
 use Rattle.clif_builder.specs.Construction.{SealsAtMost}
 use Rattle.clif_builder.specs.Context.{ContextState, FillsNone, status_of}
+use Rattle.clif_builder.specs.Entries.{MakesEntry}
 use Rattle.clif_builder.specs.Growth.{Grows, TypesStay}
+use Rattle.clif_builder.specs.Marks.{IsUnused, TracksFrom}
 use Rattle.clif_builder.specs.Order.{IsUntouched}
 use Rattle.clif_inst_builder.specs.Shapes.{edge_to}
 use Rattle.clif_switch.specs.Emission.{MayLead}
 use Rattle.uses.specs.Choosing.{Chooses}
+use Rattle.uses.specs.Importing.{Imports}
 
 -- CALLS -----------------------------------------------------------------------------------------------------------------
 
@@ -33,9 +40,13 @@ pub record Keeps (old new : FunctionBuilder) : Type 0 where
   pub variables : new.ctx.now.variables ≡ old.ctx.now.variables
   pub position : new.position ≡ old.position
 
+pub grows_then : (first middle last : Body) → Grows first middle → Grows middle last → Grows first last
+grows_then first middle last a b =
+    (omega (arith, a.0, b.0), omega (arith, a.1, b.1), omega (arith, a.2, b.2), b.3 ∙ a.3, b.4 ∙ a.4, omega (arith, a.5, b.5), b.6 ∙ a.6, λ entry here. b.7 entry (a.7 entry here), b.8 ∙ a.8)
+
 pub and_then : {first middle last : FunctionBuilder} → Keeps first middle → Keeps middle last → Keeps first last
-and_then a b = record {
-  grows = (omega (arith, a.grows.0, b.grows.0), omega (arith, a.grows.1, b.grows.1), omega (arith, a.grows.2, b.grows.2), b.grows.3 ∙ a.grows.3, b.grows.4 ∙ a.grows.4, omega (arith, a.grows.5, b.grows.5), b.grows.6 ∙ a.grows.6, λ entry here. b.grows.7 entry (a.grows.7 entry here), b.grows.8 ∙ a.grows.8);
+and_then {first} {middle} {last} a b = record {
+  grows = grows_then first.func.now middle.func.now last.func.now a.grows b.grows;
   types = λ v here. b.types v (omega (arith, here, a.grows.0)) ∙ a.types v here;
   seals = λ k. b.seals k ∙ a.seals k;
   fills = λ k filled. a.fills k (b.fills k filled);
@@ -74,6 +85,54 @@ valued {old} {lent} {built} {back} {shape} {ty} {value} is built_is came =
       variables = built_is.variables;
       position = built_is.position;
     }))
+
+unfilled_now : (lent built : FunctionBuilder) → built.position ≡ lent.position → HasCurrent built → (k : ℕ) → lent.position ≡ Some k → status_of built.ctx.now k ≢ Filled
+unfilled_now lent built same current k here filled =
+    current.3 (ap (λ (block : ℕ). status_of built.ctx.now block) (other (sym current.1 ∙ same ∙ here)) ∙ filled)
+  where
+    other : {block : ℕ} → Some block ≡ Some k → block ≡ k
+    other alike = cc
+
+-- one without, which ends no block
+pub appended : {old lent built back : FunctionBuilder} {shape : InstructionData} {ty : «Type»} {inst : ℕ}
+    → lent ≡ old → Builds lent built shape ty (Ok inst) → is_terminator shape ≡ false → back ≡ built → Keeps old back
+appended {old} {lent} {built} {back} is built_is goes_on came =
+    subst (λ (b : FunctionBuilder). Keeps b back) is (subst (λ (b : FunctionBuilder). Keeps lent b) (sym came) (record {
+      grows = built_is.grows;
+      types = built_is.types;
+      seals = built_is.seals;
+      fills = λ k filled. built_is.fills k (λ here. unfilled_now lent built built_is.position (built_is.current goes_on) k here filled) filled;
+      variables = built_is.variables;
+      position = built_is.position;
+    }))
+
+-- a variable or a value is marked
+pub marked : {old new : FunctionBuilder} {tracked : Tracked} → TracksFrom old new (Ok tt) tracked → Keeps old new
+marked {old} {new} tracks =
+    called tracks.call tracks.grows (λ k. rw tracks.context refl) (ap (λ (c : ContextState). c.variables) tracks.context)
+
+-- a function is imported
+pub imported : {old new : FunctionBuilder} → Imports old new → Keeps old new
+imported {old} {new} imports = record {
+  grows = imports.grows;
+  types = λ v here. rw imports.values refl;
+  seals = λ k. rw imports.context refl;
+  fills = λ k filled. ap (λ (c : ContextState). status_of c k) (sym imports.context) ∙ filled;
+  variables = ap (λ (c : ContextState). c.variables) imports.context;
+  position = imports.position;
+}
+
+-- its signature is one entry, and it another
+pub imports_both : {signature : ℕ} {first second : TableEntry} {old middle new : FunctionBuilder} (answer : Result ℕ BuildError)
+    → MakesEntry first old middle (Ok signature) → MakesEntry second middle new answer → HasCurrent old → OnOk answer (Imports old new)
+imports_both {old = old} {middle = middle} {new = new} (Ok function) one two current = record {
+  position = two.call.position ∙ one.call.position;
+  context = two.context ∙ one.context;
+  values = ap (λ (f : Body). f.values) two.function ∙ ap (λ (f : Body). f.values) one.function;
+  grows = grows_then old.func.now middle.func.now new.func.now one.grows two.grows;
+  current = two.current (one.current current);
+}
+imports_both (Err error) one two current = tt
 
 -- the builder is lent
 pub lent_on : {first old lent : FunctionBuilder} → Keeps first old → lent ≡ old → Keeps first lent
@@ -207,6 +266,11 @@ not_above below same = absurd (omega (arith, below, same))
 pub not_below : {low high : ℕ} → low < high → high ≢ low
 not_below below same = absurd (omega (arith, below, same))
 
+-- a variable that was just declared, the first one, is neither used nor assigned
+pub unused : (c : ContextState) (variable : ℕ) → c.ssa ≡ no_state → IsUnused c variable
+unused c variable is block =
+    subst (λ (s : SsaState). record_of s variable block ≡ None) (sym is) (record_at-empty variable block)
+
 -- the one value of a list exists
 pub one_exists : {value count : ℕ} → value < count → (k d : ℕ) → k < 1 → slice_index_or {A = ℕ} (value ∷ []) k d < count
 one_exists {value} {count} here k d first = let e : k ≡ 0 = omega (arith, first) in subst (λ (j : ℕ). slice_index_or {A = ℕ} (value ∷ []) j d < count) (sym e) here
@@ -232,6 +296,15 @@ typed_alike {read} {lent} {built} {back} {shape} {variables} {made} variable val
     subst (λ (b : FunctionBuilder). slice_get b.ctx.now.variables variable ≡ Some (value_at b.func.now made).ty) (sym came)
     (ap (λ (types : List «Type»). slice_get types variable) (built_is.variables ∙ kept.variables ∙ unchanged) ∙ typed
     ∙ ap (λ (ty : «Type»). Some ty) (sym (built_is.typed ∙ alike ∙ kept.types value here)))
+
+-- a variable has the type of what was made, where it has that which the table gives
+pub typed_anew : {lent built back : FunctionBuilder} {shape : InstructionData} {ty : «Type»} {variables : List «Type»} {made : ℕ} (variable : ℕ)
+    → slice_get variables variable ≡ Some (result_type_of shape ty) → back.ctx.now.variables ≡ variables
+    → BuildsValue lent built shape ty (Ok made) → back ≡ built
+    → slice_get back.ctx.now.variables variable ≡ Some (value_at back.func.now made).ty
+typed_anew {built = built} {back = back} {made = made} variable typed unchanged built_is came =
+    ap (λ (types : List «Type»). slice_get types variable) unchanged ∙ typed
+    ∙ sym (ap (λ (b : FunctionBuilder). Some (value_at b.func.now made).ty) came ∙ ap (λ (ty : «Type»). Some ty) built_is.typed)
 
 -- a variable that has a type is declared
 pub declared : {now : List «Type»} (variables : List «Type») (variable : ℕ) (ty : «Type») → slice_get variables variable ≡ Some ty → now ≡ variables → variable < length now

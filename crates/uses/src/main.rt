@@ -9,6 +9,7 @@ mod count_down;
 mod diamond;
 mod error;
 mod forward;
+mod last_node;
 mod straight_line;
 
 use crate::choose::choose;
@@ -16,11 +17,12 @@ use crate::count_down::count_down;
 use crate::diamond::diamond;
 use crate::error::UseError;
 use crate::forward::forward;
+use crate::last_node::last_node;
 use crate::straight_line::straight_line;
-use clif_types::types::I32;
+use clif_types::types::{I32, I64};
 use cranelift_frontend::{
     AbiParam, BuildError, CallConv, Function, FunctionBuilderContext, PointerWidth, Signature,
-    TargetFrontendConfig, UserFuncName,
+    TargetFrontendConfig, Type, UserFuncName,
 };
 use std::alloc::Global;
 use std::process::ExitCode;
@@ -39,6 +41,7 @@ enum Example {
     Diamond,
     Forward,
     Choose,
+    LastNode,
 }
 
 impl Example {
@@ -49,14 +52,23 @@ impl Example {
             Example::Diamond => "diamond",
             Example::Forward => "forward",
             Example::Choose => "choose",
+            Example::LastNode => "last_node",
         }
     }
 
     fn param_count(self) -> usize {
         match self {
             Example::StraightLine => 0,
-            Example::CountDown | Example::Forward | Example::Choose => 1,
+            Example::CountDown | Example::Forward | Example::Choose | Example::LastNode => 1,
             Example::Diamond => 3,
+        }
+    }
+
+    // The type of its parameters and of what it returns.
+    fn ty(self) -> Type {
+        match self {
+            Example::LastNode => I64,
+            _ => I32,
         }
     }
 
@@ -70,6 +82,7 @@ impl Example {
             Example::Diamond => diamond(func, ctx, CONFIG)?,
             Example::Forward => forward(func, ctx, CONFIG)?,
             Example::Choose => choose(func, ctx, CONFIG)?,
+            Example::LastNode => last_node(func, ctx, CONFIG)?,
         }
         Ok(())
     }
@@ -82,6 +95,7 @@ fn main(rt: HostRuntime) -> ExitCode {
         Example::Diamond,
         Example::Forward,
         Example::Choose,
+        Example::LastNode,
     ] {
         if let Err(error) = print(&rt, rt.alloc(), example) {
             let _ = eprintln!(rt; "{error}");
@@ -102,15 +116,15 @@ fn print(rt: &HostRuntime, alloc: Global, example: Example) -> Result<(), UseErr
     built
 }
 
-// A function of integers of 32 bits that returns one, without blocks.
+// A function that returns what its parameters are, without blocks.
 fn function(alloc: Global, example: Example) -> Result<Function, BuildError>
     ensures { IfOk result IsFresh }
 {
     let name = UserFuncName::testcase(String::from_str(alloc, example.name())?);
     let mut signature = Signature::new(alloc, CallConv::SystemV);
     for _ in 0..example.param_count() {
-        signature.params.push(AbiParam::new(I32))?;
+        signature.params.push(AbiParam::new(example.ty()))?;
     }
-    signature.returns.push(AbiParam::new(I32))?;
+    signature.returns.push(AbiParam::new(example.ty()))?;
     Ok(Function::with_name_signature(alloc, name, signature))
 }
