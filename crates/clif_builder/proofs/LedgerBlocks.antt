@@ -2,7 +2,6 @@
 use Rattle.std.proofs.Common.{◌≡◌, ◌≢◌, ◌+◌, ◌<◌, ◌≤◌, ℕ, zero, suc, List, [], ◌∷◌, ◌++◌, length, refl, sym, ◌∙◌, ap, subst, arith, inl, inr, length-append}
 use Rattle.std.specs.Prelude.{map, slice_get, slice_index_or, Option, Some, option_map, option_and_then, Bool, true, false, if◌then◌else◌, ◌==◌, Contains, Result, Ok, Err, IfOk, OnOk}
 use Rattle.std.proofs.lemmas.Bool.{ne_eqb}
-use Rattle.clif_types.specs.declared.types.«Type».{«Type»}
 use Rattle.clif_ir.specs.Body.{Body, block_at}
 use Rattle.clif_nodes.specs.Nodes.{BlockNode, empty_block}
 use Rattle.clif_ir.specs.Changes.{with_block}
@@ -10,7 +9,7 @@ use Rattle.clif_ir.specs.Consistent.{IsConsistent}
 use Rattle.clif_instructions.specs.Members.{stands_in}
 use Rattle.clif_meaning.specs.Name.{Name, answer_of, same_name}
 use Rattle.clif_meaning.specs.Request.{AnsweredCall, CreateBlock, SwitchToBlock, SealBlock, number_of}
-use Rattle.clif_meaning.specs.Ledger.{answer_at, Answered, ABlock, BlockState, Ledger, VariableState, ledger_with, new_block, next_answer}
+use Rattle.clif_meaning.specs.Ledger.{answer_at, Answered, ABlock, BlockState, Ledger, ledger_with, new_block, next_answer}
 use Rattle.clif_meaning.proofs.CallLists as earlier
 use Rattle.clif_ssa.specs.Own.{Own}
 use Rattle.clif_records.specs.Tables.{RecordMap, is_yes, record_at}

@@ -11,7 +11,7 @@ use Rattle.clif_instructions.specs.Members.{stands_in}
 use Rattle.clif_meaning.specs.Name.{Name, same_name}
 use Rattle.clif_meaning.specs.Request.{AnsweredCall, number_of}
 use Rattle.clif_meaning.specs.Tracked.{AsksForNoMaps}
-use Rattle.clif_meaning.specs.Ledger.{ABlock, Answered, BlockState, Ledger, VariableState, with_state, with_layout, with_begun, with_begun_at, is_inserted}
+use Rattle.clif_meaning.specs.Ledger.{ABlock, Answered, BlockState, Ledger, with_state, with_layout, with_begun, with_begun_at, is_inserted}
 use Rattle.clif_meaning.proofs.CallLists.{kept}
 use Rattle.clif_ssa.specs.Own.{Own}
 use Rattle.clif_records.specs.Tables.{is_yes}

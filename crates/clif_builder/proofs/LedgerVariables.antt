@@ -7,7 +7,7 @@ use Rattle.clif_types.specs.declared.types.«Type».{«Type»}
 use Rattle.clif_ir.specs.Body.{Body, value_at}
 use Rattle.clif_meaning.specs.Name.{Name}
 use Rattle.clif_meaning.specs.Request.{AnsweredCall, DeclareVar, DefVar}
-use Rattle.clif_meaning.specs.Ledger.{AVariable, Ledger, VariableState, ledger_with, new_variable}
+use Rattle.clif_meaning.specs.Ledger.{AVariable, Ledger, VariableState, ledger_with}
 use Rattle.clif_records.specs.declared.tables.SsaBlock.{SsaBlock}
 use Rattle.clif_records.specs.Tables.{is_yes, predecessors_at, sealed_at}
 use Rattle.clif_ssa.specs.Ssa.{Records, SamePredecessors}

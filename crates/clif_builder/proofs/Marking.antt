@@ -4,7 +4,6 @@ use Rattle.std.proofs.Common.{◌≡◌, ◌≢◌, ℕ, List, [], ◌∷◌, �
 use Rattle.std.proofs.lemmas.Bool.{eq-eqb, eqb-true, false≢true}
 use Rattle.std.proofs.lemmas.List.{length-map}
 use Rattle.std.specs.Prelude.{◌==◌, map, slice_get, slice_index_or, slice_set, Option, Some, option_map, Contains, true, OnOk, Result, Ok, Err}
-use Rattle.clif_types.specs.declared.types.«Type».{«Type»}
 use Rattle.clif_types.specs.Signature.{SignatureShape}
 use Rattle.clif_ir.specs.Body.{Body, block_at}
 use Rattle.clif_nodes.specs.Nodes.{BlockNode, empty_block}

@@ -5,7 +5,6 @@ use Rattle.std.specs.Prelude.{map, ltb, slice_get, Option, None, Some, option_ma
 use Rattle.std.proofs.lemmas.Bool.{le-ltb, lt-ltb}
 use Rattle.std.proofs.lemmas.Option.{slice_get-map, slice_get_within}
 use Rattle.clif_types.specs.Signature.{SignatureShape}
-use Rattle.clif_types.specs.declared.types.«Type».{«Type»}
 use Rattle.clif_ir.specs.Body.{Body}
 use Rattle.clif_ir.specs.Consistent.{IsConsistent}
 use Rattle.clif_meaning.specs.Name.{Name}

@@ -1,6 +1,6 @@
 -- What holds of the parts of a builder after each call that succeeds, whatever the calls were. Source: own, after the
 -- crate's documentation of `FunctionBuilder`.
-use Rattle.std.specs.Prelude.{◌≡◌, ◌≢◌, ◌≤◌, ◌⊎◌, ℕ, List, [], length, true, false, Bool, IsTrue, Some, Contains, slice_get}
+use Rattle.std.specs.Prelude.{◌≡◌, ◌≢◌, ◌≤◌, ◌⊎◌, ℕ, [], length, true, false, Bool, IsTrue, Some, Contains, slice_get}
 use Rattle.clif_types.specs.EntitySet.{has}
 use Rattle.clif_types.specs.declared.types.«Type».{«Type»}
 use Rattle.clif_ir.specs.Body.{Body, block_at}
